@@ -5,7 +5,7 @@ ghost use Rattle.wc_scale.specs.contracts.scale.Scale.{the_row};
 ghost use Rattle.std.specs.Prelude.{◌≡◌};
 ghost use Rattle.wc_scale.specs.Calls.{RefusesOpen, TakesOpen};
 ghost use Rattle.wc_scale.specs.Programs.{RefusesChange, RefusesLoad, TakesChange, TakesLoad};
-ghost use Rattle.wc_scale.specs.Standing.{IsEmptied};
+ghost use Rattle.wc_scale.specs.Representation.{IsEmptied};
 
 use wc_scale::{Refusal, Scale};
 

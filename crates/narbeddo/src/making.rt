@@ -3,7 +3,7 @@ ghost use Rattle.std.specs.Borrow.{full_share};
 ghost use Rattle.std.specs.Ptr.{lies_at, room_at};
 ghost use Rattle.std.specs.Mem.{type_size};
 ghost use Rattle.std.specs.Prelude.{◌≡◌, ◌≤◌};
-ghost use Rattle.wc_scale.specs.Standing.{IsClosed};
+ghost use Rattle.wc_scale.specs.Representation.{IsClosed};
 ghost use Rattle.wc_scale.specs.contracts.scale.Scale.{the_row};
 
 use std::alloc::Global;

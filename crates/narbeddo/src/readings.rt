@@ -3,16 +3,16 @@ ghost use Rattle.std.specs.Borrow.{full_share};
 ghost use Rattle.std.specs.Ptr.{lies_at};
 ghost use Rattle.wc_scale.specs.contracts.scale.Scale.{the_row};
 ghost use Rattle.std.specs.Prelude.{◌≡◌};
-ghost use Rattle.wc_scale.specs.Calls.{ShowsNoPlate, ShowsNothing, TellsEngraved, TellsReading};
-ghost use Rattle.wc_scale.specs.Preludes.{HoldsNothing, TellsPrelude};
-ghost use Rattle.wc_scale.specs.Standing.{IsClosed};
-ghost use Rattle.wc_scale.specs.Values.{RefusesValue, TellsValue};
+ghost use Rattle.wc_scale.specs.Calls.{ShowsNoPlate, ShowsNothing, ReportsEngraved, ReportsReading};
+ghost use Rattle.wc_scale.specs.Preludes.{HoldsNothing, ReportsPrelude};
+ghost use Rattle.wc_scale.specs.Representation.{IsClosed};
+ghost use Rattle.wc_scale.specs.Values.{RefusesValue, ReportsValue};
 
-use wc_scale::{Engraved, PreludeTold, Reading, Scale, VariableRead};
+use wc_scale::{Engraved, PreludeAnswer, Reading, Scale, VariableRead};
 
 /// What the indicator shows. The scale stays as it is.
 fn reading_of(scale: &mut Scale) -> Reading
-    ensures shows { TellsReading scale.old result }
+    ensures shows { ReportsReading scale.old result }
     ensures closed { IsClosed scale.old → ShowsNothing result }
     ensures kept { scale.new ≡ scale.old }
 {
@@ -25,7 +25,7 @@ pub unsafe extern "C" fn narbeddo_read(scale: *mut u8) -> Reading
     ghost before: { Scale }
     requires* { sem 𝓛 (lies_at the_row full_share scale before) }
     ensures* { ∃ₛ (λ (after : Scale). sem 𝓛 (lies_at the_row full_share scale after)
-        ∗ ⌜ (TellsReading before result) × (IsClosed before → ShowsNothing result)
+        ∗ ⌜ (ReportsReading before result) × (IsClosed before → ShowsNothing result)
         × (after ≡ before) ⌝) }
 {
     reading_of(&mut *(scale as *mut Scale))
@@ -33,7 +33,7 @@ pub unsafe extern "C" fn narbeddo_read(scale: *mut u8) -> Reading
 
 /// What is engraved on the scale. The scale stays as it is.
 fn engraved_of(scale: &mut Scale) -> Engraved
-    ensures shows { TellsEngraved scale.old result }
+    ensures shows { ReportsEngraved scale.old result }
     ensures closed { IsClosed scale.old → ShowsNoPlate result }
     ensures kept { scale.new ≡ scale.old }
 {
@@ -46,15 +46,15 @@ pub unsafe extern "C" fn narbeddo_plate(scale: *mut u8) -> Engraved
     ghost before: { Scale }
     requires* { sem 𝓛 (lies_at the_row full_share scale before) }
     ensures* { ∃ₛ (λ (after : Scale). sem 𝓛 (lies_at the_row full_share scale after)
-        ∗ ⌜ (TellsEngraved before result) × (IsClosed before → ShowsNoPlate result)
+        ∗ ⌜ (ReportsEngraved before result) × (IsClosed before → ShowsNoPlate result)
         × (after ≡ before) ⌝) }
 {
     engraved_of(&mut *(scale as *mut Scale))
 }
 
 /// What brings a new scale of the same plate to the state of the scale. The scale stays as it is.
-fn prelude_of(scale: &mut Scale) -> PreludeTold
-    ensures tells { TellsPrelude scale.old result }
+fn prelude_of(scale: &mut Scale) -> PreludeAnswer
+    ensures reports { ReportsPrelude scale.old result }
     ensures closed { IsClosed scale.old → HoldsNothing result }
     ensures kept { scale.new ≡ scale.old }
 {
@@ -63,11 +63,11 @@ fn prelude_of(scale: &mut Scale) -> PreludeTold
 
 /// What brings a new scale of the same plate to the state of the scale.
 #[unsafe(no_mangle)]
-pub unsafe extern "C" fn narbeddo_prelude(scale: *mut u8) -> PreludeTold
+pub unsafe extern "C" fn narbeddo_prelude(scale: *mut u8) -> PreludeAnswer
     ghost before: { Scale }
     requires* { sem 𝓛 (lies_at the_row full_share scale before) }
     ensures* { ∃ₛ (λ (after : Scale). sem 𝓛 (lies_at the_row full_share scale after)
-        ∗ ⌜ (TellsPrelude before result) × (IsClosed before → HoldsNothing result)
+        ∗ ⌜ (ReportsPrelude before result) × (IsClosed before → HoldsNothing result)
         × (after ≡ before) ⌝) }
 {
     prelude_of(&mut *(scale as *mut Scale))
@@ -75,7 +75,7 @@ pub unsafe extern "C" fn narbeddo_prelude(scale: *mut u8) -> PreludeTold
 
 /// The value of a variable of the program, by its name. The scale stays as it is.
 fn value_of(scale: &mut Scale, name: &[u8]) -> VariableRead
-    ensures tells { TellsValue scale.old name.now result }
+    ensures reports { ReportsValue scale.old name.now result }
     ensures refused { RefusesValue scale.old name.now result }
     ensures kept { scale.new ≡ scale.old }
 {
@@ -88,7 +88,7 @@ pub unsafe extern "C" fn narbeddo_value(scale: *mut u8, name: &[u8]) -> Variable
     ghost before: { Scale }
     requires* { sem 𝓛 (lies_at the_row full_share scale before) }
     ensures* { ∃ₛ (λ (after : Scale). sem 𝓛 (lies_at the_row full_share scale after)
-        ∗ ⌜ (TellsValue before name.now result) × (RefusesValue before name.now result)
+        ∗ ⌜ (ReportsValue before name.now result) × (RefusesValue before name.now result)
         × (after ≡ before) ⌝) }
 {
     value_of(&mut *(scale as *mut Scale), name)

@@ -1,47 +1,47 @@
 ghost use Rattle.std.specs.Prelude.{◌≡◌, ◌≤◌, IfSome, Some, None, option_map};
-ghost use Rattle.wc_arguments.specs.Asked.{asked, check, cut, decode, form_asked, job, line, run, show, texts_of, trace};
+ghost use Rattle.wc_arguments.specs.Asked.{asked, check, cut, decode, format_asked, job, line, run, show, texts_of, trace};
 
-use crate::desk::Desk;
 use crate::files::{KeptSource, RunFiles, RunPaths, kept_cause, kept_source, read_of};
-use crate::output::{Emptying, Sharing};
-use crate::telling::{CommandEnd, ReadFile, Sources, end, tell_warnings, without_memory};
+use crate::output::{FlushBeforeRead, SharedWriter};
+use crate::reporting::{CommandEnd, ReadFile, Sources, end, report_warnings, without_memory};
+use crate::session::Session;
 use std::io;
 use std::io::{IsTerminal, Stdin};
 use wc_arguments::{ProgramFiles, ScanChoice};
 use wc_controller::{Ending, Input, RefusedRow, answer_job, check_file, last_files, report_files};
 use wc_cut::cut_files;
-use wc_devices::{Keeping, Noting};
-use wc_diag_texts::Form;
+use wc_devices::{RetryReader, TeeReader};
+use wc_diag_texts::Format;
 use wc_model::Device;
-use wc_view_decode::{DecodeFault, DecodeForm, decode as decode_report};
+use wc_view_decode::{DecodeFault, DecodeFormat, decode as decode_report};
 use wc_view_picture::show_files;
 use wc_view_preview::preview_files;
-use wc_view_trace::{Chosen, TraceForm, trace_files};
+use wc_view_trace::{Chosen, TraceFormat, trace_files};
 use wc_view_watch::{UnknownName, watch_files};
 
 /// Writes what is still gathered, and returns how the command ended: the exit status.
 fn finish(
-    desk: Desk<'_>,
+    session: Session<'_>,
     ending: Ending,
     reading: Option<io::Error>,
     sources: &Sources<'_>,
     row: &RefusedRow,
 ) -> u8 {
-    let (written, writing) = match desk.gathered.try_borrow_mut() {
+    let (written, writing) = match session.gathered.try_borrow_mut() {
         Ok(mut gathered) => (gathered.empty().is_ok(), gathered.get_ref().cause()),
         Err(_) => (false, None),
     };
-    let met = CommandEnd {
+    let raised = CommandEnd {
         ending: if written { ending } else { Ending::WriteFault },
         reading,
         writing,
     };
-    end(desk, &met, sources, row)
+    end(session, &raised, sources, row)
 }
 
 /// Tells how a run of these files ended: the exit status.
-fn finish_run(desk: Desk<'_>, ending: Ending, files: &RunFiles<'_>, row: &RefusedRow) -> u8 {
-    finish(desk, ending, files.cause(), &files.sources(), row)
+fn finish_run(session: Session<'_>, ending: Ending, files: &RunFiles<'_>, row: &RefusedRow) -> u8 {
+    finish(session, ending, files.cause(), &files.sources(), row)
 }
 
 /// The file of a check with no other program. It is kept apart, so that what is read has a lifetime of its own.
@@ -61,46 +61,46 @@ pub(crate) struct ChangedPaths<'a> {
 
 /// Prints what is suspicious of a program that is accepted: the exit status, that of a refusal if there is one, or if there is a
 /// warning and warnings are denied.
-fn with_warnings(desk: Desk<'_>, status: u8, file: &ReadFile<'_>, deny: bool) -> u8 {
+fn with_warnings(session: Session<'_>, status: u8, file: &ReadFile<'_>, deny: bool) -> u8 {
     if status != 0 {
         return status;
     }
-    match tell_warnings(desk, file) {
+    match report_warnings(session, file) {
         Ok(warned) if warned && deny => 1,
         Ok(_) => 0,
-        Err(_) => without_memory(desk.rt),
+        Err(_) => without_memory(session.rt),
     }
 }
 
 /// Says that a job is expected, if somebody types it.
-fn tell_waiting(rt: &HostRuntime) {
+fn report_waiting(rt: &HostRuntime) {
     if rt.stdin().is_terminal() {
-        let _told = rt.eprintln(
+        let _reported = rt.eprintln(
             "reading a job from standard input, up to its end (Ctrl-D); `help` says more",
         );
     }
 }
 
 /// Answers a job on standard input: the exit status.
-pub(crate) fn run_job(desk: Desk<'_>, _words: &[String], row: &mut RefusedRow) -> u8
+pub(crate) fn run_job(session: Session<'_>, _words: &[String], row: &mut RefusedRow) -> u8
     requires asked { asked (texts_of _words.now) ≡ job }
-    requires form { form_asked (texts_of _words.now) ≡ Some desk.form }
+    requires format { format_asked (texts_of _words.now) ≡ Some session.format }
 {
-    tell_waiting(desk.rt);
-    let input: Noting<Stdin> = Noting::new(desk.rt.stdin());
-    let keeping = Keeping::new(desk.rt.alloc(), input);
-    let mut reader = Device::new(Emptying::new(desk.gathered, keeping));
-    let mut writer = Device::new(Sharing::new(desk.gathered));
-    let ending = answer_job(desk.rt.alloc(), &mut reader, &mut writer, row);
+    report_waiting(session.rt);
+    let input: RetryReader<Stdin> = RetryReader::new(session.rt.stdin());
+    let keeping = TeeReader::new(session.rt.alloc(), input);
+    let mut reader = Device::new(FlushBeforeRead::new(session.gathered, keeping));
+    let mut writer = Device::new(SharedWriter::new(session.gathered));
+    let ending = answer_job(session.rt.alloc(), &mut reader, &mut writer, row);
     let keeping = reader.get_ref().get_ref();
     let reading = keeping.get_ref().cause();
     let bytes = keeping.bytes_read();
-    finish(desk, ending, reading, &Sources::Job { bytes }, row)
+    finish(session, ending, reading, &Sources::Job { bytes }, row)
 }
 
 /// Checks the program in a file: the exit status.
 pub(crate) fn check_words(
-    desk: Desk<'_>,
+    session: Session<'_>,
     _words: &[String],
     row: &mut RefusedRow,
     program: &str,
@@ -108,24 +108,24 @@ pub(crate) fn check_words(
     deny: bool,
 ) -> u8
     requires asked { asked (texts_of _words.now) ≡ check program.now None paths deny }
-    requires form { form_asked (texts_of _words.now) ≡ Some desk.form }
+    requires format { format_asked (texts_of _words.now) ≡ Some session.format }
 {
-    let mut reader = kept_source(desk, program);
-    let mut writer = Device::new(Sharing::new(desk.gathered));
-    let ending = check_file(desk.rt.alloc(), paths, &mut reader, &mut writer);
+    let mut reader = kept_source(session, program);
+    let mut writer = Device::new(SharedWriter::new(session.gathered));
+    let ending = check_file(session.rt.alloc(), paths, &mut reader, &mut writer);
     let status = finish(
-        desk,
+        session,
         ending,
         kept_cause(&reader),
         &program_alone(program, &reader),
         row,
     );
-    with_warnings(desk, status, &read_of(program, &reader), deny)
+    with_warnings(session, status, &read_of(program, &reader), deny)
 }
 
 /// Tells what a change from the program in a file to the one in another keeps: the exit status.
 pub(crate) fn preview_words(
-    desk: Desk<'_>,
+    session: Session<'_>,
     _words: &[String],
     row: &mut RefusedRow,
     files: ChangedPaths<'_>,
@@ -134,14 +134,14 @@ pub(crate) fn preview_words(
 ) -> u8
     requires asked { asked (texts_of _words.now)
         ≡ check files.program.now (Some files.next.now) paths deny }
-    requires form { form_asked (texts_of _words.now) ≡ Some desk.form }
+    requires format { format_asked (texts_of _words.now) ≡ Some session.format }
 {
     let ChangedPaths { program, next } = files;
-    let mut reader = kept_source(desk, program);
-    let mut next_reader = kept_source(desk, next);
-    let mut writer = Device::new(Sharing::new(desk.gathered));
+    let mut reader = kept_source(session, program);
+    let mut next_reader = kept_source(session, next);
+    let mut writer = Device::new(SharedWriter::new(session.gathered));
     let ending = preview_files(
-        desk.rt.alloc(),
+        session.rt.alloc(),
         paths,
         &mut reader,
         &mut next_reader,
@@ -149,7 +149,7 @@ pub(crate) fn preview_words(
     );
     let reading = kept_cause(&reader).or(kept_cause(&next_reader));
     let status = finish(
-        desk,
+        session,
         ending,
         reading,
         &Sources::Program {
@@ -158,13 +158,13 @@ pub(crate) fn preview_words(
         },
         row,
     );
-    with_warnings(desk, status, &read_of(next, &next_reader), deny)
+    with_warnings(session, status, &read_of(next, &next_reader), deny)
 }
 
 /// Runs the log in a file with a program, and with the next one if given, and prints every scan or a number of last ones:
 /// the exit status.
 pub(crate) fn run_words(
-    desk: Desk<'_>,
+    session: Session<'_>,
     _words: &[String],
     row: &mut RefusedRow,
     last: Option<u16>,
@@ -174,17 +174,17 @@ pub(crate) fn run_words(
     requires asked { asked (texts_of _words.now)
         ≡ run plate.now files.program.now (option_map (λ next. next.now) files.next)
         files.log.now last None }
-    requires form { form_asked (texts_of _words.now) ≡ Some desk.form }
+    requires format { format_asked (texts_of _words.now) ≡ Some session.format }
     requires so_many { IfSome last (λ n. (1 ≤ n) × (n ≤ 1000)) }
 {
-    let alloc = desk.rt.alloc();
-    let mut opened = RunFiles::new(desk, RunPaths::with_program(plate, files));
-    let mut writer = Device::new(Sharing::new(desk.gathered));
+    let alloc = session.rt.alloc();
+    let mut opened = RunFiles::new(session, RunPaths::with_program(plate, files));
+    let mut writer = Device::new(SharedWriter::new(session.gathered));
     let ending = match last {
         Some(number) => last_files(alloc, number, &mut opened.inputs, &mut writer, row),
         None => report_files(alloc, &mut opened.inputs, &mut writer, row),
     };
-    finish_run(desk, ending, &opened, row)
+    finish_run(session, ending, &opened, row)
 }
 
 /// The variables that are watched, and the number of last scans, 1 to 1000, or `None` for every scan.
@@ -197,7 +197,7 @@ pub(crate) struct Watched<'a> {
 /// Runs the log in a file with a program as `run_words` does, and prints the values of variables after each scan: the exit
 /// status.
 pub(crate) fn watch_words(
-    desk: Desk<'_>,
+    session: Session<'_>,
     _words: &[String],
     row: &mut RefusedRow,
     watched: Watched<'_>,
@@ -207,26 +207,26 @@ pub(crate) fn watch_words(
     requires asked { asked (texts_of _words.now)
         ≡ run plate.now files.program.now (option_map (λ next. next.now) files.next)
         files.log.now watched.last (Some watched.names.now) }
-    requires form { form_asked (texts_of _words.now) ≡ Some desk.form }
+    requires format { format_asked (texts_of _words.now) ≡ Some session.format }
     requires so_many { IfSome watched.last (λ n. (1 ≤ n) × (n ≤ 1000)) }
 {
-    let mut opened = RunFiles::new(desk, RunPaths::with_program(plate, files));
+    let mut opened = RunFiles::new(session, RunPaths::with_program(plate, files));
     let answer = watch_files(
-        desk.rt.alloc(),
+        session.rt.alloc(),
         watched.names.as_bytes(),
         watched.last,
         &mut opened.inputs,
-        &mut Device::new(Sharing::new(desk.gathered)),
+        &mut Device::new(SharedWriter::new(session.gathered)),
         row,
     );
     match answer {
-        Ok(ending) => finish_run(desk, ending, &opened, row),
-        Err(unknown) => refuse_name(desk, watched.names, unknown, row),
+        Ok(ending) => finish_run(session, ending, &opened, row),
+        Err(unknown) => refuse_name(session, watched.names, unknown, row),
     }
 }
 
 /// Tells that a name is unknown which is to be watched: the exit status.
-fn refuse_name(desk: Desk<'_>, list: &str, unknown: UnknownName, row: &RefusedRow) -> u8 {
+fn refuse_name(session: Session<'_>, list: &str, unknown: UnknownName, row: &RefusedRow) -> u8 {
     let ending = Ending::Refused {
         input: Input::Names,
         number: 401,
@@ -237,7 +237,7 @@ fn refuse_name(desk: Desk<'_>, list: &str, unknown: UnknownName, row: &RefusedRo
         list,
         unknown,
     };
-    finish(desk, ending, None, &names, row)
+    finish(session, ending, None, &names, row)
 }
 
 /// The scans that the arguments choose.
@@ -251,17 +251,17 @@ fn scans_of(chosen: ScanChoice) -> Chosen {
 }
 
 /// How scans are written: for programs if refusals are.
-fn trace_form(form: Form) -> TraceForm {
-    match form {
-        Form::Json => TraceForm::Json,
-        Form::Long | Form::Short => TraceForm::Text,
+fn trace_format(format: Format) -> TraceFormat {
+    match format {
+        Format::Json => TraceFormat::Json,
+        Format::Long | Format::Short => TraceFormat::Text,
     }
 }
 
 /// Runs the log in a file with a program, and the next one if it is given, and shows the scans that are chosen: the exit
 /// status.
 pub(crate) fn trace_words(
-    desk: Desk<'_>,
+    session: Session<'_>,
     _words: &[String],
     row: &mut RefusedRow,
     chosen: ScanChoice,
@@ -271,23 +271,23 @@ pub(crate) fn trace_words(
     requires asked { asked (texts_of _words.now)
         ≡ trace plate.now files.program.now (option_map (λ next. next.now) files.next)
         files.log.now chosen.at chosen.scan chosen.from chosen.to }
-    requires form { form_asked (texts_of _words.now) ≡ Some desk.form }
+    requires format { format_asked (texts_of _words.now) ≡ Some session.format }
 {
-    let mut opened = RunFiles::new(desk, RunPaths::with_program(plate, files));
+    let mut opened = RunFiles::new(session, RunPaths::with_program(plate, files));
     let ending = trace_files(
-        desk.rt.alloc(),
+        session.rt.alloc(),
         scans_of(chosen),
-        trace_form(desk.form),
+        trace_format(session.format),
         &mut opened.inputs,
-        &mut Device::new(Sharing::new(desk.gathered)),
+        &mut Device::new(SharedWriter::new(session.gathered)),
         row,
     );
-    finish_run(desk, ending, &opened, row)
+    finish_run(session, ending, &opened, row)
 }
 
 /// Runs the log in a file, with a program and a next one if they are given, and writes a picture of it: the exit status.
 pub(crate) fn show_words(
-    desk: Desk<'_>,
+    session: Session<'_>,
     _words: &[String],
     row: &mut RefusedRow,
     paths: RunPaths<'_>,
@@ -295,16 +295,16 @@ pub(crate) fn show_words(
     requires asked { asked (texts_of _words.now)
         ≡ show paths.plate.now (option_map (λ path. path.now) paths.program)
         (option_map (λ path. path.now) paths.next) paths.log.now }
-    requires form { form_asked (texts_of _words.now) ≡ Some desk.form }
+    requires format { format_asked (texts_of _words.now) ≡ Some session.format }
 {
-    let mut opened = RunFiles::new(desk, paths);
+    let mut opened = RunFiles::new(session, paths);
     let ending = show_files(
-        desk.rt.alloc(),
+        session.rt.alloc(),
         &mut opened.inputs,
-        &mut Device::new(Sharing::new(desk.gathered)),
+        &mut Device::new(SharedWriter::new(session.gathered)),
         row,
     );
-    finish_run(desk, ending, &opened, row)
+    finish_run(session, ending, &opened, row)
 }
 
 /// How a command ends that decodes a report.
@@ -321,26 +321,26 @@ fn ending_of(answer: Result<(), DecodeFault>) -> Ending {
 
 /// Writes a report from standard input for people, or as a table: the exit status.
 pub(crate) fn decode_words(
-    desk: Desk<'_>,
+    session: Session<'_>,
     _words: &[String],
     row: &mut RefusedRow,
     table: bool,
 ) -> u8
     requires asked { asked (texts_of _words.now) ≡ decode table }
-    requires form { form_asked (texts_of _words.now) ≡ Some desk.form }
+    requires format { format_asked (texts_of _words.now) ≡ Some session.format }
 {
-    let input: Noting<Stdin> = Noting::new(desk.rt.stdin());
-    let mut reader = Device::new(Emptying::new(desk.gathered, input));
-    let mut writer = Device::new(Sharing::new(desk.gathered));
+    let input: RetryReader<Stdin> = RetryReader::new(session.rt.stdin());
+    let mut reader = Device::new(FlushBeforeRead::new(session.gathered, input));
+    let mut writer = Device::new(SharedWriter::new(session.gathered));
     let decoding = if table {
-        DecodeForm::Table
+        DecodeFormat::Table
     } else {
-        DecodeForm::Text
+        DecodeFormat::Text
     };
-    let answer = decode_report(desk.rt.alloc(), &mut reader, &mut writer, decoding);
+    let answer = decode_report(session.rt.alloc(), &mut reader, &mut writer, decoding);
     let reading = reader.get_ref().get_ref().cause();
     finish(
-        desk,
+        session,
         ending_of(answer),
         reading,
         &Sources::Job { bytes: None },
@@ -350,14 +350,14 @@ pub(crate) fn decode_words(
 
 /// Runs the log in a file with no program: the exit status.
 pub(crate) fn line_words<'a>(
-    desk: Desk<'_>,
+    session: Session<'_>,
     _words: &[String],
     row: &mut RefusedRow,
     plate: &'a str,
     log: &'a str,
 ) -> u8
     requires asked { asked (texts_of _words.now) ≡ line plate.now log.now }
-    requires form { form_asked (texts_of _words.now) ≡ Some desk.form }
+    requires format { format_asked (texts_of _words.now) ≡ Some session.format }
 {
     let paths = RunPaths {
         plate,
@@ -365,14 +365,14 @@ pub(crate) fn line_words<'a>(
         next: None,
         log,
     };
-    let mut opened = RunFiles::new(desk, paths);
+    let mut opened = RunFiles::new(session, paths);
     let ending = report_files(
-        desk.rt.alloc(),
+        session.rt.alloc(),
         &mut opened.inputs,
-        &mut Device::new(Sharing::new(desk.gathered)),
+        &mut Device::new(SharedWriter::new(session.gathered)),
         row,
     );
-    finish_run(desk, ending, &opened, row)
+    finish_run(session, ending, &opened, row)
 }
 
 /// The number of rows before the cut, the heading not counted: those up to the row of that number, or all.
@@ -385,7 +385,7 @@ fn rows_before(at: Option<u64>) -> u64 {
 
 /// Writes the log that goes on after a row of the log in a file, or after the last one: the exit status.
 pub(crate) fn cut_words<'a>(
-    desk: Desk<'_>,
+    session: Session<'_>,
     _words: &[String],
     row: &mut RefusedRow,
     at: Option<u64>,
@@ -393,7 +393,7 @@ pub(crate) fn cut_words<'a>(
     log: &'a str,
 ) -> u8
     requires asked { asked (texts_of _words.now) ≡ cut plate.now log.now at }
-    requires form { form_asked (texts_of _words.now) ≡ Some desk.form }
+    requires format { format_asked (texts_of _words.now) ≡ Some session.format }
 {
     let paths = RunPaths {
         plate,
@@ -401,13 +401,13 @@ pub(crate) fn cut_words<'a>(
         next: None,
         log,
     };
-    let mut opened = RunFiles::new(desk, paths);
+    let mut opened = RunFiles::new(session, paths);
     let ending = cut_files(
-        desk.rt.alloc(),
+        session.rt.alloc(),
         rows_before(at),
         &mut opened.inputs,
-        &mut Device::new(Sharing::new(desk.gathered)),
+        &mut Device::new(SharedWriter::new(session.gathered)),
         row,
     );
-    finish_run(desk, ending, &opened, row)
+    finish_run(session, ending, &opened, row)
 }

@@ -1,7 +1,7 @@
 ghost use Rattle.std.specs.Io.{ReadsAtMost};
 
-use crate::desk::Desk;
 use crate::output::{Gathered, empty_first};
+use crate::session::Session;
 use std::cell::RefCell;
 use std::fs::File;
 use std::io;
@@ -21,10 +21,10 @@ pub(crate) struct FileSource<'a> {
 
 impl<'a> FileSource<'a> {
     /// The file at a path, not opened yet.
-    pub(crate) fn new(desk: Desk<'a>, path: &'a str) -> FileSource<'a> {
+    pub(crate) fn new(session: Session<'a>, path: &'a str) -> FileSource<'a> {
         FileSource {
-            rt: desk.rt,
-            gathered: desk.gathered,
+            rt: session.rt,
+            gathered: session.gathered,
             path,
             file: None,
             cause: None,

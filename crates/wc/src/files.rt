@@ -1,18 +1,18 @@
-use crate::desk::Desk;
 use crate::file_source::FileSource;
-use crate::telling::{ReadFile, Sources};
+use crate::reporting::{ReadFile, Sources};
+use crate::session::Session;
 use std::io;
 use wc_arguments::ProgramFiles;
 use wc_controller::RunInputs;
-use wc_devices::Keeping;
+use wc_devices::TeeReader;
 use wc_model::Device;
 
 /// A file whose bytes are kept, so that a refusal shows those that were read.
-pub(crate) type KeptSource<'a> = Device<Keeping<FileSource<'a>>>;
+pub(crate) type KeptSource<'a> = Device<TeeReader<FileSource<'a>>>;
 
 /// A file whose bytes are kept. It is opened at the first read.
-pub(crate) fn kept_source<'a>(desk: Desk<'a>, path: &'a str) -> KeptSource<'a> {
-    Device::new(Keeping::new(desk.rt.alloc(), FileSource::new(desk, path)))
+pub(crate) fn kept_source<'a>(session: Session<'a>, path: &'a str) -> KeptSource<'a> {
+    Device::new(TeeReader::new(session.rt.alloc(), FileSource::new(session, path)))
 }
 
 /// Why a file could not be read, if the system said so.
@@ -29,9 +29,9 @@ pub(crate) fn read_of<'a>(path: &'a str, source: &'a KeptSource<'_>) -> ReadFile
 }
 
 /// A file that may be missing. It is opened at the first read.
-fn optional_source<'a>(desk: Desk<'a>, path: Option<&'a str>) -> Option<KeptSource<'a>> {
+fn optional_source<'a>(session: Session<'a>, path: Option<&'a str>) -> Option<KeptSource<'a>> {
     match path {
-        Some(path) => Some(kept_source(desk, path)),
+        Some(path) => Some(kept_source(session, path)),
         None => None,
     }
 }
@@ -90,14 +90,14 @@ pub(crate) struct RunFiles<'a> {
 
 impl<'a> RunFiles<'a> {
     /// The files at these paths.
-    pub(crate) fn new(desk: Desk<'a>, paths: RunPaths<'a>) -> RunFiles<'a> {
+    pub(crate) fn new(session: Session<'a>, paths: RunPaths<'a>) -> RunFiles<'a> {
         RunFiles {
             paths,
             inputs: RunInputs {
-                plate: kept_source(desk, paths.plate),
-                program: optional_source(desk, paths.program),
-                next: optional_source(desk, paths.next),
-                log: Device::new(FileSource::new(desk, paths.log)),
+                plate: kept_source(session, paths.plate),
+                program: optional_source(session, paths.program),
+                next: optional_source(session, paths.next),
+                log: Device::new(FileSource::new(session, paths.log)),
             },
         }
     }

@@ -3,15 +3,15 @@
 #![tactic(auto)]
 
 ghost use Rattle.std.specs.Prelude.{◌≡◌, Some};
-ghost use Rattle.wc_arguments.specs.Asked.{asked, explain as explain_asked, form_asked, texts_of, view};
+ghost use Rattle.wc_arguments.specs.Asked.{asked, explain as explain_asked, format_asked, texts_of, view};
 
 mod commands;
-mod desk;
 mod explaining;
 mod file_source;
 mod files;
 mod output;
-mod telling;
+mod reporting;
+mod session;
 
 use clap::Error;
 use clap::error::ErrorKind;
@@ -19,16 +19,16 @@ use commands::{
     ChangedPaths, Watched, check_words, cut_words, decode_words, line_words, preview_words,
     run_job, run_words, show_words, trace_words, watch_words,
 };
-use desk::Desk;
 use explaining::explain;
 use files::RunPaths;
 use output::{Gathered, shared_output};
+use reporting::{report_write_fault, without_memory};
+use session::Session;
 use std::cell::RefCell;
 use std::fs::File;
 use std::io::Write;
 use std::process::ExitCode;
 use std::{env, io};
-use telling::{tell_write_fault, without_memory};
 use wc_arguments::{Wanted, read_words};
 use wc_controller::RefusedRow;
 use wc_diag_messages::shown;
@@ -50,12 +50,12 @@ fn end_without_words(rt: &HostRuntime, error: &io::Error) -> u8 {
     if error.kind() == io::ErrorKind::OutOfMemory {
         return without_memory(rt);
     }
-    let _told = rt.eprintln("error: the words of the command line are not UTF-8");
+    let _reported = rt.eprintln("error: the words of the command line are not UTF-8");
     WRONG_WORDS
 }
 
 /// Says how the program is called with a word before a path, by the name by which it was called.
-fn tell_call(
+fn report_call(
     rt: &HostRuntime,
     what: &str,
     words: &[String],
@@ -76,12 +76,12 @@ fn tell_call(
 }
 
 /// Says what may be intended by an unknown first argument: which word takes a program, or how a job is read.
-fn tell_meant(rt: &HostRuntime, words: &[String]) -> io::Result<()> {
+fn report_offending(rt: &HostRuntime, words: &[String]) -> io::Result<()> {
     let job = "help: a job is read from standard input: ";
     match words.get(1) {
         Some(path) if File::open(rt, path).is_ok() => {
             if path.as_str().ends_with(".il") {
-                tell_call(
+                report_call(
                     rt,
                     "help: a program is checked by: ",
                     words,
@@ -89,34 +89,34 @@ fn tell_meant(rt: &HostRuntime, words: &[String]) -> io::Result<()> {
                     path,
                 )
             } else {
-                tell_call(rt, job, words, " < ", path)
+                report_call(rt, job, words, " < ", path)
             }
         }
         _ => {
             rt.eprintln(
                 "help: the words are check, run, trace, show, line, cut, decode, explain and help",
             )?;
-            tell_call(rt, job, words, " < ", "job.txt")
+            report_call(rt, job, words, " < ", "job.txt")
         }
     }
 }
 
 /// Says which arguments print what a word takes.
-fn tell_taken(rt: &HostRuntime, words: &[String]) -> io::Result<()> {
+fn report_taken(rt: &HostRuntime, words: &[String]) -> io::Result<()> {
     let taken = "help: what may be given is printed by: ";
     match words.get(1) {
         Some(word) if !word.as_str().starts_with("-") => {
-            tell_call(rt, taken, words, " help ", word)
+            report_call(rt, taken, words, " help ", word)
         }
-        _ => tell_call(rt, taken, words, " help", ""),
+        _ => report_call(rt, taken, words, " help", ""),
     }
 }
 
 /// Says what helps if arguments are wrong.
-fn tell_help(rt: &HostRuntime, kind: ErrorKind, words: &[String]) -> io::Result<()> {
+fn report_help(rt: &HostRuntime, kind: ErrorKind, words: &[String]) -> io::Result<()> {
     match kind {
-        ErrorKind::InvalidSubcommand => tell_meant(rt, words),
-        ErrorKind::UnknownArgument => tell_taken(rt, words),
+        ErrorKind::InvalidSubcommand => report_offending(rt, words),
+        ErrorKind::UnknownArgument => report_taken(rt, words),
         _ => Ok(()),
     }
 }
@@ -126,7 +126,7 @@ fn end_unprinted(rt: &HostRuntime, error: io::Error) -> u8 {
     if error.kind() == io::ErrorKind::OutOfMemory {
         return without_memory(rt);
     }
-    let _told = tell_write_fault(rt, Some(error));
+    let _reported = report_write_fault(rt, Some(error));
     DEVICE_FAULT
 }
 
@@ -137,7 +137,7 @@ fn show(rt: &HostRuntime, error: &Error, words: &[String]) -> u8 {
     }
     match error.print(rt) {
         Ok(()) => {
-            let _told = tell_help(rt, error.kind(), words);
+            let _reported = report_help(rt, error.kind(), words);
             error.exit_code() as u8
         }
         Err(error) => end_unprinted(rt, error),
@@ -145,7 +145,7 @@ fn show(rt: &HostRuntime, error: &Error, words: &[String]) -> u8 {
 }
 
 /// Says that there is no page of that number.
-fn tell_no_page(rt: &HostRuntime, number: &str) -> io::Result<()> {
+fn report_no_page(rt: &HostRuntime, number: &str) -> io::Result<()> {
     rt.eprint("error: there is no refusal ")?;
     let number = shown(rt.alloc(), number.as_bytes())?;
     rt.stderr().write_all(number.as_bytes())?;
@@ -159,7 +159,7 @@ fn show_page(rt: &HostRuntime, _words: &[String], number: &str) -> u8
     match explain(rt, number) {
         Ok(true) => 0,
         Ok(false) => {
-            let _told = tell_no_page(rt, number);
+            let _reported = report_no_page(rt, number);
             WRONG_WORDS
         }
         Err(error) => end_unprinted(rt, error),
@@ -168,12 +168,12 @@ fn show_page(rt: &HostRuntime, _words: &[String], number: &str) -> u8
 
 /// Does what the arguments ask for: the exit status. They are a parameter for the proof alone: nothing is done that they do not
 /// ask for.
-fn execute(desk: Desk<'_>, words: &[String], row: &mut RefusedRow, wanted: Wanted<'_>) -> u8
+fn execute(session: Session<'_>, words: &[String], row: &mut RefusedRow, wanted: Wanted<'_>) -> u8
     requires asked { asked (texts_of words.now) ≡ view wanted }
-    requires form { form_asked (texts_of words.now) ≡ Some desk.form }
+    requires format { format_asked (texts_of words.now) ≡ Some session.format }
 {
     match wanted {
-        Wanted::Job => run_job(desk, words, row),
+        Wanted::Job => run_job(session, words, row),
         Wanted::Check {
             program,
             next,
@@ -181,14 +181,14 @@ fn execute(desk: Desk<'_>, words: &[String], row: &mut RefusedRow, wanted: Wante
             deny,
         } => match next {
             Some(next) => preview_words(
-                desk,
+                session,
                 words,
                 row,
                 ChangedPaths { program, next },
                 paths,
                 deny,
             ),
-            None => check_words(desk, words, row, program, paths, deny),
+            None => check_words(session, words, row, program, paths, deny),
         },
         Wanted::Run {
             plate,
@@ -198,22 +198,29 @@ fn execute(desk: Desk<'_>, words: &[String], row: &mut RefusedRow, wanted: Wante
         } => match last {
             Some(number) if number < 1 || number > 1000 => WRONG_WORDS,
             last => match watch {
-                Some(names) => watch_words(desk, words, row, Watched { names, last }, plate, files),
-                None => run_words(desk, words, row, last, plate, files),
+                Some(names) => watch_words(
+                    session,
+                    words,
+                    row,
+                    Watched { names, last },
+                    plate,
+                    files,
+                ),
+                None => run_words(session, words, row, last, plate, files),
             },
         },
         Wanted::Trace {
             plate,
             files,
             chosen,
-        } => trace_words(desk, words, row, chosen, plate, files),
+        } => trace_words(session, words, row, chosen, plate, files),
         Wanted::Show {
             plate,
             program,
             next,
             log,
         } => show_words(
-            desk,
+            session,
             words,
             row,
             RunPaths {
@@ -223,10 +230,10 @@ fn execute(desk: Desk<'_>, words: &[String], row: &mut RefusedRow, wanted: Wante
                 log,
             },
         ),
-        Wanted::Decode { table } => decode_words(desk, words, row, table),
-        Wanted::Explain { number } => show_page(desk.rt, words, number),
-        Wanted::Line { plate, log } => line_words(desk, words, row, plate, log),
-        Wanted::Cut { plate, log, at } => cut_words(desk, words, row, at, plate, log),
+        Wanted::Decode { table } => decode_words(session, words, row, table),
+        Wanted::Explain { number } => show_page(session.rt, words, number),
+        Wanted::Line { plate, log } => line_words(session, words, row, plate, log),
+        Wanted::Cut { plate, log, at } => cut_words(session, words, row, at, plate, log),
     }
 }
 
@@ -234,10 +241,14 @@ fn execute(desk: Desk<'_>, words: &[String], row: &mut RefusedRow, wanted: Wante
 fn answer(rt: &HostRuntime, words: &[String], gathered: &RefCell<Gathered>) -> u8 {
     match read_words(rt.alloc(), words) {
         Ok(request) => {
-            let form = request.form;
-            let desk = Desk { rt, form, gathered };
+            let format = request.format;
+            let session = Session {
+                rt,
+                format,
+                gathered,
+            };
             execute(
-                desk,
+                session,
                 words,
                 &mut RefusedRow::new(rt.alloc()),
                 request.wanted,

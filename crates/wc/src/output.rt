@@ -2,38 +2,38 @@ use std::alloc::AllocError;
 use std::cell::RefCell;
 use std::io;
 use std::io::{Read, Stdout, Write};
-use wc_devices::{Gathering, Noting};
+use wc_devices::{OutputBuffer, RetryReader};
 
 /// The number of bytes that are gathered before they are written.
-const PIECE: usize = 65536;
+const CHUNK: usize = 65536;
 
 /// Standard output, and what is gathered for it.
-pub(crate) type Gathered = Gathering<Noting<Stdout>>;
+pub(crate) type Gathered = OutputBuffer<RetryReader<Stdout>>;
 
 /// Standard output, for which nothing is gathered yet. It is shared by the writer that gathers and by the readers that
 /// have it emptied.
 pub(crate) fn shared_output(rt: &HostRuntime) -> Result<RefCell<Gathered>, AllocError> {
-    let gathered = Gathering::new(rt.alloc(), Noting::new(rt.stdout()), PIECE)?;
+    let gathered = OutputBuffer::new(rt.alloc(), RetryReader::new(rt.stdout()), CHUNK)?;
     Ok(RefCell::new(gathered))
 }
 
 /// A writer to what is shared.
 #[derive(Drop)]
-pub(crate) struct Sharing<'a> {
+pub(crate) struct SharedWriter<'a> {
     gathered: &'a RefCell<Gathered>,
 }
 
-impl<'a> Sharing<'a> {
+impl<'a> SharedWriter<'a> {
     /// A writer to what is gathered.
-    pub(crate) fn new(gathered: &'a RefCell<Gathered>) -> Sharing<'a> {
-        Sharing { gathered }
+    pub(crate) fn new(gathered: &'a RefCell<Gathered>) -> SharedWriter<'a> {
+        SharedWriter { gathered }
     }
 }
 
-impl Write for Sharing<'_> {
-    fn write(&mut self, piece: &[u8]) -> io::Result<usize> {
+impl Write for SharedWriter<'_> {
+    fn write(&mut self, chunk: &[u8]) -> io::Result<usize> {
         let mut gathered = self.gathered.try_borrow_mut()?;
-        gathered.write(piece)
+        gathered.write(chunk)
     }
 
     fn flush(&mut self) -> io::Result<()> {
@@ -44,15 +44,15 @@ impl Write for Sharing<'_> {
 
 /// A reader before each of whose reads what is gathered is written, so that no line waits for more input.
 #[derive(Drop)]
-pub(crate) struct Emptying<'a, D> {
+pub(crate) struct FlushBeforeRead<'a, D> {
     gathered: &'a RefCell<Gathered>,
     inner: D,
 }
 
-impl<'a, D> Emptying<'a, D> {
+impl<'a, D> FlushBeforeRead<'a, D> {
     /// A reader of the same bytes.
-    pub(crate) fn new(gathered: &'a RefCell<Gathered>, inner: D) -> Emptying<'a, D> {
-        Emptying { gathered, inner }
+    pub(crate) fn new(gathered: &'a RefCell<Gathered>, inner: D) -> FlushBeforeRead<'a, D> {
+        FlushBeforeRead { gathered, inner }
     }
 
     /// The reader inside.
@@ -67,7 +67,7 @@ pub(crate) fn empty_first(gathered: &RefCell<Gathered>) -> io::Result<()> {
     gathered.empty()
 }
 
-impl<D: Read> Read for Emptying<'_, D> {
+impl<D: Read> Read for FlushBeforeRead<'_, D> {
     ghost remaining = { λ e. D.remaining e.inner };
 
     fn read(&mut self, buffer: &mut [u8]) -> io::Result<usize> {

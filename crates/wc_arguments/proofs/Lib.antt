@@ -1,4 +1,4 @@
 pub mod Tables
 pub mod Given
-pub mod FormWords
+pub mod FormatWords
 pub mod Plain

@@ -5,7 +5,7 @@ use Rattle.clap.specs.Lexer.{long_of, short_of}
 use Rattle.std.specs.Str.{bytes_eq}
 use Rattle.clap.proofs.OnLiterals.{clap_on_literals}
 use Rattle.clap.specs.declared.error.kind.ErrorKind.TheVariants as kind
-use Rattle.wc_diag_texts.specs.declared.form.Form.TheVariants.{Long}
+use Rattle.wc_diag_texts.specs.declared.format.Format.TheVariants.{Long}
 use Rattle.wc_arguments.specs.Asked.{Ask, IsPlain, asked, check, cut, decode, explain, fault_in, job, line, run, show, trace}
 
 -- the argument is not an option, a bundle of flags or `--`
@@ -16,90 +16,90 @@ pub plain : (word : Text) → IsPlain word → IsValue word
 plain [] h = (refl, refl, refl)
 plain (x ∷ xs) h = (rw h refl, rw h refl, rw h refl)
 
-pub job_form : (name : Text) → Ask (name ∷ []) job Long
+pub job_format : (name : Text) → Ask (name ∷ []) job Long
 unfolding clap_on_literals
-job_form name = (refl, refl, refl, refl)
+job_format name = (refl, refl, refl, refl)
 
-pub check_form : (name p : Text) → IsValue p → Ask (name ∷ codes "check" ∷ p ∷ []) (check p None false false) Long
+pub check_format : (name p : Text) → IsValue p → Ask (name ∷ codes "check" ∷ p ∷ []) (check p None false false) Long
 unfolding clap_on_literals
-check_form name p v = (rw (v.0, v.1, v.2) refl, rw (v.0, v.1, v.2) refl, rw (v.0, v.1, v.2) refl, refl)
+check_format name p v = (rw (v.0, v.1, v.2) refl, rw (v.0, v.1, v.2) refl, rw (v.0, v.1, v.2) refl, refl)
 
-pub paths_form : (name p : Text) → IsValue p → Ask (name ∷ codes "check" ∷ codes "--path" ∷ p ∷ []) (check p None true false) Long
+pub paths_format : (name p : Text) → IsValue p → Ask (name ∷ codes "check" ∷ codes "--path" ∷ p ∷ []) (check p None true false) Long
 unfolding clap_on_literals
-paths_form name p v = (rw (v.0, v.1, v.2) refl, rw (v.0, v.1, v.2) refl, rw (v.0, v.1, v.2) refl, refl)
+paths_format name p v = (rw (v.0, v.1, v.2) refl, rw (v.0, v.1, v.2) refl, rw (v.0, v.1, v.2) refl, refl)
 
-pub deny_form : (name p : Text) → IsValue p → Ask (name ∷ codes "check" ∷ codes "--deny-warnings" ∷ p ∷ []) (check p None false true) Long
+pub deny_format : (name p : Text) → IsValue p → Ask (name ∷ codes "check" ∷ codes "--deny-warnings" ∷ p ∷ []) (check p None false true) Long
 unfolding clap_on_literals
-deny_form name p v = (rw (v.0, v.1, v.2) refl, rw (v.0, v.1, v.2) refl, rw (v.0, v.1, v.2) refl, refl)
+deny_format name p v = (rw (v.0, v.1, v.2) refl, rw (v.0, v.1, v.2) refl, rw (v.0, v.1, v.2) refl, refl)
 
-pub preview_form : (name : Text) → Ask (name ∷ codes "check" ∷ codes "--next" ∷ codes "b" ∷ codes "a" ∷ []) (check (codes "a") (Some (codes "b")) false false) Long
+pub preview_format : (name : Text) → Ask (name ∷ codes "check" ∷ codes "--next" ∷ codes "b" ∷ codes "a" ∷ []) (check (codes "a") (Some (codes "b")) false false) Long
 unfolding clap_on_literals
-preview_form name = (refl, refl, refl, refl)
+preview_format name = (refl, refl, refl, refl)
 
-pub run_form : (name p q l : Text) → IsValue p → IsValue q → IsValue l
+pub run_format : (name p q l : Text) → IsValue p → IsValue q → IsValue l
     → asked (name ∷ codes "run" ∷ codes "--plate" ∷ p ∷ codes "--program" ∷ q ∷ codes "--log" ∷ l ∷ []) ≡ run p q None l None None
 unfolding clap_on_literals
-run_form name p q l u v w = rw (u.0, u.1, u.2) (rw (v.0, v.1, v.2) (rw (w.0, w.1, w.2) refl))
+run_format name p q l u v w = rw (u.0, u.1, u.2) (rw (v.0, v.1, v.2) (rw (w.0, w.1, w.2) refl))
 
-pub next_form : (name : Text) → Ask (name ∷ codes "run" ∷ codes "--plate" ∷ codes "a" ∷ codes "--program" ∷ codes "b" ∷ codes "--next" ∷ codes "c" ∷ codes "--log" ∷ codes "d" ∷ [])
+pub next_format : (name : Text) → Ask (name ∷ codes "run" ∷ codes "--plate" ∷ codes "a" ∷ codes "--program" ∷ codes "b" ∷ codes "--next" ∷ codes "c" ∷ codes "--log" ∷ codes "d" ∷ [])
     (run (codes "a") (codes "b") (Some (codes "c")) (codes "d") None None) Long
 unfolding clap_on_literals
-next_form name = (refl, refl, refl, refl)
+next_format name = (refl, refl, refl, refl)
 
-pub trace_form : (name : Text) → Ask (name ∷ codes "trace" ∷ codes "--plate" ∷ codes "a" ∷ codes "--program" ∷ codes "b" ∷ codes "--log" ∷ codes "c" ∷ codes "--at" ∷ codes "650" ∷ [])
+pub trace_format : (name : Text) → Ask (name ∷ codes "trace" ∷ codes "--plate" ∷ codes "a" ∷ codes "--program" ∷ codes "b" ∷ codes "--log" ∷ codes "c" ∷ codes "--at" ∷ codes "650" ∷ [])
     (trace (codes "a") (codes "b") None (codes "c") (Some 650) None None None) Long
 unfolding clap_on_literals
-trace_form name = (refl, refl, refl, refl)
+trace_format name = (refl, refl, refl, refl)
 
-pub watch_form : (name : Text) → asked (name ∷ codes "run" ∷ codes "--plate" ∷ codes "a" ∷ codes "--program" ∷ codes "b" ∷ codes "--log" ∷ codes "c" ∷ codes "--watch" ∷ codes "d,t.ET" ∷ [])
+pub watch_format : (name : Text) → asked (name ∷ codes "run" ∷ codes "--plate" ∷ codes "a" ∷ codes "--program" ∷ codes "b" ∷ codes "--log" ∷ codes "c" ∷ codes "--watch" ∷ codes "d,t.ET" ∷ [])
     ≡ run (codes "a") (codes "b") None (codes "c") None (Some (codes "d,t.ET"))
 unfolding clap_on_literals
-watch_form name = refl
+watch_format name = refl
 
-pub show_form : (name : Text) → Ask (name ∷ codes "show" ∷ codes "--plate" ∷ codes "a" ∷ codes "--log" ∷ codes "b" ∷ []) (show (codes "a") None None (codes "b")) Long
+pub show_format : (name : Text) → Ask (name ∷ codes "show" ∷ codes "--plate" ∷ codes "a" ∷ codes "--log" ∷ codes "b" ∷ []) (show (codes "a") None None (codes "b")) Long
 unfolding clap_on_literals
-show_form name = (refl, refl, refl, refl)
+show_format name = (refl, refl, refl, refl)
 
-pub drawn_form : (name : Text) → Ask (name ∷ codes "show" ∷ codes "--plate" ∷ codes "a" ∷ codes "--program" ∷ codes "b" ∷ codes "--log" ∷ codes "c" ∷ [])
+pub drawn_format : (name : Text) → Ask (name ∷ codes "show" ∷ codes "--plate" ∷ codes "a" ∷ codes "--program" ∷ codes "b" ∷ codes "--log" ∷ codes "c" ∷ [])
     (show (codes "a") (Some (codes "b")) None (codes "c")) Long
 unfolding clap_on_literals
-drawn_form name = (refl, refl, refl, refl)
+drawn_format name = (refl, refl, refl, refl)
 
-pub redrawn_form : (name : Text) → Ask (name ∷ codes "show" ∷ codes "--plate" ∷ codes "a" ∷ codes "--program" ∷ codes "b" ∷ codes "--next" ∷ codes "c" ∷ codes "--log" ∷ codes "d" ∷ [])
+pub redrawn_format : (name : Text) → Ask (name ∷ codes "show" ∷ codes "--plate" ∷ codes "a" ∷ codes "--program" ∷ codes "b" ∷ codes "--next" ∷ codes "c" ∷ codes "--log" ∷ codes "d" ∷ [])
     (show (codes "a") (Some (codes "b")) (Some (codes "c")) (codes "d")) Long
 unfolding clap_on_literals
-redrawn_form name = (refl, refl, refl, refl)
+redrawn_format name = (refl, refl, refl, refl)
 
-pub next_alone_form : (name : Text) → fault_in (name ∷ codes "show" ∷ codes "--plate" ∷ codes "a" ∷ codes "--next" ∷ codes "b" ∷ codes "--log" ∷ codes "c" ∷ []) ≡ kind.MissingRequiredArgument ∷ []
+pub next_alone_format : (name : Text) → fault_in (name ∷ codes "show" ∷ codes "--plate" ∷ codes "a" ∷ codes "--next" ∷ codes "b" ∷ codes "--log" ∷ codes "c" ∷ []) ≡ kind.MissingRequiredArgument ∷ []
 unfolding clap_on_literals
-next_alone_form name = refl
+next_alone_format name = refl
 
-pub line_form : (name p l : Text) → IsValue p → IsValue l → Ask (name ∷ codes "line" ∷ codes "--plate" ∷ p ∷ codes "--log" ∷ l ∷ []) (line p l) Long
+pub line_format : (name p l : Text) → IsValue p → IsValue l → Ask (name ∷ codes "line" ∷ codes "--plate" ∷ p ∷ codes "--log" ∷ l ∷ []) (line p l) Long
 unfolding clap_on_literals
-line_form name p l u w = (rw (u.0, u.1, u.2, w.0, w.1, w.2) refl, rw (u.0, u.1, u.2, w.0, w.1, w.2) refl, rw (u.0, u.1, u.2, w.0, w.1, w.2) refl, refl)
+line_format name p l u w = (rw (u.0, u.1, u.2, w.0, w.1, w.2) refl, rw (u.0, u.1, u.2, w.0, w.1, w.2) refl, rw (u.0, u.1, u.2, w.0, w.1, w.2) refl, refl)
 
-pub cut_form : (name p l : Text) → IsValue p → IsValue l → Ask (name ∷ codes "cut" ∷ codes "--plate" ∷ p ∷ codes "--log" ∷ l ∷ []) (cut p l None) Long
+pub cut_format : (name p l : Text) → IsValue p → IsValue l → Ask (name ∷ codes "cut" ∷ codes "--plate" ∷ p ∷ codes "--log" ∷ l ∷ []) (cut p l None) Long
 unfolding clap_on_literals
-cut_form name p l u w = (rw (u.0, u.1, u.2, w.0, w.1, w.2) refl, rw (u.0, u.1, u.2, w.0, w.1, w.2) refl, rw (u.0, u.1, u.2, w.0, w.1, w.2) refl, refl)
+cut_format name p l u w = (rw (u.0, u.1, u.2, w.0, w.1, w.2) refl, rw (u.0, u.1, u.2, w.0, w.1, w.2) refl, rw (u.0, u.1, u.2, w.0, w.1, w.2) refl, refl)
 
-pub cut_at_form : (name : Text) → Ask (name ∷ codes "cut" ∷ codes "--plate" ∷ codes "a" ∷ codes "--log" ∷ codes "b" ∷ codes "--at" ∷ codes "5000" ∷ [])
+pub cut_at_format : (name : Text) → Ask (name ∷ codes "cut" ∷ codes "--plate" ∷ codes "a" ∷ codes "--log" ∷ codes "b" ∷ codes "--at" ∷ codes "5000" ∷ [])
     (cut (codes "a") (codes "b") (Some 5000)) Long
 unfolding clap_on_literals
-cut_at_form name = (refl, refl, refl, refl)
+cut_at_format name = (refl, refl, refl, refl)
 
-pub decode_form : (name : Text) → Ask (name ∷ codes "decode" ∷ []) (decode false) Long
+pub decode_format : (name : Text) → Ask (name ∷ codes "decode" ∷ []) (decode false) Long
 unfolding clap_on_literals
-decode_form name = (refl, refl, refl, refl)
+decode_format name = (refl, refl, refl, refl)
 
-pub table_form : (name : Text) → Ask (name ∷ codes "decode" ∷ codes "--csv" ∷ []) (decode true) Long
+pub table_format : (name : Text) → Ask (name ∷ codes "decode" ∷ codes "--csv" ∷ []) (decode true) Long
 unfolding clap_on_literals
-table_form name = (refl, refl, refl, refl)
+table_format name = (refl, refl, refl, refl)
 
-pub explain_form : (name : Text) → Ask (name ∷ codes "explain" ∷ codes "403" ∷ []) (explain (codes "403")) Long
+pub explain_format : (name : Text) → Ask (name ∷ codes "explain" ∷ codes "403" ∷ []) (explain (codes "403")) Long
 unfolding clap_on_literals
-explain_form name = (refl, refl, refl, refl)
+explain_format name = (refl, refl, refl, refl)
 
-pub last_form : (name : Text) → Ask (name ∷ codes "run" ∷ codes "--last" ∷ codes "10" ∷ codes "--log" ∷ codes "a" ∷ codes "--program" ∷ codes "b" ∷ codes "--plate=c" ∷ [])
+pub last_format : (name : Text) → Ask (name ∷ codes "run" ∷ codes "--last" ∷ codes "10" ∷ codes "--log" ∷ codes "a" ∷ codes "--program" ∷ codes "b" ∷ codes "--plate=c" ∷ [])
     (run (codes "c") (codes "b") None (codes "a") (Some 10) None) Long
 unfolding clap_on_literals
-last_form name = (refl, refl, refl, refl)
+last_format name = (refl, refl, refl, refl)

@@ -11,8 +11,8 @@ use Rattle.clap.specs.Words.{Kinds, Row, Text, fault_of, first_of, matches_of, o
 use Rattle.clap.specs.Words.{subcommand_of}
 use Rattle.clap.specs.Kinds.{or_else}
 use Rattle.clap.specs.declared.error.kind.ErrorKind.TheVariants as kind
-use Rattle.wc_diag_texts.specs.declared.form.Form.{Form}
-use Rattle.wc_diag_texts.specs.declared.form.Form.TheVariants.{Long, Short, Json}
+use Rattle.wc_diag_texts.specs.declared.format.Format.{Format}
+use Rattle.wc_diag_texts.specs.declared.format.Format.TheVariants.{Long, Short, Json}
 use Rattle.clap.specs.ValueTests.{accepts}
 use Rattle.clap.specs.declared.builder.value_parser.ValueParser.TheVariants.{Unsigned}
 use Rattle.wc_arguments.specs.CommandLine.{command_line}
@@ -104,7 +104,7 @@ asked_at word given =
 
 -- what is asked for by the word that was found: a job if there was none
 abbrev pub asked_by : Option (Text × List Row) → Asked
-asked_by met = option_map_or (λ at. asked_at at.0 at.1) met job
+asked_by raised = option_map_or (λ at. asked_at at.0 at.1) raised job
 
 -- what the arguments ask for
 abbrev pub asked : List Text → Asked
@@ -130,21 +130,21 @@ view (wanted.Line plate log) = line plate.now log.now
 view (wanted.Cut plate log at) = cut plate.now log.now at
 
 -- the text of a format that is given after the word that was found, or else before it
-abbrev pub form_in : Option (Text × List Row) → List Row → Option Text
-form_in met before = option_or (option_and_then (λ at. first_of (codes "message") at.1) met)
+abbrev pub format_in : Option (Text × List Row) → List Row → Option Text
+format_in raised before = option_or (option_and_then (λ at. first_of (codes "message") at.1) raised)
     (first_of (codes "message") before)
 
 -- the format of that name
-abbrev pub form_named : Text → Option Form
-form_named text = if bytes_eq text (codes "long") then Some Long
+abbrev pub format_named : Text → Option Format
+format_named text = if bytes_eq text (codes "long") then Some Long
     else (if bytes_eq text (codes "short") then Some Short
     else (if bytes_eq text (codes "json") then Some Json else None))
 
 -- the format of a refusal's message, the long one if none is given; none if it is not a
 -- format
-abbrev pub form_asked : List Text → Option Form
-form_asked words = option_map_or form_named
-    (form_in (subcommand_of command_line words) (matches_of command_line words)) (Some Long)
+abbrev pub format_asked : List Text → Option Format
+format_asked words = option_map_or format_named
+    (format_in (subcommand_of command_line words) (matches_of command_line words)) (Some Long)
 
 -- a next program is given, and none whose place it could take
 abbrev pub lacks_program : Asked → Bool
@@ -153,13 +153,13 @@ lacks_program this = false
 
 -- the kinds of fault by which the arguments are refused, those of the first step that fails
 abbrev pub fault_in : List Text → Kinds
-fault_in words = or_else (fault_of command_line words) (if is_some (form_asked words)
+fault_in words = or_else (fault_of command_line words) (if is_some (format_asked words)
     then (if lacks_program (asked words) then kind.MissingRequiredArgument ∷ [] else [])
     else kind.InvalidValue ∷ [])
 
 -- the arguments are not refused, and ask for this, and for refusals in this format
-abbrev pub Ask : List Text → Asked → Form → Type 0
-Ask words this form = (asked words ≡ this) × (form_asked words ≡ Some form)
+abbrev pub Ask : List Text → Asked → Format → Type 0
+Ask words this format = (asked words ≡ this) × (format_asked words ≡ Some format)
     × (fault_of command_line words ≡ []) × (lacks_program this ≡ false)
 
 -- an argument that does not begin with a hyphen (45), so that it is not an option

@@ -1,12 +1,12 @@
 //! The arguments of the command line: what they ask the program for, and which of them are refused.
 #![tactic(auto)]
 
-mod forms;
+mod formats;
 mod scan_choice;
 mod table;
 mod title;
 mod words;
 
-pub use forms::plain_forms;
+pub use formats::plain_formats;
 pub use scan_choice::ScanChoice;
 pub use words::{AskedCommand, ProgramFiles, Wanted, read_words};

@@ -2,7 +2,7 @@ ghost use Rattle.std.specs.Prelude.{◌≡◌, IfOk, Some, codes, false, option_
 ghost use Rattle.std.specs.Option.{option_map_or};
 ghost use Rattle.clap.specs.Words.{FailsBy, app_of, fault_of, first_of, found_of, rows_of, subcommand_rows_of};
 ghost use Rattle.wc_arguments.specs.Asked.{asked, asked_at, asked_by, fault_in, file_in, flag_in};
-ghost use Rattle.wc_arguments.specs.Asked.{form_asked, form_in, form_named, lacks_program, number_in, texts_of, view};
+ghost use Rattle.wc_arguments.specs.Asked.{format_asked, format_in, format_named, lacks_program, number_in, texts_of, view};
 ghost use Rattle.wc_arguments.specs.Asked.{wide_number_in};
 ghost use Rattle.wc_arguments.specs.CommandLine.{command_line};
 
@@ -12,7 +12,7 @@ use crate::title::{Title, title_of};
 use clap::error::ErrorKind;
 use clap::{ArgMatches, Command, Error};
 use std::alloc::{AllocError, Global};
-use wc_diag_texts::Form;
+use wc_diag_texts::Format;
 use wc_identity::VERSION_TEXT;
 
 /// The paths of a program, of the one that takes its place if it is changed, and of the log that is run with them.
@@ -82,11 +82,11 @@ pub enum Wanted<'a> {
 #[derive(Clone, Copy)]
 pub struct AskedCommand<'a> {
     pub wanted: Wanted<'a>,
-    pub form: Form,
+    pub format: Format,
 }
 
 /// What is said of an unknown format.
-const NO_FORM: &str = "the form after '--message' is none of long, short and json";
+const NO_FORMAT: &str = "the form after '--message' is none of long, short and json";
 
 /// What is said if a next program is given alone.
 const NO_PROGRAM: &str = "'--next' is given, and no '--program' whose place it could take";
@@ -223,13 +223,13 @@ fn wanted_by<'a>(word: &str, matches: &ArgMatches<'a>) -> Wanted<'a>
 /// What is asked for, and the text of the format that is given after the word, or else before it.
 fn asked_in<'a>(matches: &ArgMatches<'a>) -> (Wanted<'a>, Option<&'a str>)
     ensures asked { view result.0 ≡ asked_by (subcommand_rows_of matches.now) }
-    ensures form { option_map (λ text. text.now) result.1
-        ≡ form_in (subcommand_rows_of matches.now) (rows_of (found_of matches.now)) }
+    ensures format { option_map (λ text. text.now) result.1
+        ≡ format_in (subcommand_rows_of matches.now) (rows_of (found_of matches.now)) }
 {
     let before = matches.get_str("message");
     match matches.subcommand() {
         Some((word, inner)) => match inner.get_str("message") {
-            Some(behind) => (wanted_by(word, inner), Some(behind)),
+            Some(following) => (wanted_by(word, inner), Some(following)),
             None => (wanted_by(word, inner), before),
         },
         None => (Wanted::Job, before),
@@ -237,25 +237,25 @@ fn asked_in<'a>(matches: &ArgMatches<'a>) -> (Wanted<'a>, Option<&'a str>)
 }
 
 /// The format of that name.
-fn form_named(text: &str) -> Option<Form>
-    ensures { result ≡ form_named text.now }
+fn format_named(text: &str) -> Option<Format>
+    ensures { result ≡ format_named text.now }
 {
     match text {
-        "long" => Some(Form::Long),
-        "short" => Some(Form::Short),
-        "json" => Some(Form::Json),
+        "long" => Some(Format::Long),
+        "short" => Some(Format::Short),
+        "json" => Some(Format::Json),
         _ => None,
     }
 }
 
 /// The format that a text names, the long one if none is given.
-fn form_of(text: Option<&str>) -> Option<Form>
-    ensures { result ≡ option_map_or form_named
-        (option_map (λ given. given.now) text.entry) (Some Form.Long) }
+fn format_of(text: Option<&str>) -> Option<Format>
+    ensures { result ≡ option_map_or format_named
+        (option_map (λ given. given.now) text.entry) (Some Format.Long) }
 {
     match text {
-        Some(text) => form_named(text),
-        None => Some(Form::Long),
+        Some(text) => format_named(text),
+        None => Some(Format::Long),
     }
 }
 
@@ -278,16 +278,16 @@ fn lacks_program(wanted: &Wanted<'_>) -> bool
 fn read_by<'a>(
     line: &mut Command<'a>,
     words: &'a [String],
-) -> Result<(Wanted<'a>, Option<Form>), Error>
+) -> Result<(Wanted<'a>, Option<Format>), Error>
     requires { app_of line.old ≡ command_line }
     ensures asked { IfOk result (λ read. view read.0 ≡ asked (texts_of words.now)) }
-    ensures form { IfOk result (λ read. read.1 ≡ form_asked (texts_of words.now)) }
+    ensures format { IfOk result (λ read. read.1 ≡ format_asked (texts_of words.now)) }
     ensures refused { FailsBy (fault_of command_line (texts_of words.now)) result }
 {
     match line.try_get_matches_from_mut(words) {
         Ok(matches) => {
             let (wanted, text) = asked_in(&matches);
-            Ok((wanted, form_of(text)))
+            Ok((wanted, format_of(text)))
         }
         Err(error) => Err(error),
     }
@@ -297,21 +297,22 @@ fn read_by<'a>(
 fn asked_by<'a>(line: &mut Command<'a>, words: &'a [String]) -> Result<AskedCommand<'a>, Error>
     requires { app_of line.old ≡ command_line }
     ensures asked { IfOk result (λ request. view request.wanted ≡ asked (texts_of words.now)) }
-    ensures form { IfOk result (λ request. form_asked (texts_of words.now) ≡ Some request.form) }
+    ensures format { IfOk result (λ request. format_asked (texts_of words.now)
+        ≡ Some request.format) }
     ensures refused { FailsBy (fault_in (texts_of words.now)) result }
 {
-    let (wanted, form) = match read_by(line, words) {
+    let (wanted, format) = match read_by(line, words) {
         Ok(read) => read,
         Err(error) => return Err(error),
     };
-    match form {
-        Some(form) => {
+    match format {
+        Some(format) => {
             if lacks_program(&wanted) {
                 return Err(line.error(ErrorKind::MissingRequiredArgument, NO_PROGRAM)?);
             }
-            Ok(AskedCommand { wanted, form })
+            Ok(AskedCommand { wanted, format })
         }
-        None => Err(line.error(ErrorKind::InvalidValue, NO_FORM)?),
+        None => Err(line.error(ErrorKind::InvalidValue, NO_FORMAT)?),
     }
 }
 
@@ -319,7 +320,8 @@ fn asked_by<'a>(line: &mut Command<'a>, words: &'a [String]) -> Result<AskedComm
 /// was asked for.
 pub fn read_words<'a>(alloc: Global, words: &'a [String]) -> Result<AskedCommand<'a>, Error>
     ensures asked { IfOk result (λ request. view request.wanted ≡ asked (texts_of words.now)) }
-    ensures form { IfOk result (λ request. form_asked (texts_of words.now) ≡ Some request.form) }
+    ensures format { IfOk result (λ request. format_asked (texts_of words.now)
+        ≡ Some request.format) }
     ensures refused { FailsBy (fault_in (texts_of words.now)) result }
 {
     let mut line = command(alloc, title_of(words))?;

@@ -1,7 +1,7 @@
 ghost use Rattle.std.specs.Prelude.{◌≡◌, ◌≤◌, List, false, pos, [], ◌∷◌};
 ghost use Rattle.wc_blocks.specs.Views.{tp_view};
 ghost use Rattle.wc_laws_language.specs.Laws.{tp_call};
-ghost use Rattle.wc_model.specs.Language.Blocks.{tp_begun, tp_idle, tp_over, tp_step};
+ghost use Rattle.wc_model.specs.Language.Blocks.{tp_started, tp_idle, tp_over, tp_step};
 ghost use Rattle.wc_model.specs.Language.Histories.{FitsTp, TimerCall};
 
 use crate::elapsed::preset;
@@ -72,7 +72,7 @@ impl Tp {
     #[inline(always)]
     fn pulse_from(&mut self, now: u64, start: u64)
         requires { start ≤ now }
-        ensures { tp_view self.new ≡ tp_begun (tp_view self.old) now start }
+        ensures { tp_view self.new ≡ tp_started (tp_view self.old) now start }
     {
         if now - start < preset(self.pt) {
             self.q = true;

@@ -60,16 +60,16 @@ abbrev pub AreRead : {X Y : Type 0} → (X → Option Y) → List (Name × X) �
 AreRead {X} {Y} f rows part = map (λ (row : Name × Y). option_and_then f (named_in rows row.0)) part ≡ map (λ (row : Name × Y). Some row.1) part
 
 -- each row that can be read is in the other table
-abbrev pub stands_in : {X Y : Type 0} → (X → Option Y) → List (Name × Y) → Name × X → Bool
-stands_in f part row = not (is_some (f row.1)) || is_some (named_in part row.0)
+abbrev pub is_allowed_in : {X Y : Type 0} → (X → Option Y) → List (Name × Y) → Name × X → Bool
+is_allowed_in f part row = not (is_some (f row.1)) || is_some (named_in part row.0)
 
 -- what is found in the part is read
 read_of : {X Y : Type 0} (f : X → Option Y) (rows : List (Name × X)) (part : List (Name × Y)) (name : Name) (y : Y) → AreRead f rows part → named_in part name ≡ Some y → option_and_then f (named_in rows name) ≡ Some y
 read_of f rows [] name y read e = cc
 read_of {X} {Y} f rows (row ∷ part) name y read e =
     let first : option_and_then f (named_in rows row.0) ≡ Some row.1 = cc in
-    let behind : AreRead f rows part = cc in
-    by (same_name row.0 name) refl e first (read_of f rows part name y behind)
+    let following : AreRead f rows part = cc in
+    by (same_name row.0 name) refl e first (read_of f rows part name y following)
   where
     by : (b : Bool) → same_name row.0 name ≡ b → (if◌then◌else◌ {A = Option Y} b (Some row.1) (named_in part name)) ≡ Some y → option_and_then f (named_in rows row.0) ≡ Some row.1
         → (named_in part name ≡ Some y → option_and_then f (named_in rows name) ≡ Some y) → option_and_then f (named_in rows name) ≡ Some y
@@ -77,22 +77,22 @@ read_of {X} {Y} f rows (row ∷ part) name y read e =
     by false same e first rest = rest e
 
 -- what is not found there is not
-none_read : {X Y : Type 0} (f : X → Option Y) (rows : List (Name × X)) (part : List (Name × Y)) (name : Name) → list_all (stands_in f part) rows ≡ true → named_in part name ≡ None → option_and_then f (named_in rows name) ≡ None
+none_read : {X Y : Type 0} (f : X → Option Y) (rows : List (Name × X)) (part : List (Name × Y)) (name : Name) → list_all (is_allowed_in f part) rows ≡ true → named_in part name ≡ None → option_and_then f (named_in rows name) ≡ None
 none_read f [] part name all none = refl
 none_read {X} {Y} f (row ∷ rows) part name all none =
-    let parts = and_parts (stands_in f part row) (list_all (stands_in f part) rows) all in
+    let parts = and_parts (is_allowed_in f part row) (list_all (is_allowed_in f part) rows) all in
     by (same_name row.0 name) refl parts.0 (none_read f rows part name parts.1 none)
   where
     alone : (o : Option Y) → f row.1 ≡ o → row.0 ≡ name → (not (is_some o) || is_some (named_in part row.0)) ≡ true → o ≡ None
-    alone None e same stands = refl
-    alone (Some y) e same stands = absurd (true≢false (sym stands ∙ ap (λ n. is_some (named_in part n)) same ∙ ap is_some none))
+    alone None e same represents = refl
+    alone (Some y) e same represents = absurd (true≢false (sym represents ∙ ap (λ n. is_some (named_in part n)) same ∙ ap is_some none))
 
-    by : (b : Bool) → same_name row.0 name ≡ b → stands_in f part row ≡ true → option_and_then f (named_in rows name) ≡ None → option_and_then f (if◌then◌else◌ {A = Option X} b (Some row.1) (named_in rows name)) ≡ None
-    by true same stands rest = alone (f row.1) refl (names_equal row.0 name same) stands
-    by false same stands rest = rest
+    by : (b : Bool) → same_name row.0 name ≡ b → is_allowed_in f part row ≡ true → option_and_then f (named_in rows name) ≡ None → option_and_then f (if◌then◌else◌ {A = Option X} b (Some row.1) (named_in rows name)) ≡ None
+    by true same represents rest = alone (f row.1) refl (names_equal row.0 name same) represents
+    by false same represents rest = rest
 
 -- so a part of a table can be looked up in the whole
-pub found_in_part : {X Y : Type 0} (f : X → Option Y) (rows : List (Name × X)) (part : List (Name × Y)) (name : Name) → AreRead f rows part → list_all (stands_in f part) rows ≡ true → option_and_then f (named_in rows name) ≡ named_in part name
+pub found_in_part : {X Y : Type 0} (f : X → Option Y) (rows : List (Name × X)) (part : List (Name × Y)) (name : Name) → AreRead f rows part → list_all (is_allowed_in f part) rows ≡ true → option_and_then f (named_in rows name) ≡ named_in part name
 found_in_part {X} {Y} f rows part name read all = by (named_in part name) refl
   where
     by : (o : Option Y) → named_in part name ≡ o → option_and_then f (named_in rows name) ≡ o
@@ -100,8 +100,8 @@ found_in_part {X} {Y} f rows part name read all = by (named_in part name) refl
     by (Some y) e = read_of f rows part name y read e
 
 -- a row that is the word is the one that is found, and one that is not is passed
-pub row_at : (rows behind : List KeywordRow) (name : Name) (row : KeywordRow) → rows ≡ row ∷ behind → same_name (name_of row.word.now) name ≡ true → Some row.keyword ≡ named_in (map keyword_row rows) name
-row_at rows behind name row e same = rw (e, same) refl
+pub row_at : (rows following : List KeywordRow) (name : Name) (row : KeywordRow) → rows ≡ row ∷ following → same_name (name_of row.word.now) name ≡ true → Some row.keyword ≡ named_in (map keyword_row rows) name
+row_at rows following name row e same = rw (e, same) refl
 
-pub row_passed : (rows behind : List KeywordRow) (name : Name) (row : KeywordRow) → rows ≡ row ∷ behind → same_name (name_of row.word.now) name ≡ false → named_in (map keyword_row behind) name ≡ named_in (map keyword_row rows) name
-row_passed rows behind name row e other = rw (e, other) refl
+pub row_passed : (rows following : List KeywordRow) (name : Name) (row : KeywordRow) → rows ≡ row ∷ following → same_name (name_of row.word.now) name ≡ false → named_in (map keyword_row following) name ≡ named_in (map keyword_row rows) name
+row_passed rows following name row e other = rw (e, other) refl

@@ -56,16 +56,16 @@ keywords =
     ∷ (codes "var_external", Kept) ∷ (codes "var_temp", Kept) ∷ (codes "constant", Kept) ∷ (codes "retain", Kept) ∷ []
 
 -- the elementary type that a word represents, and the standard block
-abbrev pub elementary_meant : Keyword → Option Kind
-elementary_meant (Elementary kind) = Some kind
-elementary_meant _ = None
+abbrev pub elementary_for : Keyword → Option Kind
+elementary_for (Elementary kind) = Some kind
+elementary_for _ = None
 
-abbrev pub standard_meant : Keyword → Option StandardBlock
-standard_meant (Standard block) = Some block
-standard_meant _ = None
+abbrev pub standard_for : Keyword → Option StandardBlock
+standard_for (Standard block) = Some block
+standard_for _ = None
 
 -- a word that represents a type
-abbrev pub type_meant : Keyword → Option Unit
-type_meant (Elementary kind) = Some tt
-type_meant (Standard block) = Some tt
-type_meant _ = None
+abbrev pub type_for : Keyword → Option Unit
+type_for (Elementary kind) = Some tt
+type_for (Standard block) = Some tt
+type_for _ = None

@@ -3,15 +3,15 @@ ghost use Rattle.std.specs.Option.{is_some};
 ghost use Rattle.wc_model.specs.Language.DeclarationRules.{is_among, reserved_words, type_words};
 ghost use Rattle.wc_model.specs.Language.Declarations.{elementary_types, named_in, standard_blocks};
 ghost use Rattle.wc_model.specs.Language.Names.{name_of};
-ghost use Rattle.wc_built_in.specs.Keywords.{elementary_meant, standard_meant, type_meant};
+ghost use Rattle.wc_built_in.specs.Keywords.{elementary_for, standard_for, type_for};
 
 use crate::keyword::Keyword;
 use crate::keywords::keyword_named;
 use wc_model::{Kind, StandardBlock};
 
 /// The elementary type that a word represents.
-fn elementary_meant(keyword: Keyword) -> Option<Kind>
-    ensures { result ≡ elementary_meant keyword }
+fn elementary_for(keyword: Keyword) -> Option<Kind>
+    ensures { result ≡ elementary_for keyword }
 {
     match keyword {
         Keyword::Elementary(kind) => Some(kind),
@@ -24,14 +24,14 @@ pub fn elementary_type(text: &[u8]) -> Option<Kind>
     ensures { result ≡ named_in elementary_types (name_of text.now) }
 {
     match keyword_named(text) {
-        Some(keyword) => elementary_meant(keyword),
+        Some(keyword) => elementary_for(keyword),
         None => None,
     }
 }
 
 /// The standard function block that a word represents.
-fn standard_meant(keyword: Keyword) -> Option<StandardBlock>
-    ensures { result ≡ standard_meant keyword }
+fn standard_for(keyword: Keyword) -> Option<StandardBlock>
+    ensures { result ≡ standard_for keyword }
 {
     match keyword {
         Keyword::Standard(block) => Some(block),
@@ -44,14 +44,14 @@ pub fn standard_block(text: &[u8]) -> Option<StandardBlock>
     ensures { result ≡ named_in standard_blocks (name_of text.now) }
 {
     match keyword_named(text) {
-        Some(keyword) => standard_meant(keyword),
+        Some(keyword) => standard_for(keyword),
         None => None,
     }
 }
 
 /// Whether a word represents a type.
 fn is_type(keyword: Keyword) -> bool
-    ensures { result ≡ is_some (type_meant keyword) }
+    ensures { result ≡ is_some (type_for keyword) }
 {
     matches!(keyword, Keyword::Elementary(_) | Keyword::Standard(_))
 }

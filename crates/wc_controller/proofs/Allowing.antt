@@ -58,7 +58,7 @@ known_each (Some reader) P f = on_each reader.bytes (λ bytes. P (Some bytes)) (
 -- a plate that holds, and what is allowed of the programs
 pub sections_run : (sections : Sections) (plate : PlateData) → plate_of (table_read sections.plate) ≡ Ok plate →
     (answer : JobAnswer) → AnswersPrograms (λ logic. run_answer plate logic (log_of (records_of sections.log))) sections.program sections.next answer → AllowsSections sections answer
-sections_run sections plate e answer h = subst (λ judged. AnswersPlate records_of sections judged answer) (sym e) h
+sections_run sections plate e answer h = subst (λ validated. AnswersPlate records_of sections validated answer) (sym e) h
 
 -- an input that was not read whole, if one that is too long is refused by what is allowed
 not_read : (allowed : JobAnswer → Type 0) (bytes : List ℕ) (why : RunFault) (old : Option (List ℕ)) →
@@ -93,7 +93,7 @@ plate_not_read bytes rest (Refused number place) old h =
     only_refused (AnswersWithPlate bytes rest) number place old (subst (λ p. AnswersWithPlate bytes rest (refusing number p)) (sym h.0) (by_cause h.1)) where
       by_cause : ((number ≡ 702) × (longest_job < length bytes)) ⊎ ((length bytes ≤ longest_job) × (plate_of (table_read bytes) ≡ Err number)) → AnswersWithPlate bytes rest (refusing number 0)
       by_cause (inl k) = too_long k.1 (ap (λ n. refusing n 0) k.0)
-      by_cause (inr k) = whole k.0 (subst (λ judged. AnswersPlateFile judged rest (refusing number 0)) (sym k.1) refl)
+      by_cause (inr k) = whole k.0 (subst (λ validated. AnswersPlateFile validated rest (refusing number 0)) (sym k.1) refl)
 plate_not_read bytes rest Read old h = inl (Keeps-refl old)
 plate_not_read bytes rest Write old h = absurd h
 plate_not_read bytes rest Memory old h = inl (Keeps-refl old)
@@ -103,4 +103,4 @@ pub plate_read : (bytes : List ℕ) (plate : PlateData) (rest : PlateData → Jo
     (length bytes ≤ longest_job) × (plate_of (table_read bytes) ≡ Ok plate) → WritesUpTo (rest plate) answer old new → WritesUpTo (AnswersWithPlate bytes rest) answer old new
 plate_read bytes plate rest answer old new is h =
     upto_more (rest plate) (AnswersWithPlate bytes rest) answer old new
-    (λ one k. whole is.0 (subst (λ judged. AnswersPlateFile judged rest one) (sym is.1) k)) h
+    (λ one k. whole is.0 (subst (λ validated. AnswersPlateFile validated rest one) (sym is.1) k)) h

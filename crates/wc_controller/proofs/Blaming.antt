@@ -3,12 +3,12 @@ use Rattle.std.proofs.Common.{◌≡◌, ℕ, ◌≤◌, List, length, Result, O
 use Rattle.std.specs.Prelude.{Option, Some, None, IfErr, IfSome, IsSome, is_some}
 use Rattle.wc_controller.proofs.Allowing.{of_known, on_known}
 use Rattle.wc_controller.specs.Blames.{Blames, IsNextUnloaded, IsUnloaded, RefusesLog, RefusesProgram, RefusesText, StopsFor}
-use Rattle.wc_controller.specs.Endings.{EndsBehind, EndsBehindFault, EndsRefused, TellsMemory, of_refused_log, of_unread_log}
+use Rattle.wc_controller.specs.Endings.{EndsAfter, EndsAfterFault, EndsRefused, ReportsMemory, of_refused_log, of_unread_log}
 use Rattle.wc_controller.specs.Loads.{IsRefusedLoad}
 use Rattle.wc_model.specs.declared.fault.Fault.{Fault}
 use Rattle.wc_model.specs.declared.fault.Fault.TheVariants as fault
 use Rattle.wc_controller.specs.InputStates.{Reader}
-use Rattle.wc_controller.specs.TakenLogs.{AreReadOf, IsNextLoadedOf, known_of, log_beside}
+use Rattle.wc_controller.specs.TakenLogs.{AreReadOf, IsNextLoadedOf, known_of, log_alongside}
 use Rattle.wc_cost.specs.LoadedTexts.{LoadedText}
 use Rattle.wc_controller.specs.declared.ending.Ending.{Ending}
 use Rattle.wc_controller.specs.declared.ending.Ending.TheVariants as ended
@@ -23,28 +23,28 @@ use Rattle.wc_model.specs.Run.Log.{LogOf, Record, log_of}
 use Rattle.wc_model.specs.Say.LogFor.{log_for}
 use Rattle.wc_model.specs.Say.ProgramReport.{Logic, first_logic}
 use Rattle.wc_record.specs.Reading.{records_of}
-use Rattle.wc_record.specs.Told.{records_read}
+use Rattle.wc_record.specs.Reported.{records_read}
 use Rattle.wc_run.specs.Faults.{from_fault}
 use Rattle.wc_run.specs.Logics.{text_of_next}
 use Rattle.wc_run.specs.Doing.{WritesBy}
 use Rattle.wc_run.specs.Observing.{Plan}
-use Rattle.wc_run.specs.Runs.{TellsFault}
+use Rattle.wc_run.specs.Runs.{ReportsFault}
 use Rattle.wc_run.specs.declared.fault.RunFault.{RunFault}
 use Rattle.wc_run.specs.declared.fault.RunFault.TheVariants.{Refused, Memory}
 
 -- a run that is refused reports the refusal of the log as it is taken, and its row
 pub log_refused : (plan : Plan) (plate : PlateData) (logic : Option Logic) (taken : List ℕ → LogOf) (fields : Record) (bytes : List ℕ) (why : RunFault) (old new : Option (List ℕ))
-    → WritesBy plan plate logic (taken bytes) (Err why) old new → TellsFault (records_read bytes) fields why → RefusesLog taken fields bytes why
-log_refused plan plate logic taken fields bytes (Refused number place) old new told row = (told.0, row)
-log_refused plan plate logic taken fields bytes why old new told row = tt
+    → WritesBy plan plate logic (taken bytes) (Err why) old new → ReportsFault (records_read bytes) fields why → RefusesLog taken fields bytes why
+log_refused plan plate logic taken fields bytes (Refused number place) old new reported row = (reported.0, row)
+log_refused plan plate logic taken fields bytes why old new reported row = tt
 
 -- a machine takes the log by whether there is a next program, which is loaded
-pub taken_beside : (known : Option (List ℕ)) (next : Option LoadedText) (text : Text) (bytes : List ℕ) → IsNextLoadedOf known next
-    → log_for (Some (first_logic text (text_of_next next))) (log_of (records_of bytes)) ≡ log_beside (is_some known) bytes
-taken_beside None None text bytes is = refl
-taken_beside None (Some next) text bytes is = absurd is
-taken_beside (Some known) None text bytes is = absurd is
-taken_beside (Some known) (Some next) text bytes is = refl
+pub taken_alongside : (known : Option (List ℕ)) (next : Option LoadedText) (text : Text) (bytes : List ℕ) → IsNextLoadedOf known next
+    → log_for (Some (first_logic text (text_of_next next))) (log_of (records_of bytes)) ≡ log_alongside (is_some known) bytes
+taken_alongside None None text bytes is = refl
+taken_alongside None (Some next) text bytes is = absurd is
+taken_alongside (Some known) None text bytes is = absurd is
+taken_alongside (Some known) (Some next) text bytes is = refl
 
 -- of bytes that are known it is said at once
 pub stops_known : {X : Type 0} (at : Input) (refuses : List ℕ → RunFault → Type 0) (bytes : List ℕ) (result : Result X Stopped) → StopsFor at refuses (Some bytes) result
@@ -104,33 +104,33 @@ of_refusal input at number place refuses known ending old new k h = tt
 
 -- an ending of whatever fault
 of_fault : (input at : Input) (why : RunFault) (refuses : List ℕ → RunFault → Type 0) (known : Option (List ℕ)) (ending : Ending) (old new : Option (List ℕ))
-    → EndsBehindFault at why ending old new → (at ≡ input → IfSome known (λ bytes. refuses bytes why)) → Blames input refuses known ending
+    → EndsAfterFault at why ending old new → (at ≡ input → IfSome known (λ bytes. refuses bytes why)) → Blames input refuses known ending
 of_fault input at (Refused number place) refuses known ending old new k h = of_refusal input at number place refuses known ending old new k h
 of_fault input at why refuses known ending old new k h = subst (λ e. Blames input refuses known e) (sym k.0) tt
 
 -- an ending says of an input what stopped there
 pub blamed : {X : Type 0} (input : Input) (refuses : List ℕ → RunFault → Type 0) (known : Option (List ℕ)) (result : Result X Stopped) (ending : Ending) (old new : Option (List ℕ))
-    → EndsBehind result ending old new → StopsFor input refuses known result → Blames input refuses known ending
+    → EndsAfter result ending old new → StopsFor input refuses known result → Blames input refuses known ending
 blamed input refuses known (Ok done) ending old new k h = subst (λ e. Blames input refuses known e) (sym k.0) tt
 blamed input refuses known (Err stopped) ending old new k h = of_fault input stopped.input stopped.fault refuses known ending old new k h
 
 -- a log that is refused has a refusal
-log_has_refusal : (taken : List ℕ → LogOf) (told : Record) (bytes : List ℕ) (number place : ℕ) → RefusesLog taken told bytes (Refused number place) → IsSome (taken bytes).refusal
-log_has_refusal taken told bytes number place e = subst (λ refusal. IsSome refusal) (sym e.0) refl
+log_has_refusal : (taken : List ℕ → LogOf) (reported : Record) (bytes : List ℕ) (number place : ℕ) → RefusesLog taken reported bytes (Refused number place) → IsSome (taken bytes).refusal
+log_has_refusal taken reported bytes number place e = subst (λ refusal. IsSome refusal) (sym e.0) refl
 
-module _ (taken : List ℕ → LogOf) (told : Record) (known : Option (List ℕ)) (before failures start spent : ℕ) where
+module _ (taken : List ℕ → LogOf) (reported : Record) (known : Option (List ℕ)) (before failures start spent : ℕ) where
   -- memory was wanted for the line of a refusal
-  pub behind_refusal : (at : Input) (number place : ℕ) → (at ≡ input.Plate → spent ≡ start) → (at ≡ input.Program → spent ≡ start) → (at ≡ input.Next → spent ≡ start) → (at ≡ input.Names → spent ≡ start)
-      → (at ≡ input.Job → ⊥) → (at ≡ input.Log → IfSome known (λ bytes. RefusesLog taken told bytes (Refused number place)))
-      → (at ≡ input.Log → failures ≤ before) → TellsMemory taken known before failures start spent
-  behind_refusal input.Job number place plate program next names job log well = absurd (job refl)
-  behind_refusal input.Plate number place plate program next names job log well = of_unread_log (plate refl)
-  behind_refusal input.Program number place plate program next names job log well = of_unread_log (program refl)
-  behind_refusal input.Next number place plate program next names job log well = of_unread_log (next refl)
-  behind_refusal input.Names number place plate program next names job log well = of_unread_log (names refl)
-  behind_refusal input.Log number place plate program next names job log well =
-      of_refused_log (on_known known (λ bytes. RefusesLog taken told bytes (Refused number place)) (λ bytes. IsSome (taken bytes).refusal)
-      (λ bytes e. log_has_refusal taken told bytes number place e) (log refl)) (well refl)
+  pub after_refusal : (at : Input) (number place : ℕ) → (at ≡ input.Plate → spent ≡ start) → (at ≡ input.Program → spent ≡ start) → (at ≡ input.Next → spent ≡ start) → (at ≡ input.Names → spent ≡ start)
+      → (at ≡ input.Job → ⊥) → (at ≡ input.Log → IfSome known (λ bytes. RefusesLog taken reported bytes (Refused number place)))
+      → (at ≡ input.Log → failures ≤ before) → ReportsMemory taken known before failures start spent
+  after_refusal input.Job number place plate program next names job log well = absurd (job refl)
+  after_refusal input.Plate number place plate program next names job log well = of_unread_log (plate refl)
+  after_refusal input.Program number place plate program next names job log well = of_unread_log (program refl)
+  after_refusal input.Next number place plate program next names job log well = of_unread_log (next refl)
+  after_refusal input.Names number place plate program next names job log well = of_unread_log (names refl)
+  after_refusal input.Log number place plate program next names job log well =
+      of_refused_log (on_known known (λ bytes. RefusesLog taken reported bytes (Refused number place)) (λ bytes. IsSome (taken bytes).refusal)
+      (λ bytes e. log_has_refusal taken reported bytes number place e) (log refl)) (well refl)
 
 -- they are one input
 abbrev pub IsOne : Input → Input → Type 0

@@ -5,7 +5,7 @@ use Rattle.std.specs.Prelude.{Bool, true, false, Option, Some, None, if◌then�
 use Rattle.std.specs.Io.KnownBytes.{Appends, Keeps}
 use Rattle.wc_controller.specs.Blames.{IsNextUnloaded, IsUnloaded}
 use Rattle.wc_controller.specs.Checking.{Checks}
-use Rattle.wc_controller.specs.Endings.{IsAt, IsReadFaultAt, EndsAs, EndsBehind, EndsBehindFault, EndsRefused, WritesFront, WritesUpTo, answered, failed, fault_in_memory, fault_met, met, status_of}
+use Rattle.wc_controller.specs.Endings.{IsAt, IsReadFaultAt, EndsAs, EndsAfter, EndsAfterFault, EndsRefused, WritesPrefix, WritesUpTo, answered, failed, fault_in_memory, fault_raised, raised, status_of}
 use Rattle.wc_controller.specs.Files.{AnswersCheck, AnswersLog, AnswersPrinting, IsAnswer, Observed, answer_written, refuses_text, reports_units}
 use Rattle.wc_controller.specs.Jobs as jobs
 use Rattle.wc_controller.specs.Jobs.{Gives}
@@ -20,12 +20,12 @@ use Rattle.wc_controller.specs.declared.input.Stopped.{Stopped}
 use Rattle.wc_model.specs.Instrument.Plates.{PlateData}
 use Rattle.wc_model.specs.Run.Log.{LogOf, LogRefusal}
 use Rattle.wc_model.specs.Language.Tree.{Text}
-use Rattle.wc_model.specs.Say.Job.{AnswersNext, AnswersProgram, JobAnswer, behind_report, loads_program, refused_text, refuses_program, refusing, run_answer}
+use Rattle.wc_model.specs.Say.Job.{AnswersNext, AnswersProgram, JobAnswer, after_report, loads_program, refused_text, refuses_program, refusing, run_answer}
 use Rattle.wc_model.specs.Say.LogFor.{log_for}
 use Rattle.wc_model.specs.Say.ProgramReport.{Logic, first_logic}
 use Rattle.wc_model.specs.declared.fault.Fault.{Fault}
 use Rattle.wc_model.specs.declared.fault.Fault.TheVariants as fault
-use Rattle.wc_run.proofs.Fronts.{front_behind, front_of_more}
+use Rattle.wc_run.proofs.Prefixes.{prefix_after, prefix_of_more}
 use Rattle.wc_run.proofs.Lines.{whole_written}
 use Rattle.wc_run.proofs.Texts.{lines_first}
 use Rattle.wc_run.specs.Faults.{from_fault}
@@ -33,30 +33,30 @@ use Rattle.wc_run.specs.Reports.{report_plan}
 use Rattle.wc_run.specs.Logics.{text_of_next}
 use Rattle.wc_run.specs.Doing.{WritesBy}
 use Rattle.wc_run.specs.Observing.{Plan, RefusesToBegin, Written, said, text_coming, text_in_all}
-use Rattle.wc_run.specs.Runs.{AppendsFirst, AppendsFront}
+use Rattle.wc_run.specs.Runs.{AppendsFirst, AppendsPrefix}
 use Rattle.wc_run.specs.declared.fault.RunFault.{RunFault}
 use Rattle.wc_run.specs.declared.fault.RunFault.TheVariants.{Refused, Read, Write, Memory}
 
 -- more may be allowed of a prefix
-front_more : (allowed more : JobAnswer → Type 0) (old new : Option (List ℕ)) → ((answer : JobAnswer) → allowed answer → more answer)
-    → WritesFront allowed old new → WritesFront more old new
-front_more allowed more old new f (inl kept) = inl kept
-front_more allowed more old new f (inr k) = inr (k.0, f k.0 k.1, k.2)
+prefix_more : (allowed more : JobAnswer → Type 0) (old new : Option (List ℕ)) → ((answer : JobAnswer) → allowed answer → more answer)
+    → WritesPrefix allowed old new → WritesPrefix more old new
+prefix_more allowed more old new f (inl kept) = inl kept
+prefix_more allowed more old new f (inr k) = inr (k.0, f k.0 k.1, k.2)
 
 -- more may be allowed
 pub upto_more : (allowed more : JobAnswer → Type 0) (answer : Option RunFault) (old new : Option (List ℕ))
     → ((answer : JobAnswer) → allowed answer → more answer) → WritesUpTo allowed answer old new → WritesUpTo more answer old new
 upto_more allowed more None old new f k = (k.0, f k.0 k.1, k.2, k.3)
 upto_more allowed more (Some (Refused number place)) old new f k = (k.0, f (record { output = k.0 ++ refused_text number place; status = 1 }) k.1, k.2)
-upto_more allowed more (Some why) old new f k = front_more allowed more old new f k
+upto_more allowed more (Some why) old new f k = prefix_more allowed more old new f k
 
 -- a text is a prefix of itself
-whole_front : (old new : Option (List ℕ)) (text : List ℕ) → Appends old new text → AppendsFront old new text
-whole_front old new text w = (text, [], sym (append-nil text), w)
+whole_prefix : (old new : Option (List ℕ)) (text : List ℕ) → Appends old new text → AppendsPrefix old new text
+whole_prefix old new text w = (text, [], sym (append-nil text), w)
 
 -- a prefix after which nothing was written
-kept_front : (old middle new : Option (List ℕ)) (text : List ℕ) → AppendsFront old middle text → Keeps middle new → AppendsFront old new text
-kept_front old middle new text f k = (f.0, f.1, f.2, Appends-kept old middle new f.0 f.3 k)
+kept_prefix : (old middle new : Option (List ℕ)) (text : List ℕ) → AppendsPrefix old middle text → Keeps middle new → AppendsPrefix old new text
+kept_prefix old middle new text f k = (f.0, f.1, f.2, Appends-kept old middle new f.0 f.3 k)
 
 -- nothing but a refusal is to be written
 pub only_refused : (allowed : JobAnswer → Type 0) (number place : ℕ) (old : Option (List ℕ))
@@ -69,45 +69,45 @@ module _ (plan : Plan) (plate : PlateData) (logic : Option Logic) (log : LogOf) 
   whole = text_in_all plan plate logic log.refusal log.rows
 
   abbrev pub IsRun : JobAnswer → Type 0
-  IsRun answer = answer ≡ behind_report whole log.refusal
+  IsRun answer = answer ≡ after_report whole log.refusal
 
   -- a prefix of what is written is one of the output
-  front_of_output : (refusal : Option LogRefusal) → AppendsFront old new whole → AppendsFront old new (behind_report whole refusal).output
-  front_of_output None f = f
-  front_of_output (Some refusal) f = front_of_more old new whole (refused_text refusal.number refusal.row) f
+  prefix_of_output : (refusal : Option LogRefusal) → AppendsPrefix old new whole → AppendsPrefix old new (after_report whole refusal).output
+  prefix_of_output None f = f
+  prefix_of_output (Some refusal) f = prefix_of_more old new whole (refused_text refusal.number refusal.row) f
 
-  cut_short : AppendsFront old new whole → WritesFront IsRun old new
-  cut_short f = inr (behind_report whole log.refusal, refl, front_of_output log.refusal f)
+  cut_short : AppendsPrefix old new whole → WritesPrefix IsRun old new
+  cut_short f = inr (after_report whole log.refusal, refl, prefix_of_output log.refusal f)
 
   -- what is written of the first rows is a prefix of all of it
-  first_rows : AppendsFirst (text_coming plan plate logic []) log.rows old new → AppendsFront old new whole
+  first_rows : AppendsFirst (text_coming plan plate logic []) log.rows old new → AppendsPrefix old new whole
   first_rows f = let rest = lines_first plan plate logic log.refusal f.0 f.1 in
       (text_coming plan plate logic [] f.0, rest.0, ap (text_in_all plan plate logic log.refusal) f.2 ∙ rest.1, f.3)
 
   -- all rows ran, or it was stopped
-  pub written_by : (answer : Result ℕ RunFault) → WritesBy plan plate logic log answer old new → WritesUpTo IsRun (fault_met answer) old new
-  written_by (Ok count) told = (record { output = whole; status = 0 }, sym (ap (behind_report whole) told.0), refl, told.2)
-  written_by (Err (Refused number place)) told = (whole, sym (ap (behind_report whole) told.0), told.1)
-  written_by (Err Write) told = cut_short told
-  written_by (Err why) told = cut_short (first_rows told)
+  pub written_by : (answer : Result ℕ RunFault) → WritesBy plan plate logic log answer old new → WritesUpTo IsRun (fault_raised answer) old new
+  written_by (Ok count) reported = (record { output = whole; status = 0 }, sym (ap (after_report whole) reported.0), refl, reported.2)
+  written_by (Err (Refused number place)) reported = (whole, sym (ap (after_report whole) reported.0), reported.1)
+  written_by (Err Write) reported = cut_short reported
+  written_by (Err why) reported = cut_short (first_rows reported)
 
 -- so it is answered
 pub answered_so : (o : Observed) (plate : PlateData) (logic : Option Logic) (log : LogOf) (answer : Option RunFault) (old new : Option (List ℕ))
     → o.begins logic ≡ true → WritesUpTo (λ one. one ≡ answer_written o.written plate logic log) answer old new → WritesUpTo (IsAnswer o plate logic log) answer old new
 answered_so o plate logic log answer old new begins h =
     upto_more (λ one. one ≡ answer_written o.written plate logic log) (IsAnswer o plate logic log) answer old new
-    (λ one is. subst (λ begun. one ≡ (if begun then answer_written o.written plate logic log else refusing 401 0)) (sym begins) is) h
+    (λ one is. subst (λ started. one ≡ (if started then answer_written o.written plate logic log else refusing 401 0)) (sym begins) is) h
 
 -- or it is refused to begin
-pub not_begun : (o : Observed) (plate : PlateData) (logic : Option Logic) (log : LogOf) (held : Type 0) (why : RunFault) (old : Option (List ℕ))
+pub not_started : (o : Observed) (plate : PlateData) (logic : Option Logic) (log : LogOf) (held : Type 0) (why : RunFault) (old : Option (List ℕ))
     → RefusesToBegin (o.begins logic) held why → WritesUpTo (IsAnswer o plate logic log) (Some why) old old
-not_begun o plate logic log held (Refused number place) old (begins, holds, is, at) =
+not_started o plate logic log held (Refused number place) old (begins, holds, is, at) =
     only_refused (IsAnswer o plate logic log) number place old
-    (subst (λ begun. refusing number place ≡ (if begun then answer_written o.written plate logic log else refusing 401 0)) (sym begins)
+    (subst (λ started. refusing number place ≡ (if started then answer_written o.written plate logic log else refusing 401 0)) (sym begins)
     (λ i. record { output = refused_text (is i) (at i); status = 1 }))
-not_begun o plate logic log held Read old h = absurd h
-not_begun o plate logic log held Write old h = absurd h
-not_begun o plate logic log held Memory old h = inl (Keeps-refl old)
+not_started o plate logic log held Read old h = absurd h
+not_started o plate logic log held Write old h = absurd h
+not_started o plate logic log held Memory old h = inl (Keeps-refl old)
 
 -- a program that is not loaded
 pub not_loaded : (bytes : List ℕ) (rest : Text → JobAnswer → Type 0) (why : Fault) (old : Option (List ℕ))
@@ -146,62 +146,62 @@ in_memory allowed why old new k = k
 
 -- a check of a text
 pub checked : {X : Type 0} (paths : Bool) (bytes : List ℕ) (answer : Result X RunFault) (old new : Option (List ℕ))
-    → Checks paths bytes answer old new → WritesUpTo (AnswersCheck paths bytes) (fault_met answer) old new
+    → Checks paths bytes answer old new → WritesUpTo (AnswersCheck paths bytes) (fault_raised answer) old new
 checked paths bytes (Ok done) old new k =
     (record { output = k.1; status = 0 }, reports_units k.0 k.1 k.2 k.3 refl, refl, k.4)
 checked paths bytes (Err (Refused number place)) old new k =
     ([], refuses_text number place k.0 refl, Appends-kept old old new [] (Appends-nil old) k.1)
 checked paths bytes (Err Read) old new k = absurd k
 checked paths bytes (Err Write) old new k =
-    inr (record { output = k.1; status = 0 }, reports_units k.0 k.1 k.2 k.3 refl, (k.4.front, k.4.rest, k.4.cut, k.4.taken))
+    inr (record { output = k.1; status = 0 }, reports_units k.0 k.1 k.2 k.3 refl, (k.4.prefix, k.4.rest, k.4.cut, k.4.taken))
 checked paths bytes (Err Memory) old new k = inl k
 
 -- a refusal after a report
-behind : (input : Input) (allowed : JobAnswer → Type 0) (said : List ℕ) (number place : ℕ) (ending : Ending) (old middle new : Option (List ℕ))
+following : (input : Input) (allowed : JobAnswer → Type 0) (said : List ℕ) (number place : ℕ) (ending : Ending) (old middle new : Option (List ℕ))
     → allowed (record { output = said ++ refused_text number place; status = 1 }) → Appends old middle said
     → EndsRefused input number place ending middle new → EndsAs allowed ending old new
-behind input allowed said number place ended.Done old middle new h w k = absurd k
-behind input allowed said number place (ended.Refused at other line) old middle new h w k =
+following input allowed said number place ended.Done old middle new h w k = absurd k
+following input allowed said number place (ended.Refused at other line) old middle new h w k =
     answered (record { output = said ++ refused_text number place; status = 1 }) h
     (said, sym (ap (λ n. record { output = said ++ refused_text n place; status = 1 }) k.1) ∙ sym (ap (λ p. record { output = said ++ refused_text other p; status = 1 }) k.2))
     (Appends-trans old middle new said (refused_text number place) w k.3)
-behind input allowed said number place (ended.ReadFault at) old middle new h w k = absurd k
-behind input allowed said number place ended.WriteFault old middle new h w k =
+following input allowed said number place (ended.ReadFault at) old middle new h w k = absurd k
+following input allowed said number place ended.WriteFault old middle new h w k =
     failed tt (inr (
       record { output = said ++ refused_text number place; status = 1 },
       h,
-      front_behind old middle new said (refused_text number place) w (k.front, k.rest, k.cut, k.taken),
+      prefix_after old middle new said (refused_text number place) w (k.prefix, k.rest, k.cut, k.taken),
     ))
-behind input allowed said number place ended.NoMemory old middle new h w k =
+following input allowed said number place ended.NoMemory old middle new h w k =
     failed tt (inr (
       record { output = said ++ refused_text number place; status = 1 },
       h,
-      front_of_more old new said (refused_text number place) (whole_front old new said (Appends-kept old middle new said w k)),
+      prefix_of_more old new said (refused_text number place) (whole_prefix old new said (Appends-kept old middle new said w k)),
     ))
 
 -- a prefix after which nothing was written
-kept_behind : (allowed : JobAnswer → Type 0) (old middle new : Option (List ℕ)) → WritesFront allowed old middle → Keeps middle new → WritesFront allowed old new
-kept_behind allowed old middle new (inl kept) k = inl (Keeps-trans old middle new kept k)
-kept_behind allowed old middle new (inr f) k = inr (f.0, f.1, kept_front old middle new f.0.output f.2 k)
+kept_after : (allowed : JobAnswer → Type 0) (old middle new : Option (List ℕ)) → WritesPrefix allowed old middle → Keeps middle new → WritesPrefix allowed old new
+kept_after allowed old middle new (inl kept) k = inl (Keeps-trans old middle new kept k)
+kept_after allowed old middle new (inr f) k = inr (f.0, f.1, kept_prefix old middle new f.0.output f.2 k)
 
 -- a fault by which a command stopped, and its ending
 ended_by : (input : Input) (allowed : JobAnswer → Type 0) (why : RunFault) (ending : Ending) (old middle new : Option (List ℕ))
-    → WritesUpTo allowed (Some why) old middle → EndsBehindFault input why ending middle new → EndsAs allowed ending old new
-ended_by input allowed (Refused number place) ending old middle new w k = behind input allowed w.0 number place ending old middle new w.1 w.2 k
+    → WritesUpTo allowed (Some why) old middle → EndsAfterFault input why ending middle new → EndsAs allowed ending old new
+ended_by input allowed (Refused number place) ending old middle new w k = following input allowed w.0 number place ending old middle new w.1 w.2 k
 ended_by input allowed why ending old middle new w k =
-    subst (λ e. EndsAs allowed e old new) (sym k.0) (failed tt (kept_behind allowed old middle new w k.1))
+    subst (λ e. EndsAs allowed e old new) (sym k.0) (failed tt (kept_after allowed old middle new w k.1))
 
 -- whatever a command answered, and its ending
 pub ends : {X : Type 0} (allowed : JobAnswer → Type 0) (answer : Result X Stopped) (ending : Ending) (old middle new : Option (List ℕ))
-    → WritesUpTo allowed (met answer) old middle → EndsBehind answer ending middle new → EndsAs allowed ending old new
+    → WritesUpTo allowed (raised answer) old middle → EndsAfter answer ending middle new → EndsAs allowed ending old new
 ends allowed (Ok done) ending old middle new w k =
     subst (λ e. EndsAs allowed e old new) (sym k.0) (answered w.0 w.1 w.2 (Appends-kept old middle new w.0.output w.3 k.1))
 ends allowed (Err stopped) ending old middle new w k = ended_by stopped.input allowed stopped.fault ending old middle new w k
 
 -- a prefix, at a status that says that something failed
-in_front : (allowed : JobAnswer → Type 0) (status : ℕ) (old new : Option (List ℕ)) → jobs.IsFailure status → WritesFront allowed old new → Gives allowed status old new
-in_front allowed status old new failure (inl kept) = jobs.silent failure kept
-in_front allowed status old new failure (inr f) = jobs.cut_short f.0 f.1 failure f.2
+in_prefix : (allowed : JobAnswer → Type 0) (status : ℕ) (old new : Option (List ℕ)) → jobs.IsFailure status → WritesPrefix allowed old new → Gives allowed status old new
+in_prefix allowed status old new failure (inl kept) = jobs.silent failure kept
+in_prefix allowed status old new failure (inr f) = jobs.cut_short f.0 f.1 failure f.2
 
 -- an ending's status
 pub gives : (allowed : JobAnswer → Type 0) (ending : Ending) (old new : Option (List ℕ)) → EndsAs allowed ending old new → Gives allowed (status_of ending) old new
@@ -209,36 +209,36 @@ gives allowed ended.Done old new (answered answer h is w) = jobs.answered answer
 gives allowed (ended.Refused input number place) old new (answered answer h is w) = jobs.answered answer h (sym (ap (λ a. a.status) is.1)) w
 gives allowed ended.Done old new (failed is f) = absurd is
 gives allowed (ended.Refused input number place) old new (failed is f) = absurd is
-gives allowed (ended.ReadFault input) old new (failed is f) = in_front allowed 3 old new (inl refl) f
-gives allowed ended.WriteFault old new (failed is f) = in_front allowed 3 old new (inl refl) f
-gives allowed ended.NoMemory old new (failed is f) = in_front allowed 4 old new (inr refl) f
+gives allowed (ended.ReadFault input) old new (failed is f) = in_prefix allowed 3 old new (inl refl) f
+gives allowed ended.WriteFault old new (failed is f) = in_prefix allowed 3 old new (inl refl) f
+gives allowed ended.NoMemory old new (failed is f) = in_prefix allowed 4 old new (inr refl) f
 gives allowed ending old new (answered answer h is w) = absurd is
 
 -- an ending that reports a read fault at an input comes of one
-pub read_fault_told : {X : Type 0} (input : Input) (answer : Result X Stopped) (ending : Ending) (old new : Option (List ℕ))
-    → EndsBehind answer ending old new → ending ≡ ended.ReadFault input → IsReadFaultAt input answer
-read_fault_told input (Ok done) ending old new k e = absurd (cc (sym k.0 ∙ e))
-read_fault_told input (Err stopped) ending old new k e = by_fault stopped.fault stopped.input refl k where
-  by_fault : (why : RunFault) (at : Input) → stopped.fault ≡ why → EndsBehindFault at why ending old new → (at ≡ input) × (stopped.fault ≡ Read)
+pub read_fault_reported : {X : Type 0} (input : Input) (answer : Result X Stopped) (ending : Ending) (old new : Option (List ℕ))
+    → EndsAfter answer ending old new → ending ≡ ended.ReadFault input → IsReadFaultAt input answer
+read_fault_reported input (Ok done) ending old new k e = absurd (cc (sym k.0 ∙ e))
+read_fault_reported input (Err stopped) ending old new k e = by_fault stopped.fault stopped.input refl k where
+  by_fault : (why : RunFault) (at : Input) → stopped.fault ≡ why → EndsAfterFault at why ending old new → (at ≡ input) × (stopped.fault ≡ Read)
   by_fault (Refused number place) at same h = absurd (subst (λ one. EndsRefused at number place one old new) e h)
   by_fault Read at same h = (sym (subst (λ one. IsAt at one) (sym h.0 ∙ e) refl), same)
   by_fault why at same h = absurd (cc (sym h.0 ∙ e))
 
 -- what is said of an ending if its bytes are given, and if nothing is said of them
-ends_fault_said : (speaks : Bool) (input : Input) (why : RunFault) (ending : Ending) (old new : Option (List ℕ)) → EndsBehindFault input why ending old new
-    → EndsBehindFault input why ending (said speaks old) (said speaks new)
+ends_fault_said : (speaks : Bool) (input : Input) (why : RunFault) (ending : Ending) (old new : Option (List ℕ)) → EndsAfterFault input why ending old new
+    → EndsAfterFault input why ending (said speaks old) (said speaks new)
 ends_fault_said true input why ending old new h = h
 ends_fault_said false input (Refused number place) ended.Done old new h = absurd h
 ends_fault_said false input (Refused number place) (ended.Refused at other line) old new h = (h.0, h.1, h.2, tt)
 ends_fault_said false input (Refused number place) (ended.ReadFault at) old new h = absurd h
-ends_fault_said false input (Refused number place) ended.WriteFault old new h = record { front = h.front; rest = h.rest; cut = h.cut; short = h.short; taken = tt }
+ends_fault_said false input (Refused number place) ended.WriteFault old new h = record { prefix = h.prefix; rest = h.rest; cut = h.cut; short = h.short; taken = tt }
 ends_fault_said false input (Refused number place) ended.NoMemory old new h = tt
 ends_fault_said false input Read ending old new h = (h.0, tt)
 ends_fault_said false input Write ending old new h = (h.0, tt)
 ends_fault_said false input Memory ending old new h = (h.0, tt)
 
-pub ends_said : {X : Type 0} (speaks : Bool) (answer : Result X Stopped) (ending : Ending) (old new : Option (List ℕ)) → EndsBehind answer ending old new
-    → EndsBehind answer ending (said speaks old) (said speaks new)
+pub ends_said : {X : Type 0} (speaks : Bool) (answer : Result X Stopped) (ending : Ending) (old new : Option (List ℕ)) → EndsAfter answer ending old new
+    → EndsAfter answer ending (said speaks old) (said speaks new)
 ends_said true answer ending old new h = h
 ends_said false (Ok done) ending old new h = (h.0, tt)
 ends_said false (Err stopped) ending old new h = ends_fault_said false stopped.input stopped.fault ending old new h
@@ -248,7 +248,7 @@ is_report : (plate : PlateData) (logic : Logic) (log : LogOf) (one : JobAnswer) 
     → one ≡ run_answer plate logic log
 is_report plate logic log one is =
     let taken : LogOf = log_for (Some logic) log in
-    is ∙ ap (λ (written : Written). behind_report (written plate (Some logic) taken.refusal taken.rows) taken.refusal) (whole_written None)
+    is ∙ ap (λ (written : Written). after_report (written plate (Some logic) taken.refusal taken.rows) taken.refusal) (whole_written None)
 
 -- more may be answered with the next program
 next_more : (next : Option (List ℕ)) (P Q : Option Text → JobAnswer → Type 0) → ((text : Option Text) (one : JobAnswer) → P text one → Q text one)

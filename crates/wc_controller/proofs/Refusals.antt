@@ -2,7 +2,7 @@
 use Rattle.std.proofs.Common.{◌≡◌, ℕ, List, None, Result, Ok, Err, sym, subst, inl, inr}
 use Rattle.wc_controller.specs.Loads.{IsRefusedLoad}
 use Rattle.wc_model.specs.Language.Faults.{body_fault, declaration_fault}
-use Rattle.wc_model.specs.Language.Judging.{Judges}
+use Rattle.wc_model.specs.Language.Validation.{Validates}
 use Rattle.std.proofs.KnownBytes.{Keeps-refl}
 use Rattle.std.specs.Prelude.{Bool, IfErr, IfOk, Option}
 use Rattle.wc_controller.specs.Checking.{Checks}
@@ -31,12 +31,12 @@ not_read bytes (Refused number place) h = first_of bytes number place h.first
 not_read bytes Memory h = tt
 
 -- a text whose declarations are refused
-pub not_declared : (bytes : List ℕ) (text : Text) → IsRead bytes text → (X : Type 0) (fault : Fault) → Judges {X = X} (declaration_fault text) None (Err fault) → IsRefusedLoad bytes fault
+pub not_declared : (bytes : List ℕ) (text : Text) → IsRead bytes text → (X : Type 0) (fault : Fault) → Validates {X = X} (declaration_fault text) None (Err fault) → IsRefusedLoad bytes fault
 not_declared bytes text read X (Refused number place) h = loading.at_declarations text read h
 not_declared bytes text read X Memory h = tt
 
 -- a text whose bodies are refused
-pub not_verified : (bytes : List ℕ) (text : Text) → IsRead bytes text → declaration_fault text ≡ None → (X : Type 0) (fault : Fault) → Judges {X = X} (body_fault text) None (Err fault) → IsRefusedLoad bytes fault
+pub not_verified : (bytes : List ℕ) (text : Text) → IsRead bytes text → declaration_fault text ≡ None → (X : Type 0) (fault : Fault) → Validates {X = X} (body_fault text) None (Err fault) → IsRefusedLoad bytes fault
 not_verified bytes text read declared X (Refused number place) h = loading.at_bodies text read declared h
 not_verified bytes text read declared X Memory h = tt
 

@@ -1,7 +1,7 @@
 -- What an observer that refused to begin holds of the programs with which it did.
 use Rattle.std.proofs.Common.{◌≡◌, ℕ, List, Bool, false, Option, Some, None, Result, Ok, Err, sym, subst, ◌∙◌}
 use Rattle.std.specs.Prelude.{IfSome}
-use Rattle.wc_controller.specs.Endings.{EndsBehind, EndsBehindFault, IsAt, StopsAt, begun_input}
+use Rattle.wc_controller.specs.Endings.{EndsAfter, EndsAfterFault, IsAt, StopsAt, started_input}
 use Rattle.wc_controller.specs.InputStates.{Reader}
 use Rattle.wc_controller.specs.TakenLogs.{AreReadOf, IfKnown, IsNextLoadedOf, OfLogic, OfPrograms}
 use Rattle.wc_controller.specs.declared.ending.Ending.{Ending}
@@ -20,7 +20,7 @@ use Rattle.wc_run.specs.declared.fault.RunFault.{RunFault}
 use Rattle.wc_run.specs.declared.fault.RunFault.TheVariants.{Refused, Read, Write, Memory}
 
 -- the names are at fault if it refused to begin
-pub refused_at_names : (begins : Bool) (held : Type 0) (why : RunFault) → begun_input why ≡ input.Names → RefusesToBegin begins held why → (begins ≡ false) × held
+pub refused_at_names : (begins : Bool) (held : Type 0) (why : RunFault) → started_input why ≡ input.Names → RefusesToBegin begins held why → (begins ≡ false) × held
 refused_at_names begins held (Refused number place) at h = (h.0, h.1)
 refused_at_names begins held Read at h = absurd h
 refused_at_names begins held Write at h = absurd h
@@ -28,7 +28,7 @@ refused_at_names begins held Memory at h = absurd (cc (at))
 
 -- with the next text, if there is one
 pub next_refused : (first : Text) (bytes : Option (List ℕ)) (next : Option LoadedText) (begins : Option Logic → Bool) (held : Option Logic → Type 0) (why : RunFault)
-    → IsNextLoadedOf bytes next → begun_input why ≡ input.Names
+    → IsNextLoadedOf bytes next → started_input why ≡ input.Names
     → RefusesToBegin (begins (Some (first_logic first (text_of_next next)))) (held (Some (first_logic first (text_of_next next)))) why
     → OfLogic first bytes (λ logic. (begins logic ≡ false) × held logic)
 next_refused first None None begins held why is at h = refused_at_names (begins (Some (first_logic first None))) (held (Some (first_logic first None))) why at h
@@ -63,7 +63,7 @@ alone_read None next holds read h = h
 alone_read (Some program) next holds read h = absurd read
 
 -- an ending that names the names comes of it
-fault_at_names : (at : Input) (why : RunFault) (ending : Ending) (old new : Option (List ℕ)) → EndsBehindFault at why ending old new → IsAt input.Names ending → at ≡ input.Names
+fault_at_names : (at : Input) (why : RunFault) (ending : Ending) (old new : Option (List ℕ)) → EndsAfterFault at why ending old new → IsAt input.Names ending → at ≡ input.Names
 fault_at_names at (Refused number place) ended.Done old new k is = absurd is
 fault_at_names at (Refused number place) (ended.Refused other n p) old new k is = sym k.0 ∙ is
 fault_at_names at (Refused number place) (ended.ReadFault other) old new k is = absurd k
@@ -73,6 +73,6 @@ fault_at_names at Read ending old new k is = subst (λ e. IsAt input.Names e) k.
 fault_at_names at Write ending old new k is = absurd (subst (λ e. IsAt input.Names e) k.0 is)
 fault_at_names at Memory ending old new k is = absurd (subst (λ e. IsAt input.Names e) k.0 is)
 
-pub stopped_at_names : (answer : Result (Unit {0}) Stopped) (ending : Ending) (old new : Option (List ℕ)) → EndsBehind answer ending old new → IsAt input.Names ending → StopsAt input.Names answer
+pub stopped_at_names : (answer : Result (Unit {0}) Stopped) (ending : Ending) (old new : Option (List ℕ)) → EndsAfter answer ending old new → IsAt input.Names ending → StopsAt input.Names answer
 stopped_at_names (Ok done) ending old new k is = absurd (subst (λ e. IsAt input.Names e) k.0 is)
 stopped_at_names (Err stopped) ending old new k is = fault_at_names stopped.input stopped.fault ending old new k is

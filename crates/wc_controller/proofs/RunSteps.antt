@@ -4,13 +4,13 @@ use Rattle.std.specs.Prelude.{Option, Some, None, IfErr, IfSome, IsSome, is_some
 use Rattle.wc_controller.proofs.Allowing.{on_each, on_known, plate_not_read, plate_read}
 use Rattle.wc_controller.proofs.Blaming.{next_read, one_input, same_next}
 use Rattle.wc_controller.proofs.FileRuns as files
-use Rattle.wc_controller.proofs.StoppedInputs.{blamed_by, length_refused, memory_by, named_by, no_read_fault, none_taken, read_by, read_on_by, told_by, untold_by}
+use Rattle.wc_controller.proofs.StoppedInputs.{blamed_by, length_refused, memory_by, named_by, no_read_fault, none_taken, read_by, read_on_by, reported_by, untold_by}
 use Rattle.wc_controller.specs.Blames.{IsNextUnloaded, IsUnloaded, RefusesLog, RefusesProgram, StopsFor}
-use Rattle.wc_controller.specs.Endings.{HasNotFailedAt, IsReadFaultAt, RefusesLength, RefusesPlate, StopsAt, TakesInput, TellsMemory, TellsReadEndings, TellsReadFaults, TellsWriteFaults, WritesUpTo, fault_ending, met, of_unread_log, status_of}
+use Rattle.wc_controller.specs.Endings.{HasNotFailedAt, IsReadFaultAt, RefusesLength, RefusesPlate, StopsAt, TakesInput, ReportsMemory, ReportsReadEndings, ReportsReadFaults, ReportsWriteFaults, WritesUpTo, fault_ending, raised, of_unread_log, status_of}
 use Rattle.wc_controller.specs.Files.{AnswersPrinting, IsLineAnswer, Observed}
-use Rattle.wc_controller.specs.InputRuns.{OfAnswers, OfAnswersTo, RunsUpTo, TakesInputs, TellsReaders}
+use Rattle.wc_controller.specs.InputRuns.{OfAnswers, OfAnswersTo, RunsUpTo, TakesInputs, ReportsReaders}
 use Rattle.wc_controller.specs.InputStates.{InputStates, Reader, Writer, inputs_of}
-use Rattle.wc_controller.specs.TakenLogs.{AreReadOf, IsLater, failures_of, known_of, log_alone, log_beside, log_taken}
+use Rattle.wc_controller.specs.TakenLogs.{AreReadOf, IsLater, failures_of, known_of, log_alone, log_alongside, log_taken}
 use Rattle.wc_controller.specs.declared.ending.Ending.TheVariants as ended
 use Rattle.wc_controller.specs.declared.input.Input.{Input}
 use Rattle.wc_controller.specs.declared.input.Input.TheVariants as input
@@ -25,12 +25,12 @@ use Rattle.wc_model.specs.Say.Job.{AnswersNext}
 use Rattle.wc_plate.specs.TomlTable.{table_read}
 use Rattle.wc_record.specs.Left.{HasCause}
 use Rattle.wc_record.specs.Reading.{records_of}
-use Rattle.wc_run.specs.Runs.{TellsWrite}
+use Rattle.wc_run.specs.Runs.{ReportsWrite}
 use Rattle.wc_run.specs.declared.fault.RunFault.{RunFault}
 use Rattle.wc_run.specs.declared.fault.RunFault.TheVariants.{Refused, Read, Write, Memory}
 
 -- it stopped at an input before the log, which is not read
-stops_early : (o : Observed) (before after : InputStates) (told : Record) (stopped : Stopped) (writer : Writer)
+stops_early : (o : Observed) (before after : InputStates) (reported : Record) (stopped : Stopped) (writer : Writer)
     → OfAnswers o before (λ allowed. WritesUpTo allowed (Some stopped.fault) writer.taken writer.taken)
     → (stopped.input ≡ input.Job → ⊥) → (stopped.input ≡ input.Log → ⊥)
     → (stopped.input ≡ input.Plate → IfSome before.plate.bytes (λ bytes. RefusesPlate bytes stopped.fault))
@@ -43,23 +43,23 @@ stops_early : (o : Observed) (before after : InputStates) (told : Record) (stopp
     → (is_some before.program ≡ false → after.next ≡ before.next)
     → after.log ≡ before.log
     → TakesInputs before after
-    → TellsReaders before after (fault_ending stopped.input stopped.fault)
-    → TellsWriteFaults (Some stopped.fault) writer.failures writer.failures
-    → RunsUpTo o before after told (Err stopped) writer writer
-stops_early o before after told stopped writer writes no_job no_log plate program next program_there next_there behind_plate behind_program alone same taken readers silent = record {
+    → ReportsReaders before after (fault_ending stopped.input stopped.fault)
+    → ReportsWriteFaults (Some stopped.fault) writer.failures writer.failures
+    → RunsUpTo o before after reported (Err stopped) writer writer
+stops_early o before after reported stopped writer writes no_job no_log plate program next program_there next_there after_plate after_program alone same taken readers silent = record {
   writes = writes;
   inputs = record {
     blames_plate = blamed_by stopped.input input.Plate RefusesPlate before.plate.bytes stopped.fault plate;
     blames_program = blamed_by stopped.input input.Program RefusesProgram (known_of before.program) stopped.fault program;
     blames_next = blamed_by stopped.input input.Next RefusesProgram (known_of before.next) stopped.fault next;
-    blames_log = blamed_by stopped.input input.Log (RefusesLog (log_taken before) told) before.log.bytes stopped.fault (λ e. absurd (no_log e));
+    blames_log = blamed_by stopped.input input.Log (RefusesLog (log_taken before) reported) before.log.bytes stopped.fault (λ e. absurd (no_log e));
     no_job = λ h. no_job (named_by stopped.input input.Job stopped.fault h);
     program_there = λ h. program_there (named_by stopped.input input.Program stopped.fault h);
     next_there = λ h. next_there (named_by stopped.input input.Next stopped.fault h);
-    unread_behind_plate = λ h. let both = behind_plate (named_by stopped.input input.Plate stopped.fault h) in (both.0, both.1, same);
-    unread_behind_program = λ h. (behind_program (named_by stopped.input input.Program stopped.fault h), same);
-    unread_behind_next = λ h. same;
-    unread_behind_names = λ h. same;
+    unread_after_plate = λ h. let both = after_plate (named_by stopped.input input.Plate stopped.fault h) in (both.0, both.1, same);
+    unread_after_program = λ h. (after_program (named_by stopped.input input.Program stopped.fault h), same);
+    unread_after_next = λ h. same;
+    unread_after_names = λ h. same;
     unread_alone = alone;
     log_fault = λ e. absurd (no_log ((read_by stopped.input input.Log stopped.fault e).0));
     log_read = read_on_by stopped.input input.Log stopped.fault before.log.failures after.log.failures (λ e. absurd (no_log e));
@@ -71,31 +71,31 @@ stops_early o before after told stopped writer writes no_job no_log plate progra
 }
 
 -- what is known if it stopped at the log, at the next program after its reading, or not at all
-record IsLateRun (o : Observed) (before after : InputStates) (told : Record) (answer : Result (Unit {0}) Stopped) (old new : Writer) : Type 0 where
-  writes : OfAnswers o before (λ allowed. WritesUpTo allowed (met answer) old.taken new.taken)
+record IsLateRun (o : Observed) (before after : InputStates) (reported : Record) (answer : Result (Unit {0}) Stopped) (old new : Writer) : Type 0 where
+  writes : OfAnswers o before (λ allowed. WritesUpTo allowed (raised answer) old.taken new.taken)
   later : IsLater answer
   blames_next : IfErr answer (λ stopped. stopped.input ≡ input.Next → IfSome (known_of before.next) (λ bytes. RefusesProgram bytes stopped.fault))
-  blames_log : StopsFor input.Log (RefusesLog (log_taken before) told) before.log.bytes answer
+  blames_log : StopsFor input.Log (RefusesLog (log_taken before) reported) before.log.bytes answer
   next_there : StopsAt input.Next answer → IsSome before.program × IsSome before.next
   unread : StopsAt input.Next answer → after.log ≡ before.log
   unread_names : StopsAt input.Names answer → after.log ≡ before.log
   alone : is_some before.program ≡ false → after.next ≡ before.next
   held : IsReadFaultAt input.Next answer → ⊥
   read : IsReadFaultAt input.Log answer → HasCause before.log.failures after.log.failures before.log.spent after.log.spent
-  memory : met answer ≡ Some Memory → TellsMemory (log_taken before) before.log.bytes before.log.failures after.log.failures before.log.spent after.log.spent
+  memory : raised answer ≡ Some Memory → ReportsMemory (log_taken before) before.log.bytes before.log.failures after.log.failures before.log.spent after.log.spent
   reader : HasNotFailedAt input.Log answer before.log.failures after.log.failures
-  failures : TellsWriteFaults (met answer) old.failures new.failures
+  failures : ReportsWriteFaults (raised answer) old.failures new.failures
   taken : TakesInputs before after
   plate_kept : after.plate.failures ≡ before.plate.failures
   program_kept : failures_of after.program ≡ failures_of before.program
   next_kept : failures_of after.next ≡ failures_of before.next
 
 -- an ending after all was done reports no read fault
-done_untold : (at : Input) (old new : ℕ) → new ≡ old → TellsReadEndings at ended.Done old new
+done_untold : (at : Input) (old new : ℕ) → new ≡ old → ReportsReadEndings at ended.Done old new
 done_untold at old new same = (λ e. absurd (no_read_fault at ended.Done (λ h. h) e), λ no. same)
 
-late : (o : Observed) (before after : InputStates) (told : Record) (answer : Result (Unit {0}) Stopped) (old new : Writer) → IsLateRun o before after told answer old new → RunsUpTo o before after told answer old new
-late o before after told (Ok done) old new h = record {
+late : (o : Observed) (before after : InputStates) (reported : Record) (answer : Result (Unit {0}) Stopped) (old new : Writer) → IsLateRun o before after reported answer old new → RunsUpTo o before after reported answer old new
+late o before after reported (Ok done) old new h = record {
   writes = h.writes;
   inputs = record {
     blames_plate = tt;
@@ -105,10 +105,10 @@ late o before after told (Ok done) old new h = record {
     no_job = λ at. at;
     program_there = λ at. absurd at;
     next_there = λ at. absurd at;
-    unread_behind_plate = λ at. absurd at;
-    unread_behind_program = λ at. absurd at;
-    unread_behind_next = λ at. absurd at;
-    unread_behind_names = λ at. absurd at;
+    unread_after_plate = λ at. absurd at;
+    unread_after_program = λ at. absurd at;
+    unread_after_next = λ at. absurd at;
+    unread_after_names = λ at. absurd at;
     unread_alone = h.alone;
     log_fault = λ e. absurd (no_read_fault input.Log ended.Done (λ at. at) e);
     log_read = h.reader;
@@ -122,7 +122,7 @@ late o before after told (Ok done) old new h = record {
   memory = λ e. absurd (omega (arith, ap status_of e));
   failures = h.failures;
 }
-late o before after told (Err stopped) old new h =
+late o before after reported (Err stopped) old new h =
     let at = stopped.input in
     let why = stopped.fault in
     record {
@@ -131,14 +131,14 @@ late o before after told (Err stopped) old new h =
         blames_plate = blamed_by at input.Plate RefusesPlate before.plate.bytes why (λ e. absurd (h.later.1 e));
         blames_program = blamed_by at input.Program RefusesProgram (known_of before.program) why (λ e. absurd (h.later.2 e));
         blames_next = blamed_by at input.Next RefusesProgram (known_of before.next) why h.blames_next;
-        blames_log = blamed_by at input.Log (RefusesLog (log_taken before) told) before.log.bytes why h.blames_log;
+        blames_log = blamed_by at input.Log (RefusesLog (log_taken before) reported) before.log.bytes why h.blames_log;
         no_job = λ is. h.later.0 (named_by at input.Job why is);
         program_there = λ is. absurd (h.later.2 (named_by at input.Program why is));
         next_there = λ is. h.next_there (named_by at input.Next why is);
-        unread_behind_plate = λ is. absurd (h.later.1 (named_by at input.Plate why is));
-        unread_behind_program = λ is. absurd (h.later.2 (named_by at input.Program why is));
-        unread_behind_next = λ is. h.unread (named_by at input.Next why is);
-        unread_behind_names = λ is. h.unread_names (named_by at input.Names why is);
+        unread_after_plate = λ is. absurd (h.later.1 (named_by at input.Plate why is));
+        unread_after_program = λ is. absurd (h.later.2 (named_by at input.Program why is));
+        unread_after_next = λ is. h.unread (named_by at input.Next why is);
+        unread_after_names = λ is. h.unread_names (named_by at input.Names why is);
         unread_alone = h.alone;
         log_fault = λ e. h.read (read_by at input.Log why e);
         log_read = read_on_by at input.Log why before.log.failures after.log.failures h.reader;
@@ -162,7 +162,7 @@ writes_at_plate o plate None next log why old refused =
 writes_at_plate o plate (Some program) next log why old refused = files.at_plate o plate.bytes program.bytes next log.bytes why old refused
 
 -- of a file that was not read whole no write fault is reported
-length_silent : (known : Option (List ℕ)) (why : RunFault) (count : ℕ) → RefusesLength known why → TellsWrite why count count
+length_silent : (known : Option (List ℕ)) (why : RunFault) (count : ℕ) → RefusesLength known why → ReportsWrite why count count
 length_silent known (Refused number place) count h = refl
 length_silent known Read count h = refl
 length_silent known Write count h = absurd h
@@ -178,14 +178,14 @@ not_alone : (reader : Option Reader) → IsSome reader → is_some reader ≡ fa
 not_alone None there alone = absurd (cc there)
 not_alone (Some reader) there alone = absurd (cc alone)
 
-module _ (o : Observed) (told : Record) (plate plate_after : Reader) (program program_after next next_after : Option Reader) (log : Reader) (stopped : Stopped) (writer : Writer) where
+module _ (o : Observed) (reported : Record) (plate plate_after : Reader) (program program_after next next_after : Option Reader) (log : Reader) (stopped : Stopped) (writer : Writer) where
   pub at_plate : stopped.input ≡ input.Plate
       → IfSome plate.bytes (λ keys. RefusesPlate keys stopped.fault)
-      → TellsReadFaults {X = Unit {0}} input.Plate (Err stopped) plate.failures plate_after.failures
-      → TakesInput plate.bytes plate_after.bytes → TellsWriteFaults (Some stopped.fault) writer.failures writer.failures
-      → RunsUpTo o (inputs_of plate program next log) (inputs_of plate_after program next log) told (Err stopped) writer writer
+      → ReportsReadFaults {X = Unit {0}} input.Plate (Err stopped) plate.failures plate_after.failures
+      → TakesInput plate.bytes plate_after.bytes → ReportsWriteFaults (Some stopped.fault) writer.failures writer.failures
+      → RunsUpTo o (inputs_of plate program next log) (inputs_of plate_after program next log) reported (Err stopped) writer writer
   at_plate at refused faults taken silent =
-      stops_early o (inputs_of plate program next log) (inputs_of plate_after program next log) told stopped writer
+      stops_early o (inputs_of plate program next log) (inputs_of plate_after program next log) reported stopped writer
       (writes_at_plate o plate program next log stopped.fault writer.taken refused)
       (one_input input.Plate input.Job stopped.input at) (one_input input.Plate input.Log stopped.input at)
       (λ e. refused) (λ e. absurd (one_input input.Plate input.Program stopped.input at e)) (λ e. absurd (one_input input.Plate input.Next stopped.input at e))
@@ -193,21 +193,21 @@ module _ (o : Observed) (told : Record) (plate plate_after : Reader) (program pr
       (λ e. (refl, refl)) (λ e. refl) (λ e. refl) refl
       (record { plate = taken; program = none_taken (known_of program); next = none_taken (known_of next) })
       (record {
-        plate = told_by stopped input.Plate plate.failures plate_after.failures faults;
+        plate = reported_by stopped input.Plate plate.failures plate_after.failures faults;
         program = untold_by stopped.input input.Program stopped.fault (failures_of program) (failures_of program) (one_input input.Plate input.Program stopped.input at) refl;
         next = untold_by stopped.input input.Next stopped.fault (failures_of next) (failures_of next) (one_input input.Plate input.Next stopped.input at) refl;
       }) silent
 
-  module _ (judged : PlateData) (is : IfSome plate.bytes (λ keys. (length keys ≤ longest_job) × (plate_of (table_read keys) ≡ Ok judged)))
+  module _ (validated : PlateData) (is : IfSome plate.bytes (λ keys. (length keys ≤ longest_job) × (plate_of (table_read keys) ≡ Ok validated)))
       (plate_kept : plate_after.failures ≡ plate.failures) (plate_taken : TakesInput plate.bytes plate_after.bytes) where
     -- no program was read
     pub at_program : stopped.input ≡ input.Program
         → RefusesLength (known_of program) stopped.fault → IsSome program
-        → TellsReadFaults {X = Unit {0}} input.Program (Err stopped) (failures_of program) (failures_of program_after)
+        → ReportsReadFaults {X = Unit {0}} input.Program (Err stopped) (failures_of program) (failures_of program_after)
         → TakesInput (known_of program) (known_of program_after)
-        → RunsUpTo o (inputs_of plate program next log) (inputs_of plate_after program_after next log) told (Err stopped) writer writer
+        → RunsUpTo o (inputs_of plate program next log) (inputs_of plate_after program_after next log) reported (Err stopped) writer writer
     at_program at refused there faults taken =
-        stops_early o (inputs_of plate program next log) (inputs_of plate_after program_after next log) told stopped writer
+        stops_early o (inputs_of plate program next log) (inputs_of plate_after program_after next log) reported stopped writer
         (by_program program there refused)
         (one_input input.Program input.Job stopped.input at) (one_input input.Program input.Log stopped.input at)
         (λ e. absurd (one_input input.Program input.Plate stopped.input at e)) (λ e. length_refused (known_of program) stopped.fault refused) (λ e. absurd (one_input input.Program input.Next stopped.input at e))
@@ -216,22 +216,22 @@ module _ (o : Observed) (told : Record) (plate plate_after : Reader) (program pr
         (record { plate = plate_taken; program = taken; next = none_taken (known_of next) })
         (record {
           plate = untold_by stopped.input input.Plate stopped.fault plate.failures plate_after.failures (one_input input.Program input.Plate stopped.input at) plate_kept;
-          program = told_by stopped input.Program (failures_of program) (failures_of program_after) faults;
+          program = reported_by stopped input.Program (failures_of program) (failures_of program_after) faults;
           next = untold_by stopped.input input.Next stopped.fault (failures_of next) (failures_of next) (one_input input.Program input.Next stopped.input at) refl;
         }) (length_silent (known_of program) stopped.fault writer.failures refused) where
           by_program : (reader : Option Reader) → IsSome reader → RefusesLength (known_of reader) stopped.fault
               → OfAnswersTo o plate reader next log (λ allowed. WritesUpTo allowed (Some stopped.fault) writer.taken writer.taken)
           by_program None there refused = absurd (cc there)
-          by_program (Some reader) there refused = files.at_program o plate.bytes reader.bytes next log.bytes judged is stopped.fault writer.taken refused
+          by_program (Some reader) there refused = files.at_program o plate.bytes reader.bytes next log.bytes validated is stopped.fault writer.taken refused
 
     module _ (program_kept : failures_of program_after ≡ failures_of program) (program_taken : TakesInput (known_of program) (known_of program_after))
         (text : List ℕ) (are : AreReadOf program (Some text)) where
       -- no program was loaded
       pub at_text : stopped.input ≡ input.Program
-          → IsUnloaded text stopped.fault → TellsWriteFaults (Some stopped.fault) writer.failures writer.failures
-          → RunsUpTo o (inputs_of plate program next log) (inputs_of plate_after program_after next log) told (Err stopped) writer writer
+          → IsUnloaded text stopped.fault → ReportsWriteFaults (Some stopped.fault) writer.failures writer.failures
+          → RunsUpTo o (inputs_of plate program next log) (inputs_of plate_after program_after next log) reported (Err stopped) writer writer
       at_text at refused silent =
-          stops_early o (inputs_of plate program next log) (inputs_of plate_after program_after next log) told stopped writer
+          stops_early o (inputs_of plate program next log) (inputs_of plate_after program_after next log) reported stopped writer
           (by_program program are)
           (one_input input.Program input.Job stopped.input at) (one_input input.Program input.Log stopped.input at)
           (λ e. absurd (one_input input.Program input.Plate stopped.input at e)) (λ e. next_read program (Some text) stopped.fault are refused) (λ e. absurd (one_input input.Program input.Next stopped.input at e))
@@ -246,16 +246,16 @@ module _ (o : Observed) (told : Record) (plate plate_after : Reader) (program pr
             by_program : (reader : Option Reader) → AreReadOf reader (Some text)
                 → OfAnswersTo o plate reader next log (λ allowed. WritesUpTo allowed (Some stopped.fault) writer.taken writer.taken)
             by_program None whole = absurd whole
-            by_program (Some reader) whole = files.at_text o plate.bytes reader.bytes next log.bytes judged is text whole stopped.fault writer.taken refused
+            by_program (Some reader) whole = files.at_text o plate.bytes reader.bytes next log.bytes validated is text whole stopped.fault writer.taken refused
 
       -- no next program was read
       pub at_next : (first : Text) → IsLoaded text first → stopped.input ≡ input.Next
           → RefusesLength (known_of next) stopped.fault → IsSome next
-          → TellsReadFaults {X = Unit {0}} input.Next (Err stopped) (failures_of next) (failures_of next_after)
+          → ReportsReadFaults {X = Unit {0}} input.Next (Err stopped) (failures_of next) (failures_of next_after)
           → TakesInput (known_of next) (known_of next_after)
-          → RunsUpTo o (inputs_of plate program next log) (inputs_of plate_after program_after next_after log) told (Err stopped) writer writer
+          → RunsUpTo o (inputs_of plate program next log) (inputs_of plate_after program_after next_after log) reported (Err stopped) writer writer
       at_next first loads at refused there faults taken =
-          stops_early o (inputs_of plate program next log) (inputs_of plate_after program_after next_after log) told stopped writer
+          stops_early o (inputs_of plate program next log) (inputs_of plate_after program_after next_after log) reported stopped writer
           (by_program program are)
           (one_input input.Next input.Job stopped.input at) (one_input input.Next input.Log stopped.input at)
           (λ e. absurd (one_input input.Next input.Plate stopped.input at e)) (λ e. absurd (one_input input.Next input.Program stopped.input at e)) (λ e. length_refused (known_of next) stopped.fault refused)
@@ -266,12 +266,12 @@ module _ (o : Observed) (told : Record) (plate plate_after : Reader) (program pr
           (record {
             plate = untold_by stopped.input input.Plate stopped.fault plate.failures plate_after.failures (one_input input.Next input.Plate stopped.input at) plate_kept;
             program = untold_by stopped.input input.Program stopped.fault (failures_of program) (failures_of program_after) (one_input input.Next input.Program stopped.input at) program_kept;
-            next = told_by stopped input.Next (failures_of next) (failures_of next_after) faults;
+            next = reported_by stopped input.Next (failures_of next) (failures_of next_after) faults;
           }) (length_silent (known_of next) stopped.fault writer.failures refused) where
             by_program : (reader : Option Reader) → AreReadOf reader (Some text)
                 → OfAnswersTo o plate reader next log (λ allowed. WritesUpTo allowed (Some stopped.fault) writer.taken writer.taken)
             by_program None whole = absurd whole
-            by_program (Some reader) whole = files.at_next o plate.bytes reader.bytes next log.bytes judged is text whole first loads stopped.fault writer.taken there refused
+            by_program (Some reader) whole = files.at_next o plate.bytes reader.bytes next log.bytes validated is text whole first loads stopped.fault writer.taken there refused
 
 -- nothing is said of an input at which it did not stop
 not_next : (answer : Result (Unit {0}) Stopped) (known : Option (List ℕ)) → (StopsAt input.Next answer → ⊥)
@@ -284,32 +284,32 @@ read_at : (answer : Result (Unit {0}) Stopped) (at : Input) → IsReadFaultAt at
 read_at (Ok done) at is = is
 read_at (Err stopped) at is = is.0
 
-module _ (o : Observed) (told : Record) (plate plate_after : Reader) (program program_after next : Option Reader) (log log_after : Reader)
-    (judged : PlateData) (is : IfSome plate.bytes (λ keys. (length keys ≤ longest_job) × (plate_of (table_read keys) ≡ Ok judged)))
+module _ (o : Observed) (reported : Record) (plate plate_after : Reader) (program program_after next : Option Reader) (log log_after : Reader)
+    (validated : PlateData) (is : IfSome plate.bytes (λ keys. (length keys ≤ longest_job) × (plate_of (table_read keys) ≡ Ok validated)))
     (plate_kept : plate_after.failures ≡ plate.failures) (plate_taken : TakesInput plate.bytes plate_after.bytes)
     (program_kept : failures_of program_after ≡ failures_of program) (program_taken : TakesInput (known_of program) (known_of program_after))
     (answer : Result (Unit {0}) Stopped) (old new : Writer) where
   -- the log was started with no program
   pub at_line : AreReadOf program None
-      → IfSome log.bytes (λ bytes. WritesUpTo (IsLineAnswer o judged (log_of (records_of bytes))) (met answer) old.taken new.taken)
+      → IfSome log.bytes (λ bytes. WritesUpTo (IsLineAnswer o validated (log_of (records_of bytes))) (raised answer) old.taken new.taken)
       → IsLater answer
       → (StopsAt input.Next answer → ⊥)
       → (StopsAt input.Names answer → log_after ≡ log)
-      → StopsFor input.Log (RefusesLog log_alone told) log.bytes answer
+      → StopsFor input.Log (RefusesLog log_alone reported) log.bytes answer
       → (IsReadFaultAt input.Log answer → HasCause log.failures log_after.failures log.spent log_after.spent)
-      → (met answer ≡ Some Memory → TellsMemory log_alone log.bytes log.failures log_after.failures log.spent log_after.spent)
+      → (raised answer ≡ Some Memory → ReportsMemory log_alone log.bytes log.failures log_after.failures log.spent log_after.spent)
       → HasNotFailedAt input.Log answer log.failures log_after.failures
-      → TellsWriteFaults (met answer) old.failures new.failures
-      → RunsUpTo o (inputs_of plate program next log) (inputs_of plate_after program_after next log_after) told answer old new
+      → ReportsWriteFaults (raised answer) old.failures new.failures
+      → RunsUpTo o (inputs_of plate program next log) (inputs_of plate_after program_after next log_after) reported answer old new
   at_line are writes later no_next names blames read memory reader failures =
-      late o (inputs_of plate program next log) (inputs_of plate_after program_after next log_after) told answer old new
+      late o (inputs_of plate program next log) (inputs_of plate_after program_after next log_after) reported answer old new
       (by_program program are program_taken program_kept) where
         by_program : (reader : Option Reader) → AreReadOf reader None → TakesInput (known_of reader) (known_of program_after) → failures_of program_after ≡ failures_of reader
-            → IsLateRun o (inputs_of plate reader next log) (inputs_of plate_after program_after next log_after) told answer old new
+            → IsLateRun o (inputs_of plate reader next log) (inputs_of plate_after program_after next log_after) reported answer old new
         by_program None whole taken kept = record {
           writes = on_known plate.bytes _ _
               (λ table read. on_known log.bytes _ _
-              (λ bytes upto. plate_read table judged (λ one. IsLineAnswer o one (log_of (records_of bytes))) (met answer) old.taken new.taken read upto) writes) is;
+              (λ bytes upto. plate_read table validated (λ one. IsLineAnswer o one (log_of (records_of bytes))) (raised answer) old.taken new.taken read upto) writes) is;
           later = later;
           blames_next = not_next answer (known_of next) no_next;
           blames_log = blames;
@@ -333,20 +333,20 @@ module _ (o : Observed) (told : Record) (plate plate_after : Reader) (program pr
   pub at_log : (text : List ℕ) → AreReadOf program (Some text) → (first : Text) → IsLoaded text first
       → (next_after : Option Reader) (held : Option (List ℕ)) → AreReadOf next held
       → failures_of next_after ≡ failures_of next → TakesInput (known_of next) (known_of next_after)
-      → IfSome log.bytes (λ bytes. WritesUpTo (AnswersNext held (AnswersPrinting o judged (log_of (records_of bytes)) first)) (met answer) old.taken new.taken)
+      → IfSome log.bytes (λ bytes. WritesUpTo (AnswersNext held (AnswersPrinting o validated (log_of (records_of bytes)) first)) (raised answer) old.taken new.taken)
       → IfErr answer (λ stopped. stopped.input ≡ input.Next → IsNextUnloaded held stopped.fault)
-      → StopsFor input.Log (RefusesLog (log_beside (is_some held)) told) log.bytes answer
+      → StopsFor input.Log (RefusesLog (log_alongside (is_some held)) reported) log.bytes answer
       → (StopsAt input.Next answer → log_after ≡ log)
       → (StopsAt input.Names answer → log_after ≡ log)
       → IsLater answer
       → (IsReadFaultAt input.Next answer → ⊥)
       → (IsReadFaultAt input.Log answer → HasCause log.failures log_after.failures log.spent log_after.spent)
-      → (met answer ≡ Some Memory → TellsMemory (log_beside (is_some held)) log.bytes log.failures log_after.failures log.spent log_after.spent)
+      → (raised answer ≡ Some Memory → ReportsMemory (log_alongside (is_some held)) log.bytes log.failures log_after.failures log.spent log_after.spent)
       → HasNotFailedAt input.Log answer log.failures log_after.failures
-      → TellsWriteFaults (met answer) old.failures new.failures
-      → RunsUpTo o (inputs_of plate program next log) (inputs_of plate_after program_after next_after log_after) told answer old new
+      → ReportsWriteFaults (raised answer) old.failures new.failures
+      → RunsUpTo o (inputs_of plate program next log) (inputs_of plate_after program_after next_after log_after) reported answer old new
   at_log text whole first loads next_after held are next_kept next_taken writes blames_next blames_log unread names later not_read read memory well failures =
-      late o (inputs_of plate program next log) (inputs_of plate_after program_after next_after log_after) told answer old new
+      late o (inputs_of plate program next log) (inputs_of plate_after program_after next_after log_after) reported answer old new
       (by_program program whole program_taken program_kept) where
         same : is_some held ≡ is_some next
         same = same_next next held are
@@ -365,20 +365,20 @@ module _ (o : Observed) (told : Record) (plate plate_after : Reader) (program pr
           by_held (Some reader) bytes are h = refl
 
         by_program : (reader : Option Reader) → AreReadOf reader (Some text) → TakesInput (known_of reader) (known_of program_after) → failures_of program_after ≡ failures_of reader
-            → IsLateRun o (inputs_of plate reader next log) (inputs_of plate_after program_after next_after log_after) told answer old new
+            → IsLateRun o (inputs_of plate reader next log) (inputs_of plate_after program_after next_after log_after) reported answer old new
         by_program None read taken kept = absurd read
         by_program (Some reader) bytes_read taken kept = record {
-          writes = files.at_log o plate.bytes reader.bytes next log.bytes judged is text bytes_read first loads held are (met answer) old.taken new.taken writes;
+          writes = files.at_log o plate.bytes reader.bytes next log.bytes validated is text bytes_read first loads held are (raised answer) old.taken new.taken writes;
           later = later;
           blames_next = refused answer blames_next;
-          blames_log = subst (λ left. StopsFor input.Log (RefusesLog (log_beside left) told) log.bytes answer) same blames_log;
+          blames_log = subst (λ left. StopsFor input.Log (RefusesLog (log_alongside left) reported) log.bytes answer) same blames_log;
           next_there = λ at. (refl, there answer blames_next at);
           unread = unread;
           unread_names = names;
           alone = λ e. absurd (cc e);
           held = not_read;
           read = read;
-          memory = subst (λ left. met answer ≡ Some Memory → TellsMemory (log_beside left) log.bytes log.failures log_after.failures log.spent log_after.spent) same memory;
+          memory = subst (λ left. raised answer ≡ Some Memory → ReportsMemory (log_alongside left) log.bytes log.failures log_after.failures log.spent log_after.spent) same memory;
           reader = well;
           failures = failures;
           taken = record { plate = plate_taken; program = taken; next = next_taken };

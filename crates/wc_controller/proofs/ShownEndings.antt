@@ -20,14 +20,14 @@ pub answers_more : (o : Observed) (plate : Reader) (program next : Option Reader
     → ((allowed : JobAnswer → Type 0) → P allowed → Q allowed) → OfAnswersTo o plate program next log P → OfAnswersTo o plate program next log Q
 answers_more o plate None next log P Q f h =
     on_known plate.bytes _ _
-    (λ table told. on_known log.bytes _ _
-    (λ bytes said. f (AnswersLine o table bytes) said) told) h
+    (λ table reported. on_known log.bytes _ _
+    (λ bytes said. f (AnswersLine o table bytes) said) reported) h
 answers_more o plate (Some program) next log P Q f h =
     on_known plate.bytes _ _
-    (λ table told. on_known program.bytes _ _
+    (λ table reported. on_known program.bytes _ _
     (λ text more. known_more next _ _
     (λ known then. on_known log.bytes _ _
-    (λ bytes said. f (AnswersRun o table text known bytes) said) then) more) told) h
+    (λ bytes said. f (AnswersRun o table text known bytes) said) then) more) reported) h
 
 -- a refusal whose line was to be written
 pub refused_shown : (input : Input) (number place : ℕ) (shown : Ending) (old new : Option (List ℕ)) → EndsRefused input number place shown old new → IsEndedBy (ended.Refused input number place) shown
@@ -37,9 +37,9 @@ refused_shown input number place (ended.ReadFault at) old new h = absurd h
 refused_shown input number place ended.WriteFault old new h = inr (inl refl)
 refused_shown input number place ended.NoMemory old new h = inr (inr refl)
 
-module _ (before after : InputStates) (told : Record) where
+module _ (before after : InputStates) (reported : Record) where
   -- a fault of a write names no input
-  at_write : (ran : Ending) → ReadsInOrder before after told ran → ReadsInOrder before after told ended.WriteFault
+  at_write : (ran : Ending) → ReadsInOrder before after reported ran → ReadsInOrder before after reported ended.WriteFault
   at_write ran h = record {
     blames_plate = tt;
     blames_program = tt;
@@ -48,10 +48,10 @@ module _ (before after : InputStates) (told : Record) where
     no_job = λ at. at;
     program_there = λ at. absurd at;
     next_there = λ at. absurd at;
-    unread_behind_plate = λ at. absurd at;
-    unread_behind_program = λ at. absurd at;
-    unread_behind_next = λ at. absurd at;
-    unread_behind_names = λ at. absurd at;
+    unread_after_plate = λ at. absurd at;
+    unread_after_program = λ at. absurd at;
+    unread_after_next = λ at. absurd at;
+    unread_after_names = λ at. absurd at;
     unread_alone = h.unread_alone;
     log_fault = λ e. absurd (no_read_fault input.Log ended.WriteFault (λ at. at) e);
     log_read = tt;
@@ -59,7 +59,7 @@ module _ (before after : InputStates) (told : Record) where
   }
 
   -- nor does running out of memory
-  at_memory : (ran : Ending) → ReadsInOrder before after told ran → ReadsInOrder before after told ended.NoMemory
+  at_memory : (ran : Ending) → ReadsInOrder before after reported ran → ReadsInOrder before after reported ended.NoMemory
   at_memory ran h = record {
     blames_plate = tt;
     blames_program = tt;
@@ -68,10 +68,10 @@ module _ (before after : InputStates) (told : Record) where
     no_job = λ at. at;
     program_there = λ at. absurd at;
     next_there = λ at. absurd at;
-    unread_behind_plate = λ at. absurd at;
-    unread_behind_program = λ at. absurd at;
-    unread_behind_next = λ at. absurd at;
-    unread_behind_names = λ at. absurd at;
+    unread_after_plate = λ at. absurd at;
+    unread_after_program = λ at. absurd at;
+    unread_after_next = λ at. absurd at;
+    unread_after_names = λ at. absurd at;
     unread_alone = h.unread_alone;
     log_fault = λ e. absurd (no_read_fault input.Log ended.NoMemory (λ at. at) e);
     log_read = tt;
@@ -79,10 +79,10 @@ module _ (before after : InputStates) (told : Record) where
   }
 
   -- so what is said of the inputs stays, whatever fault follows
-  pub inputs_shown : (ran shown : Ending) → IsEndedBy ran shown → ReadsInOrder before after told ran → ReadsInOrder before after told shown
-  inputs_shown ran shown (inl e) h = subst (λ one. ReadsInOrder before after told one) (sym e) h
-  inputs_shown ran shown (inr (inl e)) h = subst (λ one. ReadsInOrder before after told one) (sym e) (at_write ran h)
-  inputs_shown ran shown (inr (inr e)) h = subst (λ one. ReadsInOrder before after told one) (sym e) (at_memory ran h)
+  pub inputs_shown : (ran shown : Ending) → IsEndedBy ran shown → ReadsInOrder before after reported ran → ReadsInOrder before after reported shown
+  inputs_shown ran shown (inl e) h = subst (λ one. ReadsInOrder before after reported one) (sym e) h
+  inputs_shown ran shown (inr (inl e)) h = subst (λ one. ReadsInOrder before after reported one) (sym e) (at_write ran h)
+  inputs_shown ran shown (inr (inr e)) h = subst (λ one. ReadsInOrder before after reported one) (sym e) (at_memory ran h)
 
 -- a fault of what is shown is not a read fault
 pub faulty_untold : (at : Input) (shown : Ending) → IsFaulty shown → shown ≡ ended.ReadFault at → ⊥

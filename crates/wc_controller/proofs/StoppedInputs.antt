@@ -4,7 +4,7 @@ use Rattle.std.proofs.KnownBytes.{Consumes-nil}
 use Rattle.std.specs.Prelude.{Option, Some, None, IfSome, Err}
 use Rattle.wc_controller.proofs.Blaming.{IsOne, one_input}
 use Rattle.wc_controller.specs.Blames.{Blames, RefusesProgram}
-use Rattle.wc_controller.specs.Endings.{HasNotFailedIn, IsAt, RefusesLength, TakesInput, TellsReadEndings, TellsReadFaults, fault_ending, status_of}
+use Rattle.wc_controller.specs.Endings.{HasNotFailedIn, IsAt, RefusesLength, TakesInput, ReportsReadEndings, ReportsReadFaults, fault_ending, status_of}
 use Rattle.wc_controller.specs.declared.ending.Ending.TheVariants as ended
 use Rattle.wc_controller.specs.declared.ending.Ending.{Ending}
 use Rattle.wc_controller.specs.declared.input.Input.{Input}
@@ -58,12 +58,12 @@ read_on_by at input Write old new h = tt
 read_on_by at input Memory old new h = tt
 
 -- a read fault is reported where it came
-pub told_by : (stopped : Stopped) (input : Input) (old new : ℕ) → TellsReadFaults {X = Unit {0}} input (Err stopped) old new
-    → TellsReadEndings input (fault_ending stopped.input stopped.fault) old new
-told_by stopped input old new h = (λ e. h.0 (read_by stopped.input input stopped.fault e), λ no. h.1 (λ is. no (λ i. fault_ending (is.0 i) (is.1 i))))
+pub reported_by : (stopped : Stopped) (input : Input) (old new : ℕ) → ReportsReadFaults {X = Unit {0}} input (Err stopped) old new
+    → ReportsReadEndings input (fault_ending stopped.input stopped.fault) old new
+reported_by stopped input old new h = (λ e. h.0 (read_by stopped.input input stopped.fault e), λ no. h.1 (λ is. no (λ i. fault_ending (is.0 i) (is.1 i))))
 
 -- for another input none is reported
-pub untold_by : (at input : Input) (why : RunFault) (old new : ℕ) → (at ≡ input → ⊥) → new ≡ old → TellsReadEndings input (fault_ending at why) old new
+pub untold_by : (at input : Input) (why : RunFault) (old new : ℕ) → (at ≡ input → ⊥) → new ≡ old → ReportsReadEndings input (fault_ending at why) old new
 untold_by at input why old new other same = (λ e. absurd (other ((read_by at input why e).0)), λ no. same)
 
 -- of what is not read nothing is taken

@@ -1,6 +1,6 @@
 -- What a refusal says of the input that it names. (The profile's own.)
 use Rattle.std.specs.Prelude.{◌≡◌, ⊤, ℕ, ◌<◌, ◌≤◌, ◌⊎◌, List, length, Option, Some, None, IfSome, is_some, Result, Ok, Err}
-use Rattle.wc_controller.specs.TakenLogs.{log_beside}
+use Rattle.wc_controller.specs.TakenLogs.{log_alongside}
 use Rattle.wc_controller.specs.declared.ending.Ending.{Ending}
 use Rattle.wc_controller.specs.declared.ending.Ending.TheVariants as ended
 use Rattle.wc_controller.specs.declared.input.Input.{Input}
@@ -11,7 +11,7 @@ use Rattle.wc_model.specs.Language.Loading.{IsRefused}
 use Rattle.wc_model.specs.Run.JobSections.{Sections, longest_job}
 use Rattle.wc_model.specs.Run.Log.{LogOf, Record}
 use Rattle.wc_plate.specs.TomlTable.{table_read}
-use Rattle.wc_record.specs.Told.{record_at, records_read}
+use Rattle.wc_record.specs.Reported.{record_at, records_read}
 use Rattle.wc_run.specs.declared.fault.RunFault.{RunFault}
 use Rattle.wc_run.specs.declared.fault.RunFault.TheVariants.{Refused, Memory}
 
@@ -40,9 +40,9 @@ RefusesProgram bytes fault = ⊤
 -- a log is refused at its first row that breaks a rule, as the command takes it, and these are the fields of that row: the
 -- record of its number
 abbrev pub RefusesLog : (List ℕ → LogOf) → Record → List ℕ → RunFault → Type 0
-RefusesLog taken told bytes (Refused number place) =
-    ((taken bytes).refusal ≡ Some (record { number = number; row = place })) × (told ≡ record_at (records_read bytes) place)
-RefusesLog taken told bytes fault = ⊤
+RefusesLog taken reported bytes (Refused number place) =
+    ((taken bytes).refusal ≡ Some (record { number = number; row = place })) × (reported ≡ record_at (records_read bytes) place)
+RefusesLog taken reported bytes fault = ⊤
 
 -- what stopped at this input is a refusal of its bytes, if it is one
 abbrev pub StopsFor : {X : Type 0} → Input → (List ℕ → RunFault → Type 0) → Option (List ℕ) → Result X Stopped → Type 0
@@ -58,25 +58,25 @@ Blames input refuses known ending = ⊤
 -- breaks that rule first; the program, or the next one, has that first fault; the log has that first
 -- refused row, whose fields are reported.
 abbrev pub RefusesPart : Record → Result Sections ℕ → Input → ℕ → ℕ → Type 0
-RefusesPart told (Err missing) at number place = (at ≡ input.Job) × (number ≡ missing) × (place ≡ 0)
-RefusesPart told (Ok sections) input.Job number place = ⊥
-RefusesPart told (Ok sections) input.Names number place = ⊥
-RefusesPart told (Ok sections) input.Plate number place = (place ≡ 0) × (plate_of (table_read sections.plate) ≡ Err number)
-RefusesPart told (Ok sections) input.Program number place = IsRefused sections.program number place
-RefusesPart told (Ok sections) input.Next number place = (next : List ℕ) × (sections.next ≡ Some next) × IsRefused next number place
-RefusesPart told (Ok sections) input.Log number place = RefusesLog (log_beside (is_some sections.next)) told sections.log (Refused number place)
+RefusesPart reported (Err missing) at number place = (at ≡ input.Job) × (number ≡ missing) × (place ≡ 0)
+RefusesPart reported (Ok sections) input.Job number place = ⊥
+RefusesPart reported (Ok sections) input.Names number place = ⊥
+RefusesPart reported (Ok sections) input.Plate number place = (place ≡ 0) × (plate_of (table_read sections.plate) ≡ Err number)
+RefusesPart reported (Ok sections) input.Program number place = IsRefused sections.program number place
+RefusesPart reported (Ok sections) input.Next number place = (next : List ℕ) × (sections.next ≡ Some next) × IsRefused next number place
+RefusesPart reported (Ok sections) input.Log number place = RefusesLog (log_alongside (is_some sections.next)) reported sections.log (Refused number place)
 
 -- what stopped at a part of a job is a refusal of that part, if it is one
 abbrev pub StopsAsPart : Record → Result Sections ℕ → Input → RunFault → Type 0
-StopsAsPart told parts at (Refused number place) = RefusesPart told parts at number place
-StopsAsPart told parts at fault = ⊤
+StopsAsPart reported parts at (Refused number place) = RefusesPart reported parts at number place
+StopsAsPart reported parts at fault = ⊤
 
 -- likewise for whatever is answered
 abbrev pub StopsForPart : {X : Type 0} → Record → Result Sections ℕ → Result X Stopped → Type 0
-StopsForPart told parts (Ok done) = ⊤
-StopsForPart told parts (Err stopped) = StopsAsPart told parts stopped.input stopped.fault
+StopsForPart reported parts (Ok done) = ⊤
+StopsForPart reported parts (Err stopped) = StopsAsPart reported parts stopped.input stopped.fault
 
 -- an ending of a job that names a part with a refusal says what that part breaks
 abbrev pub BlamesPart : Record → Result Sections ℕ → Ending → Type 0
-BlamesPart told parts (ended.Refused at number place) = RefusesPart told parts at number place
-BlamesPart told parts ending = ⊤
+BlamesPart reported parts (ended.Refused at number place) = RefusesPart reported parts at number place
+BlamesPart reported parts ending = ⊤

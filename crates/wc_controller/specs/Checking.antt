@@ -6,7 +6,7 @@ use Rattle.wc_model.specs.Language.Tree.{Text}
 use Rattle.wc_model.specs.Say.UnitReport.{IsUnitReport}
 use Rattle.wc_run.specs.declared.fault.RunFault.{RunFault}
 use Rattle.wc_run.specs.declared.fault.RunFault.TheVariants.{Refused, Read, Write, Memory}
-use Rattle.wc_model.specs.Run.Writing.{TakesFront}
+use Rattle.wc_model.specs.Run.Writing.{TakesPrefix}
 
 -- A text's report is written; at a write fault a prefix of it, and not all; when out of
 -- memory nothing. There is no other fault.
@@ -14,7 +14,7 @@ abbrev pub WritesReport : {X : Type 0} → Bool → Text → Result X RunFault �
 WritesReport paths text (Ok done) old new = (report : List ℕ) × IsUnitReport paths text report × Appends old new report
 WritesReport paths text (Err (Refused number place)) old new = ⊥
 WritesReport paths text (Err Read) old new = ⊥
-WritesReport paths text (Err Write) old new = (report : List ℕ) × IsUnitReport paths text report × TakesFront old new report
+WritesReport paths text (Err Write) old new = (report : List ℕ) × IsUnitReport paths text report × TakesPrefix old new report
 WritesReport paths text (Err Memory) old new = Keeps old new
 
 -- The bytes are loaded, and the text's report is written, at a write fault a prefix of it; or
@@ -23,5 +23,5 @@ abbrev pub Checks : {X : Type 0} → Bool → List ℕ → Result X RunFault →
 Checks paths bytes (Ok done) old new = (text : Text) × (report : List ℕ) × IsLoaded bytes text × IsUnitReport paths text report × Appends old new report
 Checks paths bytes (Err (Refused number place)) old new = IsRefused bytes number place × Keeps old new
 Checks paths bytes (Err Read) old new = ⊥
-Checks paths bytes (Err Write) old new = (text : Text) × (report : List ℕ) × IsLoaded bytes text × IsUnitReport paths text report × TakesFront old new report
+Checks paths bytes (Err Write) old new = (text : Text) × (report : List ℕ) × IsLoaded bytes text × IsUnitReport paths text report × TakesPrefix old new report
 Checks paths bytes (Err Memory) old new = Keeps old new

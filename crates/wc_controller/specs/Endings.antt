@@ -13,27 +13,27 @@ use Rattle.wc_model.specs.Instrument.PlateTable.{plate_of}
 use Rattle.wc_model.specs.Instrument.Plates.{PlateData}
 use Rattle.wc_model.specs.Run.JobSections.{longest_job}
 use Rattle.wc_model.specs.Run.Log.{LogOf}
-use Rattle.wc_model.specs.Run.Writing.{HasFailedSince, TakesFront}
+use Rattle.wc_model.specs.Run.Writing.{HasFailedSince, TakesPrefix}
 use Rattle.wc_model.specs.Say.Job.{JobAnswer, refused_text}
 use Rattle.wc_plate.specs.TomlTable.{table_read}
 use Rattle.wc_record.specs.Left.{HasCause}
-use Rattle.wc_run.specs.Runs.{AppendsFront, HasNotFailed, TellsWrite}
+use Rattle.wc_run.specs.Runs.{AppendsPrefix, HasNotFailed, ReportsWrite}
 use Rattle.wc_run.specs.declared.fault.RunFault.{RunFault}
 use Rattle.wc_run.specs.declared.fault.RunFault.TheVariants.{Refused, Read, Write, Memory}
 
 -- the fault with which something stopped, if it did
-abbrev pub met : {X : Type 0} → Result X Stopped → Option RunFault
-met (Ok x) = None
-met (Err stopped) = Some stopped.fault
+abbrev pub raised : {X : Type 0} → Result X Stopped → Option RunFault
+raised (Ok x) = None
+raised (Err stopped) = Some stopped.fault
 
 -- likewise for a fault alone
-abbrev pub fault_met : {X : Type 0} → Result X RunFault → Option RunFault
-fault_met (Ok x) = None
-fault_met (Err fault) = Some fault
+abbrev pub fault_raised : {X : Type 0} → Result X RunFault → Option RunFault
+fault_raised (Ok x) = None
+fault_raised (Err fault) = Some fault
 
 -- nothing was written, or a prefix of an answer that is allowed
-abbrev pub WritesFront : (JobAnswer → Type 0) → Option (List ℕ) → Option (List ℕ) → Type 0
-WritesFront allowed old new = Keeps old new ⊎ ((answer : JobAnswer) × allowed answer × AppendsFront old new answer.output)
+abbrev pub WritesPrefix : (JobAnswer → Type 0) → Option (List ℕ) → Option (List ℕ) → Type 0
+WritesPrefix allowed old new = Keeps old new ⊎ ((answer : JobAnswer) × allowed answer × AppendsPrefix old new answer.output)
 
 -- an answer that is allowed was written: all of it; all but its refusal; at a fault a prefix of
 -- it, or nothing
@@ -41,7 +41,7 @@ abbrev pub WritesUpTo : (JobAnswer → Type 0) → Option RunFault → Option (L
 WritesUpTo allowed None old new = (answer : JobAnswer) × allowed answer × (answer.status ≡ 0) × Appends old new answer.output
 WritesUpTo allowed (Some (Refused number place)) old new =
     (report : List ℕ) × allowed (record { output = report ++ refused_text number place; status = 1 }) × Appends old new report
-WritesUpTo allowed (Some fault) old new = WritesFront allowed old new
+WritesUpTo allowed (Some fault) old new = WritesPrefix allowed old new
 
 -- a file is refused only because it is too long
 abbrev pub RefusesLength : Option (List ℕ) → RunFault → Type 0
@@ -99,7 +99,7 @@ IsEndingOf answer ending = ⊥
 -- failed, and a prefix of such an answer was written, or nothing.
 pub data EndsAs (allowed : JobAnswer → Type 0) (ending : Ending) (old new : Option (List ℕ)) : Type 0 where
   answered : (answer : JobAnswer) → allowed answer → IsEndingOf answer ending → Appends old new answer.output → EndsAs allowed ending old new
-  failed : IsFailing ending → WritesFront allowed old new → EndsAs allowed ending old new
+  failed : IsFailing ending → WritesPrefix allowed old new → EndsAs allowed ending old new
 
 -- the ending of a refusal, and what was written after the report
 abbrev pub EndsRefused : Input → ℕ → ℕ → Ending → Option (List ℕ) → Option (List ℕ) → Type 0
@@ -107,20 +107,20 @@ EndsRefused input number place ended.Done old new = ⊥
 EndsRefused input number place (ended.Refused at other line) old new =
     (at ≡ input) × (other ≡ number) × (line ≡ place) × Appends old new (refused_text number place)
 EndsRefused input number place (ended.ReadFault at) old new = ⊥
-EndsRefused input number place ended.WriteFault old new = TakesFront old new (refused_text number place)
+EndsRefused input number place ended.WriteFault old new = TakesPrefix old new (refused_text number place)
 EndsRefused input number place ended.NoMemory old new = Keeps old new
 
 -- the ending of what stopped with a fault at an input, and what was written after
-abbrev pub EndsBehindFault : Input → RunFault → Ending → Option (List ℕ) → Option (List ℕ) → Type 0
-EndsBehindFault input (Refused number place) ending old new = EndsRefused input number place ending old new
-EndsBehindFault input Read ending old new = (ending ≡ ended.ReadFault input) × Keeps old new
-EndsBehindFault input Write ending old new = (ending ≡ ended.WriteFault) × Keeps old new
-EndsBehindFault input Memory ending old new = (ending ≡ ended.NoMemory) × Keeps old new
+abbrev pub EndsAfterFault : Input → RunFault → Ending → Option (List ℕ) → Option (List ℕ) → Type 0
+EndsAfterFault input (Refused number place) ending old new = EndsRefused input number place ending old new
+EndsAfterFault input Read ending old new = (ending ≡ ended.ReadFault input) × Keeps old new
+EndsAfterFault input Write ending old new = (ending ≡ ended.WriteFault) × Keeps old new
+EndsAfterFault input Memory ending old new = (ending ≡ ended.NoMemory) × Keeps old new
 
 -- likewise for whatever is answered
-abbrev pub EndsBehind : {X : Type 0} → Result X Stopped → Ending → Option (List ℕ) → Option (List ℕ) → Type 0
-EndsBehind (Ok done) ending old new = (ending ≡ ended.Done) × Keeps old new
-EndsBehind (Err stopped) ending old new = EndsBehindFault stopped.input stopped.fault ending old new
+abbrev pub EndsAfter : {X : Type 0} → Result X Stopped → Ending → Option (List ℕ) → Option (List ℕ) → Type 0
+EndsAfter (Ok done) ending old new = (ending ≡ ended.Done) × Keeps old new
+EndsAfter (Err stopped) ending old new = EndsAfterFault stopped.input stopped.fault ending old new
 
 -- the ending of a fault at an input, if the line of a refusal can be written
 abbrev pub fault_ending : Input → RunFault → Ending
@@ -135,18 +135,18 @@ ending_of (Ok done) = ended.Done
 ending_of (Err stopped) = fault_ending stopped.input stopped.fault
 
 -- a write fault is reported if the writer's failed calls rose, and only then
-abbrev pub TellsFailures : Ending → ℕ → ℕ → Type 0
-TellsFailures ending old new = (ending ≡ ended.WriteFault → HasFailedSince old new) × ((ending ≡ ended.WriteFault → ⊥) → new ≡ old)
+abbrev pub ReportsFailures : Ending → ℕ → ℕ → Type 0
+ReportsFailures ending old new = (ending ≡ ended.WriteFault → HasFailedSince old new) × ((ending ≡ ended.WriteFault → ⊥) → new ≡ old)
 
 -- likewise for a fault
-abbrev pub TellsWriteFaults : Option RunFault → ℕ → ℕ → Type 0
-TellsWriteFaults None old new = new ≡ old
-TellsWriteFaults (Some fault) old new = TellsWrite fault old new
+abbrev pub ReportsWriteFaults : Option RunFault → ℕ → ℕ → Type 0
+ReportsWriteFaults None old new = new ≡ old
+ReportsWriteFaults (Some fault) old new = ReportsWrite fault old new
 
 -- the input that is named if an observer does not begin: the names that it was to observe, or, when out of memory, the log
-abbrev pub begun_input : RunFault → Input
-begun_input (Refused number place) = input.Names
-begun_input fault = input.Log
+abbrev pub started_input : RunFault → Input
+started_input (Refused number place) = input.Names
+started_input fault = input.Log
 
 -- it stopped at this input
 abbrev pub StopsAt : {X : Type 0} → Input → Result X Stopped → Type 0
@@ -159,12 +159,12 @@ IsReadFaultAt input (Ok done) = ⊥
 IsReadFaultAt input (Err stopped) = (stopped.input ≡ input) × (stopped.fault ≡ Read)
 
 -- a read fault is reported for this input if its reader's failed calls rose, and only then
-abbrev pub TellsReadFaults : {X : Type 0} → Input → Result X Stopped → ℕ → ℕ → Type 0
-TellsReadFaults input result old new = (IsReadFaultAt input result → HasFailedSince old new) × ((IsReadFaultAt input result → ⊥) → new ≡ old)
+abbrev pub ReportsReadFaults : {X : Type 0} → Input → Result X Stopped → ℕ → ℕ → Type 0
+ReportsReadFaults input result old new = (IsReadFaultAt input result → HasFailedSince old new) × ((IsReadFaultAt input result → ⊥) → new ≡ old)
 
 -- likewise for an ending
-abbrev pub TellsReadEndings : Input → Ending → ℕ → ℕ → Type 0
-TellsReadEndings input ending old new = (ending ≡ ended.ReadFault input → HasFailedSince old new) × ((ending ≡ ended.ReadFault input → ⊥) → new ≡ old)
+abbrev pub ReportsReadEndings : Input → Ending → ℕ → ℕ → Type 0
+ReportsReadEndings input ending old new = (ending ≡ ended.ReadFault input → HasFailedSince old new) × ((ending ≡ ended.ReadFault input → ⊥) → new ≡ old)
 
 -- of a log in memory: reading it fails only when out of memory
 abbrev pub fault_in_memory : RunFault → RunFault
@@ -191,8 +191,8 @@ HasNotFailedIn input ending old new = ⊤
 -- Why out of memory may be reported for a command that has a log: nothing of the log was read; or
 -- its reader has no cause to be reported as a fault; or the log is refused, its reader has not
 -- failed, and the line that says so was not made.
-pub data TellsMemory (taken : List ℕ → LogOf) (known : Option (List ℕ)) (failures_before failures start spent : ℕ) : Type 0 where
-  of_unread_log : spent ≡ start → TellsMemory taken known failures_before failures start spent
-  of_no_cause : (HasCause failures_before failures start spent → ⊥) → TellsMemory taken known failures_before failures start spent
+pub data ReportsMemory (taken : List ℕ → LogOf) (known : Option (List ℕ)) (failures_before failures start spent : ℕ) : Type 0 where
+  of_unread_log : spent ≡ start → ReportsMemory taken known failures_before failures start spent
+  of_no_cause : (HasCause failures_before failures start spent → ⊥) → ReportsMemory taken known failures_before failures start spent
   of_refused_log : IfSome known (λ bytes. IsSome (taken bytes).refusal) → failures ≤ failures_before
-      → TellsMemory taken known failures_before failures start spent
+      → ReportsMemory taken known failures_before failures start spent

@@ -7,7 +7,7 @@ use Rattle.wc_model.specs.Language.Loading.{IsLoaded, IsRefused}
 use Rattle.wc_model.specs.Language.Tree.{Text}
 use Rattle.wc_model.specs.Run.JobSections.{longest_job}
 use Rattle.wc_model.specs.Run.Log.{LogOf, log_of}
-use Rattle.wc_model.specs.Say.Job.{AnswersProgram, JobAnswer, behind_report, refusing, run_answer}
+use Rattle.wc_model.specs.Say.Job.{AnswersProgram, JobAnswer, after_report, refusing, run_answer}
 use Rattle.wc_model.specs.Say.LogFor.{log_for}
 use Rattle.wc_model.specs.Say.ProgramReport.{Logic, first_logic}
 use Rattle.wc_model.specs.Say.UnitReport.{IsUnitReport}
@@ -43,7 +43,7 @@ report_observed last = record { written = report_written last; begins = λ logic
 abbrev pub answer_written : Written → PlateData → Option Logic → LogOf → JobAnswer
 answer_written written plate logic log =
     let taken = log_for logic log in
-    behind_report (written plate logic taken.refusal taken.rows) taken.refusal
+    after_report (written plate logic taken.refusal taken.rows) taken.refusal
 
 -- this is answered of a run that begins; any other is refused
 abbrev pub IsAnswer : Observed → PlateData → Option Logic → LogOf → JobAnswer → Type 0

@@ -9,7 +9,7 @@ use Rattle.wc_model.specs.Language.Paths.{IsProgramBound}
 use Rattle.wc_model.specs.Instrument.Plates.{PlateData}
 use Rattle.wc_model.specs.Run.ProcessImage.{image_after}
 use Rattle.wc_model.specs.Say.LogFor.{AreRun}
-use Rattle.wc_model.specs.Say.ProgramReport.{Logic, first_logic, logic_behind, programs}
+use Rattle.wc_model.specs.Say.ProgramReport.{Logic, first_logic, logic_following, programs}
 use Rattle.wc_model.specs.Run.Rows.{LogRow, Past}
 use Rattle.wc_model.specs.Language.Scans.{outputs_of, scan_of}
 use Rattle.wc_model.specs.Language.Store.{Store}
@@ -30,8 +30,8 @@ ShowsOutcome logic (Done result store trace) shown =
 ShowsOutcome logic (Stuck reason) shown = ⊥
 
 -- the store after rows, from that of the declarations on
-abbrev pub store_behind : PlateData → Text → Past → Store
-store_behind plate text past = (logic_behind plate (first_logic text None) past).store
+abbrev pub store_after : PlateData → Text → Past → Store
+store_after plate text past = (logic_following plate (first_logic text None) past).store
 
 -- the outcome of a logic's scan at a moment, after rows
 abbrev pub outcome_of : PlateData → Logic → Past → ℕ → Outcome
@@ -43,21 +43,21 @@ outcome_of plate logic past ms = scan_of logic.text logic.store (image_after pla
 --     shown    its line shows what that scan means
 --     line     the answers in a report are those of a run with no program
 pub record KeepsToItself (plate : PlateData) (text : Text) (bound : ℕ) : Type 0 where
-  pub scan : (past : Past) → HasNoChange past → (ms : ℕ) → EndsWithin bound (scan_of text (store_behind plate text past) (image_after plate past) ms)
+  pub scan : (past : Past) → HasNoChange past → (ms : ℕ) → EndsWithin bound (scan_of text (store_after plate text past) (image_after plate past) ms)
   pub shown : (past : Past) → HasNoChange past → (ms : ℕ) →
-      ShowsOutcome (record { text = text; store = store_behind plate text past; next = None }) (scan_of text (store_behind plate text past) (image_after plate past) ms)
-      (programs.scan (record { text = text; store = store_behind plate text past; next = None }) (image_after plate past) ms)
+      ShowsOutcome (record { text = text; store = store_after plate text past; next = None }) (scan_of text (store_after plate text past) (image_after plate past) ms)
+      (programs.scan (record { text = text; store = store_after plate text past; next = None }) (image_after plate past) ms)
   pub line : (rows : List LogRow) → HasNoChange rows → IsFreeOfPrograms plate programs (first_logic text None) rows
 
 -- Likewise for a program that has a next one, after whatever rows have come that are run, with the
 -- change to the next one among them or not. The text is the one that runs at that scan, and the bound
 -- its own.
 pub record KeepsOverAChange (plate : PlateData) (text : Text) (next : Option Text) : Type 0 where
-  pub scan : (past : Past) → AreRun next (reverse past) → (ms bound : ℕ) → IsProgramBound (logic_behind plate (first_logic text next) past).text bound →
-      EndsWithin bound (outcome_of plate (logic_behind plate (first_logic text next) past) past ms)
+  pub scan : (past : Past) → AreRun next (reverse past) → (ms bound : ℕ) → IsProgramBound (logic_following plate (first_logic text next) past).text bound →
+      EndsWithin bound (outcome_of plate (logic_following plate (first_logic text next) past) past ms)
   pub shown : (past : Past) → AreRun next (reverse past) → (ms : ℕ) →
-      ShowsOutcome (logic_behind plate (first_logic text next) past) (outcome_of plate (logic_behind plate (first_logic text next) past) past ms)
-      (programs.scan (logic_behind plate (first_logic text next) past) (image_after plate past) ms)
+      ShowsOutcome (logic_following plate (first_logic text next) past) (outcome_of plate (logic_following plate (first_logic text next) past) past ms)
+      (programs.scan (logic_following plate (first_logic text next) past) (image_after plate past) ms)
   pub line : (rows : List LogRow) → AreRun next rows → IsFreeOfPrograms plate programs (first_logic text next) rows
 
 -- Likewise for a program that others follow, as many as there are: after whatever rows, in whatever

@@ -1,7 +1,7 @@
 -- What a run does with its inputs, and how it ends. (The profile's own.)
 use Rattle.std.specs.Prelude.{◌≡◌, ℕ, Option, Some, None, IfSome, IsSome, Result, true, false, is_some}
 use Rattle.wc_controller.specs.Blames.{Blames, RefusesLog, RefusesProgram}
-use Rattle.wc_controller.specs.Endings.{EndsAs, HasNotFailedIn, IsAt, RefusesPlate, TakesInput, TellsFailures, TellsMemory, TellsReadEndings, TellsWriteFaults, WritesUpTo, ending_of, met}
+use Rattle.wc_controller.specs.Endings.{EndsAs, HasNotFailedIn, IsAt, RefusesPlate, TakesInput, ReportsFailures, ReportsMemory, ReportsReadEndings, ReportsWriteFaults, WritesUpTo, ending_of, raised}
 use Rattle.wc_controller.specs.Files.{AnswersLine, AnswersRun, Observed}
 use Rattle.wc_controller.specs.InputStates.{InputStates, Reader, Writer}
 use Rattle.wc_controller.specs.TakenLogs.{IfKnown, failures_of, known_of, log_taken}
@@ -43,28 +43,28 @@ pub record TakesInputs (before after : InputStates) : Type 0 where
 --                   the log is not read if a name is refused that was to be observed
 --     log_fault     a read fault names the log only if its reader failed, or as much was read as may be
 --     log_read      if all was done, or a row is refused, the log's reader has not failed
-pub record ReadsInOrder (before after : InputStates) (told : Record) (ending : Ending) : Type 0 where
+pub record ReadsInOrder (before after : InputStates) (reported : Record) (ending : Ending) : Type 0 where
   pub blames_plate : Blames input.Plate RefusesPlate before.plate.bytes ending
   pub blames_program : Blames input.Program RefusesProgram (known_of before.program) ending
   pub blames_next : Blames input.Next RefusesProgram (known_of before.next) ending
-  pub blames_log : Blames input.Log (RefusesLog (log_taken before) told) before.log.bytes ending
+  pub blames_log : Blames input.Log (RefusesLog (log_taken before) reported) before.log.bytes ending
   pub no_job : ¬ (IsAt input.Job ending)
   pub program_there : IsAt input.Program ending → IsSome before.program
   pub next_there : IsAt input.Next ending → IsSome before.program × IsSome before.next
-  pub unread_behind_plate : IsAt input.Plate ending → (after.program ≡ before.program) × (after.next ≡ before.next) × (after.log ≡ before.log)
-  pub unread_behind_program : IsAt input.Program ending → (after.next ≡ before.next) × (after.log ≡ before.log)
-  pub unread_behind_next : IsAt input.Next ending → after.log ≡ before.log
-  pub unread_behind_names : IsAt input.Names ending → after.log ≡ before.log
+  pub unread_after_plate : IsAt input.Plate ending → (after.program ≡ before.program) × (after.next ≡ before.next) × (after.log ≡ before.log)
+  pub unread_after_program : IsAt input.Program ending → (after.next ≡ before.next) × (after.log ≡ before.log)
+  pub unread_after_next : IsAt input.Next ending → after.log ≡ before.log
+  pub unread_after_names : IsAt input.Names ending → after.log ≡ before.log
   pub unread_alone : is_some before.program ≡ false → after.next ≡ before.next
   pub log_fault : ending ≡ ended.ReadFault input.Log → HasCause before.log.failures after.log.failures before.log.spent after.log.spent
   pub log_read : HasNotFailedIn input.Log ending before.log.failures after.log.failures
   pub taken : TakesInputs before after
 
 -- a read fault names the plate, the program or the next one if its reader failed, and only then
-pub record TellsReaders (before after : InputStates) (ending : Ending) : Type 0 where
-  pub plate : TellsReadEndings input.Plate ending before.plate.failures after.plate.failures
-  pub program : TellsReadEndings input.Program ending (failures_of before.program) (failures_of after.program)
-  pub next : TellsReadEndings input.Next ending (failures_of before.next) (failures_of after.next)
+pub record ReportsReaders (before after : InputStates) (ending : Ending) : Type 0 where
+  pub plate : ReportsReadEndings input.Plate ending before.plate.failures after.plate.failures
+  pub program : ReportsReadEndings input.Program ending (failures_of before.program) (failures_of after.program)
+  pub next : ReportsReadEndings input.Next ending (failures_of before.next) (failures_of after.next)
 
 -- What a run of these inputs does:
 --     ends         an answer that is allowed was written whole, and the ending says how it ends; or something failed, and a
@@ -73,25 +73,25 @@ pub record TellsReaders (before after : InputStates) (ending : Ending) : Type 0 
 --     readers      a read fault names the input whose reader failed
 --     memory       a fault of the log's reader, or the limit on what is read, is not reported as out of memory
 --     failures     a write fault is reported if the writer failed, and only then
-pub record RunsAs (o : Observed) (before after : InputStates) (told : Record) (ending : Ending) (old new : Writer) : Type 0 where
+pub record RunsAs (o : Observed) (before after : InputStates) (reported : Record) (ending : Ending) (old new : Writer) : Type 0 where
   pub ends : OfAnswers o before (λ allowed. EndsAs allowed ending old.taken new.taken)
-  pub inputs : ReadsInOrder before after told ending
-  pub readers : TellsReaders before after ending
+  pub inputs : ReadsInOrder before after reported ending
+  pub readers : ReportsReaders before after ending
   pub memory : ending ≡ ended.NoMemory
-      → TellsMemory (log_taken before) before.log.bytes before.log.failures after.log.failures before.log.spent after.log.spent
-  pub failures : TellsFailures ending old.failures new.failures
+      → ReportsMemory (log_taken before) before.log.bytes before.log.failures after.log.failures before.log.spent after.log.spent
+  pub failures : ReportsFailures ending old.failures new.failures
 
 -- How far such a run came when it stopped, before the line of a refusal is written.
-pub record RunsUpTo (o : Observed) (before after : InputStates) (told : Record) (answer : Result (Unit {0}) Stopped) (old new : Writer) : Type 0 where
-  pub writes : OfAnswers o before (λ allowed. WritesUpTo allowed (met answer) old.taken new.taken)
-  pub inputs : ReadsInOrder before after told (ending_of answer)
-  pub readers : TellsReaders before after (ending_of answer)
+pub record RunsUpTo (o : Observed) (before after : InputStates) (reported : Record) (answer : Result (Unit {0}) Stopped) (old new : Writer) : Type 0 where
+  pub writes : OfAnswers o before (λ allowed. WritesUpTo allowed (raised answer) old.taken new.taken)
+  pub inputs : ReadsInOrder before after reported (ending_of answer)
+  pub readers : ReportsReaders before after (ending_of answer)
   pub memory : ending_of answer ≡ ended.NoMemory
-      → TellsMemory (log_taken before) before.log.bytes before.log.failures after.log.failures before.log.spent after.log.spent
-  pub failures : TellsWriteFaults (met answer) old.failures new.failures
+      → ReportsMemory (log_taken before) before.log.bytes before.log.failures after.log.failures before.log.spent after.log.spent
+  pub failures : ReportsWriteFaults (raised answer) old.failures new.failures
 
 -- So with an observer of whose bytes nothing is said, and which begins each run; of its writer the calls that failed are counted.
 abbrev pub RunsUnsaid : InputStates → InputStates → Record → Ending → ℕ → ℕ → Type 0
-RunsUnsaid before after told ending failed_before failed =
-    RunsAs (record { written = text_in_all silent_plan; begins = λ logic. true }) before after told ending (record { taken = None; failures = failed_before })
+RunsUnsaid before after reported ending failed_before failed =
+    RunsAs (record { written = text_in_all silent_plan; begins = λ logic. true }) before after reported ending (record { taken = None; failures = failed_before })
     (record { taken = None; failures = failed })

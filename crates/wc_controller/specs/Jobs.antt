@@ -6,7 +6,7 @@ use Rattle.wc_model.specs.Run.JobSections.{Sections}
 use Rattle.wc_model.specs.Instrument.PlateTable.{plate_of}
 use Rattle.wc_plate.specs.TomlTable.{table_read}
 use Rattle.wc_record.specs.Reading.{records_of}
-use Rattle.wc_run.specs.Runs.{AppendsFront}
+use Rattle.wc_run.specs.Runs.{AppendsPrefix}
 
 -- an answer to a job: that of the definitions, over what `toml` and `csv` read
 abbrev pub Allows : List ℕ → JobAnswer → Type 0
@@ -28,5 +28,5 @@ IsStatus status = (status ≡ 0) ⊎ (status ≡ 1) ⊎ (status ≡ 3) ⊎ (stat
 -- a prefix of such an answer was written, or nothing.
 pub data Gives (allowed : JobAnswer → Type 0) (status : ℕ) (old new : Option (List ℕ)) : Type 0 where
   answered : (answer : JobAnswer) → allowed answer → status ≡ answer.status → Appends old new answer.output → Gives allowed status old new
-  cut_short : (answer : JobAnswer) → allowed answer → IsFailure status → AppendsFront old new answer.output → Gives allowed status old new
+  cut_short : (answer : JobAnswer) → allowed answer → IsFailure status → AppendsPrefix old new answer.output → Gives allowed status old new
   silent : IsFailure status → Keeps old new → Gives allowed status old new

@@ -23,12 +23,12 @@ abbrev pub log_by : Option Logic → List ℕ → LogOf
 log_by logic bytes = log_for logic (log_of (records_of bytes))
 
 -- with a machine, with a next program or none: up to the first that wants a further program, too
-abbrev pub log_beside : Bool → List ℕ → LogOf
-log_beside left bytes = log_while left (log_of (records_of bytes)).rows (log_of (records_of bytes)).refusal
+abbrev pub log_alongside : Bool → List ℕ → LogOf
+log_alongside left bytes = log_while left (log_of (records_of bytes)).rows (log_of (records_of bytes)).refusal
 
 -- with a program, with a next one or none, or alone
 abbrev pub log_with : Bool → Bool → List ℕ → LogOf
-log_with true left bytes = log_beside left bytes
+log_with true left bytes = log_alongside left bytes
 log_with false left bytes = log_alone bytes
 
 -- as a run of these inputs takes it

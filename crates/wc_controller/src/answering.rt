@@ -1,9 +1,9 @@
 ghost use Rattle.std.specs.Prelude.{◌≡◌, ◌⊎◌, Some, IfErr, IfSome, Ok, is_some, option_map};
 ghost use Rattle.wc_controller.specs.Blames.{BlamesPart, IsNextUnloaded, RefusesLog, StopsForPart};
-ghost use Rattle.wc_controller.specs.Endings.{EndsAs, IsReadFaultAt, StopsAt, TakesInput, TellsFailures, TellsReadEndings, TellsReadFaults, TellsWriteFaults, WritesUpTo, fault_in_memory, met};
+ghost use Rattle.wc_controller.specs.Endings.{EndsAs, IsReadFaultAt, StopsAt, TakesInput, ReportsFailures, ReportsReadEndings, ReportsReadFaults, ReportsWriteFaults, WritesUpTo, fault_in_memory, raised};
 ghost use Rattle.wc_controller.specs.Files.{AnswersLog};
 ghost use Rattle.wc_controller.specs.Jobs.{Allows, AllowsSections, Gives, IsStatus};
-ghost use Rattle.wc_controller.specs.TakenLogs.{IsLater, log_beside};
+ghost use Rattle.wc_controller.specs.TakenLogs.{IsLater, log_alongside};
 ghost use Rattle.wc_job.specs.Views.{sections_view};
 ghost use Rattle.wc_model.specs.Language.Views.{text_view};
 ghost use Rattle.wc_model.specs.Run.JobSections.{sections_of};
@@ -11,7 +11,7 @@ ghost use Rattle.wc_model.specs.Run.Log.{log_of};
 ghost use Rattle.wc_model.specs.Run.Writing.{HasFailedSince};
 ghost use Rattle.wc_model.specs.Say.Job.{AnswersNext};
 ghost use Rattle.wc_record.specs.Reading.{records_of};
-ghost use Rattle.wc_record.specs.Told.{fields_told};
+ghost use Rattle.wc_record.specs.Reported.{fields_reported};
 
 use crate::ending::{Ending, end};
 use crate::input::{Input, Stopped};
@@ -45,25 +45,25 @@ fn answer_log<W: ByteOut>(
     programs: RunPrograms<'_>,
     log: &[u8],
     writer: &mut W,
-    told: &mut RefusedRow,
+    reported: &mut RefusedRow,
 ) -> Result<(), Stopped>
     ensures writes { WritesUpTo (AnswersNext (option_map (λ text. text.now) programs.entry.next)
         (AnswersLog programs.entry.plate (log_of (records_of log.now))
         (text_view programs.entry.loaded.source)))
-        (met result) (W.bytes_taken writer.old) (W.bytes_taken writer.new) }
+        (raised result) (W.bytes_taken writer.old) (W.bytes_taken writer.new) }
     ensures blames_next { IfErr result (λ stopped. stopped.input ≡ Input.Next
         → IsNextUnloaded (option_map (λ text. text.now) programs.entry.next) stopped.fault) }
     ensures blames_log { IfErr result (λ stopped. stopped.input ≡ Input.Log
-        → RefusesLog (log_beside (is_some (option_map (λ text. text.now) programs.entry.next)))
-        (fields_told told.new) log.now stopped.fault) }
+        → RefusesLog (log_alongside (is_some (option_map (λ text. text.now) programs.entry.next)))
+        (fields_reported reported.new) log.now stopped.fault) }
     ensures later { IsLater result }
     ensures no_names { ¬ StopsAt Input.Names result }
-    ensures failures { TellsWriteFaults (met result) (W.failure_count writer.old)
+    ensures failures { ReportsWriteFaults (raised result) (W.failure_count writer.old)
         (W.failure_count writer.new) }
 {
     let mut report = Report::new(alloc);
     let mut reader = Device::new(log);
-    run_loaded(alloc, &mut report, programs, &mut reader, writer, told)
+    run_loaded(alloc, &mut report, programs, &mut reader, writer, reported)
 }
 
 /// Answers a job by its sections.
@@ -71,14 +71,14 @@ fn answer_sections<W: ByteOut>(
     alloc: Global,
     sections: Sections<'_>,
     writer: &mut W,
-    told: &mut RefusedRow,
+    reported: &mut RefusedRow,
 ) -> Result<(), Stopped>
-    ensures writes { WritesUpTo (AllowsSections (sections_view sections.entry)) (met result)
+    ensures writes { WritesUpTo (AllowsSections (sections_view sections.entry)) (raised result)
         (W.bytes_taken writer.old) (W.bytes_taken writer.new) }
-    ensures blames { StopsForPart (fields_told told.new) (Ok (sections_view sections.entry))
+    ensures blames { StopsForPart (fields_reported reported.new) (Ok (sections_view sections.entry))
         result }
-    ensures held { ¬ (met result ≡ Some RunFault.Read) }
-    ensures failures { TellsWriteFaults (met result) (W.failure_count writer.old)
+    ensures held { ¬ (raised result ≡ Some RunFault.Read) }
+    ensures failures { ReportsWriteFaults (raised result) (W.failure_count writer.old)
         (W.failure_count writer.new) }
 {
     let plate = match plate(alloc, sections.plate) {
@@ -98,7 +98,7 @@ fn answer_sections<W: ByteOut>(
         loaded,
         next: sections.next,
     };
-    match answer_log(alloc, programs, sections.log, writer, told) {
+    match answer_log(alloc, programs, sections.log, writer, reported) {
         Ok(()) => Ok(()),
         Err(stopped) => Err(stopped_in_memory(stopped)),
     }
@@ -109,17 +109,17 @@ fn answer_bytes<W: ByteOut>(
     alloc: Global,
     bytes: &[u8],
     writer: &mut W,
-    told: &mut RefusedRow,
+    reported: &mut RefusedRow,
 ) -> Result<(), Stopped>
-    ensures writes { WritesUpTo (Allows bytes.now) (met result)
+    ensures writes { WritesUpTo (Allows bytes.now) (raised result)
         (W.bytes_taken writer.old) (W.bytes_taken writer.new) }
-    ensures blames { StopsForPart (fields_told told.new) (sections_of bytes.now) result }
-    ensures held { ¬ (met result ≡ Some RunFault.Read) }
-    ensures failures { TellsWriteFaults (met result) (W.failure_count writer.old)
+    ensures blames { StopsForPart (fields_reported reported.new) (sections_of bytes.now) result }
+    ensures held { ¬ (raised result ≡ Some RunFault.Read) }
+    ensures failures { ReportsWriteFaults (raised result) (W.failure_count writer.old)
         (W.failure_count writer.new) }
 {
     match sections(bytes) {
-        Ok(sections) => answer_sections(alloc, sections, writer, told),
+        Ok(sections) => answer_sections(alloc, sections, writer, reported),
         Err(number) => Err(Stopped {
             input: Input::Job,
             fault: RunFault::Refused { number, place: 0 },
@@ -132,22 +132,22 @@ fn answer_input<R: ByteIn, W: ByteOut>(
     alloc: Global,
     reader: &mut R,
     writer: &mut W,
-    told: &mut RefusedRow,
+    reported: &mut RefusedRow,
 ) -> Result<(), Stopped>
     ensures writes { IfSome (R.bytes_left reader.old)
-        (λ bytes. WritesUpTo (Allows bytes) (met result)
+        (λ bytes. WritesUpTo (Allows bytes) (raised result)
         (W.bytes_taken writer.old) (W.bytes_taken writer.new)) }
     ensures blames { IfSome (R.bytes_left reader.old)
-        (λ bytes. StopsForPart (fields_told told.new) (sections_of bytes) result) }
-    ensures reads { TellsReadFaults Input.Job result (R.failure_count reader.old)
+        (λ bytes. StopsForPart (fields_reported reported.new) (sections_of bytes) result) }
+    ensures reads { ReportsReadFaults Input.Job result (R.failure_count reader.old)
         (R.failure_count reader.new) }
     ensures own { (input : Input) → IsReadFaultAt input result → input ≡ Input.Job }
-    ensures failures { TellsWriteFaults (met result) (W.failure_count writer.old)
+    ensures failures { ReportsWriteFaults (raised result) (W.failure_count writer.old)
         (W.failure_count writer.new) }
     ensures taken { TakesInput (R.bytes_left reader.old) (R.bytes_left reader.new) }
 {
     match read_input(alloc, Input::Job, reader) {
-        Ok(bytes) => answer_bytes(alloc, &bytes, writer, told),
+        Ok(bytes) => answer_bytes(alloc, &bytes, writer, reported),
         Err(stopped) => Err(stopped),
     }
 }
@@ -162,23 +162,23 @@ pub fn answer_job<R: ByteIn, W: ByteOut>(
     alloc: Global,
     reader: &mut R,
     writer: &mut W,
-    told: &mut RefusedRow,
+    reported: &mut RefusedRow,
 ) -> Ending
     ensures ends { IfSome (R.bytes_left reader.old)
         (λ bytes.
         EndsAs (Allows bytes) result (W.bytes_taken writer.old) (W.bytes_taken writer.new)) }
     // The part that a refusal names is the one that breaks the rule.
     ensures blames { IfSome (R.bytes_left reader.old)
-        (λ bytes. BlamesPart (fields_told told.new) (sections_of bytes) result) }
-    ensures reads { TellsReadEndings Input.Job result (R.failure_count reader.old)
+        (λ bytes. BlamesPart (fields_reported reported.new) (sections_of bytes) result) }
+    ensures reads { ReportsReadEndings Input.Job result (R.failure_count reader.old)
         (R.failure_count reader.new) }
     ensures own { (input : Input) → result ≡ Ending.ReadFault input → input ≡ Input.Job }
-    ensures failures { TellsFailures result (W.failure_count writer.old)
+    ensures failures { ReportsFailures result (W.failure_count writer.old)
         (W.failure_count writer.new) }
     // It reads no further than the byte that makes a job too long.
     ensures taken { TakesInput (R.bytes_left reader.old) (R.bytes_left reader.new) }
 {
-    let answer = answer_input(alloc, reader, writer, told);
+    let answer = answer_input(alloc, reader, writer, reported);
     end(alloc, answer, writer)
 }
 
@@ -197,6 +197,6 @@ pub fn job<R: ByteIn, W: ByteOut>(alloc: Global, reader: &mut R, writer: &mut W)
         × (W.failure_count writer.new ≡ W.failure_count writer.old) }
     ensures taken { TakesInput (R.bytes_left reader.old) (R.bytes_left reader.new) }
 {
-    let mut told = RefusedRow::new(alloc);
-    answer_job(alloc, reader, writer, &mut told).status()
+    let mut reported = RefusedRow::new(alloc);
+    answer_job(alloc, reader, writer, &mut reported).status()
 }

@@ -1,9 +1,9 @@
 ghost use Rattle.std.specs.Prelude.{◌≡◌, IfErr, IfSome};
 ghost use Rattle.wc_controller.specs.Checking.{Checks, WritesReport};
-ghost use Rattle.wc_controller.specs.Endings.{EndsAs, IsAt, TakesInput, TellsFailures, TellsReadEndings, TellsReadFaults, TellsWriteFaults, WritesUpTo, met};
+ghost use Rattle.wc_controller.specs.Endings.{EndsAs, IsAt, TakesInput, ReportsFailures, ReportsReadEndings, ReportsReadFaults, ReportsWriteFaults, WritesUpTo, raised};
 ghost use Rattle.wc_controller.specs.Files.{AnswersCheckFile};
 ghost use Rattle.wc_model.specs.Language.Views.{text_view};
-ghost use Rattle.wc_run.specs.Runs.{TellsWrites};
+ghost use Rattle.wc_run.specs.Runs.{ReportsWrites};
 
 use crate::ending::{Ending, end};
 use crate::input::{Input, Stopped};
@@ -24,7 +24,7 @@ fn write_report<W: ByteOut>(
 ) -> Result<(), RunFault>
     ensures report { WritesReport paths (text_view loaded.now.source) result
         (W.bytes_taken writer.old) (W.bytes_taken writer.new) }
-    ensures failures { TellsWrites result (W.failure_count writer.old)
+    ensures failures { ReportsWrites result (W.failure_count writer.old)
         (W.failure_count writer.new) }
 {
     let lines = text_of_units(alloc, loaded, paths)?;
@@ -45,7 +45,7 @@ pub fn check<W: ByteOut>(
 ) -> Result<(), RunFault>
     ensures checks { Checks paths text.now result (W.bytes_taken writer.old)
         (W.bytes_taken writer.new) }
-    ensures failures { TellsWrites result (W.failure_count writer.old)
+    ensures failures { ReportsWrites result (W.failure_count writer.old)
         (W.failure_count writer.new) }
 {
     let loaded = load(alloc, text)?;
@@ -60,12 +60,12 @@ fn check_input<T: ByteIn, W: ByteOut>(
     writer: &mut W,
 ) -> Result<(), Stopped>
     ensures writes { IfSome (T.bytes_left program.old)
-        (λ bytes. WritesUpTo (AnswersCheckFile paths bytes) (met result)
+        (λ bytes. WritesUpTo (AnswersCheckFile paths bytes) (raised result)
         (W.bytes_taken writer.old) (W.bytes_taken writer.new)) }
     ensures own { IfErr result (λ stopped. stopped.input ≡ Input.Program) }
-    ensures program { TellsReadFaults Input.Program result (T.failure_count program.old)
+    ensures program { ReportsReadFaults Input.Program result (T.failure_count program.old)
         (T.failure_count program.new) }
-    ensures failures { TellsWriteFaults (met result) (W.failure_count writer.old)
+    ensures failures { ReportsWriteFaults (raised result) (W.failure_count writer.old)
         (W.failure_count writer.new) }
     ensures taken { TakesInput (T.bytes_left program.old) (T.bytes_left program.new) }
 {
@@ -95,9 +95,9 @@ pub fn check_file<T: ByteIn, W: ByteOut>(
     ensures own { ¬ IsAt Input.Job result }
     ensures no_plate { ¬ IsAt Input.Plate result }
     ensures no_log { ¬ IsAt Input.Log result }
-    ensures program { TellsReadEndings Input.Program result (T.failure_count program.old)
+    ensures program { ReportsReadEndings Input.Program result (T.failure_count program.old)
         (T.failure_count program.new) }
-    ensures failures { TellsFailures result (W.failure_count writer.old)
+    ensures failures { ReportsFailures result (W.failure_count writer.old)
         (W.failure_count writer.new) }
     // It reads no further than the byte that makes a program too long.
     ensures taken { TakesInput (T.bytes_left program.old) (T.bytes_left program.new) }

@@ -1,5 +1,5 @@
 ghost use Rattle.std.specs.Prelude.{◌≡◌, ℕ};
-ghost use Rattle.wc_controller.specs.Endings.{EndsBehind, EndsRefused, TellsFailures, TellsWriteFaults, ending_of, met, status_of};
+ghost use Rattle.wc_controller.specs.Endings.{EndsAfter, EndsRefused, ReportsFailures, ReportsWriteFaults, ending_of, raised, status_of};
 
 use crate::input::{Input, Stopped};
 use std::alloc::Global;
@@ -79,7 +79,7 @@ fn end_refused<W: ByteOut>(
 ) -> Ending
     ensures ends { EndsRefused input number place result (W.bytes_taken writer.old)
         (W.bytes_taken writer.new) }
-    ensures failures { TellsFailures result (W.failure_count writer.old)
+    ensures failures { ReportsFailures result (W.failure_count writer.old)
         (W.failure_count writer.new) }
 {
     let line = match refused_line(alloc, number, place) {
@@ -99,11 +99,11 @@ fn end_refused<W: ByteOut>(
 /// The ending of what was done, or of what stopped it: a refusal's line is written after what
 /// is there.
 pub fn end<W: ByteOut>(alloc: Global, answer: Result<(), Stopped>, writer: &mut W) -> Ending
-    ensures ends { EndsBehind answer result (W.bytes_taken writer.old)
+    ensures ends { EndsAfter answer result (W.bytes_taken writer.old)
         (W.bytes_taken writer.new) }
     ensures failures { (before : ℕ)
-        → TellsWriteFaults (met answer) before (W.failure_count writer.old)
-        → TellsFailures result before (W.failure_count writer.new) }
+        → ReportsWriteFaults (raised answer) before (W.failure_count writer.old)
+        → ReportsFailures result before (W.failure_count writer.new) }
 {
     let stopped = match answer {
         Ok(()) => return Ending::Done,

@@ -1,9 +1,9 @@
 ghost use Rattle.std.specs.Prelude.{◌≡◌, [], ℕ, true, false, Some, None, Option, IfErr, IfOk, IfSome, IsOkUnless, OnOk, is_some, option_map};
 ghost use Rattle.wc_controller.specs.Blames.{IsNextUnloaded, IsUnloaded, RefusesLog, StopsFor};
-ghost use Rattle.wc_controller.specs.Endings.{HasNotFailedAt, IsReadFaultAt, StopsAt, TellsMemory, TellsWriteFaults, WritesUpTo, begun_input, met};
+ghost use Rattle.wc_controller.specs.Endings.{HasNotFailedAt, IsReadFaultAt, StopsAt, ReportsMemory, ReportsWriteFaults, WritesUpTo, started_input, raised};
 ghost use Rattle.wc_controller.specs.Files.{AnswersPrinting, IsLineAnswer, answer_written};
 ghost use Rattle.wc_controller.specs.InputStates.{observed_by, reader_of};
-ghost use Rattle.wc_controller.specs.TakenLogs.{IsLater, IsNextLoadedOf, OfLogic, log_alone, log_beside, log_by};
+ghost use Rattle.wc_controller.specs.TakenLogs.{IsLater, IsNextLoadedOf, OfLogic, log_alone, log_alongside, log_by};
 ghost use Rattle.wc_model.specs.Instrument.Plates.{PlateData};
 ghost use Rattle.wc_model.specs.Language.Loading.{IsLoaded};
 ghost use Rattle.wc_model.specs.Language.Views.{text_view};
@@ -11,11 +11,11 @@ ghost use Rattle.wc_model.specs.Run.Log.{log_of};
 ghost use Rattle.wc_model.specs.Say.Job.{AnswersNext};
 ghost use Rattle.wc_model.specs.Say.ProgramReport.{Logic, first_logic};
 ghost use Rattle.wc_record.specs.Left.{HasCause};
-ghost use Rattle.wc_record.specs.Told.{fields_told};
+ghost use Rattle.wc_record.specs.Reported.{fields_reported};
 ghost use Rattle.wc_record.specs.Reading.{records_of};
 ghost use Rattle.wc_run.specs.Logics.{text_of_next};
 ghost use Rattle.wc_run.specs.Observing.{RefusesToBegin, loaded_of, logic_of, said, text_in_all};
-ghost use Rattle.wc_run.specs.Standing.{IsNotBehind, Stands};
+ghost use Rattle.wc_run.specs.Representation.{IsNotAfter, Represents};
 
 use crate::input::{Input, Stopped};
 use crate::loading::load;
@@ -48,7 +48,7 @@ pub(crate) fn load_input<'a>(
     ensures refused { IfErr result (λ stopped. IsUnloaded text.now stopped.fault) }
     ensures input { IfErr result (λ stopped. stopped.input ≡ input) }
     ensures held { (any : Input) → ¬ IsReadFaultAt any result }
-    ensures silent { (count : ℕ) → TellsWriteFaults (met result) count count }
+    ensures silent { (count : ℕ) → ReportsWriteFaults (raised result) count count }
 {
     match load(alloc, text) {
         Ok(loaded) => Ok(loaded),
@@ -67,7 +67,7 @@ fn load_next<'a>(alloc: Global, text: Option<&'a [u8]>) -> Result<Option<Loaded<
         (λ stopped. IsNextUnloaded (option_map (λ text. text.now) text.entry) stopped.fault) }
     ensures input { IfErr result (λ stopped. stopped.input ≡ Input.Next) }
     ensures held { (any : Input) → ¬ IsReadFaultAt any result }
-    ensures silent { (count : ℕ) → TellsWriteFaults (met result) count count }
+    ensures silent { (count : ℕ) → ReportsWriteFaults (raised result) count count }
 {
     match text {
         Some(text) => Ok(Some(load_input(alloc, Input::Next, text)?)),
@@ -93,8 +93,8 @@ fn next_program<'l, 't>(
 }
 
 /// The input that is named if an observer does not begin.
-fn begun_input(fault: RunFault) -> Input
-    ensures { result ≡ begun_input fault }
+fn started_input(fault: RunFault) -> Input
+    ensures { result ≡ started_input fault }
 {
     match fault {
         RunFault::Refused { .. } => Input::Names,
@@ -111,7 +111,8 @@ fn begin<W: ByteOut, O: Observer<SlotStore, W>>(
     requires { O.is_new observer.old }
     ensures plan { O.plan observer.new ≡ O.plan observer.old }
     ensures seen { OnOk result ((plate : PlateData)
-        → O.has_seen observer.new plate (logic_of (loaded_of first.entry) (loaded_of next.entry)) []) }
+        → O.has_seen observer.new plate (logic_of (loaded_of first.entry)
+        (loaded_of next.entry)) []) }
     ensures begins { OnOk result
         (O.begins observer.old (logic_of (loaded_of first.entry) (loaded_of next.entry)) ≡ true) }
     ensures refused { IfErr result (λ stopped. RefusesToBegin
@@ -119,12 +120,12 @@ fn begin<W: ByteOut, O: Observer<SlotStore, W>>(
         (O.has_refused observer.old observer.new
         (logic_of (loaded_of first.entry) (loaded_of next.entry)))
         stopped.fault) }
-    ensures input { IfErr result (λ stopped. stopped.input ≡ begun_input stopped.fault) }
+    ensures input { IfErr result (λ stopped. stopped.input ≡ started_input stopped.fault) }
 {
     match observer.begin(first, next) {
         Ok(()) => Ok(()),
         Err(fault) => Err(Stopped {
-            input: begun_input(fault),
+            input: started_input(fault),
             fault,
         }),
     }
@@ -137,9 +138,9 @@ fn scale_of<'a>(
     loaded: Loaded<'a>,
     next: Option<Loaded<'a>>,
 ) -> Result<Scale<'a, SlotStore>, RunFault>
-    ensures stands { IfOk result (λ scale. Stands scale plate.now
+    ensures represents { IfOk result (λ scale. Represents scale plate.now
         (Some (first_logic (text_view loaded.entry.source) (text_of_next next.entry))) []) }
-    ensures first { IfOk result (λ scale. IsNotBehind scale 0) }
+    ensures first { IfOk result (λ scale. IsNotAfter scale 0) }
     ensures memory { IsOkUnless result RunFault.Memory }
 {
     let machine = Machine::new(alloc, loaded)?;
@@ -153,33 +154,33 @@ fn run_scale<W: ByteOut, O: Observer<SlotStore, W>, L: ByteIn>(
     scale: &mut Scale<'_, SlotStore>,
     log: &mut L,
     writer: &mut W,
-    told: &mut RefusedRow,
+    reported: &mut RefusedRow,
 ) -> Result<(), Stopped>
-    requires first { IsNotBehind scale.old 0 }
+    requires first { IsNotAfter scale.old 0 }
     ensures writes { (plate : PlateData) (logic : Option Logic)
-        → Stands scale.old plate logic [] → O.has_seen observer.old plate logic []
+        → Represents scale.old plate logic [] → O.has_seen observer.old plate logic []
         → IfSome (L.bytes_left log.old) (λ bytes.
         WritesUpTo (λ one. one ≡ answer_written (text_in_all (O.plan observer.old)) plate logic
         (log_of (records_of bytes)))
-        (met result) (said O.speaks (W.bytes_taken writer.old))
+        (raised result) (said O.speaks (W.bytes_taken writer.old))
         (said O.speaks (W.bytes_taken writer.new))) }
     ensures input { IfErr result (λ stopped. stopped.input ≡ Input.Log) }
     ensures blames { (plate : PlateData) (logic : Option Logic)
-        → Stands scale.old plate logic [] → O.has_seen observer.old plate logic []
-        → StopsFor Input.Log (RefusesLog (log_by logic) (fields_told told.new))
+        → Represents scale.old plate logic [] → O.has_seen observer.old plate logic []
+        → StopsFor Input.Log (RefusesLog (log_by logic) (fields_reported reported.new))
         (L.bytes_left log.old) result }
     ensures read { IsReadFaultAt Input.Log result
         → HasCause (L.failure_count log.old) (L.failure_count log.new)
         (L.spent_count log.old) (L.spent_count log.new) }
-    ensures memory { met result ≡ Some RunFault.Memory
+    ensures memory { raised result ≡ Some RunFault.Memory
         → ¬ HasCause (L.failure_count log.old) (L.failure_count log.new)
         (L.spent_count log.old) (L.spent_count log.new) }
     ensures reader { HasNotFailedAt Input.Log result (L.failure_count log.old)
         (L.failure_count log.new) }
-    ensures failures { TellsWriteFaults (met result) (W.failure_count writer.old)
+    ensures failures { ReportsWriteFaults (raised result) (W.failure_count writer.old)
         (W.failure_count writer.new) }
 {
-    match run(alloc, observer, scale, log, writer, told) {
+    match run(alloc, observer, scale, log, writer, reported) {
         Ok(_) => Ok(()),
         Err(fault) => Err(Stopped {
             input: Input::Log,
@@ -195,13 +196,13 @@ pub(crate) fn run_alone<W: ByteOut, O: Observer<SlotStore, W>, L: ByteIn>(
     plate: &Plate,
     log: &mut L,
     writer: &mut W,
-    told: &mut RefusedRow,
+    reported: &mut RefusedRow,
 ) -> Result<(), Stopped>
     requires new { O.is_new observer.old }
     ensures writes { IfSome (L.bytes_left log.old)
         (λ bytes. WritesUpTo (IsLineAnswer (observed_by O.plan O.begins observer.old) plate.now
         (log_of (records_of bytes)))
-        (met result) (said O.speaks (W.bytes_taken writer.old))
+        (raised result) (said O.speaks (W.bytes_taken writer.old))
         (said O.speaks (W.bytes_taken writer.new))) }
     ensures later { IsLater result }
     ensures no_next { ¬ StopsAt Input.Next result }
@@ -210,24 +211,24 @@ pub(crate) fn run_alone<W: ByteOut, O: Observer<SlotStore, W>, L: ByteIn>(
         ≡ reader_of L.bytes_left L.failure_count L.spent_count log.old }
     ensures refused { StopsAt Input.Names result
         → (O.begins observer.old None ≡ false) × O.has_refused observer.old observer.new None }
-    ensures blames { StopsFor Input.Log (RefusesLog log_alone (fields_told told.new))
+    ensures blames { StopsFor Input.Log (RefusesLog log_alone (fields_reported reported.new))
         (L.bytes_left log.old) result }
     ensures read { IsReadFaultAt Input.Log result
         → HasCause (L.failure_count log.old) (L.failure_count log.new)
         (L.spent_count log.old) (L.spent_count log.new) }
-    ensures memory { met result ≡ Some RunFault.Memory
-        → TellsMemory log_alone (L.bytes_left log.old) (L.failure_count log.old)
+    ensures memory { raised result ≡ Some RunFault.Memory
+        → ReportsMemory log_alone (L.bytes_left log.old) (L.failure_count log.old)
         (L.failure_count log.new) (L.spent_count log.old) (L.spent_count log.new) }
     ensures reader { HasNotFailedAt Input.Log result (L.failure_count log.old)
         (L.failure_count log.new) }
-    ensures failures { TellsWriteFaults (met result) (W.failure_count writer.old)
+    ensures failures { ReportsWriteFaults (raised result) (W.failure_count writer.old)
         (W.failure_count writer.new) }
 {
     if let Err(stopped) = begin(observer, None, None) {
         return Err(stopped);
     }
     match Scale::new(alloc, plate, None, None) {
-        Ok(mut scale) => run_scale(alloc, observer, &mut scale, log, writer, told),
+        Ok(mut scale) => run_scale(alloc, observer, &mut scale, log, writer, reported),
         Err(fault) => Err(Stopped {
             input: Input::Log,
             fault,
@@ -243,21 +244,21 @@ pub(crate) fn run_loaded<W: ByteOut, O: Observer<SlotStore, W>, L: ByteIn>(
     programs: RunPrograms<'_>,
     log: &mut L,
     writer: &mut W,
-    told: &mut RefusedRow,
+    reported: &mut RefusedRow,
 ) -> Result<(), Stopped>
     requires new { O.is_new observer.old }
     ensures writes { IfSome (L.bytes_left log.old)
         (λ bytes. WritesUpTo (AnswersNext (option_map (λ text. text.now) programs.entry.next)
         (AnswersPrinting (observed_by O.plan O.begins observer.old) programs.entry.plate
         (log_of (records_of bytes)) (text_view programs.entry.loaded.source)))
-        (met result) (said O.speaks (W.bytes_taken writer.old))
+        (raised result) (said O.speaks (W.bytes_taken writer.old))
         (said O.speaks (W.bytes_taken writer.new))) }
     ensures blames_next { IfErr result
         (λ stopped. stopped.input ≡ Input.Next
         → IsNextUnloaded (option_map (λ text. text.now) programs.entry.next) stopped.fault) }
     ensures blames_log { StopsFor Input.Log
-        (RefusesLog (log_beside (is_some (option_map (λ text. text.now) programs.entry.next)))
-        (fields_told told.new)) (L.bytes_left log.old) result }
+        (RefusesLog (log_alongside (is_some (option_map (λ text. text.now) programs.entry.next)))
+        (fields_reported reported.new)) (L.bytes_left log.old) result }
     ensures unread { StopsAt Input.Next result
         → reader_of L.bytes_left L.failure_count L.spent_count log.new
         ≡ reader_of L.bytes_left L.failure_count L.spent_count log.old }
@@ -273,13 +274,14 @@ pub(crate) fn run_loaded<W: ByteOut, O: Observer<SlotStore, W>, L: ByteIn>(
     ensures read { IsReadFaultAt Input.Log result
         → HasCause (L.failure_count log.old) (L.failure_count log.new)
         (L.spent_count log.old) (L.spent_count log.new) }
-    ensures memory { met result ≡ Some RunFault.Memory
-        → TellsMemory (log_beside (is_some (option_map (λ text. text.now) programs.entry.next)))
+    ensures memory { raised result ≡ Some RunFault.Memory
+        → ReportsMemory (log_alongside (is_some (option_map
+        (λ text. text.now) programs.entry.next)))
         (L.bytes_left log.old) (L.failure_count log.old) (L.failure_count log.new)
         (L.spent_count log.old) (L.spent_count log.new) }
     ensures reader { HasNotFailedAt Input.Log result (L.failure_count log.old)
         (L.failure_count log.new) }
-    ensures failures { TellsWriteFaults (met result) (W.failure_count writer.old)
+    ensures failures { ReportsWriteFaults (raised result) (W.failure_count writer.old)
         (W.failure_count writer.new) }
 {
     let RunPrograms {
@@ -300,7 +302,7 @@ pub(crate) fn run_loaded<W: ByteOut, O: Observer<SlotStore, W>, L: ByteIn>(
         return Err(stopped);
     }
     match scale_of(alloc, &plate, loaded, next) {
-        Ok(mut scale) => run_scale(alloc, observer, &mut scale, log, writer, told),
+        Ok(mut scale) => run_scale(alloc, observer, &mut scale, log, writer, reported),
         Err(fault) => Err(Stopped {
             input: Input::Log,
             fault,

@@ -4,9 +4,9 @@ ghost use Rattle.wc_model.specs.Say.LogFor.{log_for};
 ghost use Rattle.wc_model.specs.Say.ProgramReport.{Logic};
 ghost use Rattle.wc_record.specs.Left.{HasCause};
 ghost use Rattle.wc_record.specs.Reading.{records_of};
-ghost use Rattle.wc_run.specs.Doing.{IsJudged};
-ghost use Rattle.wc_run.specs.Logics.{StandsAt};
-ghost use Rattle.wc_run.specs.Runs.{HasNotFailed, LeavesLine, Reports, TellsWrites};
+ghost use Rattle.wc_run.specs.Doing.{IsValidated};
+ghost use Rattle.wc_run.specs.Logics.{IsAt};
+ghost use Rattle.wc_run.specs.Runs.{HasNotFailed, LeavesLine, Reports, ReportsWrites};
 
 use std::alloc::Global;
 use wc_cost::Loaded;
@@ -14,13 +14,13 @@ use wc_machine::Machine;
 use wc_model::{ByteIn, ByteOut};
 use wc_plate::Plate;
 use wc_record::RefusedRow;
-use wc_run::{LastScans, Report, RunFault, Scale, judged};
+use wc_run::{LastScans, Report, RunFault, Scale, validated};
 use wc_store::Store;
 
 /// The fault of a run that is out of memory before it begins: if the reader has failed already as often as can be counted,
 /// that is reported.
-fn not_begun<R: ByteIn>(fault: RunFault, reader: &R) -> RunFault
-    ensures judged { IsJudged fault result }
+fn not_started<R: ByteIn>(fault: RunFault, reader: &R) -> RunFault
+    ensures validated { IsValidated fault result }
     ensures read { result ≡ RunFault.Read
         → HasCause (R.failure_count reader.now) (R.failure_count reader.now)
         (R.spent_count reader.now) (R.spent_count reader.now) }
@@ -28,7 +28,7 @@ fn not_begun<R: ByteIn>(fault: RunFault, reader: &R) -> RunFault
         → ¬ HasCause (R.failure_count reader.now) (R.failure_count reader.now)
         (R.spent_count reader.now) (R.spent_count reader.now) }
 {
-    judged(fault, reader, reader.failures(), reader.spent())
+    validated(fault, reader, reader.failures(), reader.spent())
 }
 
 /// Runs a log and writes its report, with a line for every scan. Each row is read and carried out,
@@ -67,12 +67,12 @@ pub fn run<'a, S: Store, R: ByteIn, W: ByteOut>(
 ) -> Result<u32, RunFault>
     requires first { IfSome machine (λ m. m.last ≡ 0) }
     ensures reports { IfSome (R.bytes_left reader.old)
-        (λ bytes. (logic : Option Logic) → StandsAt machine.entry next.entry logic
+        (λ bytes. (logic : Option Logic) → IsAt machine.entry next.entry logic
         → Reports None plate.now logic (log_for logic (log_of (records_of bytes))) result
         (W.bytes_taken writer.old) (W.bytes_taken writer.new)) }
     // Whatever the program: without the lines of scans the bytes are those of a run with none.
     ensures line { IfSome (R.bytes_left reader.old)
-        (λ bytes. (logic : Option Logic) → StandsAt machine.entry next.entry logic
+        (λ bytes. (logic : Option Logic) → IsAt machine.entry next.entry logic
         → LeavesLine plate.now (log_for logic (log_of (records_of bytes))) result
         (W.bytes_taken writer.old) (W.bytes_taken writer.new)) }
     ensures read { IsErrOf result RunFault.Read
@@ -83,7 +83,7 @@ pub fn run<'a, S: Store, R: ByteIn, W: ByteOut>(
         → ¬ HasCause (R.failure_count reader.old) (R.failure_count reader.new)
         (R.spent_count reader.old) (R.spent_count reader.new) }
     // A write fault is reported if the writer failed, and only then.
-    ensures failures { TellsWrites result (W.failure_count writer.old)
+    ensures failures { ReportsWrites result (W.failure_count writer.old)
         (W.failure_count writer.new) }
     // After the last row, or a refused one, the reader has not failed.
     ensures reader { HasNotFailed result (R.failure_count reader.old)
@@ -98,7 +98,7 @@ pub fn run<'a, S: Store, R: ByteIn, W: ByteOut>(
             writer,
             &mut RefusedRow::new(alloc),
         ),
-        Err(fault) => Err(not_begun(fault, reader)),
+        Err(fault) => Err(not_started(fault, reader)),
     }
 }
 
@@ -127,12 +127,12 @@ pub fn run_last<'a, S: Store, R: ByteIn, W: ByteOut>(
     requires few { (1 ≤ last) × (last ≤ 1000) }
     requires first { IfSome machine (λ m. m.last ≡ 0) }
     ensures reports { IfSome (R.bytes_left reader.old)
-        (λ bytes. (logic : Option Logic) → StandsAt machine.entry next.entry logic
+        (λ bytes. (logic : Option Logic) → IsAt machine.entry next.entry logic
         → Reports (Some last) plate.now logic (log_for logic (log_of (records_of bytes))) result
         (W.bytes_taken writer.old) (W.bytes_taken writer.new)) }
     // Whatever the program: without the lines of scans the bytes are those of a run with none.
     ensures line { IfSome (R.bytes_left reader.old)
-        (λ bytes. (logic : Option Logic) → StandsAt machine.entry next.entry logic
+        (λ bytes. (logic : Option Logic) → IsAt machine.entry next.entry logic
         → LeavesLine plate.now (log_for logic (log_of (records_of bytes))) result
         (W.bytes_taken writer.old) (W.bytes_taken writer.new)) }
     ensures read { IsErrOf result RunFault.Read
@@ -143,7 +143,7 @@ pub fn run_last<'a, S: Store, R: ByteIn, W: ByteOut>(
         → ¬ HasCause (R.failure_count reader.old) (R.failure_count reader.new)
         (R.spent_count reader.old) (R.spent_count reader.new) }
     // A write fault is reported if the writer failed, and only then.
-    ensures failures { TellsWrites result (W.failure_count writer.old)
+    ensures failures { ReportsWrites result (W.failure_count writer.old)
         (W.failure_count writer.new) }
     // After the last row, or a refused one, the reader has not failed.
     ensures reader { HasNotFailed result (R.failure_count reader.old)
@@ -151,7 +151,7 @@ pub fn run_last<'a, S: Store, R: ByteIn, W: ByteOut>(
 {
     let mut scans = match LastScans::new(alloc, last) {
         Ok(scans) => scans,
-        Err(fault) => return Err(not_begun(fault, reader)),
+        Err(fault) => return Err(not_started(fault, reader)),
     };
     match Scale::new(alloc, plate, machine, next) {
         Ok(mut scale) => wc_run::run(
@@ -162,6 +162,6 @@ pub fn run_last<'a, S: Store, R: ByteIn, W: ByteOut>(
             writer,
             &mut RefusedRow::new(alloc),
         ),
-        Err(fault) => Err(not_begun(fault, reader)),
+        Err(fault) => Err(not_started(fault, reader)),
     }
 }

@@ -1,5 +1,5 @@
 ghost use Rattle.std.specs.Prelude.{◌≡◌, ℕ, IfErr, IfOk, IfSome, IsSome, option_map};
-ghost use Rattle.wc_controller.specs.Endings.{ReadsPlate, RefusesLength, TakesInput, TellsReadFaults, TellsWriteFaults, met};
+ghost use Rattle.wc_controller.specs.Endings.{ReadsPlate, RefusesLength, TakesInput, ReportsReadFaults, ReportsWriteFaults, raised};
 ghost use Rattle.wc_controller.specs.Endings as endings;
 ghost use Rattle.wc_controller.specs.InputStates.{optional_of};
 ghost use Rattle.wc_controller.specs.TakenLogs.{AreReadOf, failures_of, known_of};
@@ -36,7 +36,7 @@ pub fn read_input<R: ByteIn>(
     ensures too_long { IfErr result
         (λ stopped. RefusesLength (R.bytes_left reader.old) stopped.fault) }
     ensures input { IfErr result (λ stopped. stopped.input ≡ input) }
-    ensures failures { TellsReadFaults input result (R.failure_count reader.old)
+    ensures failures { ReportsReadFaults input result (R.failure_count reader.old)
         (R.failure_count reader.new) }
     ensures taken { TakesInput (R.bytes_left reader.old) (R.bytes_left reader.new) }
 {
@@ -65,7 +65,7 @@ pub(crate) fn read_optional<R: ByteIn>(
     ensures there { IfErr result (λ stopped. IsSome
         (optional_of R.bytes_left R.failure_count R.spent_count reader.old)) }
     ensures input { IfErr result (λ stopped. stopped.input ≡ input) }
-    ensures failures { TellsReadFaults input result
+    ensures failures { ReportsReadFaults input result
         (failures_of (optional_of R.bytes_left R.failure_count R.spent_count reader.old))
         (failures_of (optional_of R.bytes_left R.failure_count R.spent_count reader.new)) }
     ensures taken { TakesInput
@@ -82,8 +82,9 @@ pub(crate) fn read_optional<R: ByteIn>(
 }
 
 /// The text that is there, borrowed.
-pub(crate) fn lent(text: &Option<Vec<u8>>) -> Option<&[u8]>
-    ensures { option_map (λ lent. lent.now) result ≡ option_map (λ held. held.items) text.now }
+pub(crate) fn borrowed(text: &Option<Vec<u8>>) -> Option<&[u8]>
+    ensures { option_map (λ borrowed. borrowed.now) result
+        ≡ option_map (λ held. held.items) text.now }
 {
     match text {
         Some(text) => Some(text.as_slice()),
@@ -95,8 +96,8 @@ pub(crate) fn lent(text: &Option<Vec<u8>>) -> Option<&[u8]>
 pub(crate) fn read_plate<R: ByteIn>(alloc: Global, reader: &mut R) -> Result<Plate, Stopped>
     ensures plate { IfSome (R.bytes_left reader.old) (λ bytes. ReadsPlate bytes result) }
     ensures input { IfErr result (λ stopped. stopped.input ≡ Input.Plate) }
-    ensures silent { (count : ℕ) → TellsWriteFaults (met result) count count }
-    ensures failures { TellsReadFaults Input.Plate result (R.failure_count reader.old)
+    ensures silent { (count : ℕ) → ReportsWriteFaults (raised result) count count }
+    ensures failures { ReportsReadFaults Input.Plate result (R.failure_count reader.old)
         (R.failure_count reader.new) }
     ensures taken { TakesInput (R.bytes_left reader.old) (R.bytes_left reader.new) }
 {

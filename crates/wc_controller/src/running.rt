@@ -4,14 +4,14 @@ ghost use Rattle.wc_controller.specs.Files.{report_observed};
 ghost use Rattle.wc_controller.specs.InputRuns.{RunsAs, RunsUpTo};
 ghost use Rattle.wc_controller.specs.InputStates.{observed_by, writer_of};
 ghost use Rattle.wc_controller.specs.TakenLogs.{OfPrograms};
-ghost use Rattle.wc_record.specs.Told.{fields_told};
+ghost use Rattle.wc_record.specs.Reported.{fields_reported};
 ghost use Rattle.wc_run.specs.Observing.{said_by};
 
 use crate::ending::{Ending, end};
 use crate::input::{Input, Stopped};
 use crate::inputs::RunInputs;
 use crate::loaded::{RunPrograms, load_input, run_alone, run_loaded};
-use crate::reading::{lent, read_optional, read_plate};
+use crate::reading::{borrowed, read_optional, read_plate};
 use std::alloc::Global;
 use wc_model::{ByteIn, ByteOut};
 use wc_record::RefusedRow;
@@ -32,14 +32,14 @@ pub fn run_inputs<
     observer: &mut O,
     inputs: &mut RunInputs<P, T, N, L>,
     writer: &mut W,
-    told: &mut RefusedRow,
+    reported: &mut RefusedRow,
 ) -> Result<(), Stopped>
     requires new { O.is_new observer.old }
     ensures refused { StopsAt Input.Names result → OfPrograms inputs.old.program inputs.old.next
         (λ logic. (O.begins observer.old logic ≡ false)
         × O.has_refused observer.old observer.new logic) }
     ensures runs { RunsUpTo (observed_by O.plan O.begins observer.old) inputs.old inputs.new
-        (fields_told told.new) result
+        (fields_reported reported.new) result
         (writer_of (said_by O.speaks W.bytes_taken) W.failure_count writer.old)
         (writer_of (said_by O.speaks W.bytes_taken) W.failure_count writer.new) }
 {
@@ -53,7 +53,7 @@ pub fn run_inputs<
     };
     let text = match read {
         Some(text) => text,
-        None => return run_alone(alloc, observer, &plate, &mut inputs.log, writer, told),
+        None => return run_alone(alloc, observer, &plate, &mut inputs.log, writer, reported),
     };
     let loaded = match load_input(alloc, Input::Program, &text) {
         Ok(loaded) => loaded,
@@ -67,9 +67,9 @@ pub fn run_inputs<
         plate,
         text: &text,
         loaded,
-        next: lent(&other),
+        next: borrowed(&other),
     };
-    run_loaded(alloc, observer, programs, &mut inputs.log, writer, told)
+    run_loaded(alloc, observer, programs, &mut inputs.log, writer, reported)
 }
 
 /// Runs a log, whoever observes it. The plate is read and checked first, then the program, then the
@@ -89,7 +89,7 @@ pub fn run_files<P: ByteIn, T: ByteIn, N: ByteIn, L: ByteIn, W: ByteOut, O: Obse
     observer: &mut O,
     inputs: &mut RunInputs<P, T, N, L>,
     writer: &mut W,
-    told: &mut RefusedRow,
+    reported: &mut RefusedRow,
 ) -> Ending
     requires new { O.is_new observer.old }
     // The names are refused only of programs with which the observer does not begin.
@@ -97,11 +97,11 @@ pub fn run_files<P: ByteIn, T: ByteIn, N: ByteIn, L: ByteIn, W: ByteOut, O: Obse
         (λ logic. (O.begins observer.old logic ≡ false)
         × O.has_refused observer.old observer.new logic) }
     ensures runs { RunsAs (observed_by O.plan O.begins observer.old) inputs.old inputs.new
-        (fields_told told.new) result
+        (fields_reported reported.new) result
         (writer_of (said_by O.speaks W.bytes_taken) W.failure_count writer.old)
         (writer_of (said_by O.speaks W.bytes_taken) W.failure_count writer.new) }
 {
-    let answer = run_inputs(alloc, observer, inputs, writer, told);
+    let answer = run_inputs(alloc, observer, inputs, writer, reported);
     end(alloc, answer, writer)
 }
 
@@ -110,13 +110,14 @@ pub fn report_files<P: ByteIn, T: ByteIn, N: ByteIn, L: ByteIn, W: ByteOut>(
     alloc: Global,
     inputs: &mut RunInputs<P, T, N, L>,
     writer: &mut W,
-    told: &mut RefusedRow,
+    reported: &mut RefusedRow,
 ) -> Ending
-    ensures { RunsAs (report_observed None) inputs.old inputs.new (fields_told told.new) result
+    ensures { RunsAs (report_observed None) inputs.old inputs.new
+        (fields_reported reported.new) result
         (writer_of W.bytes_taken W.failure_count writer.old)
         (writer_of W.bytes_taken W.failure_count writer.new) }
 {
-    run_files(alloc, &mut Report::new(alloc), inputs, writer, told)
+    run_files(alloc, &mut Report::new(alloc), inputs, writer, reported)
 }
 
 /// Runs a log as `run_files` does, and writes its report, with the lines of the last `last` scans
@@ -126,16 +127,17 @@ pub fn last_files<P: ByteIn, T: ByteIn, N: ByteIn, L: ByteIn, W: ByteOut>(
     last: u16,
     inputs: &mut RunInputs<P, T, N, L>,
     writer: &mut W,
-    told: &mut RefusedRow,
+    reported: &mut RefusedRow,
 ) -> Ending
     requires few { (1 ≤ last) × (last ≤ 1000) }
-    ensures { RunsAs (report_observed (Some last)) inputs.old inputs.new (fields_told told.new)
+    ensures { RunsAs (report_observed (Some last)) inputs.old inputs.new
+        (fields_reported reported.new)
         result
         (writer_of W.bytes_taken W.failure_count writer.old)
         (writer_of W.bytes_taken W.failure_count writer.new) }
 {
     match LastScans::new(alloc, last) {
-        Ok(mut scans) => run_files(alloc, &mut scans, inputs, writer, told),
+        Ok(mut scans) => run_files(alloc, &mut scans, inputs, writer, reported),
         Err(_) => Ending::NoMemory,
     }
 }

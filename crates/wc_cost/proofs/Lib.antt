@@ -2,7 +2,7 @@ pub mod Bounds
 pub mod Measured
 pub mod TextUnits
 pub mod UnitNames
-pub mod WorstWays
+pub mod WorstLengths
 pub mod WholeTexts
 pub mod WorstLines
 pub mod CarriedKinds

@@ -4,13 +4,13 @@ use Rattle.std.proofs.lemmas.List.{length-map}
 use Rattle.std.specs.List.{flat_map}
 use Rattle.std.specs.Prelude.{slice_get}
 use Rattle.wc_names.specs.Numbered.{IsUnit}
-use Rattle.wc_names.specs.StandsFor.{onto}
+use Rattle.wc_names.specs.RepresentsText.{onto}
 use Rattle.wc_text_flat.proofs.Shortness.{in_sequence, lines_short, tokens_fit}
-use Rattle.wc_text_flat.specs.Laid.{flat_length}
+use Rattle.wc_text_flat.specs.Lowered.{flat_length}
 use Rattle.wc_model.specs.Language.BodyRules.{body_rules, text_body_checks}
-use Rattle.wc_model.specs.Language.Checks.{Check, Spot, spots_behind}
+use Rattle.wc_model.specs.Language.Checks.{Check, Position, positions_after}
 use Rattle.wc_model.specs.Language.DeclarationRules.{body_name_checks, text_declaration_checks, unit_checks, unit_declaration_checks}
-use Rattle.wc_model.specs.Language.Frames.{scope_of_spot}
+use Rattle.wc_model.specs.Language.Frames.{scope_of_position}
 use Rattle.wc_model.specs.Language.Scopes.{Scope}
 use Rattle.wc_model.specs.Language.Tree.{ProgramUnit, Text}
 use Rattle.wc_model.specs.Text.Grammar.{InBody, line_ends, unit_of}
@@ -23,25 +23,25 @@ use Rattle.wc_laws_soundness.proofs.Steps.{clean_first, clean_second}
 use Rattle.wc_laws_soundness.proofs.Texts.{none_broken}
 use Rattle.wc_laws_soundness.specs.Laws.{UnitsNestSimply}
 use Rattle.wc_laws_soundness.specs.Sound.{Clean, NestsSimply}
-use Rattle.wc_laying.proofs.LayableLines.{lines_layable}
+use Rattle.wc_lowering.proofs.LayableLines.{lines_layable}
 use Rattle.wc_cost.specs.Faultless.{IsFaultless, IsSpelled}
-use Rattle.wc_laying.specs.Layable.{IsLayable}
+use Rattle.wc_lowering.specs.Layable.{IsLayable}
 use Rattle.wc_verify.specs.CheckedTexts.{WasRead}
 
 -- the rules of a unit by its number
-unit_clean : (rules : Spot ProgramUnit → List Check) (before units : List ProgramUnit) → Clean (flat_map rules (spots_behind before units)) → (k : ℕ) (scope : Scope) → slice_get (map scope_of_spot (spots_behind before units)) k ≡ Some scope →
-    (behind : List ProgramUnit) × Clean (rules (record { before = scope.before; item = scope.unit; behind = behind }))
+unit_clean : (rules : Position ProgramUnit → List Check) (before units : List ProgramUnit) → Clean (flat_map rules (positions_after before units)) → (k : ℕ) (scope : Scope) → slice_get (map scope_of_position (positions_after before units)) k ≡ Some scope →
+    (following : List ProgramUnit) × Clean (rules (record { before = scope.before; item = scope.unit; following = following }))
 unit_clean rules before [] c k scope e = cc
 unit_clean rules before (unit ∷ units) c zero scope e =
     let mine : Scope = record { before = before; unit = unit } in
-    let spot : Spot ProgramUnit = record { before = before; item = unit; behind = units } in
-    (units, subst (λ (s : Scope). Clean (rules (record { before = s.before; item = s.unit; behind = units }))) (sym (Some-same mine scope e)) (clean_first (rules spot) (flat_map rules (spots_behind (unit ∷ before) units)) c))
+    let position : Position ProgramUnit = record { before = before; item = unit; following = units } in
+    (units, subst (λ (s : Scope). Clean (rules (record { before = s.before; item = s.unit; following = units }))) (sym (Some-same mine scope e)) (clean_first (rules position) (flat_map rules (positions_after (unit ∷ before) units)) c))
 unit_clean rules before (unit ∷ units) c (suc k) scope e =
-    let spot : Spot ProgramUnit = record { before = before; item = unit; behind = units } in
-    unit_clean rules (unit ∷ before) units (clean_second (rules spot) (flat_map rules (spots_behind (unit ∷ before) units)) c) k scope e
+    let position : Position ProgramUnit = record { before = before; item = unit; following = units } in
+    unit_clean rules (unit ∷ before) units (clean_second (rules position) (flat_map rules (positions_after (unit ∷ before) units)) c) k scope e
 
 -- the number before it
-count_before : (before units : List ProgramUnit) (k : ℕ) (scope : Scope) → slice_get (map scope_of_spot (spots_behind before units)) k ≡ Some scope → length scope.before < length before + length units
+count_before : (before units : List ProgramUnit) (k : ℕ) (scope : Scope) → slice_get (map scope_of_position (positions_after before units)) k ≡ Some scope → length scope.before < length before + length units
 count_before before [] k scope e = cc
 count_before before (unit ∷ units) zero scope e =
     let mine : Scope = record { before = before; unit = unit } in
@@ -49,24 +49,24 @@ count_before before (unit ∷ units) zero scope e =
 count_before before (unit ∷ units) (suc k) scope e = let l = count_before (unit ∷ before) units k scope e in omega (arith, l)
 
 -- the number of flat lines it has, and what it nests
-flat_short : (before units : List ProgramUnit) (tokens : List Mark) → each (λ unit. line_ends then unit_of unit) units tokens → (k : ℕ) (scope : Scope) → slice_get (map scope_of_spot (spots_behind before units)) k ≡ Some scope → flat_length scope.unit.body ≤ length tokens
+flat_short : (before units : List ProgramUnit) (tokens : List Mark) → each (λ unit. line_ends then unit_of unit) units tokens → (k : ℕ) (scope : Scope) → slice_get (map scope_of_position (positions_after before units)) k ≡ Some scope → flat_length scope.unit.body ≤ length tokens
 flat_short before [] tokens s k scope e = cc
 flat_short before (unit ∷ units) tokens s zero scope e =
     let mine : Scope = record { before = before; unit = unit } in
     let head = s.begins in
     let body = head.goes_on.goes_on in
     let a = in_sequence tokens s in
-    let b = in_sequence s.front head in
+    let b = in_sequence s.prefix head in
     let c = in_sequence head.rest head.goes_on in
     let d = in_sequence head.goes_on.rest body in
-    let f = lines_short InBody unit.body body.front body.begins in
+    let f = lines_short InBody unit.body body.prefix body.begins in
     subst (λ (x : Scope). flat_length x.unit.body ≤ length tokens) (sym (Some-same mine scope e)) (omega (arith, a, b, c, d, f))
 flat_short before (unit ∷ units) tokens s (suc k) scope e =
     let a = in_sequence tokens s in
     let b = flat_short (unit ∷ before) units s.rest s.goes_on k scope e in
     omega (arith, a, b)
 
-nests : (before units : List ProgramUnit) → UnitsNestSimply units → (k : ℕ) (scope : Scope) → slice_get (map scope_of_spot (spots_behind before units)) k ≡ Some scope → NestsSimply scope.unit.body
+nests : (before units : List ProgramUnit) → UnitsNestSimply units → (k : ℕ) (scope : Scope) → slice_get (map scope_of_position (positions_after before units)) k ≡ Some scope → NestsSimply scope.unit.body
 nests before [] s k scope e = cc
 nests before (unit ∷ units) s zero scope e =
     let mine : Scope = record { before = before; unit = unit } in
@@ -88,26 +88,26 @@ pub unit_short : (text : Text) → IsFaultless text → (k : ℕ) (scope : Scope
 unit_short text h k scope is =
     let s = h.read.spelled.spelled in
     let a = in_sequence h.read.tokens s in
-    let b = flat_short [] text s.front s.begins k scope is in
+    let b = flat_short [] text s.prefix s.begins k scope is in
     let f = h.read.few in
     omega (arith, a, b, f)
 
 pub unit_layable : (text : Text) → IsFaultless text → (k : ℕ) (scope : Scope) → IsUnit text k scope → IsLayable scope scope.unit.body
 unit_layable text h k scope is =
-    let bodies = unit_clean (λ (spot : Spot ProgramUnit). body_rules (record { before = spot.before; unit = spot.item })) [] text (none_broken (text_body_checks text) h.sound) k scope is in
-    let names = unit_clean (λ (spot : Spot ProgramUnit). unit_checks text spot.before spot.item) [] text (none_broken (text_declaration_checks text) h.declared) k scope is in
+    let bodies = unit_clean (λ (position : Position ProgramUnit). body_rules (record { before = position.before; unit = position.item })) [] text (none_broken (text_body_checks text) h.sound) k scope is in
+    let names = unit_clean (λ (position : Position ProgramUnit). unit_checks text position.before position.item) [] text (none_broken (text_declaration_checks text) h.declared) k scope is in
     let own = clean_second (unit_declaration_checks text scope.before scope.unit) (body_name_checks scope.unit scope.unit.body) names.1.1.1 in
     let few = count_before [] text k scope is in
     let most = h.read.within_limits.units in
     lines_layable scope scope.unit.body [] (omega (arith, few, most)) (unit_short text h k scope is) own bodies.1
 
 -- a unit between those before it and those after
-at_split : (before units : List ProgramUnit) (k : ℕ) → slice_get (map scope_of_spot (spots_behind [] (onto before units))) (length before + k) ≡ slice_get (map scope_of_spot (spots_behind before units)) k
-at_split [] units k = ap (slice_get (map scope_of_spot (spots_behind [] units))) (let a : 0 + k ≡ k = omega arith in a)
+at_split : (before units : List ProgramUnit) (k : ℕ) → slice_get (map scope_of_position (positions_after [] (onto before units))) (length before + k) ≡ slice_get (map scope_of_position (positions_after before units)) k
+at_split [] units k = ap (slice_get (map scope_of_position (positions_after [] units))) (let a : 0 + k ≡ k = omega arith in a)
 at_split (unit ∷ before) units k =
-    ap (slice_get (map scope_of_spot (spots_behind [] (onto before (unit ∷ units))))) (let a : length (unit ∷ before) + k ≡ length before + suc k = omega arith in a) ∙ at_split before (unit ∷ units) (suc k)
+    ap (slice_get (map scope_of_position (positions_after [] (onto before (unit ∷ units))))) (let a : length (unit ∷ before) + k ≡ length before + suc k = omega arith in a) ∙ at_split before (unit ∷ units) (suc k)
 
 pub unit_at : (text : Text) (before : List ProgramUnit) (unit : ProgramUnit) (units : List ProgramUnit) (k : ℕ) → onto before (unit ∷ units) ≡ text → length before ≡ k → IsUnit text k (record { before = before; unit = unit })
 unit_at text before unit units k e l =
-    ap (λ (t : Text). slice_get (map scope_of_spot (spots_behind [] t)) k) (sym e)
-    ∙ ap (slice_get (map scope_of_spot (spots_behind [] (onto before (unit ∷ units))))) (let a : k ≡ length before + 0 = omega (arith, l) in a) ∙ at_split before (unit ∷ units) 0
+    ap (λ (t : Text). slice_get (map scope_of_position (positions_after [] t)) k) (sym e)
+    ∙ ap (slice_get (map scope_of_position (positions_after [] (onto before (unit ∷ units))))) (let a : k ≡ length before + 0 = omega (arith, l) in a) ∙ at_split before (unit ∷ units) 0

@@ -5,7 +5,7 @@ use Rattle.std.proofs.lemmas.Option.{slice_get-map}
 use Rattle.std.specs.Prelude.{slice_get}
 use Rattle.std.specs.Str.{IsAscii}
 use Rattle.wc_text_flat.proofs.Programs.{codes_length}
-use Rattle.wc_text_flat.specs.Laid.{AreLaid}
+use Rattle.wc_text_flat.specs.Lowered.{AreLowered}
 use Rattle.wc_model.specs.Language.Tree.{ProgramUnit, Text}
 use Rattle.wc_model.specs.Language.Views.{text_view, unit_view}
 use Rattle.wc_model.specs.Text.Grammar.{IsNameOf, line_ends, unit_of}
@@ -19,8 +19,8 @@ use Rattle.wc_laws_soundness.proofs.Places.{Some-same}
 use Rattle.wc_laws_tokens.proofs.Ascii.{AreAscii, IsAsciiSymbol, ascii_parts, tokens_ascii}
 
 -- the two parts of a sequence
-parts : {A B : List Mark → Type 0} (tokens : List Mark) (s : Sequence A B tokens) → AreAscii tokens → AreAscii s.front × AreAscii s.rest
-parts tokens s h = ascii_parts s.front s.rest (subst AreAscii s.whole h)
+parts : {A B : List Mark → Type 0} (tokens : List Mark) (s : Sequence A B tokens) → AreAscii tokens → AreAscii s.prefix × AreAscii s.rest
+parts tokens s h = ascii_parts s.prefix s.rest (subst AreAscii s.whole h)
 
 -- the token of a unit's name
 name_ascii : (unit : ProgramUnit) (tokens : List Mark) → one (IsNameOf unit) tokens → AreAscii tokens → IsAscii unit.spelled
@@ -32,23 +32,23 @@ units_ascii : (units : List ProgramUnit) (tokens : List Mark) → each (λ unit.
 units_ascii [] tokens s h k unit e = cc
 units_ascii (first ∷ units) tokens s h zero unit e =
     let whole = (parts tokens s h).0 in
-    let behind = (parts s.front s.begins whole).1 in
-    let head = (parts s.begins.rest s.begins.goes_on behind).0 in
+    let following = (parts s.prefix s.begins whole).1 in
+    let head = (parts s.begins.rest s.begins.goes_on following).0 in
     let opens = s.begins.goes_on.begins in
-    let named = (parts opens.rest opens.goes_on (parts s.begins.goes_on.front opens head).1).0 in
-    subst (λ (u : ProgramUnit). IsAscii u.spelled) (sym (Some-same first unit e)) (name_ascii first opens.goes_on.front opens.goes_on.begins named)
+    let named = (parts opens.rest opens.goes_on (parts s.begins.goes_on.prefix opens head).1).0 in
+    subst (λ (u : ProgramUnit). IsAscii u.spelled) (sym (Some-same first unit e)) (name_ascii first opens.goes_on.prefix opens.goes_on.begins named)
 units_ascii (first ∷ units) tokens s h (suc k) unit e = units_ascii units s.rest s.goes_on (parts tokens s h).1 k unit e
 
 pub unit_ascii : (bytes : List ℕ) (text : Text) → IsRead bytes text → (k : ℕ) (unit : ProgramUnit) → slice_get text k ≡ Some unit → IsAscii unit.spelled
 unit_ascii bytes text read k unit e =
     let marks : List Mark = map mark_of_token read.tokens in
     let s = read.spelled.spelled in
-    units_ascii text s.front s.begins (parts marks s (tokens_ascii [] bytes read.tokens read.cut)).0 k unit e
+    units_ascii text s.prefix s.begins (parts marks s (tokens_ascii [] bytes read.tokens read.cut)).0 k unit e
 
 -- a unit of the text by its number, in the tree that was read
-pub unit_within : (source given : Source) (codes : List (List Code)) (k : ℕ) → AreLaid (text_view source) codes → given ≡ source → k < length codes → k < length given.units.items
-unit_within source given codes k laid same below =
-    let counted = codes_length [] (text_view source) codes laid in
+pub unit_within : (source given : Source) (codes : List (List Code)) (k : ℕ) → AreLowered (text_view source) codes → given ≡ source → k < length codes → k < length given.units.items
+unit_within source given codes k lowered same below =
+    let counted = codes_length [] (text_view source) codes lowered in
     let viewed = length-map source.units.items unit_view in
     let s : length given.units.items ≡ length source.units.items = ap (λ (x : Source). length x.units.items) same in
     omega (arith, below, counted, viewed, s)

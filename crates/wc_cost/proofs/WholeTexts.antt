@@ -3,12 +3,12 @@ use Rattle.std.proofs.Common.{◌≡◌, ℕ, ◌-◌, false, List, [], ◌∷�
 use Rattle.std.proofs.lemmas.List.{append-nil, length-map, length-reverse, reverse-reverse}
 use Rattle.std.specs.Prelude.{if◌then◌else◌, option_and_then, reverse, slice_get}
 use Rattle.wc_names.specs.Numbered.{IsUnit}
-use Rattle.wc_names.specs.StandsFor.{AreTables, onto}
+use Rattle.wc_names.specs.RepresentsText.{AreTables, onto}
 use Rattle.wc_names.specs.declared.kept.Tables.{Tables}
 use Rattle.wc_text_flat.proofs.Programs.{codes_length}
 use Rattle.wc_text_flat.proofs.Texts.{newest}
 use Rattle.wc_text_flat.specs.Contents.{frame_of_reversed, frame_of_text}
-use Rattle.wc_text_flat.specs.Laid.{AreLaid}
+use Rattle.wc_text_flat.specs.Lowered.{AreLowered}
 use Rattle.wc_model.specs.Language.Carried.{lead_from, path_lead, same_lead, direct_lead}
 use Rattle.wc_model.specs.Language.CarriedPlaces.{carried_number, carried_within, number_if_kept, number_if_kept_within}
 use Rattle.wc_model.specs.Language.Declarations.{is_block}
@@ -26,10 +26,10 @@ use Rattle.wc_cost.proofs.TextUnits.{unit_at}
 use Rattle.wc_cost.specs.Costs.{IsCosted}
 use Rattle.wc_cost.specs.Faultless.{IsFaultless, LoadsUnits}
 use Rattle.wc_cost.specs.LoadedInside.{codes_of}
-use Rattle.wc_cost.specs.declared.laid.LaidUnit.{LaidUnit}
+use Rattle.wc_cost.specs.declared.lowered.LoweredUnit.{LoweredUnit}
 
 -- what is said of a text is said of the same one
-pub of_same : (r : Result (Vec LaidUnit Global) Fault) (t tables : Tables) (s source : Source) → t ≡ tables → s ≡ source → (AreTables t (text_view s) → IsFaultless (text_view s) → LoadsUnits (text_view s) r) → AreTables tables (text_view source) → IsFaultless (text_view source) → LoadsUnits (text_view source) r
+pub of_same : (r : Result (Vec LoweredUnit Global) Fault) (t tables : Tables) (s source : Source) → t ≡ tables → s ≡ source → (AreTables t (text_view s) → IsFaultless (text_view s) → LoadsUnits (text_view s) r) → AreTables tables (text_view source) → IsFaultless (text_view source) → LoadsUnits (text_view source) r
 of_same r t tables s source e f h =
     subst (λ (x : Tables). AreTables x (text_view source) → IsFaultless (text_view source) → LoadsUnits (text_view source) r) e
     (subst (λ (x : Source). AreTables t (text_view x) → IsFaultless (text_view x) → LoadsUnits (text_view x) r) f h)
@@ -67,8 +67,8 @@ last_unit text order n e =
     }
 
 -- as many units are lowered as there are
-pub laid_count : (text : Text) (units : List LaidUnit) → AreLaid text (codes_of units) → length units ≡ length text
-laid_count text units h = sym (length-map units (λ (u : LaidUnit). u.code.items)) ∙ codes_length [] text (codes_of units) h
+pub lowered_count : (text : Text) (units : List LoweredUnit) → AreLowered text (codes_of units) → length units ≡ length text
+lowered_count text units h = sym (length-map units (λ (u : LoweredUnit). u.code.items)) ∙ codes_length [] text (codes_of units) h
 
 -- what a place keeps is defined for the programs of two texts
 kept_alike : (old new : Text) (o n : ℕ) (from : Last old o) (to : Last new n) (entry : Location × Content) → number_if_kept_within from.scope to.scope entry ≡ number_if_kept old new entry

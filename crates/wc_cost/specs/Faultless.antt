@@ -2,7 +2,7 @@
 use Rattle.std.specs.Prelude.{◌≡◌, ℕ, ◌<◌, ◌≤◌, List, length, None, Some, Result, Ok, Err}
 use Rattle.std.proofs.Common.{Vec, Global}
 use Rattle.wc_text_flat.specs.FlatPaths.{sources_of, worst_of}
-use Rattle.wc_text_flat.specs.Laid.{AreLaid, IsLaid}
+use Rattle.wc_text_flat.specs.Lowered.{AreLowered, IsLowered}
 use Rattle.wc_text_flat.specs.Laws.{AreBoundsBelow}
 use Rattle.wc_model.specs.Language.Faults.{MOST_STEPS, IsCostFault, body_fault, declaration_fault}
 use Rattle.wc_model.specs.Language.Scopes.{Scope}
@@ -15,8 +15,8 @@ use Rattle.wc_model.specs.declared.code.Code.{Code}
 use Rattle.wc_model.specs.declared.fault.Fault.{Fault}
 use Rattle.wc_model.specs.declared.fault.Fault.TheVariants.{Refused, Memory}
 use Rattle.wc_cost.specs.LoadedInside.{AreLines, bounds_of, codes_of}
-use Rattle.wc_cost.specs.Ways.{AreSmall}
-use Rattle.wc_cost.specs.declared.laid.LaidUnit.{LaidUnit}
+use Rattle.wc_cost.specs.PathLengths.{AreSmall}
+use Rattle.wc_cost.specs.declared.lowered.LoweredUnit.{LoweredUnit}
 
 -- some tokens, no more than a text has bytes, spell this text within the limits; what their lines are is not asked
 pub record IsSpelled (text : Text) : Type 0 where
@@ -32,28 +32,28 @@ pub record IsFaultless (text : Text) : Type 0 where
   pub sound : body_fault text ≡ None
 
 -- a unit is lowered, and its bound is the length of its worst path
-pub record IsMeasured (bounds : List ℕ) (scope : Scope) (laid : LaidUnit) : Type 0 where
-  pub code : IsLaid scope scope.unit.body laid.code.items
-  pub lines : laid.lines.items ≡ sources_of scope.unit.body
-  pub bound : laid.bound ≡ (worst_of bounds laid.code.items (sources_of scope.unit.body)).steps
-  pub small : laid.bound ≤ MOST_STEPS
+pub record IsMeasured (bounds : List ℕ) (scope : Scope) (lowered : LoweredUnit) : Type 0 where
+  pub code : IsLowered scope scope.unit.body lowered.code.items
+  pub lines : lowered.lines.items ≡ sources_of scope.unit.body
+  pub bound : lowered.bound ≡ (worst_of bounds lowered.code.items (sources_of scope.unit.body)).steps
+  pub small : lowered.bound ≤ MOST_STEPS
 
 -- or its worst path is too long
 pub record IsOverrun (bounds : List ℕ) (scope : Scope) (number place : ℕ) : Type 0 where
   pub code : List Code
-  pub laid : IsLaid scope scope.unit.body code
+  pub lowered : IsLowered scope scope.unit.body code
   pub long : MOST_STEPS < (worst_of bounds code (sources_of scope.unit.body)).steps
   pub number_is : number ≡ 411
   pub place_is : place ≡ scope.unit.line
 
-abbrev pub MeasuresUnit : List ℕ → Scope → Result LaidUnit Fault → Type 0
-MeasuresUnit bounds scope (Ok laid) = IsMeasured bounds scope laid
+abbrev pub MeasuresUnit : List ℕ → Scope → Result LoweredUnit Fault → Type 0
+MeasuresUnit bounds scope (Ok lowered) = IsMeasured bounds scope lowered
 MeasuresUnit bounds scope (Err (Refused number place)) = IsOverrun bounds scope number place
 MeasuresUnit bounds scope (Err Memory) = Unit {0}
 
 -- the units of a text are lowered, and no path is too long
-pub record AreLoaded (text : Text) (units : List LaidUnit) : Type 0 where
-  pub laid : AreLaid text (codes_of units)
+pub record AreLoaded (text : Text) (units : List LoweredUnit) : Type 0 where
+  pub lowered : AreLowered text (codes_of units)
   pub lines : AreLines text units
   pub bounds : AreBoundsBelow text (codes_of units) (bounds_of units) (length units)
   pub small : AreSmall (bounds_of units)
@@ -65,7 +65,7 @@ Measures text (Ok nothing) = IsCostFault text None
 Measures text (Err (Refused number place)) = IsCostFault text (Some (record { number = number; line = place }))
 Measures text (Err Memory) = Unit {0}
 
-abbrev pub LoadsUnits : Text → Result (Vec LaidUnit Global) Fault → Type 0
+abbrev pub LoadsUnits : Text → Result (Vec LoweredUnit Global) Fault → Type 0
 LoadsUnits text (Ok units) = AreLoaded text units.items
 LoadsUnits text (Err (Refused number place)) = IsCostFault text (Some (record { number = number; line = place }))
 LoadsUnits text (Err Memory) = Unit {0}

@@ -2,4 +2,4 @@ pub mod Costs
 pub mod Faultless
 pub mod LoadedInside
 pub mod LoadedTexts
-pub mod Ways
+pub mod PathLengths

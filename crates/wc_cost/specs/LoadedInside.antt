@@ -9,15 +9,15 @@ use Rattle.wc_model.specs.Language.Views.{text_view}
 use Rattle.wc_model.specs.declared.code.Code.{Code}
 use Rattle.wc_laws_soundness.specs.FirstNumbers.{AreFirst}
 use Rattle.wc_cost.specs.LoadedTexts.{LoadedText, IsLoadedSound}
-use Rattle.wc_cost.specs.Ways.{AreSmall}
-use Rattle.wc_cost.specs.declared.laid.LaidUnit.{LaidUnit}
+use Rattle.wc_cost.specs.PathLengths.{AreSmall}
+use Rattle.wc_cost.specs.declared.lowered.LoweredUnit.{LoweredUnit}
 use Rattle.wc_cost.specs.declared.loaded.Loaded.TheInside.{Inside as LoadedFields}
 
 -- the codes and the bounds of lowered units
-abbrev pub codes_of : List LaidUnit → List (List Code)
+abbrev pub codes_of : List LoweredUnit → List (List Code)
 codes_of units = map (λ u. u.code.items) units
 
-abbrev pub bounds_of : List LaidUnit → List ℕ
+abbrev pub bounds_of : List LoweredUnit → List ℕ
 bounds_of units = map (λ u. u.bound) units
 
 -- the text and its codes
@@ -25,10 +25,10 @@ abbrev pub loaded_view : LoadedFields → LoadedText
 loaded_view a = record { source = a.checked.source; codes = codes_of a.units.items }
 
 -- the lines of the flat lines are those of the units' bodies
-abbrev pub AreLines : Text → List LaidUnit → Type 0
+abbrev pub AreLines : Text → List LoweredUnit → Type 0
 AreLines [] [] = Unit {0}
-AreLines (unit ∷ text) (laid ∷ units) = (laid.lines.items ≡ sources_of unit.body) × AreLines text units
-AreLines [] (laid ∷ units) = ⊥
+AreLines (unit ∷ text) (lowered ∷ units) = (lowered.lines.items ≡ sources_of unit.body) × AreLines text units
+AreLines [] (lowered ∷ units) = ⊥
 AreLines (unit ∷ text) [] = ⊥
 
 -- the codes are the text's, the bounds the lengths of their worst paths and not too great, and kinds and first numbers those of

@@ -1,6 +1,6 @@
 -- A text that every pass accepts, with its flat code. (No rule of the language.)
 use Rattle.std.specs.Prelude.{◌≡◌, ℕ, ◌-◌, List, length, None, Some, IfSome, slice_get}
-use Rattle.wc_text_flat.specs.Laid.{AreLaid}
+use Rattle.wc_text_flat.specs.Lowered.{AreLowered}
 use Rattle.wc_model.specs.Language.Faults.{body_fault}
 use Rattle.wc_model.specs.Language.Frames.{scopes_of}
 use Rattle.wc_model.specs.Language.Scopes.{Scope}
@@ -20,7 +20,7 @@ pub record LoadedText : Type 0 where
 pub record IsLoadedSound (loaded : LoadedText) : Type 0 where
   pub read : WasRead (text_view loaded.source)
   pub sound : body_fault (text_view loaded.source) ≡ None
-  pub laid : AreLaid (text_view loaded.source) loaded.codes
+  pub lowered : AreLowered (text_view loaded.source) loaded.codes
 
 -- these are the lines of the worst path of the unit of that number
 abbrev pub AreWorstAt : Text → ℕ → List ℕ → Type 0

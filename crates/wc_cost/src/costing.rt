@@ -1,7 +1,7 @@
 ghost use Rattle.wc_model.specs.Language.Views.{text_view};
 ghost use Rattle.wc_cost.specs.Costs.{IsCosted};
 ghost use Rattle.wc_cost.specs.Faultless.{IsFaultless, Measures};
-ghost use Rattle.wc_names.specs.StandsFor.{AreTables};
+ghost use Rattle.wc_names.specs.RepresentsText.{AreTables};
 
 use crate::loaded::Loaded;
 use crate::units::lay_units;

@@ -2,11 +2,11 @@
 #![tactic(auto)]
 
 mod costing;
-mod laid;
 mod loaded;
+mod lowered;
 mod path;
+mod path_lengths;
 mod units;
-mod ways;
 
 pub use costing::{cost, measure};
 pub use loaded::Loaded;

@@ -9,9 +9,9 @@ ghost use Rattle.wc_text_flat.specs.Contents.{frame_of_text};
 ghost use Rattle.wc_text_flat.specs.FlatPaths.{sources_of};
 ghost use Rattle.wc_cost.specs.LoadedTexts.{AreWorstAt, IsLoadedSound, IsProgramOf};
 
-use crate::laid::LaidUnit;
+use crate::lowered::LoweredUnit;
 use crate::path::worst_lines;
-use crate::ways::ways;
+use crate::path_lengths::path_lengths;
 use std::alloc::Global;
 use std::marker::Model;
 use std::str::from_utf8;
@@ -22,7 +22,7 @@ use wc_verify::Checked;
 #[derive(Drop)]
 pub struct Loaded<'a> {
     pub(crate) checked: Checked<'a>,
-    pub(crate) units: Vec<LaidUnit>,
+    pub(crate) units: Vec<LoweredUnit>,
     pub(crate) kinds: Vec<SlotKind>,
     pub(crate) initials: Vec<i64>,
 }
@@ -110,9 +110,9 @@ impl<'a> Loaded<'a> {
             (λ lines. AreWorstAt (text_view self.now.source) unit lines.items) }
         ensures memory { IsOkUnless result Fault.Memory }
     {
-        let laid = &self.units[unit];
-        let ways = ways(alloc, &self.units, &laid.code)?;
-        worst_lines(alloc, &ways, &laid.code, &laid.lines)
+        let lowered = &self.units[unit];
+        let path_lengths = path_lengths(alloc, &self.units, &lowered.code)?;
+        worst_lines(alloc, &path_lengths, &lowered.code, &lowered.lines)
     }
 
     /// The place that a path names in the program's frame. Fields of standard blocks that texts

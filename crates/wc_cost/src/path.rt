@@ -1,8 +1,8 @@
 ghost use Rattle.std.specs.Prelude.{◌≡◌, ℕ, ◌++◌, List, IfOk, OnOk, IsOkUnless, slice_index};
 ghost use Rattle.wc_text_flat.specs.FlatPaths.{worst_of};
-ghost use Rattle.wc_cost.specs.Ways.{AreWays, is_own, own_source};
+ghost use Rattle.wc_cost.specs.PathLengths.{ArePathLengths, is_own, own_source};
 
-use crate::ways::lines_passed;
+use crate::path_lengths::lines_passed;
 use std::alloc::Global;
 use wc_model::{Code, Fault};
 
@@ -44,12 +44,12 @@ fn list(lines: &mut Vec<u32>, line: &Code, source: u32) -> Result<(), Fault>
 /// The lines of the text on the worst path through a body, in order, from the lengths of its paths.
 pub(crate) fn worst_lines(
     alloc: Global,
-    ways: &[u64],
+    path_lengths: &[u64],
     code: &[Code],
     sources: &[u32],
 ) -> Result<Vec<u32>, Fault>
     ensures lines { IfOk result
-        (λ lines. (bounds : List ℕ) → AreWays bounds code.now ways.now
+        (λ lines. (bounds : List ℕ) → ArePathLengths bounds code.now path_lengths.now
         → lines.items ≡ (worst_of bounds code.now sources.now).lines) }
     ensures memory { IsOkUnless result Fault.Memory }
 {
@@ -64,7 +64,7 @@ pub(crate) fn worst_lines(
             continue;
         };
         list(&mut lines, line, source_at(sources, index))?;
-        left = lines_passed(ways, index + 1, line);
+        left = lines_passed(path_lengths, index + 1, line);
     }
     Ok(lines)
 }

@@ -1,39 +1,40 @@
 ghost use Rattle.std.specs.Prelude.{◌≡◌, ℕ, ◌≤◌, List, IfErr, IfOk, IsOkUnless, length};
-ghost use Rattle.wc_names.specs.StandsFor.{AreTables};
+ghost use Rattle.wc_names.specs.RepresentsText.{AreTables};
 ghost use Rattle.wc_text_flat.specs.FlatPaths.{sources_of, worst_of};
-ghost use Rattle.wc_text_flat.specs.Laid.{IsLaid, flat_length};
+ghost use Rattle.wc_text_flat.specs.Lowered.{IsLowered, flat_length};
 ghost use Rattle.wc_model.specs.Language.Scopes.{Scope};
 ghost use Rattle.wc_model.specs.Language.Views.{text_view, unit_view};
 ghost use Rattle.wc_cost.specs.Faultless.{IsFaultless, LoadsUnits, MeasuresUnit};
-ghost use Rattle.wc_laying.specs.Layable.{IsLayable};
+ghost use Rattle.wc_lowering.specs.Layable.{IsLayable};
 ghost use Rattle.wc_cost.specs.LoadedInside.{bounds_of};
-ghost use Rattle.wc_cost.specs.Ways.{AreSmall};
+ghost use Rattle.wc_cost.specs.PathLengths.{AreSmall};
 ghost use Rattle.wc_verify.specs.Seeing.{IsScope};
 
-use crate::laid::LaidUnit;
-use crate::ways::ways;
+use crate::lowered::LoweredUnit;
+use crate::path_lengths::path_lengths;
 use std::alloc::Global;
-use wc_laying::flat_body;
+use wc_lowering::flat_body;
 use wc_model::{Code, Fault, MOST_STEPS, Source, Unit};
 use wc_names::Tables;
 
 /// The length of the worst path through a body.
-fn longest(alloc: Global, units: &[LaidUnit], code: &[Code]) -> Result<u64, Fault>
+fn longest(alloc: Global, units: &[LoweredUnit], code: &[Code]) -> Result<u64, Fault>
     ensures longest { IfOk result
         (λ steps. AreSmall (bounds_of units.now) → length code.now ≤ 65536 → (sources : List ℕ)
         → steps ≡ (worst_of (bounds_of units.now) code.now sources).steps) }
     ensures memory { IsOkUnless result Fault.Memory }
 {
-    let ways = ways(alloc, units, code)?;
-    match ways.first() {
+    let path_lengths = path_lengths(alloc, units, code)?;
+    match path_lengths.first() {
         Some(way) => Ok(*way),
         None => Ok(0),
     }
 }
 
 /// A lowered body with its bound, or 411 at the unit's line.
-fn with_bound(code: Vec<Code>, lines: Vec<u32>, steps: u64, line: u32) -> Result<LaidUnit, Fault>
-    ensures measured { (bounds : List ℕ) (scope : Scope) → IsLaid scope scope.unit.body code.items
+fn with_bound(code: Vec<Code>, lines: Vec<u32>, steps: u64, line: u32) -> Result<LoweredUnit, Fault>
+    ensures measured { (bounds : List ℕ) (scope : Scope)
+        → IsLowered scope scope.unit.body code.items
         → lines.items ≡ sources_of scope.unit.body
         → steps ≡ (worst_of bounds code.items (sources_of scope.unit.body)).steps
         → line ≡ scope.unit.line → MeasuresUnit bounds scope result }
@@ -46,7 +47,7 @@ fn with_bound(code: Vec<Code>, lines: Vec<u32>, steps: u64, line: u32) -> Result
             place: line,
         });
     }
-    Ok(LaidUnit {
+    Ok(LoweredUnit {
         code,
         lines,
         bound: steps as u32,
@@ -59,8 +60,8 @@ fn lay_unit<'a>(
     tables: &Tables<'a>,
     number: usize,
     unit: &Unit<'a>,
-    units: &[LaidUnit],
-) -> Result<LaidUnit, Fault>
+    units: &[LoweredUnit],
+) -> Result<LoweredUnit, Fault>
     ensures { (scope : Scope) → IsScope tables.now number scope → scope.unit ≡ unit_view unit.now
         → IsLayable scope scope.unit.body → flat_length scope.unit.body ≤ 65536
         → AreSmall (bounds_of units.now) → MeasuresUnit (bounds_of units.now) scope result }
@@ -77,14 +78,14 @@ pub(crate) fn lay_units<'a>(
     alloc: Global,
     tables: &Tables<'a>,
     source: &Source<'a>,
-) -> Result<Vec<LaidUnit>, Fault>
+) -> Result<Vec<LoweredUnit>, Fault>
     ensures { AreTables tables.now (text_view source.now) → IsFaultless (text_view source.now)
         → LoadsUnits (text_view source.now) result }
 {
     let mut units = Vec::new(alloc);
     for (number, unit) in source.units.iter().enumerate() {
-        let laid = lay_unit(alloc, tables, number, unit, &units)?;
-        units.push(laid).map_err(|_| Fault::Memory)?;
+        let lowered = lay_unit(alloc, tables, number, unit, &units)?;
+        units.push(lowered).map_err(|_| Fault::Memory)?;
     }
     Ok(units)
 }

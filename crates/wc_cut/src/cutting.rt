@@ -1,7 +1,7 @@
 ghost use Rattle.wc_controller.specs.InputRuns.{RunsAs};
 ghost use Rattle.wc_controller.specs.InputStates.{writer_of};
 ghost use Rattle.wc_cut.specs.Cuts.{cut_observed};
-ghost use Rattle.wc_record.specs.Told.{fields_told};
+ghost use Rattle.wc_record.specs.Reported.{fields_reported};
 
 use crate::cutter::Cutter;
 use std::alloc::Global;
@@ -21,11 +21,18 @@ pub fn cut_files<P: ByteIn, T: ByteIn, N: ByteIn, L: ByteIn, W: ByteOut>(
     count: u64,
     inputs: &mut RunInputs<P, T, N, L>,
     writer: &mut W,
-    told: &mut RefusedRow,
+    reported: &mut RefusedRow,
 ) -> Ending
-    ensures { RunsAs (cut_observed count) inputs.old inputs.new (fields_told told.new) result
+    ensures { RunsAs (cut_observed count) inputs.old inputs.new
+        (fields_reported reported.new) result
         (writer_of W.bytes_taken W.failure_count writer.old)
         (writer_of W.bytes_taken W.failure_count writer.new) }
 {
-    run_files(alloc, &mut Cutter::new(alloc, count), inputs, writer, told)
+    run_files(
+        alloc,
+        &mut Cutter::new(alloc, count),
+        inputs,
+        writer,
+        reported,
+    )
 }

@@ -139,13 +139,13 @@ fn put_request(
         ≡ text.old.items ++ lines_of ms (request_rows (option_map (λ t. t.items) request.now))) }
     ensures memory { IsOkUnless result RunFault.Memory }
 {
-    let Some(begun) = request else {
+    let Some(started) = request else {
         return Ok(());
     };
     put_number(text, ms)?;
     // The line feed that opened it goes first.
     put_bytes(text, b",L,0a")?;
-    put_hex(text, begun)?;
+    put_hex(text, started)?;
     put_bytes(text, b"\n")?;
     Ok(())
 }

@@ -4,13 +4,13 @@ use Rattle.std.proofs.lemmas.List.{append-nil, map-append}
 use Rattle.std.proofs.lemmas.List.Folds.{list_any-append}
 use Rattle.std.specs.Prelude.{◌||◌}
 use Rattle.std.specs.List.{flat_map}
-use Rattle.wc_model.specs.Language.Checks.{Check, Spot, first_broken, spots_behind}
+use Rattle.wc_model.specs.Language.Checks.{Check, Position, first_broken, positions_after}
 use Rattle.wc_model.specs.Language.DeclarationRules.{Taken, and_more, declaration_checks, is_among, name_of_word, names_declared, places_of_type, taken_at_first, taken_by}
 use Rattle.wc_model.specs.Language.Declarations.{Variable, declared_by, is_block, same_name, variables_of}
 use Rattle.wc_model.specs.Language.Names.{Name}
 use Rattle.wc_model.specs.Language.Tree.{Declaration, ProgramUnit, Text, Word}
 use Rattle.wc_declare.specs.Rows.{HasTaken, HoldsRows, IsEmptyOf, SameNames}
-use Rattle.wc_names.specs.StandsFor.{AreDifferent, AreRows, IsTableOf, first_place}
+use Rattle.wc_names.specs.RepresentsText.{AreDifferent, AreRows, IsTableOf, first_place}
 use Rattle.wc_names.specs.Numbered.{plain_of_field}
 use Rattle.wc_names.specs.declared.unit_table.UnitTable.{UnitTable}
 use Rattle.wc_declare.proofs.RowsSoFar.{as_variable}
@@ -44,14 +44,14 @@ names_of_declared d [] = refl
 names_of_declared d (w ∷ words) = ap (λ xs. w.name ∷ xs) (names_of_declared d words)
 
 -- the rules of each declaration after others
-abbrev pub asked_of : Text → List ProgramUnit → Taken → Spot Declaration → List Check
-asked_of text before t spot = declaration_checks text before (names_declared spot.before) (taken_by before t spot.before) spot.item
+abbrev pub asked_of : Text → List ProgramUnit → Taken → Position Declaration → List Check
+asked_of text before t position = declaration_checks text before (names_declared position.before) (taken_by before t position.before) position.item
 
 -- what follows the declarations so far
 pub record Declares (text : Text) (before : List ProgramUnit) (unit : ProgramUnit) (own : UnitTable) (all left : List Declaration) : Type 0 where
   pub passed : List Declaration
   pub vs : List Variable
-  pub found : (rest : List Check) → first_broken (flat_map (asked_of text before (taken_at_first unit)) (spots_behind [] all) ++ rest) ≡ first_broken (flat_map (asked_of text before (taken_at_first unit)) (spots_behind passed left) ++ rest)
+  pub found : (rest : List Check) → first_broken (flat_map (asked_of text before (taken_at_first unit)) (positions_after [] all) ++ rest) ≡ first_broken (flat_map (asked_of text before (taken_at_first unit)) (positions_after passed left) ++ rest)
   pub names : SameNames own.names (names_declared passed)
   pub taken : HasTaken (taken_by before (taken_at_first unit) passed) own
   pub held : HoldsRows before (first_place unit) vs own
@@ -89,8 +89,8 @@ one_declared text before unit own new all d left h passes taken held names diffe
   vs = h.vs ++ declared_by d;
   found = λ rest.
       h.found rest
-      ∙ ap first_broken (append_assoc (declaration_checks text before (names_declared h.passed) (taken_by before (taken_at_first unit) h.passed) d) (flat_map (asked_of text before (taken_at_first unit)) (spots_behind (d ∷ h.passed) left)) rest)
-      ∙ passes (flat_map (asked_of text before (taken_at_first unit)) (spots_behind (d ∷ h.passed) left) ++ rest);
+      ∙ ap first_broken (append_assoc (declaration_checks text before (names_declared h.passed) (taken_by before (taken_at_first unit) h.passed) d) (flat_map (asked_of text before (taken_at_first unit)) (positions_after (d ∷ h.passed) left)) rest)
+      ∙ passes (flat_map (asked_of text before (taken_at_first unit)) (positions_after (d ∷ h.passed) left) ++ rest);
   names = λ name. ap (λ ns. is_among ns name) names ∙ more_names own.names (names_declared h.passed) (map name_of_word d.names) h.names name;
   taken = subst (λ t. HasTaken t new) (sym (taken_last before (taken_at_first unit) (length d.names) (places_of_type before d.type_name.name) h.passed)) taken;
   held = held;

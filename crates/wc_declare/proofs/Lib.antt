@@ -1,5 +1,5 @@
 pub mod NamesSoFar
-pub mod Judging
+pub mod Validation
 pub mod Typing
 pub mod RowsSoFar
 pub mod DeclaredSoFar

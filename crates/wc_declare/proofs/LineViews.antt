@@ -15,7 +15,7 @@ use Rattle.wc_model.specs.declared.tree.Instr.{Instr, fold_out-Instr}
 use Rattle.wc_model.specs.declared.tree.Instr.TheOpen.{Instr-F}
 use Rattle.wc_model.specs.declared.tree.Instr.TheVariants as instrs
 use Rattle.wc_model.specs.declared.tree.Line.{Line, fold_out-Line, the_lemmas}
-use Rattle.wc_declare.proofs.Judging.{regrouped}
+use Rattle.wc_declare.proofs.Validation.{regrouped}
 
 -- the parts of a line's rules, one after the other
 three : (a b c d : List Check) → ((a ++ b) ++ c) ++ d ≡ a ++ (b ++ (c ++ d))
@@ -45,32 +45,32 @@ Opened = Instr-F (Option Word → Lines → Lines) (Lines → Lines)
 
 -- whatever follows a label, its rules come first
 pub record LabelFirst (unit : ProgramUnit) (seen : Lines) (label : Option Word) (rest : List Check) : Type 0 where
-  pub behind : List Check
-  pub is : first_broken (body_name_checks unit seen ++ rest) ≡ first_broken (label_checks label ++ behind)
+  pub following : List Check
+  pub is : first_broken (body_name_checks unit seen ++ rest) ≡ first_broken (label_checks label ++ following)
 
 opened_first : (unit : ProgramUnit) (x : Opened) (label : Option Word) (others : Lines) (rest : List Check) → LabelFirst unit (instruction_view x label others) label rest
-opened_first unit (Instr-F.Load negated operand line) label others rest = record { behind = _; is = plain_found unit label line (Load negated (term_view operand)) others rest }
-opened_first unit (Instr-F.Store storing target line) label others rest = record { behind = _; is = plain_found unit label line (Store storing (term_view target)) others rest }
-opened_first unit (Instr-F.Apply operator operand line) label others rest = record { behind = _; is = plain_found unit label line (Apply operator (term_view operand)) others rest }
-opened_first unit (Instr-F.Defer operator operand inside line close) label others rest = record { behind = _; is = nested_found unit label line operator (option_map term_view operand) (joined inside.items) close others rest }
-opened_first unit (Instr-F.Not line) label others rest = record { behind = _; is = plain_found unit label line Negate others rest }
-opened_first unit (Instr-F.Jump condition target line) label others rest = record { behind = _; is = plain_found unit label line (Jump condition (name_of target.now)) others rest }
-opened_first unit (Instr-F.Call condition instance arguments line) label others rest = record { behind = _; is = plain_found unit label line (Call condition (name_of instance.now) (map assignment_view arguments.items)) others rest }
-opened_first unit (Instr-F.Return condition line) label others rest = record { behind = _; is = plain_found unit label line (Return condition) others rest }
+opened_first unit (Instr-F.Load negated operand line) label others rest = record { following = _; is = plain_found unit label line (Load negated (term_view operand)) others rest }
+opened_first unit (Instr-F.Store storing target line) label others rest = record { following = _; is = plain_found unit label line (Store storing (term_view target)) others rest }
+opened_first unit (Instr-F.Apply operator operand line) label others rest = record { following = _; is = plain_found unit label line (Apply operator (term_view operand)) others rest }
+opened_first unit (Instr-F.Defer operator operand inside line close) label others rest = record { following = _; is = nested_found unit label line operator (option_map term_view operand) (joined inside.items) close others rest }
+opened_first unit (Instr-F.Not line) label others rest = record { following = _; is = plain_found unit label line Negate others rest }
+opened_first unit (Instr-F.Jump condition target line) label others rest = record { following = _; is = plain_found unit label line (Jump condition (name_of target.now)) others rest }
+opened_first unit (Instr-F.Call condition instance arguments line) label others rest = record { following = _; is = plain_found unit label line (Call condition (name_of instance.now) (map assignment_view arguments.items)) others rest }
+opened_first unit (Instr-F.Return condition line) label others rest = record { following = _; is = plain_found unit label line (Return condition) others rest }
 
 made_none : (label : Option Spelled) (rest : Lines) → line_view (record { label = label; instr = None }) rest ≡ label_view (option_map word_view label) rest
 made_none label rest = search (the_lemmas, rules)
 
 first_by : (unit : ProgramUnit) (label : Option Spelled) (instr : Option Instr) (others : Lines) (rest : List Check) → LabelFirst unit (line_view (record { label = label; instr = instr }) others) (option_map word_view label) rest
 first_by unit label None others rest = record {
-  behind = _;
+  following = _;
   is = ap (λ l. first_broken (body_name_checks unit l ++ rest)) (made_none label others) ∙ bare_found unit (option_map word_view label) others rest;
 }
 first_by unit label (Some instr) others rest =
     let seen = ap (λ (f : Lines → Lines). f others) (fold_out-Line (Option Word → Lines → Lines) (Lines → Lines) instruction_view line_step_view (record { label = label; instr = Some instr }))
     ∙ ap (λ (f : Option Word → Lines → Lines). f (option_map word_view label) others) (fold_out-Instr (Option Word → Lines → Lines) (Lines → Lines) instruction_view line_step_view instr) in
     let h = opened_first unit _ (option_map word_view label) others rest in
-    record { behind = h.behind; is = ap (λ l. first_broken (body_name_checks unit l ++ rest)) seen ∙ h.is }
+    record { following = h.following; is = ap (λ l. first_broken (body_name_checks unit l ++ rest)) seen ∙ h.is }
 
 pub label_first : (unit : ProgramUnit) (line : Line) (others : Lines) (rest : List Check) → LabelFirst unit (line_view line others) (option_map word_view line.label) rest
 label_first unit line others rest = first_by unit line.label line.instr others rest

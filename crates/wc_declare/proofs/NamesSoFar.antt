@@ -3,14 +3,14 @@ use Rattle.std.proofs.Common.{◌≡◌, Bool, true, false, List, [], ◌∷◌,
 use Rattle.std.proofs.lemmas.List.Folds.{list_any-append}
 use Rattle.std.specs.Prelude.{◌||◌}
 use Rattle.std.specs.List.{flat_map}
-use Rattle.wc_model.specs.Language.Checks.{Check, Spot, first_broken, spots_behind}
+use Rattle.wc_model.specs.Language.Checks.{Check, Position, first_broken, positions_after}
 use Rattle.wc_model.specs.Language.DeclarationRules.{is_among, is_new, name_of_word, not_reserved}
 use Rattle.wc_model.specs.Language.Declarations.{same_name}
 use Rattle.wc_model.specs.Language.Names.{Name}
 use Rattle.wc_model.specs.Language.Tree.{Word}
 use Rattle.wc_names.specs.Keys.{same_name_laws}
 use Rattle.wc_declare.specs.Rows.{SameNames}
-use Rattle.wc_names.specs.StandsFor.{AreDifferent}
+use Rattle.wc_names.specs.RepresentsText.{AreDifferent}
 
 pub or_last : (a b : Bool) → (a || (b || false)) ≡ (b || a)
 or_last true true = refl
@@ -40,28 +40,28 @@ still_different (x ∷ own) new h e =
     )
 
 -- the rules of each name after others
-abbrev pub name_checks : List Name → Spot Word → List Check
-name_checks names spot = not_reserved spot.item ∷ is_new (map name_of_word spot.before ++ names) spot.item ∷ []
+abbrev pub name_checks : List Name → Position Word → List Check
+name_checks names position = not_reserved position.item ∷ is_new (map name_of_word position.before ++ names) position.item ∷ []
 
 -- what follows the names so far, newest first: what is found first is found in the words that are left, the names so far
 -- are held, and with those that are left they are all
-pub record StandsBehind (start own : List Name) (all left : List Word) : Type 0 where
+pub record IsAfterRecords (start own : List Name) (all left : List Word) : Type 0 where
   pub before : List Word
-  pub found : (known : List Name) (rest : List Check) → SameNames start known → first_broken (flat_map (name_checks known) (spots_behind [] all) ++ rest) ≡ first_broken (flat_map (name_checks known) (spots_behind before left) ++ rest)
+  pub found : (known : List Name) (rest : List Check) → SameNames start known → first_broken (flat_map (name_checks known) (positions_after [] all) ++ rest) ≡ first_broken (flat_map (name_checks known) (positions_after before left) ++ rest)
   pub held : (known : List Name) → SameNames start known → SameNames own (map name_of_word before ++ known)
   pub joined : own ++ map name_of_word left ≡ start ++ map name_of_word all
   pub different : AreDifferent start → AreDifferent own
 
-pub at_first : (start : List Name) (all : List Word) → StandsBehind start start all all
+pub at_first : (start : List Name) (all : List Word) → IsAfterRecords start start all all
 at_first start all = record { before = []; found = λ known rest same. refl; held = λ known same. same; joined = refl; different = λ h. h }
 
-pub one_behind : (start own new : List Name) (all : List Word) (word : Word) (left : List Word) → StandsBehind start own all (word ∷ left) →
+pub one_after : (start own new : List Name) (all : List Word) (word : Word) (left : List Word) → IsAfterRecords start own all (word ∷ left) →
     ((known : List Name) (rest : List Check) → SameNames own known → first_broken (not_reserved word ∷ is_new known word ∷ rest) ≡ first_broken rest) →
-    new ≡ own ++ word.name ∷ [] → is_among own word.name ≡ false → StandsBehind start new all left
-one_behind start own new all word left h passes added fresh = record {
+    new ≡ own ++ word.name ∷ [] → is_among own word.name ≡ false → IsAfterRecords start new all left
+one_after start own new all word left h passes added fresh = record {
   before = word ∷ h.before;
   found = λ known rest same.
-      h.found known rest same ∙ passes (map name_of_word h.before ++ known) (flat_map (name_checks known) (spots_behind (word ∷ h.before) left) ++ rest) (h.held known same);
+      h.found known rest same ∙ passes (map name_of_word h.before ++ known) (flat_map (name_checks known) (positions_after (word ∷ h.before) left) ++ rest) (h.held known same);
   held = λ known same name. ap (λ names. is_among names name) added ∙ one_more own (map name_of_word h.before ++ known) word.name (h.held known same) name;
   joined = ap (λ names. names ++ map name_of_word left) added ∙ append_assoc own (word.name ∷ []) (map name_of_word left) ∙ h.joined;
   different = λ d. subst AreDifferent (sym added) (still_different own word.name (h.different d) fresh);

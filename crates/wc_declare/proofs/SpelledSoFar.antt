@@ -8,8 +8,8 @@ abbrev pub AreSpelledOn : (old now left all : List (List ℕ)) → Type 0
 AreSpelledOn old now left all = now ++ left ≡ old ++ all
 
 -- the first of those that are left come after the names
-pub spelled_on : (old now new front left all : List (List ℕ)) → AreSpelledOn old now (front ++ left) all → new ≡ now ++ front → AreSpelledOn old new left all
-spelled_on old now new front left all h e = ap (λ xs. xs ++ left) e ∙ append_assoc now front left ∙ h
+pub spelled_on : (old now new prefix left all : List (List ℕ)) → AreSpelledOn old now (prefix ++ left) all → new ≡ now ++ prefix → AreSpelledOn old new left all
+spelled_on old now new prefix left all h e = ap (λ xs. xs ++ left) e ∙ append_assoc now prefix left ∙ h
 
 -- none is left
 pub spelled_all : (old now left all : List (List ℕ)) → left ≡ [] → AreSpelledOn old now left all → now ≡ old ++ all

@@ -2,7 +2,7 @@
 use Rattle.std.proofs.Common.{◌≡◌, Bool, true, false, List, [], ◌∷◌, ◌++◌, length, Option, Some, None, is_some, option_map, refl, sym, ap, ◌∙◌}
 use Rattle.std.specs.Prelude.{option_and_then, if◌then◌else◌, ◌||◌}
 use Rattle.wc_model.specs.Language.Checks.{Check, asks, first_broken}
-use Rattle.wc_model.specs.Language.DeclarationRules.{initial_checks, is_usable_type, may_stand, suits_type}
+use Rattle.wc_model.specs.Language.DeclarationRules.{initial_checks, is_usable_type, may_occur, suits_type}
 use Rattle.wc_model.specs.Language.Declarations.{VariableType, Elementary, Standard, Block, block_named, block_type, elementary_types, named_in, standard_blocks, standard_type, type_named}
 use Rattle.wc_model.specs.Language.Names.{Name}
 use Rattle.wc_model.specs.Language.Tree.{Declaration, ProgramUnit}
@@ -11,9 +11,9 @@ use Rattle.wc_model.specs.declared.kind.Kind.{Kind}
 use Rattle.wc_model.specs.declared.source.Initial.{Initial}
 use Rattle.wc_model.specs.declared.source.Section.{Section}
 use Rattle.wc_model.specs.declared.value.Value.{Value}
-use Rattle.wc_names.specs.Numbered.{numbered_type, stands_in}
+use Rattle.wc_names.specs.Numbered.{numbered_type, is_allowed_in}
 use Rattle.wc_declare.specs.Rows.{suits_numbered}
-use Rattle.wc_names.specs.StandsFor.{type_at}
+use Rattle.wc_names.specs.RepresentsText.{type_at}
 use Rattle.wc_names.specs.declared.declared_type.DeclaredType.{DeclaredType}
 use Rattle.wc_names.specs.declared.declared_type.DeclaredType.TheVariants as numbered
 use Rattle.wc_names.proofs.Places.{TypeCase, of_elementary, of_standard, of_block, type_case}
@@ -41,20 +41,20 @@ initial_found before d initial declared rest is e =
 
 usable : Section → Option VariableType → Bool
 usable section None = false
-usable section (Some type) = may_stand section type
+usable section (Some type) = may_occur section type
 
-usable_is : (section : Section) (type : Option VariableType) → (elim type as (λ x. Bool) [ Some t ↦ may_stand section t | None ↦ false ]) ≡ usable section type
+usable_is : (section : Section) (type : Option VariableType) → (elim type as (λ x. Bool) [ Some t ↦ may_occur section t | None ↦ false ]) ≡ usable section type
 unfolding usable
 usable_is section None = refl
 usable_is section (Some t) = refl
 
-usable_case : (before : List ProgramUnit) (type : Option VariableType) (declared : DeclaredType) (section : Section) → TypeCase before type declared → usable section type ≡ stands_in section declared
+usable_case : (before : List ProgramUnit) (type : Option VariableType) (declared : DeclaredType) (section : Section) → TypeCase before type declared → usable section type ≡ is_allowed_in section declared
 unfolding usable
-usable_case before type declared section (of_elementary k t d) = ap (usable section) t ∙ ap (stands_in section) (sym d)
-usable_case before type declared section (of_standard b t d) = ap (usable section) t ∙ ap (stands_in section) (sym d)
-usable_case before type declared section (of_block n u us t f d) = ap (usable section) t ∙ ap (stands_in section) (sym d)
+usable_case before type declared section (of_elementary k t d) = ap (usable section) t ∙ ap (is_allowed_in section) (sym d)
+usable_case before type declared section (of_standard b t d) = ap (usable section) t ∙ ap (is_allowed_in section) (sym d)
+usable_case before type declared section (of_block n u us t f d) = ap (usable section) t ∙ ap (is_allowed_in section) (sym d)
 
-pub usable_type : (before : List ProgramUnit) (section : Section) (name : Name) (declared : DeclaredType) → type_at before name ≡ Some declared → is_usable_type before section name ≡ stands_in section declared
+pub usable_type : (before : List ProgramUnit) (section : Section) (name : Name) (declared : DeclaredType) → type_at before name ≡ Some declared → is_usable_type before section name ≡ is_allowed_in section declared
 usable_type before section name declared e =
     usable_is section (type_named before name) ∙ usable_case before (type_named before name) declared section (type_case before (type_named before name) declared e)
 

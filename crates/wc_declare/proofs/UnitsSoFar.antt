@@ -3,13 +3,13 @@ use Rattle.std.proofs.Common.{◌≡◌, ℕ, ◌+◌, Bool, true, false, not, L
 use Rattle.std.proofs.lemmas.List.Folds.{list_any-append}
 use Rattle.std.specs.Prelude.{◌||◌, ◌&&◌, if◌then◌else◌}
 use Rattle.std.specs.List.{flat_map, position_from}
-use Rattle.wc_model.specs.Language.Checks.{first_broken, spots_behind}
+use Rattle.wc_model.specs.Language.Checks.{first_broken, positions_after}
 use Rattle.wc_model.specs.Language.DeclarationRules.{is_among, names_block_of, text_declaration_checks, unit_checks}
 use Rattle.wc_model.specs.Language.Declarations.{same_name}
 use Rattle.wc_model.specs.Language.Names.{Name}
 use Rattle.wc_model.specs.Language.Tree.{ProgramUnit, Text}
 use Rattle.wc_names.specs.Keys.{same_name_laws}
-use Rattle.wc_names.specs.StandsFor.{IsTableOf, number_named, onto}
+use Rattle.wc_names.specs.RepresentsText.{IsTableOf, number_named, onto}
 use Rattle.wc_declare.specs.SoFar.{AreUnitsOf}
 use Rattle.wc_names.specs.declared.unit_table.UnitTable.{UnitTable}
 use Rattle.wc_declare.specs.declared.units.Units.{Units}
@@ -69,7 +69,7 @@ units_more text before unit old new table name h named fresh is blocks names tab
 -- what follows the units so far
 pub record Reads (text left : Text) (units : Units) : Type 0 where
   pub before : List ProgramUnit
-  pub found : first_broken (text_declaration_checks text) ≡ first_broken (flat_map (λ spot. unit_checks text spot.before spot.item) (spots_behind before left))
+  pub found : first_broken (text_declaration_checks text) ≡ first_broken (flat_map (λ position. unit_checks text position.before position.item) (positions_after before left))
   pub are : AreUnitsOf text before units
   pub joined : onto left before ≡ onto text []
 
@@ -77,7 +77,7 @@ pub none_read : (text : Text) (units : Units) → AreUnitsOf text [] units → R
 none_read text units h = record { before = []; found = refl; are = h; joined = refl }
 
 pub one_read : (text : Text) (unit : ProgramUnit) (left : Text) (old new : Units) (h : Reads text (unit ∷ left) old) →
-    first_broken (unit_checks text h.before unit ++ flat_map (λ spot. unit_checks text spot.before spot.item) (spots_behind (unit ∷ h.before) left)) ≡ first_broken (flat_map (λ spot. unit_checks text spot.before spot.item) (spots_behind (unit ∷ h.before) left)) →
+    first_broken (unit_checks text h.before unit ++ flat_map (λ position. unit_checks text position.before position.item) (positions_after (unit ∷ h.before) left)) ≡ first_broken (flat_map (λ position. unit_checks text position.before position.item) (positions_after (unit ∷ h.before) left)) →
     AreUnitsOf text (unit ∷ h.before) new → Reads text left new
 one_read text unit left old new h passes are = record { before = unit ∷ h.before; found = h.found ∙ passes; are = are; joined = h.joined }
 

@@ -8,7 +8,7 @@ use Rattle.wc_model.specs.declared.operand.Word.{Word as Spelled}
 use Rattle.wc_model.specs.declared.value.Value.{Value}
 use Rattle.wc_model.specs.Language.Tree.{ProgramUnit}
 use Rattle.wc_names.specs.Numbered.{plain_of_field}
-use Rattle.wc_names.specs.StandsFor.{AreRows, end_of, first_place, plain_from}
+use Rattle.wc_names.specs.RepresentsText.{AreRows, end_of, first_place, plain_from}
 use Rattle.wc_names.specs.declared.declared_type.DeclaredType.{DeclaredType}
 use Rattle.wc_names.specs.declared.declared_type.DeclaredType.TheVariants.{Elementary, Standard, Block}
 use Rattle.wc_names.specs.declared.unit_table.UnitTable.{UnitTable}

@@ -5,7 +5,7 @@ use Rattle.wc_model.specs.Language.DeclarationRules.{is_among, names_block_of}
 use Rattle.wc_model.specs.Language.Declarations.{same_name}
 use Rattle.wc_model.specs.Language.Names.{Name}
 use Rattle.wc_model.specs.Language.Tree.{ProgramUnit, Text}
-use Rattle.wc_names.specs.StandsFor.{AreUnits, number_named}
+use Rattle.wc_names.specs.RepresentsText.{AreUnits, number_named}
 use Rattle.wc_declare.specs.declared.units.Units.{Units}
 
 -- the names of all blocks of the text, and the units so far

@@ -5,16 +5,16 @@ ghost use Rattle.wc_model.specs.Language.DeclarationRules.{body_name_checks, lab
 ghost use Rattle.wc_model.specs.Language.Declarations.{is_block};
 ghost use Rattle.wc_model.specs.Language.Tree.{Lines, ProgramUnit};
 ghost use Rattle.wc_model.specs.Language.Views.{assignment_view, line_view, lines_view, term_view, word_view};
-ghost use Rattle.wc_model.specs.Language.Judging.{Judges};
+ghost use Rattle.wc_model.specs.Language.Validation.{Validates};
 
 use crate::word::refusal;
 use wc_built_in::{is_reserved, variable_at};
 use wc_model::{Argument, Fault, Instr, Line, Operand, Word};
 
 /// Checks a label by 307.
-fn judge_label<'a>(label: Option<Word<'a>>) -> Result<(), Fault>
-    ensures judged { (rest : List Check)
-        → Judges (first_broken (label_checks (option_map word_view label.entry) ++ rest))
+fn validate_label<'a>(label: Option<Word<'a>>) -> Result<(), Fault>
+    ensures validated { (rest : List Check)
+        → Validates (first_broken (label_checks (option_map word_view label.entry) ++ rest))
         (first_broken rest) result }
     // It takes no memory, so a refusal is not reported as out of memory.
     ensures refuses { IfErr result (λ fault. fault ≡ Fault.Memory → ⊥) }
@@ -32,9 +32,9 @@ fn judge_label<'a>(label: Option<Word<'a>>) -> Result<(), Fault>
 }
 
 /// Checks an operand: an address by 305 in a block, by 304 elsewhere.
-fn judge_operand<'a>(in_block: bool, operand: &Operand<'a>) -> Result<(), Fault>
-    ensures judged { (unit : ProgramUnit) (rest : List Check) → in_block ≡ is_block unit
-        → Judges (first_broken (term_checks unit (term_view operand.now) ++ rest))
+fn validate_operand<'a>(in_block: bool, operand: &Operand<'a>) -> Result<(), Fault>
+    ensures validated { (unit : ProgramUnit) (rest : List Check) → in_block ≡ is_block unit
+        → Validates (first_broken (term_checks unit (term_view operand.now) ++ rest))
         (first_broken rest) result }
     // It takes no memory, so a refusal is not reported as out of memory.
     ensures refuses { IfErr result (λ fault. fault ≡ Fault.Memory → ⊥) }
@@ -52,9 +52,9 @@ fn judge_operand<'a>(in_block: bool, operand: &Operand<'a>) -> Result<(), Fault>
 }
 
 /// Checks the values of a call's arguments.
-fn judge_arguments<'a>(in_block: bool, arguments: &[Argument<'a>]) -> Result<(), Fault>
-    ensures judged { (unit : ProgramUnit) (rest : List Check) → in_block ≡ is_block unit
-        → Judges
+fn validate_arguments<'a>(in_block: bool, arguments: &[Argument<'a>]) -> Result<(), Fault>
+    ensures validated { (unit : ProgramUnit) (rest : List Check) → in_block ≡ is_block unit
+        → Validates
         (first_broken
         (flat_map (λ a. term_checks unit a.actual) (map assignment_view arguments.now) ++ rest))
         (first_broken rest) result }
@@ -62,51 +62,51 @@ fn judge_arguments<'a>(in_block: bool, arguments: &[Argument<'a>]) -> Result<(),
     ensures refuses { IfErr result (λ fault. fault ≡ Fault.Memory → ⊥) }
 {
     for argument in arguments {
-        judge_operand(in_block, &argument.value)?;
+        validate_operand(in_block, &argument.value)?;
     }
     Ok(())
 }
 
 /// Checks the operand of an opening line, if there is one.
-fn judge_first<'a>(in_block: bool, operand: &Option<Operand<'a>>) -> Result<(), Fault>
-    ensures judged { (unit : ProgramUnit) (rest : List Check) → in_block ≡ is_block unit
-        → Judges (first_broken (operand_checks unit (option_map term_view operand.now) ++ rest))
+fn validate_first<'a>(in_block: bool, operand: &Option<Operand<'a>>) -> Result<(), Fault>
+    ensures validated { (unit : ProgramUnit) (rest : List Check) → in_block ≡ is_block unit
+        → Validates (first_broken (operand_checks unit (option_map term_view operand.now) ++ rest))
         (first_broken rest) result }
     // It takes no memory, so a refusal is not reported as out of memory.
     ensures refuses { IfErr result (λ fault. fault ≡ Fault.Memory → ⊥) }
 {
     match operand {
-        Some(operand) => judge_operand(in_block, operand),
+        Some(operand) => validate_operand(in_block, operand),
         None => Ok(()),
     }
 }
 
 /// Checks a line with the lines inside it: each label and address.
-fn judge_line<'a>(in_block: bool, line: &Line<'a>) -> Result<(), Fault>
-    ensures judged { (unit : ProgramUnit) (others : Lines) (rest : List Check)
+fn validate_line<'a>(in_block: bool, line: &Line<'a>) -> Result<(), Fault>
+    ensures validated { (unit : ProgramUnit) (others : Lines) (rest : List Check)
         → in_block ≡ is_block unit
-        → Judges (first_broken (body_name_checks unit (line_view line.now others) ++ rest))
+        → Validates (first_broken (body_name_checks unit (line_view line.now others) ++ rest))
         (first_broken (body_name_checks unit others ++ rest)) result }
     // It takes no memory, so a refusal is not reported as out of memory.
     ensures refuses { IfErr result (λ fault. fault ≡ Fault.Memory → ⊥) }
 {
-    judge_label(line.label)?;
+    validate_label(line.label)?;
     let Some(instr) = &line.instr else {
         return Ok(());
     };
     match instr {
-        Instr::Load { operand, .. } => judge_operand(in_block, operand),
-        Instr::Store { target, .. } => judge_operand(in_block, target),
-        Instr::Apply { operand, .. } => judge_operand(in_block, operand),
-        Instr::Call { arguments, .. } => judge_arguments(in_block, arguments),
+        Instr::Load { operand, .. } => validate_operand(in_block, operand),
+        Instr::Store { target, .. } => validate_operand(in_block, target),
+        Instr::Apply { operand, .. } => validate_operand(in_block, operand),
+        Instr::Call { arguments, .. } => validate_arguments(in_block, arguments),
         Instr::Defer {
             operand,
             inside,
             ..
         } => {
-            judge_first(in_block, operand)?;
+            validate_first(in_block, operand)?;
             for inner in inside {
-                judge_line(in_block, inner)?;
+                validate_line(in_block, inner)?;
             }
             Ok(())
         }
@@ -115,15 +115,15 @@ fn judge_line<'a>(in_block: bool, line: &Line<'a>) -> Result<(), Fault>
 }
 
 /// Checks the lines of a body: each label and address.
-pub(crate) fn judge_body<'a>(in_block: bool, lines: &[Line<'a>]) -> Result<(), Fault>
-    ensures judged { (unit : ProgramUnit) (rest : List Check) → in_block ≡ is_block unit
-        → Judges (first_broken (body_name_checks unit (lines_view lines.now) ++ rest))
+pub(crate) fn validate_body<'a>(in_block: bool, lines: &[Line<'a>]) -> Result<(), Fault>
+    ensures validated { (unit : ProgramUnit) (rest : List Check) → in_block ≡ is_block unit
+        → Validates (first_broken (body_name_checks unit (lines_view lines.now) ++ rest))
         (first_broken rest) result }
     // It takes no memory, so a refusal is not reported as out of memory.
     ensures refuses { IfErr result (λ fault. fault ≡ Fault.Memory → ⊥) }
 {
     for line in lines {
-        judge_line(in_block, line)?;
+        validate_line(in_block, line)?;
     }
     Ok(())
 }

@@ -1,18 +1,18 @@
 ghost use Rattle.std.specs.Prelude.{◌≡◌, ℕ, ◌≤◌, [], ◌∷◌, ◌++◌, List, Some, option_map, OnOk, IfOk, IfErr, map, length, true, false};
 ghost use Rattle.wc_model.specs.Language.Checks.{Check, first_broken};
-ghost use Rattle.wc_model.specs.Language.DeclarationRules.{Taken, and_more, declaration_checks, initial_checks, is_among, is_closed_before, is_new, name_of_word, names_are_new, not_reserved, places_of_type, reserved_words, room_checks, suits_kind, type_checks, unit_declaration_checks};
+ghost use Rattle.wc_model.specs.Language.DeclarationRules.{Taken, and_more, declaration_checks, initial_checks, is_among, is_closed_before, is_new, name_of_word, names_are_new, not_reserved, places_of_type, reserved_words, capacity_checks, suits_kind, type_checks, unit_declaration_checks};
 ghost use Rattle.wc_model.specs.Language.Declarations.{Variable as Declared, declared_by};
 ghost use Rattle.wc_model.specs.Language.Names.{Name, name_of};
 ghost use Rattle.wc_model.specs.Language.Tree.{ProgramUnit, Text};
 ghost use Rattle.wc_model.specs.Language.Views.{declaration_view, name_view, unit_view, word_view};
-ghost use Rattle.wc_model.specs.Language.Judging.{Judges};
-ghost use Rattle.wc_names.specs.Numbered.{stands_in};
+ghost use Rattle.wc_model.specs.Language.Validation.{Validates};
+ghost use Rattle.wc_names.specs.Numbered.{is_allowed_in};
 ghost use Rattle.wc_names.specs.Spelled.{is_elementary, is_plain, spelled_in, spelled_in_table, spelled_of_unit, spelled_where};
 ghost use Rattle.wc_declare.specs.Rows.{HasTaken, HoldsRows, IsEmptyOf, SameNames, suits_numbered};
-ghost use Rattle.wc_names.specs.StandsFor.{AreDifferent, IsTableOf, type_at};
+ghost use Rattle.wc_names.specs.RepresentsText.{AreDifferent, IsTableOf, type_at};
 ghost use Rattle.wc_declare.specs.SoFar.{AreUnitsOf};
 
-use crate::room::add_variable;
+use crate::capacity::add_variable;
 use crate::types::{block, type_at, width};
 use crate::units::Units;
 use crate::word::refusal;
@@ -22,8 +22,8 @@ use wc_names::{DeclaredType, Names, UnitTable, Variable};
 
 /// Checks a name by 307 and 301, and adds it to those that are declared.
 pub(crate) fn declare_name<'a>(names: &mut Names<'a>, word: Word<'a>) -> Result<(), Fault>
-    ensures judged { (known : List Name) (rest : List Check) → SameNames names.old known
-        → Judges
+    ensures validated { (known : List Name) (rest : List Check) → SameNames names.old known
+        → Validates
         (first_broken
         (not_reserved (word_view word.entry) ∷ is_new known (word_view word.entry) ∷ rest))
         (first_broken rest) result }
@@ -47,8 +47,8 @@ pub(crate) fn declare_name<'a>(names: &mut Names<'a>, word: Word<'a>) -> Result<
 
 /// Checks the names of a declaration by 307 and 301, and adds them to those that are declared.
 fn declare_names<'a>(names: &mut Names<'a>, declaration: &Decl<'a>) -> Result<(), Fault>
-    ensures judged { (known : List Name) (rest : List Check) → SameNames names.old known
-        → Judges
+    ensures validated { (known : List Name) (rest : List Check) → SameNames names.old known
+        → Validates
         (first_broken (names_are_new known (map word_view declaration.now.names.items) ++ rest))
         (first_broken rest) result }
     ensures added { OnOk result
@@ -76,8 +76,8 @@ fn is_closed_before<'a>(units: &Units<'a>, name: &[u8]) -> bool
 }
 
 /// Whether a variable of the type may be in the section.
-fn stands_in(section: Section, declared: DeclaredType) -> bool
-    ensures { result ≡ stands_in section declared }
+fn is_allowed_in(section: Section, declared: DeclaredType) -> bool
+    ensures { result ≡ is_allowed_in section declared }
 {
     match declared {
         DeclaredType::Elementary(_) => true,
@@ -89,15 +89,17 @@ fn stands_in(section: Section, declared: DeclaredType) -> bool
 }
 
 /// Checks the type of a declaration by 308 and 302.
-fn judge_type<'a>(units: &Units<'a>, declaration: &Decl<'a>) -> Result<DeclaredType, Fault>
-    ensures judged { (text : Text) (before : List ProgramUnit) (rest : List Check)
+fn validate_type<'a>(units: &Units<'a>, declaration: &Decl<'a>) -> Result<DeclaredType, Fault>
+    ensures validated { (text : Text) (before : List ProgramUnit) (rest : List Check)
         → AreUnitsOf text before units.now
-        → Judges (first_broken (type_checks text before (declaration_view declaration.now) ++ rest))
+        → Validates (first_broken (type_checks text before (declaration_view declaration.now)
+        ++ rest))
         (first_broken rest) result }
     ensures declared { IfOk result
         (λ declared. (text : Text) (before : List ProgramUnit) → AreUnitsOf text before units.now
         → type_at before (name_view declaration.now.type_name) ≡ Some declared) }
-    ensures stands { IfOk result (λ declared. stands_in declaration.now.section declared ≡ true) }
+    ensures represents { IfOk result (λ declared. is_allowed_in declaration.now.section declared
+        ≡ true) }
     ensures plain { IfOk result
         (λ declared. is_elementary declared ≡ is_plain declaration.now.type_name) }
     // It takes no memory, so a refusal is not reported as out of memory.
@@ -110,7 +112,7 @@ fn judge_type<'a>(units: &Units<'a>, declaration: &Decl<'a>) -> Result<DeclaredT
     let Some(declared) = type_at(units, word.text) else {
         return Err(refusal(302, word.line));
     };
-    if stands_in(declaration.section, declared) {
+    if is_allowed_in(declaration.section, declared) {
         Ok(declared)
     } else {
         Err(refusal(302, word.line))
@@ -149,10 +151,11 @@ fn suits(declared: DeclaredType, value: Value) -> bool
 }
 
 /// Checks the value after `:=` of a declaration by 303.
-fn judge_initial<'a>(declaration: &Decl<'a>, declared: DeclaredType) -> Result<(), Fault>
-    ensures judged { (before : List ProgramUnit) (rest : List Check)
+fn validate_initial<'a>(declaration: &Decl<'a>, declared: DeclaredType) -> Result<(), Fault>
+    ensures validated { (before : List ProgramUnit) (rest : List Check)
         → type_at before (name_view declaration.now.type_name) ≡ Some declared
-        → Judges (first_broken (initial_checks before (declaration_view declaration.now) ++ rest))
+        → Validates (first_broken (initial_checks before (declaration_view declaration.now)
+        ++ rest))
         (first_broken rest) result }
     // It takes no memory, so a refusal is not reported as out of memory.
     ensures refuses { IfErr result (λ fault. fault ≡ Fault.Memory → ⊥) }
@@ -185,9 +188,9 @@ fn declare_variables<'a>(
     declared: DeclaredType,
     width: u16,
 ) -> Result<(), Fault>
-    ensures judged { (t : Taken) (rest : List Check) → HasTaken t table.old
-        → Judges
-        (first_broken (room_checks t width (map word_view declaration.now.names.items) ++ rest))
+    ensures validated { (t : Taken) (rest : List Check) → HasTaken t table.old
+        → Validates
+        (first_broken (capacity_checks t width (map word_view declaration.now.names.items) ++ rest))
         (first_broken rest) result }
     ensures taken { OnOk result
         ((t : Taken) → HasTaken t table.old
@@ -198,7 +201,8 @@ fn declare_variables<'a>(
         ((before : List ProgramUnit) (first : ℕ) (vs : List Declared)
         → type_at before (name_view declaration.now.type_name) ≡ Some declared
         → places_of_type before (name_view declaration.now.type_name) ≡ width
-        → stands_in declaration.now.section declared ≡ true → HoldsRows before first vs table.old
+        → is_allowed_in declaration.now.section declared ≡ true
+        → HoldsRows before first vs table.old
         → HoldsRows before first (vs ++ declared_by (declaration_view declaration.now)) table.new) }
     ensures spelled { OnOk result
         (spelled_in_table table.new ≡ spelled_in_table table.old
@@ -220,15 +224,15 @@ fn declare_variables<'a>(
 }
 
 /// Checks a declaration after what its unit's table holds so far, and adds its variables.
-fn judge_declaration<'a>(
+fn validate_declaration<'a>(
     units: &Units<'a>,
     table: &mut UnitTable<'a>,
     declaration: &Decl<'a>,
 ) -> Result<(), Fault>
-    ensures judged { (text : Text) (before : List ProgramUnit) (known : List Name) (t : Taken)
+    ensures validated { (text : Text) (before : List ProgramUnit) (known : List Name) (t : Taken)
         (rest : List Check) → AreUnitsOf text before units.now → SameNames table.old.names known
         → HasTaken t table.old
-        → Judges
+        → Validates
         (first_broken
         (declaration_checks text before known t (declaration_view declaration.now) ++ rest))
         (first_broken rest) result }
@@ -252,20 +256,21 @@ fn judge_declaration<'a>(
     ensures is_block { OnOk result (table.new.is_block ≡ table.old.is_block) }
 {
     declare_names(&mut table.names, declaration)?;
-    let declared = judge_type(units, declaration)?;
-    judge_initial(declaration, declared)?;
+    let declared = validate_type(units, declaration)?;
+    validate_initial(declaration, declared)?;
     declare_variables(table, declaration, declared, width(units, declared))
 }
 
 /// Checks the declarations of a unit, and collects its variables in its table.
-pub(crate) fn judge_declarations<'a>(
+pub(crate) fn validate_declarations<'a>(
     units: &Units<'a>,
     table: &mut UnitTable<'a>,
     unit: &Unit<'a>,
 ) -> Result<(), Fault>
-    ensures judged { (text : Text) (before : List ProgramUnit) (rest : List Check)
+    ensures validated { (text : Text) (before : List ProgramUnit) (rest : List Check)
         → AreUnitsOf text before units.now → IsEmptyOf (unit_view unit.now) table.old
-        → Judges (first_broken (unit_declaration_checks text before (unit_view unit.now) ++ rest))
+        → Validates (first_broken (unit_declaration_checks text before (unit_view unit.now)
+        ++ rest))
         (first_broken rest) result }
     ensures table { OnOk result
         ((text : Text) (before : List ProgramUnit) → AreUnitsOf text before units.now
@@ -275,7 +280,7 @@ pub(crate) fn judge_declarations<'a>(
         (spelled_in_table table.new ≡ spelled_in_table table.old ++ spelled_of_unit unit.now) }
 {
     for declaration in &unit.declarations {
-        judge_declaration(units, table, declaration)?;
+        validate_declaration(units, table, declaration)?;
     }
     Ok(())
 }

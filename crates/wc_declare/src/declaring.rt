@@ -4,12 +4,12 @@ ghost use Rattle.wc_model.specs.Language.Declarations.{is_block, same_name};
 ghost use Rattle.wc_model.specs.Language.Faults.{declaration_fault};
 ghost use Rattle.wc_model.specs.Language.Names.{Name};
 ghost use Rattle.wc_model.specs.Language.Views.{name_view, text_view, unit_view};
-ghost use Rattle.wc_model.specs.Language.Judging.{Judges};
+ghost use Rattle.wc_model.specs.Language.Validation.{Validates};
 ghost use Rattle.wc_names.specs.Spelled.{AreSpelledAs, spelled_in_table, spelled_of_unit};
-ghost use Rattle.wc_names.specs.StandsFor.{AreTables, AreUnits, onto};
+ghost use Rattle.wc_names.specs.RepresentsText.{AreTables, AreUnits, onto};
 ghost use Rattle.wc_declare.specs.SoFar.{AreUnitsOf};
 
-use crate::unit::{add_unit, is_block, judge_unit};
+use crate::unit::{add_unit, is_block, validate_unit};
 use crate::units::Units;
 use std::alloc::Global;
 use wc_model::{Fault, Source, Unit};
@@ -47,9 +47,13 @@ fn block_names<'a>(alloc: Global, source: &Source<'a>) -> Result<Names<'a>, Faul
 }
 
 /// Checks the units of a text one after the other, and keeps their tables.
-fn judge_units<'a>(alloc: Global, units: &mut Units<'a>, source: &Source<'a>) -> Result<(), Fault>
-    ensures judged { AreUnitsOf (text_view source.now) [] units.old
-        → Judges (declaration_fault (text_view source.now)) None result }
+fn validate_units<'a>(
+    alloc: Global,
+    units: &mut Units<'a>,
+    source: &Source<'a>,
+) -> Result<(), Fault>
+    ensures validated { AreUnitsOf (text_view source.now) [] units.old
+        → Validates (declaration_fault (text_view source.now)) None result }
     ensures tables { OnOk result
         (AreUnitsOf (text_view source.now) [] units.old
         → AreUnits (onto (text_view source.now) []) units.new.tables.items) }
@@ -59,7 +63,7 @@ fn judge_units<'a>(alloc: Global, units: &mut Units<'a>, source: &Source<'a>) ->
         ++ map spelled_of_unit source.now.units.items) }
 {
     for unit in &source.units {
-        let table = judge_unit(alloc, units, unit)?;
+        let table = validate_unit(alloc, units, unit)?;
         add_unit(units, unit.name, table)?;
     }
     Ok(())
@@ -84,9 +88,9 @@ pub fn tables<'a>(alloc: Global, source: &Source<'a>) -> Result<Tables<'a>, Faul
     ensures accepted { IfOk result (λ tables. AreTables tables (text_view source.now)) }
     // The names of plain variables are the bytes of the tree, as they are spelled.
     ensures spelled { IfOk result (λ tables. AreSpelledAs tables source.now) }
-    ensures judged { Judges (declaration_fault (text_view source.now)) None result }
+    ensures validated { Validates (declaration_fault (text_view source.now)) None result }
 {
     let mut units = no_units(alloc, source)?;
-    judge_units(alloc, &mut units, source)?;
+    validate_units(alloc, &mut units, source)?;
     Ok(Tables::new(units.tables))
 }

@@ -2,9 +2,9 @@
 #![tactic(auto)]
 
 mod body;
+mod capacity;
 mod declaration;
 mod declaring;
-mod room;
 mod types;
 mod unit;
 mod units;

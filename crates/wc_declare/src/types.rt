@@ -5,7 +5,7 @@ ghost use Rattle.wc_model.specs.Language.Names.{Name, name_of};
 ghost use Rattle.wc_model.specs.Language.Store.{standard_fields};
 ghost use Rattle.wc_model.specs.Language.Tree.{ProgramUnit, Text};
 ghost use Rattle.wc_names.specs.Spelled.{is_elementary};
-ghost use Rattle.wc_names.specs.StandsFor.{type_at};
+ghost use Rattle.wc_names.specs.RepresentsText.{type_at};
 ghost use Rattle.wc_declare.specs.SoFar.{AreUnitsOf};
 
 use crate::units::Units;

@@ -5,14 +5,14 @@ ghost use Rattle.wc_model.specs.Language.Declarations.{is_block};
 ghost use Rattle.wc_model.specs.Language.Names.{Name};
 ghost use Rattle.wc_model.specs.Language.Tree.{ProgramUnit, Text};
 ghost use Rattle.wc_model.specs.Language.Views.{name_view, unit_view, word_view};
-ghost use Rattle.wc_model.specs.Language.Judging.{Judges};
+ghost use Rattle.wc_model.specs.Language.Validation.{Validates};
 ghost use Rattle.wc_declare.specs.Rows.{SameNames};
 ghost use Rattle.wc_names.specs.Spelled.{spelled_in_table, spelled_of_unit};
-ghost use Rattle.wc_names.specs.StandsFor.{IsTableOf};
+ghost use Rattle.wc_names.specs.RepresentsText.{IsTableOf};
 ghost use Rattle.wc_declare.specs.SoFar.{AreUnitsOf};
 
-use crate::body::judge_body;
-use crate::declaration::judge_declarations;
+use crate::body::validate_body;
+use crate::declaration::validate_declarations;
 use crate::units::Units;
 use crate::word::refusal;
 use std::alloc::Global;
@@ -31,9 +31,9 @@ pub(crate) fn is_block<'a>(unit: &Unit<'a>) -> bool
 }
 
 /// Checks the name of a unit by 307 and 301.
-fn judge_name<'a>(names: &Names<'a>, word: Word<'a>) -> Result<(), Fault>
-    ensures judged { (known : List Name) (rest : List Check) → SameNames names.now known
-        → Judges
+fn validate_name<'a>(names: &Names<'a>, word: Word<'a>) -> Result<(), Fault>
+    ensures validated { (known : List Name) (rest : List Check) → SameNames names.now known
+        → Validates
         (first_broken
         (not_reserved (word_view word.entry) ∷ is_new known (word_view word.entry) ∷ rest))
         (first_broken rest) result }
@@ -51,14 +51,14 @@ fn judge_name<'a>(names: &Names<'a>, word: Word<'a>) -> Result<(), Fault>
 }
 
 /// Checks a unit after those so far: its name, its declarations, its body. It gives the unit's table.
-pub(crate) fn judge_unit<'a>(
+pub(crate) fn validate_unit<'a>(
     alloc: Global,
     units: &Units<'a>,
     unit: &Unit<'a>,
 ) -> Result<UnitTable<'a>, Fault>
-    ensures judged { (text : Text) (before : List ProgramUnit) (rest : List Check)
+    ensures validated { (text : Text) (before : List ProgramUnit) (rest : List Check)
         → AreUnitsOf text before units.now
-        → Judges (first_broken (unit_checks text before (unit_view unit.now) ++ rest))
+        → Validates (first_broken (unit_checks text before (unit_view unit.now) ++ rest))
         (first_broken rest) result }
     ensures table { IfOk result
         (λ table. (text : Text) (before : List ProgramUnit) → AreUnitsOf text before units.now
@@ -66,11 +66,11 @@ pub(crate) fn judge_unit<'a>(
     ensures spelled { IfOk result (λ table. spelled_in_table table ≡ spelled_of_unit unit.now) }
     ensures new { OnOk result (is_among units.now.names (name_view unit.now.name) ≡ false) }
 {
-    judge_name(&units.names, unit.name)?;
+    validate_name(&units.names, unit.name)?;
     let in_block = is_block(unit);
     let mut table = UnitTable::new(alloc, in_block);
-    judge_declarations(units, &mut table, unit)?;
-    judge_body(in_block, &unit.body)?;
+    validate_declarations(units, &mut table, unit)?;
+    validate_body(in_block, &unit.body)?;
     Ok(table)
 }
 

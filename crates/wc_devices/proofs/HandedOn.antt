@@ -3,17 +3,17 @@ use Rattle.std.proofs.Common.{ℕ, List, [], ◌++◌, Option, Some, None, Resul
 use Rattle.std.specs.Io.KnownBytes.{Appends, Keeps, WriteAppends, append_known}
 
 -- some of what is pending is passed on
-pub handed_on : (old new : Option (List ℕ)) (pending : List ℕ) (count : ℕ) → Appends old new (take count pending) → Keeps (append_known old pending) (append_known new (drop count pending))
-handed_on None new pending count wrote = tt
-handed_on (Some xs) None pending count wrote = absurd wrote
-handed_on (Some xs) (Some ys) pending count wrote =
+pub propagated : (old new : Option (List ℕ)) (pending : List ℕ) (count : ℕ) → Appends old new (take count pending) → Keeps (append_known old pending) (append_known new (drop count pending))
+propagated None new pending count wrote = tt
+propagated (Some xs) None pending count wrote = absurd wrote
+propagated (Some xs) (Some ys) pending count wrote =
     ap (λ bytes. bytes ++ drop count pending) wrote ∙ append_assoc xs (take count pending) (drop count pending) ∙ ap (λ bytes. xs ++ bytes) (take-append-drop count pending)
 
 -- a chunk is passed on if nothing is pending
-pub passed_on : {E : Type 0} (old new : Option (List ℕ)) (result : Result ℕ E) (piece : List ℕ) → WriteAppends old new result piece → WriteAppends (append_known old []) (append_known new []) result piece
-passed_on None new (Ok count) piece wrote = tt
-passed_on None new (Err error) piece wrote = tt
-passed_on (Some xs) None (Ok count) piece wrote = absurd wrote
-passed_on (Some xs) None (Err error) piece wrote = absurd wrote
-passed_on (Some xs) (Some ys) (Ok count) piece wrote = append-nil ys ∙ wrote ∙ ap (λ bytes. bytes ++ take count piece) (sym (append-nil xs))
-passed_on (Some xs) (Some ys) (Err error) piece wrote = append-nil ys ∙ wrote ∙ sym (append-nil xs)
+pub passed_on : {E : Type 0} (old new : Option (List ℕ)) (result : Result ℕ E) (chunk : List ℕ) → WriteAppends old new result chunk → WriteAppends (append_known old []) (append_known new []) result chunk
+passed_on None new (Ok count) chunk wrote = tt
+passed_on None new (Err error) chunk wrote = tt
+passed_on (Some xs) None (Ok count) chunk wrote = absurd wrote
+passed_on (Some xs) None (Err error) chunk wrote = absurd wrote
+passed_on (Some xs) (Some ys) (Ok count) chunk wrote = append-nil ys ∙ wrote ∙ ap (λ bytes. bytes ++ take count chunk) (sym (append-nil xs))
+passed_on (Some xs) (Some ys) (Err error) chunk wrote = append-nil ys ∙ wrote ∙ sym (append-nil xs)

@@ -4,32 +4,32 @@ ghost use Rattle.std.specs.Io.KnownBytes.{Appends, Keeps, WriteAppends};
 ghost use Rattle.std.specs.IoError.{error_kind};
 ghost use Rattle.wc_devices.specs.Inside.{Gathers, Refuses, gathering_failed, gathering_inner, gathering_size, pending, space_left, taken};
 
-use crate::gathered::Gathering;
+use crate::gathered::OutputBuffer;
 use std::alloc::{AllocError, Global};
 use std::io;
 use std::io::{ErrorKind, Write};
 
-impl<D: Drop> Gathering<D> {
+impl<D: Drop> OutputBuffer<D> {
     /// One with a buffer of n bytes, which has gathered nothing. The buffer is made here.
-    pub fn new(alloc: Global, inner: D, room: usize) -> Result<Gathering<D>, AllocError>
+    pub fn new(alloc: Global, inner: D, capacity: usize) -> Result<OutputBuffer<D>, AllocError>
         ensures inner { IfOk result (λ g. gathering_inner g ≡ inner) }
         ensures nothing { IfOk result (λ g. pending g ≡ []) }
-        ensures size { IfOk result (λ g. gathering_size g ≡ room) }
-        ensures space { IfOk result (λ g. space_left g ≡ room) }
+        ensures size { IfOk result (λ g. gathering_size g ≡ capacity) }
+        ensures space { IfOk result (λ g. space_left g ≡ capacity) }
         ensures sound { IfOk result (λ g. gathering_failed g ≡ false) }
     {
-        let gathered = Vec::with_capacity(alloc, room)?;
-        Ok(Gathering {
+        let gathered = Vec::with_capacity(alloc, capacity)?;
+        Ok(OutputBuffer {
             inner,
             gathered,
             given: 0,
-            room,
+            capacity,
             failed: false,
         })
     }
 }
 
-impl<D> Gathering<D> {
+impl<D> OutputBuffer<D> {
     /// The writer inside.
     pub fn get_ref(&self) -> &D
         ensures { result.now ≡ gathering_inner self.now }
@@ -46,18 +46,18 @@ impl<D> Gathering<D> {
         if self.failed {
             return Err(io::Error::from(ErrorKind::BrokenPipe));
         }
-        Ok(self.room.saturating_sub(self.gathered.len()))
+        Ok(self.capacity.saturating_sub(self.gathered.len()))
     }
 }
 
-impl<D: Write> Gathering<D> {
+impl<D: Write> OutputBuffer<D> {
     /// Passes on some of what is gathered.
     fn give_some(&mut self) -> io::Result<()>
         requires { self.old.given < length self.old.gathered.items }
         ensures bytes { Keeps (taken D.contents self.old) (taken D.contents self.new) }
         ensures items { self.new.gathered.items ≡ self.old.gathered.items }
         ensures more { OnOk result (self.old.given < self.new.given) }
-        ensures room { self.new.room ≡ self.old.room }
+        ensures capacity { self.new.capacity ≡ self.old.capacity }
         ensures mark { self.new.failed ≡ self.old.failed }
     {
         let (_, rest) = self.gathered.as_slice().split_at(self.given);
@@ -74,7 +74,7 @@ impl<D: Write> Gathering<D> {
         requires { self.old.failed ≡ false }
         ensures bytes { Keeps (taken D.contents self.old) (taken D.contents self.new) }
         ensures all { OnOk result (length self.new.gathered.items ≤ self.new.given) }
-        ensures room { self.new.room ≡ self.old.room }
+        ensures capacity { self.new.capacity ≡ self.old.capacity }
         ensures mark { self.new.failed ≡ is_err result }
     {
         while self.given < self.gathered.len() {
@@ -90,7 +90,7 @@ impl<D: Write> Gathering<D> {
     pub fn empty(&mut self) -> io::Result<()>
         ensures bytes { Keeps (taken D.contents self.old) (taken D.contents self.new) }
         ensures none { OnOk result (pending self.new ≡ []) }
-        ensures handed_on { OnOk result (Appends (D.contents (gathering_inner self.old))
+        ensures propagated { OnOk result (Appends (D.contents (gathering_inner self.old))
             (D.contents (gathering_inner self.new)) (pending self.old)) }
         ensures size { gathering_size self.new ≡ gathering_size self.old }
         ensures space { OnOk result (space_left self.new ≡ gathering_size self.old) }
@@ -105,76 +105,76 @@ impl<D: Write> Gathering<D> {
     }
 
     /// Gathers a chunk for which there is space, all of it.
-    fn keep(&mut self, piece: &[u8]) -> io::Result<usize>
-        requires { length piece.now ≤ space_left self.old }
-        ensures whole { result ≡ Ok (length piece.now) }
+    fn keep(&mut self, chunk: &[u8]) -> io::Result<usize>
+        requires { length chunk.now ≤ space_left self.old }
+        ensures whole { result ≡ Ok (length chunk.now) }
         ensures inner { self.new.inner ≡ self.old.inner }
-        ensures room { self.new.room ≡ self.old.room }
+        ensures capacity { self.new.capacity ≡ self.old.capacity }
         ensures mark { self.new.failed ≡ self.old.failed }
         ensures bytes { WriteAppends (taken D.contents self.old) (taken D.contents self.new)
-            result piece.now }
+            result chunk.now }
     {
-        match self.gathered.extend_from_slice(piece) {
-            Ok(()) => Ok(piece.len()),
+        match self.gathered.extend_from_slice(chunk) {
+            Ok(()) => Ok(chunk.len()),
             Err(_) => Err(io::Error::from(ErrorKind::OutOfMemory)),
         }
     }
 
     /// Passes on a chunk at once, after which nothing is gathered.
-    fn pass(&mut self, piece: &[u8]) -> io::Result<usize>
+    fn pass(&mut self, chunk: &[u8]) -> io::Result<usize>
         requires nothing { pending self.old ≡ [] }
         requires sound { self.old.failed ≡ false }
-        ensures bound { WritesAtMost result piece.now }
+        ensures bound { WritesAtMost result chunk.now }
         ensures bytes { WriteAppends (taken D.contents self.old) (taken D.contents self.new)
-            result piece.now }
+            result chunk.now }
         ensures nothing { pending self.new ≡ [] }
-        ensures room { self.new.room ≡ self.old.room }
+        ensures capacity { self.new.capacity ≡ self.old.capacity }
         ensures mark { self.new.failed ≡ is_err result }
     {
-        let answer = self.inner.write(piece);
+        let answer = self.inner.write(chunk);
         self.failed = answer.is_err();
         answer
     }
 }
 
-impl<D: Write> Write for Gathering<D> {
+impl<D: Write> Write for OutputBuffer<D> {
     ghost contents = { λ g. taken D.contents g };
 
-    fn write(&mut self, piece: &[u8]) -> io::Result<usize>
-        ensures bound { WritesAtMost result piece.now }
+    fn write(&mut self, chunk: &[u8]) -> io::Result<usize>
+        ensures bound { WritesAtMost result chunk.now }
         ensures bytes { WriteAppends (taken D.contents self.old) (taken D.contents self.new)
-            result piece.now }
+            result chunk.now }
         ensures gathers { IsFalse (gathering_failed self.old)
-            → length piece.now ≤ space_left self.old → Gathers self.old self.new result piece.now }
-        ensures whole { length piece.now ≤ gathering_size self.old
-            → IfOk result (λ count. count ≡ length piece.now) }
-        ensures passes { gathering_size self.old < length piece.now
+            → length chunk.now ≤ space_left self.old → Gathers self.old self.new result chunk.now }
+        ensures whole { length chunk.now ≤ gathering_size self.old
+            → IfOk result (λ count. count ≡ length chunk.now) }
+        ensures passes { gathering_size self.old < length chunk.now
             → OnOk result (pending self.new ≡ []) }
         ensures size { gathering_size self.new ≡ gathering_size self.old }
         ensures mark { gathering_failed self.new ≡ is_err result }
         ensures refused { Refuses self.old self.new result }
     {
-        if piece.len() <= self.space()? {
-            return self.keep(piece);
+        if chunk.len() <= self.space()? {
+            return self.keep(chunk);
         }
         self.empty()?;
         // A chunk that is larger than the buffer goes on as it is, so that none takes memory.
-        if piece.len() > self.room {
-            self.pass(piece)
+        if chunk.len() > self.capacity {
+            self.pass(chunk)
         } else {
-            self.keep(piece)
+            self.keep(chunk)
         }
     }
 
     fn flush(&mut self) -> io::Result<()>
         ensures bytes { Keeps (taken D.contents self.old) (taken D.contents self.new) }
         ensures none { OnOk result (pending self.new ≡ []) }
-        ensures handed_on { OnOk result (Appends (D.contents (gathering_inner self.old))
+        ensures propagated { OnOk result (Appends (D.contents (gathering_inner self.old))
             (D.contents (gathering_inner self.new)) (pending self.old)) }
         ensures size { gathering_size self.new ≡ gathering_size self.old }
         ensures mark { gathering_failed self.new ≡ is_err result }
         ensures refused { Refuses self.old self.new result }
     {
-        Gathering::empty(self)
+        OutputBuffer::empty(self)
     }
 }

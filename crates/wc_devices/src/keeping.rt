@@ -9,19 +9,19 @@ use std::io::Read;
 
 /// A reader that keeps the bytes that it reads, as long as there is memory for them.
 #[derive(Drop)]
-pub struct Keeping<D> {
+pub struct TeeReader<D> {
     inner: D,
     kept: Vec<u8>,
     whole: bool,
 }
 
-impl<D> Keeping<D> {
+impl<D> TeeReader<D> {
     /// One that has read nothing.
-    pub fn new(alloc: Global, inner: D) -> Keeping<D>
+    pub fn new(alloc: Global, inner: D) -> TeeReader<D>
         ensures inner { keeping_inner result ≡ inner }
         ensures nothing { kept result ≡ Some [] }
     {
-        Keeping {
+        TeeReader {
             inner,
             kept: Vec::new(alloc),
             whole: true,
@@ -47,7 +47,7 @@ impl<D> Keeping<D> {
     }
 }
 
-impl<D: Read> Read for Keeping<D> {
+impl<D: Read> Read for TeeReader<D> {
     ghost remaining = { λ k. D.remaining (keeping_inner k) };
 
     fn read(&mut self, buffer: &mut [u8]) -> io::Result<usize>

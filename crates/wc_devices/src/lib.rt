@@ -9,7 +9,7 @@ mod keeping;
 mod noting;
 mod trying;
 
-pub use gathered::Gathering;
-pub use keeping::Keeping;
-pub use noting::Noting;
+pub use gathered::OutputBuffer;
+pub use keeping::TeeReader;
+pub use noting::RetryReader;
 pub use trying::{open_again, read_again};

@@ -11,18 +11,18 @@ use std::io::{ErrorKind, Read, Write};
 /// A reader or a writer that tries a call again after an interruption, at most 16 times, and keeps why it failed last. An
 /// interruption is never the answer: when the last try is interrupted too, the answer is a time-out (`TimedOut`).
 #[derive(Drop)]
-pub struct Noting<D> {
+pub struct RetryReader<D> {
     inner: D,
     cause: Option<io::Error>,
 }
 
-impl<D> Noting<D> {
+impl<D> RetryReader<D> {
     /// One that has not failed.
-    pub fn new(inner: D) -> Noting<D>
+    pub fn new(inner: D) -> RetryReader<D>
         ensures inner { noting_inner result ≡ inner }
         ensures cause { noted result ≡ None }
     {
-        Noting { inner, cause: None }
+        RetryReader { inner, cause: None }
     }
 
     /// Why it failed last, if it did.
@@ -33,7 +33,7 @@ impl<D> Noting<D> {
     }
 }
 
-impl<D: Read> Read for Noting<D> {
+impl<D: Read> Read for RetryReader<D> {
     ghost remaining = { λ n. D.remaining (noting_inner n) };
 
     fn read(&mut self, buffer: &mut [u8]) -> io::Result<usize>
@@ -54,18 +54,18 @@ impl<D: Read> Read for Noting<D> {
     }
 }
 
-impl<D: Write> Write for Noting<D> {
+impl<D: Write> Write for RetryReader<D> {
     ghost contents = { λ n. D.contents (noting_inner n) };
 
-    fn write(&mut self, piece: &[u8]) -> io::Result<usize>
-        ensures bound { WritesAtMost result piece.now }
+    fn write(&mut self, chunk: &[u8]) -> io::Result<usize>
+        ensures bound { WritesAtMost result chunk.now }
         ensures bytes { WriteAppends (D.contents (noting_inner self.old))
-            (D.contents (noting_inner self.new)) result piece.now }
+            (D.contents (noting_inner self.new)) result chunk.now }
         ensures noted { IfErr result (λ error. noted self.new ≡ Some error) }
         ensures steady { OnOk result (noted self.new ≡ noted self.old) }
         ensures retried { IfErr result (λ error. error_kind error ≢ ErrorKind.Interrupted) }
     {
-        match write_again(&mut self.inner, piece) {
+        match write_again(&mut self.inner, chunk) {
             Ok(count) => Ok(count),
             Err(error) => {
                 self.cause = Some(error);

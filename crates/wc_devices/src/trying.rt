@@ -39,15 +39,15 @@ pub fn open_again(rt: &HostRuntime, path: &str) -> io::Result<File>
 }
 
 /// Writes, again after an interruption, likewise.
-pub(crate) fn write_again<D: Write>(writer: &mut D, piece: &[u8]) -> io::Result<usize>
-    ensures bound { WritesAtMost result piece.now }
+pub(crate) fn write_again<D: Write>(writer: &mut D, chunk: &[u8]) -> io::Result<usize>
+    ensures bound { WritesAtMost result chunk.now }
     ensures bytes { WriteAppends (D.contents writer.old) (D.contents writer.new)
-        result piece.now }
+        result chunk.now }
     ensures retried { IfErr result (λ error. error_kind error ≢ ErrorKind.Interrupted) }
 {
     let mut attempts = Attempts::new();
     'tries: loop {
-        match writer.write(piece) {
+        match writer.write(chunk) {
             Ok(count) => return Ok(count),
             Err(error) => attempts.again(error)?,
         }

@@ -2,32 +2,32 @@
 use Rattle.std.proofs.Common.{◌≡◌, ℕ, List, [], ◌++◌, append_assoc, refl, Result, Ok, Err, OnOk}
 
 -- four parts in an empty message
-pub four_pieces : (a b c d start first second third all : List ℕ) → start ≡ [] → first ≡ start ++ a → second ≡ first ++ b → third ≡ second ++ c → all ≡ third ++ d
+pub four_excerpts : (a b c d start first second third all : List ℕ) → start ≡ [] → first ≡ start ++ a → second ≡ first ++ b → third ≡ second ++ c → all ≡ third ++ d
     → all ≡ a ++ b ++ c ++ d
-four_pieces a b c d start first second third all none e f g h = rw (h, g, f, e, none) refl
+four_excerpts a b c d start first second third all none e f g h = rw (h, g, f, e, none) refl
 
 -- four parts after what was there, the last of which may fail
-pub four_behind : {E : Type 0} (r : Result Unit E) (old a b c d first second third all : List ℕ) → first ≡ old ++ a → second ≡ first ++ b → third ≡ second ++ c → OnOk r (all ≡ third ++ d)
+pub four_after : {E : Type 0} (r : Result Unit E) (old a b c d first second third all : List ℕ) → first ≡ old ++ a → second ≡ first ++ b → third ≡ second ++ c → OnOk r (all ≡ third ++ d)
     → OnOk r (all ≡ old ++ (a ++ b ++ c ++ d))
-four_behind (Ok x) old a b c d first second third all e f g h =
+four_after (Ok x) old a b c d first second third all e f g h =
     rw (h, g, f, e, append_assoc old a b, append_assoc old (a ++ b) c, append_assoc old (a ++ b ++ c) d) refl
-four_behind (Err x) old a b c d first second third all e f g h = tt
+four_after (Err x) old a b c d first second third all e f g h = tt
 
 -- five parts in an empty message
-pub five_pieces : {X : Type 0} (a b c d e start first second third fourth all : List X) → start ≡ [] → first ≡ start ++ a → second ≡ first ++ b → third ≡ second ++ c → fourth ≡ third ++ d → all ≡ fourth ++ e
+pub five_excerpts : {X : Type 0} (a b c d e start first second third fourth all : List X) → start ≡ [] → first ≡ start ++ a → second ≡ first ++ b → third ≡ second ++ c → fourth ≡ third ++ d → all ≡ fourth ++ e
     → all ≡ a ++ b ++ c ++ d ++ e
-five_pieces a b c d e start first second third fourth all none f g h i j = rw (j, i, h, g, f, none) refl
+five_excerpts a b c d e start first second third fourth all none f g h i j = rw (j, i, h, g, f, none) refl
 
 -- three parts and four after what was there
-pub three_behind : {X : Type 0} (old a b c first second all : List X) → first ≡ old ++ a → second ≡ first ++ b → all ≡ second ++ c → all ≡ old ++ (a ++ b ++ c)
-three_behind old a b c first second all e f g = rw (g, f, e, append_assoc old a b, append_assoc old (a ++ b) c) refl
+pub three_after : {X : Type 0} (old a b c first second all : List X) → first ≡ old ++ a → second ≡ first ++ b → all ≡ second ++ c → all ≡ old ++ (a ++ b ++ c)
+three_after old a b c first second all e f g = rw (g, f, e, append_assoc old a b, append_assoc old (a ++ b) c) refl
 
-pub fourth_behind : {X : Type 0} (old a b c d first second third all : List X) → first ≡ old ++ a → second ≡ first ++ b → third ≡ second ++ c → all ≡ third ++ d → all ≡ old ++ (a ++ b ++ c ++ d)
-fourth_behind old a b c d first second third all e f g h =
+pub fourth_after : {X : Type 0} (old a b c d first second third all : List X) → first ≡ old ++ a → second ≡ first ++ b → third ≡ second ++ c → all ≡ third ++ d → all ≡ old ++ (a ++ b ++ c ++ d)
+fourth_after old a b c d first second third all e f g h =
     rw (h, g, f, e, append_assoc old a b, append_assoc old (a ++ b) c, append_assoc old (a ++ b ++ c) d) refl
 
 -- seven parts in an empty message
-pub seven_pieces : (a b c d e f g start first second third fourth fifth sixth all : List ℕ) → start ≡ [] → first ≡ start ++ a → second ≡ first ++ b → third ≡ second ++ c → fourth ≡ third ++ d
+pub seven_excerpts : (a b c d e f g start first second third fourth fifth sixth all : List ℕ) → start ≡ [] → first ≡ start ++ a → second ≡ first ++ b → third ≡ second ++ c → fourth ≡ third ++ d
     → fifth ≡ fourth ++ e → sixth ≡ fifth ++ f → all ≡ sixth ++ g
     → all ≡ a ++ b ++ c ++ d ++ e ++ f ++ g
-seven_pieces a b c d e f g start first second third fourth fifth sixth all none h i j k l m n = rw (n, m, l, k, j, i, h, none) refl
+seven_excerpts a b c d e f g start first second third fourth fifth sixth all none h i j k l m n = rw (n, m, l, k, j, i, h, none) refl

@@ -44,8 +44,8 @@ part_ends (Some next) part heading =
     ap line_ends heading.2 ∙ ends_on heading.0 next ∙ ap (λ n. n + line_ends next) (heading_ends (codes "@next") heading.0 refl refl heading.1)
 
 -- a slice has no more lines than bytes
-few_ends : (piece : List ℕ) (rest most : ℕ) → length piece + rest ≤ most → line_ends piece ≤ most
-few_ends piece rest most short = let few = count_by-le-length (λ byte. byte == 10) piece in omega (arith, few, short)
+few_ends : (excerpt : List ℕ) (rest most : ℕ) → length excerpt + rest ≤ most → line_ends excerpt ≤ most
+few_ends excerpt rest most short = let few = count_by-le-length (λ byte. byte == 10) excerpt in omega (arith, few, short)
 
 -- the parts of a job's bytes are short
 pub record AreShort (sections : Sections) (part : List ℕ) : Type 0 where
@@ -57,8 +57,8 @@ pub sections_are_short : (bytes : List ℕ) (sections : Sections) → sections_o
 sections_are_short bytes sections e made =
     let short = job_is_short bytes sections e in
     let log = sections.log ++ [] in
-    let behind = made.log_line ++ log in
-    let next = made.next_part ++ behind in
+    let following = made.log_line ++ log in
+    let next = made.next_part ++ following in
     let program = sections.program ++ next in
     let heading = made.program_line ++ program in
     let plate = sections.plate ++ heading in
@@ -67,7 +67,7 @@ sections_are_short bytes sections e made =
     let b = length-append sections.plate heading in
     let c = length-append made.program_line program in
     let d = length-append sections.program next in
-    let f = length-append made.next_part behind in
+    let f = length-append made.next_part following in
     record {
       plate = few_ends sections.plate 0 1048576 (omega (arith, whole, a, b, short));
       program = few_ends sections.program 0 1048576 (omega (arith, whole, a, b, c, d, short));
@@ -105,15 +105,15 @@ above_program bytes sections made =
     omega (arith, one, two, a, b)
 
 -- the lines above what follows the program, up to a slice after it
-above_piece : (bytes : List ℕ) (sections : Sections) (made : IsMadeOf bytes sections) (piece : List ℕ)
-    → (1 + line_ends sections.plate + 1) + line_ends sections.program + line_ends piece ≡ line_ends (made.plate_line ++ (sections.plate ++ (made.program_line ++ (sections.program ++ piece))))
-above_piece bytes sections made piece =
+above_excerpt : (bytes : List ℕ) (sections : Sections) (made : IsMadeOf bytes sections) (excerpt : List ℕ)
+    → (1 + line_ends sections.plate + 1) + line_ends sections.program + line_ends excerpt ≡ line_ends (made.plate_line ++ (sections.plate ++ (made.program_line ++ (sections.program ++ excerpt))))
+above_excerpt bytes sections made excerpt =
     let one = above_plate bytes sections made in
     let two = heading_ends (codes "@program") made.program_line refl refl made.program_heading in
-    let a = ends_on made.plate_line (sections.plate ++ (made.program_line ++ (sections.program ++ piece))) in
-    let b = ends_on sections.plate (made.program_line ++ (sections.program ++ piece)) in
-    let c = ends_on made.program_line (sections.program ++ piece) in
-    let d = ends_on sections.program piece in
+    let a = ends_on made.plate_line (sections.plate ++ (made.program_line ++ (sections.program ++ excerpt))) in
+    let b = ends_on sections.plate (made.program_line ++ (sections.program ++ excerpt)) in
+    let c = ends_on made.program_line (sections.program ++ excerpt) in
+    let d = ends_on sections.program excerpt in
     omega (arith, one, two, a, b, c, d)
 
 -- the lines above the next program
@@ -121,7 +121,7 @@ above_next : (bytes : List ℕ) (sections : Sections) (made : IsMadeOf bytes sec
 above_next bytes sections made there =
     let heading = next_line sections.next made.next_part made.next_heading in
     let one : line_ends heading ≡ 1 = by_next sections.next made.next_part made.next_heading there in
-    let all = above_piece bytes sections made heading in
+    let all = above_excerpt bytes sections made heading in
     omega (arith, one, all)
   where
     by_next : (next : Option (List ℕ)) (part : List ℕ) (h : IsNextPart next part) → is_some next ≡ true → line_ends (next_line next part h) ≡ 1
@@ -133,7 +133,7 @@ above_log : (bytes : List ℕ) (sections : Sections) (made : IsMadeOf bytes sect
 above_log bytes sections made =
     let three = heading_ends (codes "@log") made.log_line refl refl made.log_heading in
     let next = part_ends sections.next made.next_part made.next_heading in
-    let all = above_piece bytes sections made (made.next_part ++ made.log_line) in
+    let all = above_excerpt bytes sections made (made.next_part ++ made.log_line) in
     let e = ends_on made.next_part made.log_line in
     omega (arith, three, next, all, e)
 
@@ -142,9 +142,9 @@ same_sections : (a b : Sections) (r : Result Sections ℕ) → Ok a ≡ r → r 
 same_sections a b r e f = cc
 
 -- the count of the lines above the program
-pub program_stands : (job : List ℕ) (found : Sections) (result : ℕ) → Ok found ≡ sections_of job → (1 ≤ 2097152 → line_ends found.plate ≤ 1048576 → result ≡ 1 + line_ends found.plate + 1)
+pub program_is_there : (job : List ℕ) (found : Sections) (result : ℕ) → Ok found ≡ sections_of job → (1 ≤ 2097152 → line_ends found.plate ≤ 1048576 → result ≡ 1 + line_ends found.plate + 1)
     → (sections : Sections) → sections_of job ≡ Ok sections → (made : IsMadeOf job sections) → result ≡ line_ends (bytes_before Program job sections made)
-program_stands job found result is counts sections e made =
+program_is_there job found result is counts sections e made =
     let same = ap (λ (s : Sections). s.plate) (same_sections found sections (sections_of job) is e) in
     let short = sections_are_short job sections e made in
     let few = subst (λ (x : List ℕ). line_ends x ≤ 1048576) (sym same) short.plate in
@@ -162,19 +162,19 @@ between job found program next first second e made =
     omega (arith, one, two)
 
 -- the count of the lines above the next program
-pub next_stands : (job : List ℕ) (found : Sections) (program next : ℕ) → Ok found ≡ sections_of job → (1 ≤ 2097152 → line_ends found.plate ≤ 1048576 → program ≡ 1 + line_ends found.plate + 1)
+pub next_is_there : (job : List ℕ) (found : Sections) (program next : ℕ) → Ok found ≡ sections_of job → (1 ≤ 2097152 → line_ends found.plate ≤ 1048576 → program ≡ 1 + line_ends found.plate + 1)
     → (program ≤ 2097152 → line_ends found.program ≤ 1048576 → next ≡ program + line_ends found.program + 1) → is_some found.next ≡ true
     → (sections : Sections) → sections_of job ≡ Ok sections → (made : IsMadeOf job sections) → next ≡ line_ends (bytes_before Next job sections made)
-next_stands job found program next is first second there sections e made =
+next_is_there job found program next is first second there sections e made =
     subst (λ (s : Sections). sections_of job ≡ Ok s → (m : IsMadeOf job s) → next ≡ line_ends (bytes_before Next job s m)) (same_sections found sections (sections_of job) is e)
     (λ f m. between job found program next first second f m ∙ above_next job found m there) e made
 
 -- the count of the lines above the log
-pub log_stands : (job : List ℕ) (found : Sections) (program next result : ℕ) → Ok found ≡ sections_of job → (1 ≤ 2097152 → line_ends found.plate ≤ 1048576 → program ≡ 1 + line_ends found.plate + 1)
+pub log_is_there : (job : List ℕ) (found : Sections) (program next result : ℕ) → Ok found ≡ sections_of job → (1 ≤ 2097152 → line_ends found.plate ≤ 1048576 → program ≡ 1 + line_ends found.plate + 1)
     → (program ≤ 2097152 → line_ends found.program ≤ 1048576 → next ≡ program + line_ends found.program + 1)
     → (found.next ≡ None → result ≡ next) → ((text : List ℕ) → found.next ≡ Some text → next ≤ 2097152 → line_ends text ≤ 1048576 → result ≡ next + line_ends text + 1)
     → (sections : Sections) → sections_of job ≡ Ok sections → (made : IsMadeOf job sections) → result ≡ line_ends (bytes_before Log job sections made)
-log_stands job found program next result is first second none some sections e made =
+log_is_there job found program next result is first second none some sections e made =
     subst (λ (s : Sections). sections_of job ≡ Ok s → (m : IsMadeOf job s) → result ≡ line_ends (bytes_before Log job s m)) (same_sections found sections (sections_of job) is e)
     (λ f m. counted f m ∙ above_log job found m) e made
   where
@@ -197,7 +197,7 @@ log_stands job found program next result is first second none some sections e ma
 pub ends_given : (o : Option (Bor (List ℕ))) (result next : ℕ) → IfNone o (result ≡ next) → IfSome o (λ text. next ≤ 2097152 → line_ends text.now ≤ 1048576 → result ≡ next + line_ends text.now + 1)
     → (option_map (λ text. text.now) o ≡ None → result ≡ next) × ((text : List ℕ) → option_map (λ t. t.now) o ≡ Some text → next ≤ 2097152 → line_ends text ≤ 1048576 → result ≡ next + line_ends text + 1)
 ends_given None result next none some = (λ e. none, λ text e. absurd (cc))
-ends_given (Some lent) result next none some = (
+ends_given (Some borrowed) result next none some = (
   λ e. absurd (cc),
-  λ text e low few. let same : lent.now ≡ text = cc in subst (λ (t : List ℕ). line_ends t ≤ 1048576 → result ≡ next + line_ends t + 1) same (some low) few,
+  λ text e low few. let same : borrowed.now ≡ text = cc in subst (λ (t : List ℕ). line_ends t ≤ 1048576 → result ≡ next + line_ends t + 1) same (some low) few,
 )

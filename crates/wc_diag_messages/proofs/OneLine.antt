@@ -3,15 +3,15 @@ use Rattle.std.proofs.Common.{◌≡◌, ◌==◌, ◌&&◌, ◌<◌, ◌≤◌,
 use Rattle.std.proofs.lemmas.Bool.{and_parts, leb-true}
 use Rattle.std.specs.Char.{digit_char}
 use Rattle.std.specs.Fmt.{digits, digits_onto, digit_glyph}
-use Rattle.wc_diag_spans.specs.declared.finding.Spot.{Spot}
+use Rattle.wc_diag_spans.specs.declared.diagnostic.TextSpan.{TextSpan}
 use Rattle.wc_diag_spans.specs.declared.refusal.Part.{Part}
 use Rattle.wc_diag_spans.specs.declared.refusal.Part.TheVariants.{Job, Plate, Program, Next, Log}
 use Rattle.wc_diag_spans.specs.declared.refusal.Refusal.{Refusal}
 use Rattle.wc_diag_messages.specs.Explanations.{left_out_text, line_text, quoted_text}
-use Rattle.wc_diag_messages.specs.Forms.{HasNoControls, behind_colon, position_text, short_text}
+use Rattle.wc_diag_messages.specs.Formats.{HasNoControls, after_colon, position_text, short_text}
 use Rattle.wc_diag_messages.specs.Locations.{column_text, counted_name, counted_text, heading, number_text, place_text, row_text, section_text}
 use Rattle.wc_diag_messages.specs.Plain.{hex_digit, shown_byte, shown_text}
-use Rattle.wc_diag_messages.specs.Warned.{named_text, spot_text, warning_line, warning_number}
+use Rattle.wc_diag_messages.specs.Warned.{named_text, text_span_text, warning_line, warning_number}
 
 -- of two texts joined
 pub joined : (xs ys : List ℕ) → HasNoControls xs → HasNoControls ys → HasNoControls (xs ++ ys)
@@ -84,8 +84,8 @@ quoted_above (byte ∷ rest) =
     joined (mark ++ text ++ mark ++ space) (left_out_text (length (byte ∷ rest))) c (left_out (length (byte ∷ rest)))
 
 -- what is wrong
-pub told_above : (subject said told : List ℕ) → told ≡ quoted_text subject ++ shown_text said → HasNoControls told
-told_above subject said told e = subst HasNoControls (sym e) (joined (quoted_text subject) (shown_text said) (quoted_above subject) (bytes_shown said))
+pub reported_above : (subject said reported : List ℕ) → reported ≡ quoted_text subject ++ shown_text said → HasNoControls reported
+reported_above subject said reported e = subst HasNoControls (sym e) (joined (quoted_text subject) (shown_text said) (quoted_above subject) (bytes_shown said))
 
 -- the place that is counted
 counted_above : (part : Part) (place : ℕ) → HasNoControls (counted_text part place)
@@ -107,13 +107,13 @@ section_above part place =
 place_above : (in_job : Bool) (part : Part) (place : ℕ) → HasNoControls (place_text in_job part place)
 place_above in_job part place = either in_job (section_text part place) (row_text part place) (section_above part place) (row_above part place)
 
-colon_above : (words : List ℕ) → HasNoControls words → HasNoControls (behind_colon words)
+colon_above : (words : List ℕ) → HasNoControls words → HasNoControls (after_colon words)
 colon_above [] h = tt
 colon_above (byte ∷ rest) h = joined (shown_text (codes ":")) (byte ∷ rest) (bytes_shown (codes ":")) h
 
-column_above : (spot : Option Spot) → HasNoControls (column_text spot)
+column_above : (text_span : Option TextSpan) → HasNoControls (column_text text_span)
 column_above None = tt
-column_above (Some spot) = joined (shown_text (codes ":")) (number_text (spot.start + 1)) (bytes_shown (codes ":")) (bytes_shown (decimal (spot.start + 1)))
+column_above (Some text_span) = joined (shown_text (codes ":")) (number_text (text_span.start + 1)) (bytes_shown (codes ":")) (bytes_shown (decimal (text_span.start + 1)))
 
 line_above : (line : ℕ) → HasNoControls (line_text line)
 line_above line =
@@ -121,26 +121,26 @@ line_above line =
     (joined (shown_text (codes ":")) (number_text line) (bytes_shown (codes ":")) (bytes_shown (decimal line)))
 
 -- where it is
-position_above : (refusal : Refusal) (line : ℕ) (spot : Option Spot) → HasNoControls (position_text refusal line spot)
-position_above refusal line spot =
+position_above : (refusal : Refusal) (line : ℕ) (text_span : Option TextSpan) → HasNoControls (position_text refusal line text_span)
+position_above refusal line text_span =
     let place = place_text refusal.in_job refusal.part refusal.place in
-    either (line == 0) (behind_colon place) (line_text line ++ column_text spot) (colon_above place (place_above refusal.in_job refusal.part refusal.place))
-    (joined (line_text line) (column_text spot) (line_above line) (column_above spot))
+    either (line == 0) (after_colon place) (line_text line ++ column_text text_span) (colon_above place (place_above refusal.in_job refusal.part refusal.place))
+    (joined (line_text line) (column_text text_span) (line_above line) (column_above text_span))
 
 -- a refusal on one line
-pub short_above : (refusal : Refusal) (line : ℕ) (spot : Option Spot) (told : List ℕ) → HasNoControls told
-    → HasNoControls (short_text refusal.name.now (position_text refusal line spot) refusal.number told)
-short_above refusal line spot told h =
+pub short_above : (refusal : Refusal) (line : ℕ) (text_span : Option TextSpan) (reported : List ℕ) → HasNoControls reported
+    → HasNoControls (short_text refusal.name.now (position_text refusal line text_span) refusal.number reported)
+short_above refusal line text_span reported h =
     let name = shown_text refusal.name.now in
-    let position = position_text refusal line spot in
+    let position = position_text refusal line text_span in
     let opening = shown_text (codes ": error[") in
     let number = number_text refusal.number in
     let closing = shown_text (codes "]: ") in
-    let a = joined name position (bytes_shown refusal.name.now) (position_above refusal line spot) in
+    let a = joined name position (bytes_shown refusal.name.now) (position_above refusal line text_span) in
     let b = joined (name ++ position) opening a (bytes_shown (codes ": error[")) in
     let c = joined (name ++ position ++ opening) number b (bytes_shown (decimal refusal.number)) in
     let d = joined (name ++ position ++ opening ++ number) closing c (bytes_shown (codes "]: ")) in
-    joined (name ++ position ++ opening ++ number ++ closing) told d h
+    joined (name ++ position ++ opening ++ number ++ closing) reported d h
 
 -- the number of a warning, and its name
 number_above : (number : ℕ) → HasNoControls (warning_number number)
@@ -156,18 +156,18 @@ named_above (byte ∷ rest) =
     joined (mark ++ text ++ mark) (shown_text (codes " ")) b (bytes_shown (codes " "))
 
 -- what is suspicious
-pub warned_above : (name said told : List ℕ) → told ≡ named_text name ++ shown_text said → HasNoControls told
-warned_above name said told e = subst HasNoControls (sym e) (joined (named_text name) (shown_text said) (named_above name) (bytes_shown said))
+pub warned_above : (name said reported : List ℕ) → reported ≡ named_text name ++ shown_text said → HasNoControls reported
+warned_above name said reported e = subst HasNoControls (sym e) (joined (named_text name) (shown_text said) (named_above name) (bytes_shown said))
 
 -- a warning on one line
-pub warning_line_above : (file : List ℕ) (line : ℕ) (spot : Option Spot) (number : ℕ) (told : List ℕ) → HasNoControls told → HasNoControls (warning_line file (spot_text line spot) number told)
-warning_line_above file line spot number told h =
+pub warning_line_above : (file : List ℕ) (line : ℕ) (text_span : Option TextSpan) (number : ℕ) (reported : List ℕ) → HasNoControls reported → HasNoControls (warning_line file (text_span_text line text_span) number reported)
+warning_line_above file line text_span number reported h =
     let name = shown_text file in
-    let position = spot_text line spot in
+    let position = text_span_text line text_span in
     let opening = shown_text (codes ": warning[") in
     let closing = shown_text (codes "]: ") in
-    let a = joined name position (bytes_shown file) (joined (line_text line) (column_text spot) (line_above line) (column_above spot)) in
+    let a = joined name position (bytes_shown file) (joined (line_text line) (column_text text_span) (line_above line) (column_above text_span)) in
     let b = joined (name ++ position) opening a (bytes_shown (codes ": warning[")) in
     let c = joined (name ++ position ++ opening) (warning_number number) b (number_above number) in
     let d = joined (name ++ position ++ opening ++ warning_number number) closing c (bytes_shown (codes "]: ")) in
-    joined (name ++ position ++ opening ++ warning_number number ++ closing) told d h
+    joined (name ++ position ++ opening ++ warning_number number ++ closing) reported d h

@@ -5,12 +5,12 @@ use Rattle.std.specs.Char.{digit_char}
 use Rattle.json.specs.Print.{begins, ends, escape, escape_byte, escape_letter, print, print_from, quoted, separator, token_text}
 use Rattle.json.specs.Token as json_token
 use Rattle.json.specs.Token.{Token}
-use Rattle.wc_diag_spans.specs.declared.finding.Finding.{Finding}
+use Rattle.wc_diag_spans.specs.declared.diagnostic.Diagnostic.{Diagnostic}
 use Rattle.wc_diag_spans.specs.declared.refusal.Refusal.{Refusal}
 use Rattle.wc_diag_messages.proofs.OneLine.{decimal_above, digit_above, joined}
-use Rattle.wc_diag_messages.specs.Forms.{HasNoControls, column_behind, first_column, number_if_any, number_member, object_tokens, position_members, text_if_any, text_member, word_members}
+use Rattle.wc_diag_messages.specs.Formats.{HasNoControls, column_after, first_column, number_if_any, number_member, object_tokens, position_members, text_if_any, text_member, word_members}
 use Rattle.wc_diag_messages.specs.Locations.{place_text}
-use Rattle.wc_diag_messages.specs.Warned.{left_out_tokens, spot_members, warning_members, warning_tokens}
+use Rattle.wc_diag_messages.specs.Warned.{left_out_tokens, text_span_members, warning_members, warning_tokens}
 use Rattle.wc_diag_messages.specs.declared.warned_parts.WarningParts.{WarningParts}
 use Rattle.wc_diag_warnings.specs.declared.warning.Warning.{Warning}
 
@@ -82,32 +82,32 @@ text_if_any_clean name (byte ∷ rest) = text_clean name (byte ∷ rest)
 number_if_any_clean : (name : List ℕ) (value : ℕ) → AreClean (number_if_any name value)
 number_if_any_clean name value = either_clean (value == 0) [] (number_member name value) tt (number_clean name value)
 
-position_clean : (refusal : Refusal) (line : ℕ) (finding : Finding) → AreClean (position_members refusal line finding)
-position_clean refusal line finding =
+position_clean : (refusal : Refusal) (line : ℕ) (diagnostic : Diagnostic) → AreClean (position_members refusal line diagnostic)
+position_clean refusal line diagnostic =
     let a = number_if_any (codes "line") line in
-    let b = number_if_any (codes "column") (first_column finding.spot) in
-    let c = number_if_any (codes "endColumn") (column_behind finding.spot finding.shown.items) in
+    let b = number_if_any (codes "column") (first_column diagnostic.text_span) in
+    let c = number_if_any (codes "endColumn") (column_after diagnostic.text_span diagnostic.shown.items) in
     let place = place_text refusal.in_job refusal.part refusal.place in
-    let first = both_clean a b (number_if_any_clean (codes "line") line) (number_if_any_clean (codes "column") (first_column finding.spot)) in
-    let second = both_clean (a ++ b) c first (number_if_any_clean (codes "endColumn") (column_behind finding.spot finding.shown.items)) in
+    let first = both_clean a b (number_if_any_clean (codes "line") line) (number_if_any_clean (codes "column") (first_column diagnostic.text_span)) in
+    let second = both_clean (a ++ b) c first (number_if_any_clean (codes "endColumn") (column_after diagnostic.text_span diagnostic.shown.items)) in
     both_clean (a ++ b ++ c) (text_if_any (codes "place") place) second (text_if_any_clean (codes "place") place)
 
-words_clean : (number : ℕ) (told advice : List ℕ) → AreClean (word_members number told advice)
-words_clean number told advice =
+words_clean : (number : ℕ) (reported advice : List ℕ) → AreClean (word_members number reported advice)
+words_clean number reported advice =
     let a = number_member (codes "number") number in
-    let b = text_member (codes "sentence") told in
-    let first = both_clean a b (number_clean (codes "number") number) (text_clean (codes "sentence") told) in
+    let b = text_member (codes "sentence") reported in
+    let first = both_clean a b (number_clean (codes "number") number) (text_clean (codes "sentence") reported) in
     both_clean (a ++ b) (text_if_any (codes "hint") advice) first (text_if_any_clean (codes "hint") advice)
 
 -- all of an object
-object_clean : (refusal : Refusal) (name : List ℕ) (line : ℕ) (finding : Finding) (told advice : List ℕ) → AreClean (object_tokens refusal name line finding told advice)
-object_clean refusal name line finding told advice =
+object_clean : (refusal : Refusal) (name : List ℕ) (line : ℕ) (diagnostic : Diagnostic) (reported advice : List ℕ) → AreClean (object_tokens refusal name line diagnostic reported advice)
+object_clean refusal name line diagnostic reported advice =
     let opening = json_token.begin_object ∷ text_member (codes "file") name in
-    let position = position_members refusal line finding in
-    let words = word_members refusal.number told advice in
+    let position = position_members refusal line diagnostic in
+    let words = word_members refusal.number reported advice in
     let first : AreClean opening = ((lit< tt, tt), text_clean (codes "file") name) in
-    let second = both_clean opening position first (position_clean refusal line finding) in
-    let third = both_clean (opening ++ position) words second (words_clean refusal.number told advice) in
+    let second = both_clean opening position first (position_clean refusal line diagnostic) in
+    let third = both_clean (opening ++ position) words second (words_clean refusal.number reported advice) in
     both_clean (opening ++ position ++ words) (json_token.end_object ∷ []) third ((lit< tt, tt), tt)
 
 -- a comma, if any
@@ -124,38 +124,38 @@ printed_above after_value (token ∷ rest) h =
     (joined (token_text token) (print_from (ends token) rest) h.0 (printed_above (ends token) rest h.1))
 
 -- an object is printed so
-pub object_above : (refusal : Refusal) (name : List ℕ) (line : ℕ) (finding : Finding) (told advice : List ℕ) (tokens : List Token) → tokens ≡ object_tokens refusal name line finding told advice
+pub object_above : (refusal : Refusal) (name : List ℕ) (line : ℕ) (diagnostic : Diagnostic) (reported advice : List ℕ) (tokens : List Token) → tokens ≡ object_tokens refusal name line diagnostic reported advice
     → HasNoControls (print tokens)
-object_above refusal name line finding told advice tokens e =
+object_above refusal name line diagnostic reported advice tokens e =
     subst (λ (ts : List Token). HasNoControls (print ts)) (sym e)
-    (printed_above false (object_tokens refusal name line finding told advice) (object_clean refusal name line finding told advice))
+    (printed_above false (object_tokens refusal name line diagnostic reported advice) (object_clean refusal name line diagnostic reported advice))
 
 -- the members of a warning
-spot_clean : (line : ℕ) (finding : Finding) → AreClean (spot_members line finding)
-spot_clean line finding =
+text_span_clean : (line : ℕ) (diagnostic : Diagnostic) → AreClean (text_span_members line diagnostic)
+text_span_clean line diagnostic =
     let a = number_if_any (codes "line") line in
-    let b = number_if_any (codes "column") (first_column finding.spot) in
-    let c = number_if_any (codes "endColumn") (column_behind finding.spot finding.shown.items) in
-    let first = both_clean a b (number_if_any_clean (codes "line") line) (number_if_any_clean (codes "column") (first_column finding.spot)) in
-    both_clean (a ++ b) c first (number_if_any_clean (codes "endColumn") (column_behind finding.spot finding.shown.items))
+    let b = number_if_any (codes "column") (first_column diagnostic.text_span) in
+    let c = number_if_any (codes "endColumn") (column_after diagnostic.text_span diagnostic.shown.items) in
+    let first = both_clean a b (number_if_any_clean (codes "line") line) (number_if_any_clean (codes "column") (first_column diagnostic.text_span)) in
+    both_clean (a ++ b) c first (number_if_any_clean (codes "endColumn") (column_after diagnostic.text_span diagnostic.shown.items))
 
-warned_clean : (number : ℕ) (told advice : List ℕ) → AreClean (warning_members number told advice)
-warned_clean number told advice =
+warned_clean : (number : ℕ) (reported advice : List ℕ) → AreClean (warning_members number reported advice)
+warned_clean number reported advice =
     let a = text_member (codes "severity") (codes "warning") in
     let b = number_member (codes "number") number in
-    let c = text_member (codes "sentence") told in
+    let c = text_member (codes "sentence") reported in
     let first = both_clean a b (text_clean (codes "severity") (codes "warning")) (number_clean (codes "number") number) in
-    let second = both_clean (a ++ b) c first (text_clean (codes "sentence") told) in
+    let second = both_clean (a ++ b) c first (text_clean (codes "sentence") reported) in
     both_clean (a ++ b ++ c) (text_member (codes "hint") advice) second (text_clean (codes "hint") advice)
 
 warning_clean : (name : List ℕ) (warning : Warning) (parts : WarningParts) → AreClean (warning_tokens name warning parts)
 warning_clean name warning parts =
     let opening = json_token.begin_object ∷ text_member (codes "file") name in
-    let position = spot_members warning.line parts.finding in
-    let words = warning_members warning.number parts.told.bytes.items parts.advice.bytes.items in
+    let position = text_span_members warning.line parts.diagnostic in
+    let words = warning_members warning.number parts.reported.bytes.items parts.advice.bytes.items in
     let first : AreClean opening = ((lit< tt, tt), text_clean (codes "file") name) in
-    let second = both_clean opening position first (spot_clean warning.line parts.finding) in
-    let third = both_clean (opening ++ position) words second (warned_clean warning.number parts.told.bytes.items parts.advice.bytes.items) in
+    let second = both_clean opening position first (text_span_clean warning.line parts.diagnostic) in
+    let third = both_clean (opening ++ position) words second (warned_clean warning.number parts.reported.bytes.items parts.advice.bytes.items) in
     both_clean (opening ++ position ++ words) (json_token.end_object ∷ []) third ((lit< tt, tt), tt)
 
 -- a warning is printed so

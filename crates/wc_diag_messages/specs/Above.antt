@@ -25,6 +25,6 @@ bytes_before Log bytes sections made =
     made.plate_line ++ (sections.plate ++ (made.program_line ++ (sections.program ++ (made.next_part ++ made.log_line))))
 
 -- that number of lines of the job is above the part
-abbrev pub StandsBelow : List ℕ → declared.Part → ℕ → Type 0
-StandsBelow job part above =
+abbrev pub IsBelow : List ℕ → declared.Part → ℕ → Type 0
+IsBelow job part above =
     (sections : Sections) → sections_of job ≡ Ok sections → (made : IsMadeOf job sections) → above ≡ line_ends (bytes_before part job sections made)

@@ -1,7 +1,7 @@
 -- The line of a text that is referred to, as a message shows it, with marks under the offending slice.
 -- The profile's own.
 use Rattle.std.specs.Prelude.{ℕ, ◌-◌, max, nat_lt, List, [], ◌∷◌, ◌++◌, Option, Some, None, codes, drop, length, replicate, take, if◌then◌else◌}
-use Rattle.wc_diag_spans.specs.declared.finding.Spot.{Spot}
+use Rattle.wc_diag_spans.specs.declared.diagnostic.TextSpan.{TextSpan}
 use Rattle.wc_diag_messages.specs.Locations.{margin_text, number_text}
 use Rattle.wc_diag_messages.specs.Plain.{shown_text, words_after}
 
@@ -10,17 +10,17 @@ abbrev pub columns : List ℕ → ℕ
 columns bytes = length (shown_text bytes)
 
 -- where the offending slice starts; at the line's start if there is none
-abbrev pub spot_start : Option Spot → ℕ
-spot_start None = 0
-spot_start (Some spot) = spot.start
+abbrev pub text_span_start : Option TextSpan → ℕ
+text_span_start None = 0
+text_span_start (Some text_span) = text_span.start
 
 -- the first byte that is shown: of a line above 120 bytes the one 60 before the offending slice
 abbrev pub first_shown : List ℕ → ℕ → ℕ
 first_shown line start = if nat_lt 120 (length line) then start - 60 else 0
 
 -- the part of a line that is shown: 120 bytes at most
-abbrev pub shown_part : List ℕ → Option Spot → List ℕ
-shown_part line spot = take 120 (drop (first_shown line (spot_start spot)) line)
+abbrev pub shown_part : List ℕ → Option TextSpan → List ℕ
+shown_part line text_span = take 120 (drop (first_shown line (text_span_start text_span)) line)
 
 -- spaces under what is before a span, and a mark under each of its columns; one at least
 abbrev pub marks : List ℕ → ℕ → ℕ → List ℕ
@@ -33,11 +33,11 @@ abbrev pub expected_text : List ℕ → List ℕ
 expected_text words = words_after (shown_text (codes " expected ")) words
 
 -- the marks under the part that is shown, and what could be there, if there is an offending slice
-abbrev pub marked_text : List ℕ → Option Spot → List ℕ → List ℕ
+abbrev pub marked_text : List ℕ → Option TextSpan → List ℕ → List ℕ
 marked_text line None words = []
-marked_text line (Some spot) words =
+marked_text line (Some text_span) words =
     shown_text (codes " ")
-    ++ marks (shown_part line (Some spot)) (spot.start - first_shown line spot.start) spot.length
+    ++ marks (shown_part line (Some text_span)) (text_span.start - first_shown line text_span.start) text_span.length
     ++ expected_text words
 
 -- a line of the excerpt that has no number
@@ -50,8 +50,8 @@ quoted_line number shown =
     number_text number ++ shown_text (codes " | ") ++ shown_text shown ++ (10 ∷ [])
 
 -- the line that is referred to after its number, and under it the marks; nothing if no line is shown
-abbrev pub excerpt_text : ℕ → List ℕ → Option Spot → List ℕ → List ℕ
-excerpt_text number [] spot words = []
-excerpt_text number (byte ∷ rest) spot words =
-    bar_line (margin_text number) [] ++ quoted_line number (shown_part (byte ∷ rest) spot)
-    ++ bar_line (margin_text number) (marked_text (byte ∷ rest) spot words)
+abbrev pub excerpt_text : ℕ → List ℕ → Option TextSpan → List ℕ → List ℕ
+excerpt_text number [] text_span words = []
+excerpt_text number (byte ∷ rest) text_span words =
+    bar_line (margin_text number) [] ++ quoted_line number (shown_part (byte ∷ rest) text_span)
+    ++ bar_line (margin_text number) (marked_text (byte ∷ rest) text_span words)

@@ -2,12 +2,12 @@
 -- page are pinned; the words between them are not (the profile's own).
 use Rattle.std.specs.Prelude.{◌≡◌, ℕ, ◌+◌, ◌-◌, ◌==◌, ◌&&◌, min, Bool, true, false, nat_lt, List, [], ◌∷◌, ◌++◌, codes, length, take, if◌then◌else◌}
 use Rattle.wc_diag_spans.specs.Finds.{Finds}
-use Rattle.wc_diag_spans.specs.declared.finding.Finding.{Finding}
+use Rattle.wc_diag_spans.specs.declared.diagnostic.Diagnostic.{Diagnostic}
 use Rattle.wc_diag_spans.specs.declared.refusal.Part.{Part}
 use Rattle.wc_diag_spans.specs.declared.refusal.Part.TheVariants.{Job, Plate, Program, Next, Log}
 use Rattle.wc_diag_spans.specs.declared.refusal.Refusal.{Refusal}
 use Rattle.wc_diag_messages.specs.Excerpts.{excerpt_text}
-use Rattle.wc_diag_messages.specs.Locations.{beside_text, margin_text, number_text}
+use Rattle.wc_diag_messages.specs.Locations.{alongside_text, margin_text, number_text}
 use Rattle.wc_diag_messages.specs.Plain.{IsShown, shown_text}
 
 -- the part is a program
@@ -48,16 +48,16 @@ quoted_text (byte ∷ rest) =
 
 -- what was found of a refusal in the current text, and what is said of it: what is quoted is pinned,
 -- the rest is words
-pub record Knows (refusal : Refusal) (finding : Finding) (told : List ℕ) : Type 0 where
-  pub found : Finds refusal finding
+pub record Knows (refusal : Refusal) (diagnostic : Diagnostic) (reported : List ℕ) : Type 0 where
+  pub found : Finds refusal diagnostic
   pub said : List ℕ
-  pub told_is : told ≡ quoted_text finding.subject.items ++ shown_text said
+  pub reported_is : reported ≡ quoted_text diagnostic.subject.items ++ shown_text said
 
 -- the first line: the number, and what is wrong
 abbrev pub headline : ℕ → List ℕ → List ℕ
-headline number told =
+headline number reported =
     shown_text (codes "error[") ++ number_text number ++ shown_text (codes "]: ")
-    ++ told ++ (10 ∷ [])
+    ++ reported ++ (10 ∷ [])
 
 -- a line after the name of what it is in; nothing if none is known
 abbrev pub line_text : ℕ → List ℕ
@@ -65,8 +65,8 @@ line_text line = if line == 0 then [] else shown_text (codes ":") ++ number_text
 
 -- the second line: what is named, the line in it, and what follows it
 abbrev pub place_line : List ℕ → List ℕ → ℕ → List ℕ → List ℕ
-place_line margin name line beside =
-    margin ++ shown_text (codes "--> ") ++ shown_text name ++ line_text line ++ beside ++ (10 ∷ [])
+place_line margin name line alongside =
+    margin ++ shown_text (codes "--> ") ++ shown_text name ++ line_text line ++ alongside ++ (10 ∷ [])
 
 -- which page says more
 abbrev pub page_text : ℕ → List ℕ
@@ -80,15 +80,15 @@ help_line number advice = shown_text (codes "help: ") ++ shown_text advice ++ pa
 
 -- a message about a refusal
 pub record Explains (refusal : Refusal) (bytes : List ℕ) : Type 0 where
-  pub finding : Finding
-  pub told : List ℕ
-  pub knows : Knows refusal finding told
+  pub diagnostic : Diagnostic
+  pub reported : List ℕ
+  pub knows : Knows refusal diagnostic reported
   pub words : List ℕ
   pub words_are : IsShown words
   pub line : ℕ
-  pub line_is : line ≡ named_line refusal finding.line
+  pub line_is : line ≡ named_line refusal diagnostic.line
   pub advice : List ℕ
   pub all :
-      bytes ≡ headline refusal.number told
-      ++ place_line (margin_text line) refusal.name.now line (beside_text refusal finding.spot)
-      ++ excerpt_text line finding.shown.items finding.spot words ++ help_line refusal.number advice
+      bytes ≡ headline refusal.number reported
+      ++ place_line (margin_text line) refusal.name.now line (alongside_text refusal diagnostic.text_span)
+      ++ excerpt_text line diagnostic.shown.items diagnostic.text_span words ++ help_line refusal.number advice

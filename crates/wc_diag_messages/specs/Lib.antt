@@ -5,7 +5,7 @@ pub mod Excerpts
 pub mod Above
 pub mod Explanations
 pub mod Known
-pub mod Forms
+pub mod Formats
 pub mod Paged
 pub mod Spotted
 pub mod Warned

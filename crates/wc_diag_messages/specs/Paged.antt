@@ -12,7 +12,7 @@ page_line name words = shown_text name ++ shown_text (codes ": ") ++ shown_text 
 
 -- the first line: the number, and what it means
 abbrev pub number_line : ℕ → List ℕ → List ℕ
-number_line number told = number_text number ++ page_line [] told
+number_line number reported = number_text number ++ page_line [] reported
 
 -- the line of the plate of which the pages of its refusals speak; nothing on others
 abbrev pub plate_line : ℕ → List ℕ → List ℕ
@@ -25,27 +25,27 @@ answer_line number place =
     ++ shown_text (codes " ") ++ number_text place ++ (10 ∷ [])
 
 -- where it is raised, its place, and a smallest input
-pub record MetAt : Type 0 where
+pub record RaisedAt : Type 0 where
   pub pass : List ℕ
   pub place : List ℕ
   pub input : List ℕ
 
 -- what an entry has of these
-abbrev pub met_at : Entry → MetAt
-met_at entry = record { pass = entry.pass.now; place = entry.place.now; input = entry.input.now }
+abbrev pub raised_at : Entry → RaisedAt
+raised_at entry = record { pass = entry.pass.now; place = entry.place.now; input = entry.input.now }
 
 -- the lines of these
-abbrev pub met_lines : MetAt → List ℕ
-met_lines met =
-    page_line (codes "met at") met.pass ++ page_line (codes "place") met.place
-    ++ page_line (codes "a smallest input, in which ` / ` ends a line") met.input
+abbrev pub raised_lines : RaisedAt → List ℕ
+raised_lines raised =
+    page_line (codes "met at") raised.pass ++ page_line (codes "place") raised.place
+    ++ page_line (codes "a smallest input, in which ` / ` ends a line") raised.input
 
 -- the page of that refusal: each line has its words of one entry, which has that number
-pub record TellsPage (number : ℕ) (bytes : List ℕ) : Type 0 where
+pub record ReportsPage (number : ℕ) (bytes : List ℕ) : Type 0 where
   pub entry : Entry
   pub is : entry.number ≡ number
   pub plate : List ℕ
   pub all :
-      bytes ≡ number_line entry.number entry.sentence.now ++ met_lines (met_at entry)
+      bytes ≡ number_line entry.number entry.sentence.now ++ raised_lines (raised_at entry)
       ++ plate_line entry.number plate ++ answer_line entry.number entry.answer
       ++ page_line (codes "help") entry.hint.now

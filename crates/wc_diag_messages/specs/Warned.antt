@@ -6,17 +6,17 @@ use Rattle.json.specs.Print.{print}
 use Rattle.json.specs.Token as json_token
 use Rattle.json.specs.Token.{Token}
 use Rattle.wc_diag_spans.specs.Lines.{line_of_number}
-use Rattle.wc_diag_spans.specs.declared.finding.Finding.{Finding}
-use Rattle.wc_diag_spans.specs.declared.finding.Spot.{Spot}
+use Rattle.wc_diag_spans.specs.declared.diagnostic.Diagnostic.{Diagnostic}
+use Rattle.wc_diag_spans.specs.declared.diagnostic.TextSpan.{TextSpan}
 use Rattle.wc_diag_messages.specs.Excerpts.{excerpt_text}
 use Rattle.wc_diag_messages.specs.Explanations.{line_text, place_line}
-use Rattle.wc_diag_messages.specs.Forms.{IsNameOf, IsOneLine, column_behind, first_column, number_if_any, number_member, text_member}
+use Rattle.wc_diag_messages.specs.Formats.{IsNameOf, IsOneLine, column_after, first_column, number_if_any, number_member, text_member}
 use Rattle.wc_diag_messages.specs.Locations.{column_text, margin_text, number_text}
 use Rattle.wc_diag_messages.specs.Plain.{shown_text}
 use Rattle.wc_diag_messages.specs.Spotted.{IsSpotted}
 use Rattle.wc_diag_messages.specs.declared.warned_parts.WarningParts.{WarningParts}
-use Rattle.wc_diag_texts.specs.declared.form.Form.{Form}
-use Rattle.wc_diag_texts.specs.declared.form.Form.TheVariants.{Long, Short, Json}
+use Rattle.wc_diag_texts.specs.declared.format.Format.{Format}
+use Rattle.wc_diag_texts.specs.declared.format.Format.TheVariants.{Long, Short, Json}
 use Rattle.wc_diag_warnings.specs.declared.warning.Warning.{Warning}
 
 -- the number of a warning, after its W
@@ -31,25 +31,25 @@ named_text (byte ∷ rest) =
     ++ shown_text (codes " ")
 
 -- the name is there on the line; what has no name may be anywhere
-abbrev pub StandsThere : List ℕ → List ℕ → Spot → Type 0
-StandsThere [] line spot = Unit {0}
-StandsThere (byte ∷ rest) line spot = take spot.length (drop spot.start line) ≡ byte ∷ rest
+abbrev pub IsNamedThere : List ℕ → List ℕ → TextSpan → Type 0
+IsNamedThere [] line text_span = Unit {0}
+IsNamedThere (byte ∷ rest) line text_span = take text_span.length (drop text_span.start line) ≡ byte ∷ rest
 
 -- what is known of a warning: its line of the text with the offending slice, and what is said of its name
 pub record KnowsWarning (text : List ℕ) (warning : Warning) (parts : WarningParts) : Type 0 where
-  pub shows : parts.finding.shown.items ≡ unwrap_or (line_of_number warning.line text) []
-  pub spotted : IsSpotted parts.finding
-  pub stands : IfSome parts.finding.spot (StandsThere warning.name.now parts.finding.shown.items)
+  pub shows : parts.diagnostic.shown.items ≡ unwrap_or (line_of_number warning.line text) []
+  pub spotted : IsSpotted parts.diagnostic
+  pub represents : IfSome parts.diagnostic.text_span (IsNamedThere warning.name.now parts.diagnostic.shown.items)
   pub said : List ℕ
-  pub told_is : parts.told.bytes.items ≡ named_text warning.name.now ++ shown_text said
+  pub reported_is : parts.reported.bytes.items ≡ named_text warning.name.now ++ shown_text said
   pub advice : List ℕ
   pub advice_is : parts.advice.bytes.items ≡ shown_text advice
 
 -- the first line: the number, and what is suspicious
 abbrev pub warning_headline : ℕ → List ℕ → List ℕ
-warning_headline number told =
+warning_headline number reported =
     shown_text (codes "warning[") ++ warning_number number ++ shown_text (codes "]: ")
-    ++ told ++ (10 ∷ [])
+    ++ reported ++ (10 ∷ [])
 
 -- the last line: what to write instead, and the page that says more
 abbrev pub warning_help : ℕ → List ℕ → List ℕ
@@ -62,48 +62,48 @@ pub record ExplainsWarning (file text : List ℕ) (warning : Warning) (bytes : L
   pub parts : WarningParts
   pub knows : KnowsWarning text warning parts
   pub all :
-      bytes ≡ warning_headline warning.number parts.told.bytes.items
-      ++ place_line (margin_text warning.line) file warning.line (column_text parts.finding.spot)
-      ++ excerpt_text warning.line parts.finding.shown.items parts.finding.spot []
+      bytes ≡ warning_headline warning.number parts.reported.bytes.items
+      ++ place_line (margin_text warning.line) file warning.line (column_text parts.diagnostic.text_span)
+      ++ excerpt_text warning.line parts.diagnostic.shown.items parts.diagnostic.text_span []
       ++ warning_help warning.number parts.advice.bytes.items
 
 -- the line and the column
-abbrev pub spot_text : ℕ → Option Spot → List ℕ
-spot_text line spot = line_text line ++ column_text spot
+abbrev pub text_span_text : ℕ → Option TextSpan → List ℕ
+text_span_text line text_span = line_text line ++ column_text text_span
 
 -- the file, where, the number and what is suspicious
 abbrev pub warning_line : List ℕ → List ℕ → ℕ → List ℕ → List ℕ
-warning_line file position number told =
+warning_line file position number reported =
     shown_text file ++ position ++ shown_text (codes ": warning[") ++ warning_number number
-    ++ shown_text (codes "]: ") ++ told
+    ++ shown_text (codes "]: ") ++ reported
 
 -- a warning on one line
 pub record WarnsShortly (file text : List ℕ) (warning : Warning) (bytes : List ℕ) : Type 0 where
   pub parts : WarningParts
   pub knows : KnowsWarning text warning parts
   pub all :
-      bytes ≡ warning_line file (spot_text warning.line parts.finding.spot) warning.number
-      parts.told.bytes.items ++ (10 ∷ [])
+      bytes ≡ warning_line file (text_span_text warning.line parts.diagnostic.text_span) warning.number
+      parts.reported.bytes.items ++ (10 ∷ [])
   pub one : IsOneLine bytes
 
 -- where it is
-abbrev pub spot_members : ℕ → Finding → List Token
-spot_members line finding =
-    number_if_any (codes "line") line ++ number_if_any (codes "column") (first_column finding.spot)
-    ++ number_if_any (codes "endColumn") (column_behind finding.spot finding.shown.items)
+abbrev pub text_span_members : ℕ → Diagnostic → List Token
+text_span_members line diagnostic =
+    number_if_any (codes "line") line ++ number_if_any (codes "column") (first_column diagnostic.text_span)
+    ++ number_if_any (codes "endColumn") (column_after diagnostic.text_span diagnostic.shown.items)
 
 -- what is suspicious, and what to write instead
 abbrev pub warning_members : ℕ → List ℕ → List ℕ → List Token
-warning_members number told advice =
+warning_members number reported advice =
     text_member (codes "severity") (codes "warning") ++ number_member (codes "number") number
-    ++ text_member (codes "sentence") told ++ text_member (codes "hint") advice
+    ++ text_member (codes "sentence") reported ++ text_member (codes "hint") advice
 
 -- all of the object
 abbrev pub warning_tokens : List ℕ → Warning → WarningParts → List Token
 warning_tokens name warning parts =
     (json_token.begin_object ∷ text_member (codes "file") name)
-    ++ spot_members warning.line parts.finding
-    ++ warning_members warning.number parts.told.bytes.items parts.advice.bytes.items
+    ++ text_span_members warning.line parts.diagnostic
+    ++ warning_members warning.number parts.reported.bytes.items parts.advice.bytes.items
     ++ (json_token.end_object ∷ [])
 
 -- a warning as a JSON object on one line, of which a reader takes these members
@@ -119,7 +119,7 @@ pub record WarnsInJson (file text : List ℕ) (warning : Warning) (bytes : List 
   pub one : IsOneLine bytes
 
 -- a warning of the text of a file in that format
-abbrev pub Warns : Form → List ℕ → List ℕ → Warning → List ℕ → Type 0
+abbrev pub Warns : Format → List ℕ → List ℕ → Warning → List ℕ → Type 0
 Warns Long file text warning bytes = ExplainsWarning file text warning bytes
 Warns Short file text warning bytes = WarnsShortly file text warning bytes
 Warns Json file text warning bytes = WarnsInJson file text warning bytes
@@ -137,19 +137,19 @@ left_out_tokens name count =
     ++ number_member (codes "leftOut") count ++ (json_token.end_object ∷ [])
 
 -- the number of warnings left out, on a line for people
-pub record TellsLeftOut (count : ℕ) (bytes : List ℕ) : Type 0 where
+pub record ReportsLeftOut (count : ℕ) (bytes : List ℕ) : Type 0 where
   pub words : List ℕ
   pub counts : CountsLeftOut count words
   pub all : bytes ≡ words ++ (10 ∷ [])
 
 -- likewise after the file
-pub record TellsLeftOutShortly (file : List ℕ) (count : ℕ) (bytes : List ℕ) : Type 0 where
+pub record ReportsLeftOutShortly (file : List ℕ) (count : ℕ) (bytes : List ℕ) : Type 0 where
   pub words : List ℕ
   pub counts : CountsLeftOut count words
   pub all : bytes ≡ shown_text file ++ shown_text (codes ": ") ++ words ++ (10 ∷ [])
 
 -- likewise as a JSON object on one line
-pub record TellsLeftOutInJson (file : List ℕ) (count : ℕ) (bytes : List ℕ) : Type 0 where
+pub record ReportsLeftOutInJson (file : List ℕ) (count : ℕ) (bytes : List ℕ) : Type 0 where
   pub name : List ℕ
   pub name_is : IsNameOf file name
   pub tokens : List Token
@@ -159,7 +159,7 @@ pub record TellsLeftOutInJson (file : List ℕ) (count : ℕ) (bytes : List ℕ)
   pub one : IsOneLine bytes
 
 -- in that format
-abbrev pub LeavesOut : Form → List ℕ → ℕ → List ℕ → Type 0
-LeavesOut Long file count bytes = TellsLeftOut count bytes
-LeavesOut Short file count bytes = TellsLeftOutShortly file count bytes
-LeavesOut Json file count bytes = TellsLeftOutInJson file count bytes
+abbrev pub LeavesOut : Format → List ℕ → ℕ → List ℕ → Type 0
+LeavesOut Long file count bytes = ReportsLeftOut count bytes
+LeavesOut Short file count bytes = ReportsLeftOutShortly file count bytes
+LeavesOut Json file count bytes = ReportsLeftOutInJson file count bytes

@@ -1,16 +1,16 @@
 ghost use Rattle.std.specs.Prelude.{◌≡◌, ◌-◌, ◌++◌, IfOk, OnOk, drop, take};
-ghost use Rattle.wc_diag_messages.specs.Excerpts.{bar_line, excerpt_text, first_shown, marked_text, marks, quoted_line, shown_part, spot_start};
+ghost use Rattle.wc_diag_messages.specs.Excerpts.{bar_line, excerpt_text, first_shown, marked_text, marks, quoted_line, shown_part, text_span_start};
 
 use crate::message::{Message, shown};
 use crate::placing::margin;
 use std::alloc::{AllocError, Global};
-use wc_diag_spans::{Finding, Spot};
+use wc_diag_spans::{Diagnostic, TextSpan};
 
 /// The number of bytes of a line, or of what is quoted, that are shown at most.
 pub(crate) const WIDEST: usize = 120;
 
 /// The bytes from a place on, at most that number.
-pub(crate) fn piece(text: &[u8], start: usize, length: usize) -> &[u8]
+pub(crate) fn excerpt(text: &[u8], start: usize, length: usize) -> &[u8]
     ensures { result.now ≡ take length (drop start text.now) }
 {
     let (_, rest) = text.split_at(start.min(text.len()));
@@ -19,11 +19,11 @@ pub(crate) fn piece(text: &[u8], start: usize, length: usize) -> &[u8]
 }
 
 /// Where the offending slice starts; the line's start if there is none.
-fn spot_start(spot: Option<Spot>) -> usize
-    ensures { result ≡ spot_start spot }
+fn text_span_start(text_span: Option<TextSpan>) -> usize
+    ensures { result ≡ text_span_start text_span }
 {
-    match spot {
-        Some(spot) => spot.start,
+    match text_span {
+        Some(text_span) => text_span.start,
         None => 0,
     }
 }
@@ -40,10 +40,10 @@ fn first_shown(line: &[u8], start: usize) -> usize
 }
 
 /// The part of a line that is shown.
-fn shown_part(line: &[u8], spot: Option<Spot>) -> &[u8]
-    ensures { result.now ≡ shown_part line.now spot }
+fn shown_part(line: &[u8], text_span: Option<TextSpan>) -> &[u8]
+    ensures { result.now ≡ shown_part line.now text_span }
 {
-    piece(line, first_shown(line, spot_start(spot)), WIDEST)
+    excerpt(line, first_shown(line, text_span_start(text_span)), WIDEST)
 }
 
 /// Writes a mark under each column that some bytes of what is shown take.
@@ -57,34 +57,36 @@ fn write_marks(
     ensures { OnOk result (message.new.bytes.items
         ≡ message.old.bytes.items ++ marks part.now start length) }
 {
-    let before = shown(alloc, piece(part, 0, start))?;
-    let meant = shown(alloc, piece(part, start, length))?;
+    let before = shown(alloc, excerpt(part, 0, start))?;
+    let offending = shown(alloc, excerpt(part, start, length))?;
     message.repeat(b' ', before.as_bytes().len())?;
-    message.repeat(b'^', meant.as_bytes().len().max(1))
+    message.repeat(b'^', offending.as_bytes().len().max(1))
 }
 
 /// The marks under the offending slice of a line, and what could be there.
 fn marks_under(
     alloc: Global,
     line: &[u8],
-    spot: Option<Spot>,
+    text_span: Option<TextSpan>,
     words: &Message,
 ) -> Result<Message, AllocError>
     ensures { IfOk result (λ message. message.bytes.items
-        ≡ marked_text line.now spot words.now.bytes.items) }
+        ≡ marked_text line.now text_span words.now.bytes.items) }
 {
     let mut message = Message::new(alloc);
-    let Some(meant) = spot else {
+    let Some(offending) = text_span else {
         return Ok(message);
     };
-    let start = meant.start.saturating_sub(first_shown(line, meant.start));
+    let start = offending
+        .start
+        .saturating_sub(first_shown(line, offending.start));
     message.say(" ")?;
     write_marks(
         alloc,
         &mut message,
-        shown_part(line, spot),
+        shown_part(line, text_span),
         start,
-        meant.length,
+        offending.length,
     )?;
     message.say_before(" expected ", words)?;
     Ok(message)
@@ -117,19 +119,23 @@ pub(crate) fn write_excerpt(
     alloc: Global,
     message: &mut Message,
     number: u32,
-    finding: &Finding,
+    diagnostic: &Diagnostic,
     words: &Message,
 ) -> Result<(), AllocError>
     ensures { OnOk result (message.new.bytes.items
         ≡ message.old.bytes.items
-        ++ excerpt_text number finding.now.shown.items finding.now.spot words.now.bytes.items) }
+        ++ excerpt_text number diagnostic.now.shown.items diagnostic.now.text_span words.now.bytes.items) }
 {
-    if finding.shown.is_empty() {
+    if diagnostic.shown.is_empty() {
         return Ok(());
     }
     let margin = margin(alloc, number)?;
     write_bar(message, &margin, &Message::new(alloc))?;
-    write_quoted(message, number, shown_part(&finding.shown, finding.spot))?;
-    let marked = marks_under(alloc, &finding.shown, finding.spot, words)?;
+    write_quoted(
+        message,
+        number,
+        shown_part(&diagnostic.shown, diagnostic.text_span),
+    )?;
+    let marked = marks_under(alloc, &diagnostic.shown, diagnostic.text_span, words)?;
     write_bar(message, &margin, &marked)
 }

@@ -1,5 +1,5 @@
 ghost use Rattle.std.specs.Prelude.{IfOk};
-ghost use Rattle.wc_diag_messages.specs.Forms.{IsPlainIn, Tells};
+ghost use Rattle.wc_diag_messages.specs.Formats.{IsPlainIn, Reports};
 ghost use Rattle.wc_diag_messages.specs.Known.{IsKnown};
 
 use crate::long::long;
@@ -8,31 +8,35 @@ use crate::parts::{Parts, parts_of};
 use crate::short::short;
 use std::alloc::{AllocError, Global};
 use wc_diag_spans::Refusal;
-use wc_diag_texts::Form;
+use wc_diag_texts::Format;
 
 /// What is known of a refusal, in that format.
-fn told_in(
+fn reported_in(
     alloc: Global,
-    form: Form,
+    format: Format,
     refusal: &Refusal<'_>,
     parts: &Parts,
 ) -> Result<Vec<u8>, AllocError>
     requires { IsKnown refusal.now parts.now }
-    ensures all { IfOk result (λ bytes. Tells form refusal.now bytes.items) }
-    ensures plain { IfOk result (λ bytes. IsPlainIn form bytes.items) }
+    ensures all { IfOk result (λ bytes. Reports format refusal.now bytes.items) }
+    ensures plain { IfOk result (λ bytes. IsPlainIn format bytes.items) }
 {
-    match form {
-        Form::Long => Ok(long(alloc, refusal, parts)?.into_bytes()),
-        Form::Short => Ok(short(alloc, refusal, parts)?.into_bytes()),
-        Form::Json => object(alloc, refusal, parts),
+    match format {
+        Format::Long => Ok(long(alloc, refusal, parts)?.into_bytes()),
+        Format::Short => Ok(short(alloc, refusal, parts)?.into_bytes()),
+        Format::Json => object(alloc, refusal, parts),
     }
 }
 
 /// What is said of a refusal, in that format; each line ends with a line feed. The error is out of memory.
-pub fn explained(alloc: Global, form: Form, refusal: &Refusal<'_>) -> Result<Vec<u8>, AllocError>
-    ensures all { IfOk result (λ bytes. Tells form refusal.now bytes.items) }
-    ensures plain { IfOk result (λ bytes. IsPlainIn form bytes.items) }
+pub fn explained(
+    alloc: Global,
+    format: Format,
+    refusal: &Refusal<'_>,
+) -> Result<Vec<u8>, AllocError>
+    ensures all { IfOk result (λ bytes. Reports format refusal.now bytes.items) }
+    ensures plain { IfOk result (λ bytes. IsPlainIn format bytes.items) }
 {
     let parts = parts_of(alloc, refusal)?;
-    told_in(alloc, form, refusal, &parts)
+    reported_in(alloc, format, refusal, &parts)
 }

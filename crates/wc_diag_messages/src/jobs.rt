@@ -1,5 +1,5 @@
 ghost use Rattle.std.specs.Prelude.{◌≡◌, ◌≤◌, ◌+◌, IfNone, IfSome, option_map};
-ghost use Rattle.wc_diag_messages.specs.Above.{StandsBelow, line_ends};
+ghost use Rattle.wc_diag_messages.specs.Above.{IsBelow, line_ends};
 ghost use Rattle.wc_diag_messages.specs.Parts.{text_of};
 ghost use Rattle.wc_model.specs.Run.JobSections.{sections_of};
 
@@ -23,7 +23,7 @@ fn line_feeds(text: &[u8]) -> usize
 }
 
 /// The number of lines above what follows a section and the heading after it.
-fn behind_heading(above: u32, section: &[u8]) -> u32
+fn after_heading(above: u32, section: &[u8]) -> u32
     ensures { above ≤ 2097152 → line_ends section.now ≤ 1048576
         → result ≡ above + line_ends section.now + 1 }
 {
@@ -38,7 +38,7 @@ fn above_log(above: u32, next: Option<&[u8]>) -> u32
         → result ≡ above + line_ends text.now + 1) }
 {
     match next {
-        Some(text) => behind_heading(above, text),
+        Some(text) => after_heading(above, text),
         None => above,
     }
 }
@@ -47,13 +47,13 @@ fn above_log(above: u32, next: Option<&[u8]>) -> u32
 pub fn section_of(job: &[u8], part: Part) -> Option<JobSection<'_>>
     ensures text { option_map (λ section. section.text.now) result
         ≡ text_of part (sections_of job.now) }
-    ensures above { IfSome result (λ section. StandsBelow job.now part section.above) }
+    ensures above { IfSome result (λ section. IsBelow job.now part section.above) }
 {
     let Ok(found) = sections(job) else {
         return None;
     };
-    let program = behind_heading(1, found.plate);
-    let next = behind_heading(program, found.program);
+    let program = after_heading(1, found.plate);
+    let next = after_heading(program, found.program);
     match part {
         Part::Job => None,
         Part::Plate => Some(JobSection {

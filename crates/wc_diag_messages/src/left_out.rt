@@ -1,12 +1,12 @@
 ghost use Rattle.std.specs.Prelude.{◌≡◌, [], IfOk, OnOk};
-ghost use Rattle.wc_diag_messages.specs.Forms.{IsNameOf, IsPlainIn};
-ghost use Rattle.wc_diag_messages.specs.Warned.{CountsLeftOut, LeavesOut, TellsLeftOut, TellsLeftOutInJson, TellsLeftOutShortly, left_out_tokens};
+ghost use Rattle.wc_diag_messages.specs.Formats.{IsNameOf, IsPlainIn};
+ghost use Rattle.wc_diag_messages.specs.Warned.{CountsLeftOut, LeavesOut, ReportsLeftOut, ReportsLeftOutInJson, ReportsLeftOutShortly, left_out_tokens};
 
 use crate::message::{Message, shown};
 use crate::object::{line_of, write_number, write_text};
 use json::Writer;
 use std::alloc::{AllocError, Global};
-use wc_diag_texts::Form;
+use wc_diag_texts::Format;
 
 /// The number of warnings left out, in words.
 fn words_of(alloc: Global, count: usize) -> Result<Message, AllocError>
@@ -25,7 +25,7 @@ fn words_of(alloc: Global, count: usize) -> Result<Message, AllocError>
 
 /// Likewise on a line for people.
 fn long_line(alloc: Global, count: usize) -> Result<Message, AllocError>
-    ensures { IfOk result (λ message. TellsLeftOut count message.bytes.items) }
+    ensures { IfOk result (λ message. ReportsLeftOut count message.bytes.items) }
 {
     let mut message = words_of(alloc, count)?;
     message.end_line()?;
@@ -34,7 +34,7 @@ fn long_line(alloc: Global, count: usize) -> Result<Message, AllocError>
 
 /// Likewise after the file.
 fn short_line(alloc: Global, file: &[u8], count: usize) -> Result<Message, AllocError>
-    ensures { IfOk result (λ message. TellsLeftOutShortly file.now count message.bytes.items) }
+    ensures { IfOk result (λ message. ReportsLeftOutShortly file.now count message.bytes.items) }
 {
     let words = words_of(alloc, count)?;
     let mut message = Message::new(alloc);
@@ -62,7 +62,7 @@ fn write_object(writer: &mut Writer, name: &str, count: usize) -> Result<(), All
 /// Likewise as an object on one line, of the file of that name.
 fn named_object(alloc: Global, file: &[u8], name: &str, count: usize) -> Result<Vec<u8>, AllocError>
     requires { IsNameOf file.now name.now }
-    ensures { IfOk result (λ bytes. TellsLeftOutInJson file.now count bytes.items) }
+    ensures { IfOk result (λ bytes. ReportsLeftOutInJson file.now count bytes.items) }
 {
     let _file = file;
     let mut writer = Writer::new(Vec::new(alloc));
@@ -73,7 +73,7 @@ fn named_object(alloc: Global, file: &[u8], name: &str, count: usize) -> Result<
 
 /// Likewise as an object on one line.
 fn object(alloc: Global, file: &[u8], count: usize) -> Result<Vec<u8>, AllocError>
-    ensures { IfOk result (λ bytes. TellsLeftOutInJson file.now count bytes.items) }
+    ensures { IfOk result (λ bytes. ReportsLeftOutInJson file.now count bytes.items) }
 {
     match str::from_utf8(file) {
         Ok(name) => named_object(alloc, file, name, count),
@@ -87,16 +87,16 @@ fn object(alloc: Global, file: &[u8], count: usize) -> Result<Vec<u8>, AllocErro
 /// The number of warnings of a file left out, in that format, on a line with its line feed. The error is out of memory.
 pub fn warnings_left_out(
     alloc: Global,
-    form: Form,
+    format: Format,
     file: &[u8],
     count: usize,
 ) -> Result<Vec<u8>, AllocError>
-    ensures all { IfOk result (λ bytes. LeavesOut form file.now count bytes.items) }
-    ensures plain { IfOk result (λ bytes. IsPlainIn form bytes.items) }
+    ensures all { IfOk result (λ bytes. LeavesOut format file.now count bytes.items) }
+    ensures plain { IfOk result (λ bytes. IsPlainIn format bytes.items) }
 {
-    match form {
-        Form::Long => Ok(long_line(alloc, count)?.into_bytes()),
-        Form::Short => Ok(short_line(alloc, file, count)?.into_bytes()),
-        Form::Json => object(alloc, file, count),
+    match format {
+        Format::Long => Ok(long_line(alloc, count)?.into_bytes()),
+        Format::Short => Ok(short_line(alloc, file, count)?.into_bytes()),
+        Format::Json => object(alloc, file, count),
     }
 }

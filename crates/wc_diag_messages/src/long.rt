@@ -1,25 +1,25 @@
 ghost use Rattle.std.specs.Prelude.{◌≡◌, ◌≤◌, ℕ, List, [], ◌++◌, IfOk, IfSome, OnOk, length};
 ghost use Rattle.wc_diag_messages.specs.Explanations.{Explains, headline, help_line, page_text, place_line};
 ghost use Rattle.wc_diag_messages.specs.Known.{IsKnown};
-ghost use Rattle.wc_diag_messages.specs.Locations.{beside_text, margin_text};
+ghost use Rattle.wc_diag_messages.specs.Locations.{alongside_text, margin_text};
 ghost use Rattle.wc_diag_messages.specs.Plain.{shown_text};
 
 use crate::excerpts::write_excerpt;
 use crate::message::Message;
 use crate::parts::Parts;
-use crate::placing::{beside, margin, write_line};
+use crate::placing::{alongside, margin, write_line};
 use std::alloc::{AllocError, Global};
 use wc_diag_spans::Refusal;
 
 /// Writes the number and what is wrong.
-fn write_headline(message: &mut Message, number: u16, told: &Message) -> Result<(), AllocError>
+fn write_headline(message: &mut Message, number: u16, reported: &Message) -> Result<(), AllocError>
     ensures { OnOk result (message.new.bytes.items
-        ≡ message.old.bytes.items ++ headline number told.now.bytes.items) }
+        ≡ message.old.bytes.items ++ headline number reported.now.bytes.items) }
 {
     message.say("error[")?;
     message.count(number as usize)?;
     message.say("]: ")?;
-    message.append(told)?;
+    message.append(reported)?;
     message.end_line()
 }
 
@@ -29,17 +29,17 @@ pub(crate) fn write_place_line(
     margin: &Message,
     name: &[u8],
     line: u32,
-    beside: &Message,
+    alongside: &Message,
 ) -> Result<(), AllocError>
     ensures { OnOk result (message.new.bytes.items
         ≡ message.old.bytes.items
-        ++ place_line margin.now.bytes.items name.now line beside.now.bytes.items) }
+        ++ place_line margin.now.bytes.items name.now line alongside.now.bytes.items) }
 {
     message.append(margin)?;
     message.say("--> ")?;
     message.add(name)?;
     write_line(message, line)?;
-    message.append(beside)?;
+    message.append(alongside)?;
     message.end_line()
 }
 
@@ -50,16 +50,16 @@ fn write_place(
     refusal: &Refusal<'_>,
     parts: &Parts,
 ) -> Result<(), AllocError>
-    requires { IfSome parts.now.finding.spot
-        (λ spot. spot.start ≤ length parts.now.finding.shown.items) }
+    requires { IfSome parts.now.diagnostic.text_span
+        (λ text_span. text_span.start ≤ length parts.now.diagnostic.shown.items) }
     ensures { OnOk result (message.new.bytes.items
         ≡ message.old.bytes.items
         ++ place_line (margin_text parts.now.line) refusal.now.name.now parts.now.line
-        (beside_text refusal.now parts.now.finding.spot)) }
+        (alongside_text refusal.now parts.now.diagnostic.text_span)) }
 {
     let margin = margin(alloc, parts.line)?;
-    let beside = beside(alloc, refusal, &parts.finding)?;
-    write_place_line(message, &margin, refusal.name, parts.line, &beside)
+    let alongside = alongside(alloc, refusal, &parts.diagnostic)?;
+    write_place_line(message, &margin, refusal.name, parts.line, &alongside)
 }
 
 /// Writes which page says more.
@@ -95,9 +95,15 @@ fn write_explanation(
     requires empty { message.old.bytes.items ≡ [] }
     ensures { OnOk result (Explains refusal.now message.new.bytes.items) }
 {
-    write_headline(message, refusal.number, &parts.told)?;
+    write_headline(message, refusal.number, &parts.reported)?;
     write_place(alloc, message, refusal, parts)?;
-    write_excerpt(alloc, message, parts.line, &parts.finding, &parts.expected)?;
+    write_excerpt(
+        alloc,
+        message,
+        parts.line,
+        &parts.diagnostic,
+        &parts.expected,
+    )?;
     write_help(message, refusal.number, &parts.advice)?;
     Ok(())
 }

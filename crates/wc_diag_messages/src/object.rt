@@ -1,7 +1,7 @@
 ghost use Rattle.std.specs.Prelude.{◌≡◌, ◌≤◌, ◌∷◌, ◌++◌, [], IfOk, IfSome, OnOk, length};
 ghost use Rattle.json.specs.Lex.{tokens};
 ghost use Rattle.json.specs.Print.{print};
-ghost use Rattle.wc_diag_messages.specs.Forms.{IsNameOf, TellsInJson, column_behind, first_column, number_if_any, number_member, object_tokens, position_members, text_if_any, text_member, word_members};
+ghost use Rattle.wc_diag_messages.specs.Formats.{IsNameOf, ReportsInJson, column_after, first_column, number_if_any, number_member, object_tokens, position_members, text_if_any, text_member, word_members};
 ghost use Rattle.wc_diag_messages.specs.Known.{IsKnown};
 
 use crate::message::{Message, shown};
@@ -9,7 +9,7 @@ use crate::parts::Parts;
 use crate::placing::place_words;
 use json::Writer;
 use std::alloc::{AllocError, Global};
-use wc_diag_spans::{Finding, Refusal};
+use wc_diag_spans::{Diagnostic, Refusal};
 
 /// Writes a member with a text.
 pub(crate) fn write_text(writer: &mut Writer, name: &str, text: &str) -> Result<(), AllocError>
@@ -60,24 +60,25 @@ pub(crate) fn write_number_if_any(
 }
 
 /// The column of the offending slice, counted from 1; 0 if there is none.
-pub(crate) fn first_column(finding: &Finding) -> usize
-    requires { IfSome finding.now.spot (λ spot. spot.start ≤ length finding.now.shown.items) }
-    ensures { result ≡ first_column finding.now.spot }
+pub(crate) fn first_column(diagnostic: &Diagnostic) -> usize
+    requires { IfSome diagnostic.now.text_span
+        (λ text_span. text_span.start ≤ length diagnostic.now.shown.items) }
+    ensures { result ≡ first_column diagnostic.now.text_span }
 {
-    match finding.spot {
-        Some(spot) => spot.start + 1,
+    match diagnostic.text_span {
+        Some(text_span) => text_span.start + 1,
         None => 0,
     }
 }
 
 /// The column after the offending slice on its line; 0 if there is none.
-pub(crate) fn column_behind(finding: &Finding) -> usize
-    ensures { result ≡ column_behind finding.now.spot finding.now.shown.items }
+pub(crate) fn column_after(diagnostic: &Diagnostic) -> usize
+    ensures { result ≡ column_after diagnostic.now.text_span diagnostic.now.shown.items }
 {
-    match finding.spot {
-        Some(spot) => {
-            let end = spot.start.saturating_add(spot.length);
-            end.min(finding.shown.len()) + 1
+    match diagnostic.text_span {
+        Some(text_span) => {
+            let end = text_span.start.saturating_add(text_span.length);
+            end.min(diagnostic.shown.len()) + 1
         }
         None => 0,
     }
@@ -90,30 +91,30 @@ fn write_position(
     refusal: &Refusal<'_>,
     parts: &Parts,
 ) -> Result<(), AllocError>
-    requires { IfSome parts.now.finding.spot
-        (λ spot. spot.start ≤ length parts.now.finding.shown.items) }
+    requires { IfSome parts.now.diagnostic.text_span
+        (λ text_span. text_span.start ≤ length parts.now.diagnostic.shown.items) }
     ensures before { writer.new.before ≡ writer.old.before }
     ensures tokens { OnOk result (writer.new.tokens
         ≡ writer.old.tokens
-        ++ position_members refusal.now parts.now.line parts.now.finding) }
+        ++ position_members refusal.now parts.now.line parts.now.diagnostic) }
 {
     write_number_if_any(writer, "line", parts.line as usize)?;
-    write_number_if_any(writer, "column", first_column(&parts.finding))?;
-    write_number_if_any(writer, "endColumn", column_behind(&parts.finding))?;
+    write_number_if_any(writer, "column", first_column(&parts.diagnostic))?;
+    write_number_if_any(writer, "endColumn", column_after(&parts.diagnostic))?;
     let place = place_words(alloc, refusal)?;
     write_words_if_any(writer, "place", &place)?;
     Ok(())
 }
 
 /// Writes what is wrong, and what to write instead.
-fn write_told(writer: &mut Writer, number: u16, parts: &Parts) -> Result<(), AllocError>
+fn write_reported(writer: &mut Writer, number: u16, parts: &Parts) -> Result<(), AllocError>
     ensures before { writer.new.before ≡ writer.old.before }
     ensures tokens { OnOk result (writer.new.tokens
         ≡ writer.old.tokens
-        ++ word_members number parts.now.told.bytes.items parts.now.advice.bytes.items) }
+        ++ word_members number parts.now.reported.bytes.items parts.now.advice.bytes.items) }
 {
     write_number(writer, "number", number as usize)?;
-    write_text(writer, "sentence", parts.told.as_str())?;
+    write_text(writer, "sentence", parts.reported.as_str())?;
     write_words_if_any(writer, "hint", &parts.advice)?;
     Ok(())
 }
@@ -126,18 +127,18 @@ fn write_object(
     parts: &Parts,
     name: &str,
 ) -> Result<(), AllocError>
-    requires spot { IfSome parts.now.finding.spot
-        (λ spot. spot.start ≤ length parts.now.finding.shown.items) }
+    requires text_span { IfSome parts.now.diagnostic.text_span
+        (λ text_span. text_span.start ≤ length parts.now.diagnostic.shown.items) }
     requires empty { writer.old.tokens ≡ [] }
     ensures before { writer.new.before ≡ writer.old.before }
     ensures tokens { OnOk result (writer.new.tokens
-        ≡ object_tokens refusal.now name.now parts.now.line parts.now.finding
-        parts.now.told.bytes.items parts.now.advice.bytes.items) }
+        ≡ object_tokens refusal.now name.now parts.now.line parts.now.diagnostic
+        parts.now.reported.bytes.items parts.now.advice.bytes.items) }
 {
     writer.begin_object()?;
     write_text(writer, "file", name)?;
     write_position(alloc, writer, refusal, parts)?;
-    write_told(writer, refusal.number, parts)?;
+    write_reported(writer, refusal.number, parts)?;
     writer.end_object()?;
     Ok(())
 }
@@ -162,7 +163,7 @@ fn named_object(
 ) -> Result<Vec<u8>, AllocError>
     requires known { IsKnown refusal.now parts.now }
     requires name { IsNameOf refusal.now.name.now name.now }
-    ensures { IfOk result (λ bytes. TellsInJson refusal.now bytes.items) }
+    ensures { IfOk result (λ bytes. ReportsInJson refusal.now bytes.items) }
 {
     let mut writer = Writer::new(Vec::new(alloc));
     write_object(alloc, &mut writer, refusal, parts, name)?;
@@ -177,7 +178,7 @@ pub(crate) fn object(
     parts: &Parts,
 ) -> Result<Vec<u8>, AllocError>
     requires { IsKnown refusal.now parts.now }
-    ensures { IfOk result (λ bytes. TellsInJson refusal.now bytes.items) }
+    ensures { IfOk result (λ bytes. ReportsInJson refusal.now bytes.items) }
 {
     match str::from_utf8(refusal.name) {
         Ok(name) => named_object(alloc, refusal, parts, name),

@@ -1,5 +1,5 @@
 ghost use Rattle.std.specs.Prelude.{◌≡◌, ◌++◌, IfOk, IfSome, OnOk, is_some};
-ghost use Rattle.wc_diag_messages.specs.Paged.{TellsPage, answer_line, met_at, met_lines, number_line, page_line, plate_line};
+ghost use Rattle.wc_diag_messages.specs.Paged.{ReportsPage, answer_line, raised_at, raised_lines, number_line, page_line, plate_line};
 ghost use Rattle.wc_diag_texts.specs.Numbers.{is_refusal};
 
 use crate::message::Message;
@@ -23,18 +23,18 @@ fn write_line(message: &mut Message, name: &str, words: &str) -> Result<(), Allo
 }
 
 /// Writes the number, and what it means.
-fn write_number(message: &mut Message, number: u16, told: &str) -> Result<(), AllocError>
+fn write_number(message: &mut Message, number: u16, reported: &str) -> Result<(), AllocError>
     ensures { OnOk result (message.new.bytes.items
-        ≡ message.old.bytes.items ++ number_line number told.now) }
+        ≡ message.old.bytes.items ++ number_line number reported.now) }
 {
     message.count(number as usize)?;
-    write_line(message, "", told)
+    write_line(message, "", reported)
 }
 
 /// Writes where it is raised, its place, and a smallest input.
-fn write_met(message: &mut Message, entry: &Entry) -> Result<(), AllocError>
+fn write_raised(message: &mut Message, entry: &Entry) -> Result<(), AllocError>
     ensures { OnOk result (message.new.bytes.items
-        ≡ message.old.bytes.items ++ met_lines (met_at entry.now)) }
+        ≡ message.old.bytes.items ++ raised_lines (raised_at entry.now)) }
 {
     write_line(message, "met at", entry.pass)?;
     write_line(message, "place", entry.place)?;
@@ -70,12 +70,12 @@ fn write_answer(message: &mut Message, number: u16, place: u32) -> Result<(), Al
 
 /// The page of a refusal, as it is printed.
 fn page_message(alloc: Global, entry: &Entry) -> Result<Message, AllocError>
-    ensures { IfOk result (λ message. TellsPage entry.now.number message.bytes.items) }
+    ensures { IfOk result (λ message. ReportsPage entry.now.number message.bytes.items) }
 {
     let plate = plate_a();
     let mut message = Message::new(alloc);
     write_number(&mut message, entry.number, entry.sentence)?;
-    write_met(&mut message, entry)?;
+    write_raised(&mut message, entry)?;
     write_plate(&mut message, entry.number, plate)?;
     write_answer(&mut message, entry.number, entry.answer)?;
     write_line(&mut message, "help", entry.hint)?;
@@ -86,8 +86,8 @@ fn page_message(alloc: Global, entry: &Entry) -> Result<Message, AllocError>
 /// answer, and what to write instead. The error is out of memory.
 pub fn page(alloc: Global, number: u16) -> Result<Option<Message>, AllocError>
     ensures known { IfOk result (λ page. is_some page ≡ is_refusal number) }
-    ensures told { IfOk result
-        (λ page. IfSome page (λ message. TellsPage number message.bytes.items)) }
+    ensures reported { IfOk result
+        (λ page. IfSome page (λ message. ReportsPage number message.bytes.items)) }
 {
     match entry_of(number) {
         Some(entry) => match page_message(alloc, entry) {

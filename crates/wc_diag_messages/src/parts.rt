@@ -3,22 +3,22 @@ ghost use Rattle.wc_diag_messages.specs.Explanations.{left_out_text, quoted_text
 ghost use Rattle.wc_diag_messages.specs.Known.{IsKnown};
 ghost use Rattle.wc_diag_messages.specs.Plain.{IsShown, shown_text};
 
-use crate::excerpts::{WIDEST, piece};
+use crate::excerpts::{WIDEST, excerpt};
 use crate::message::{Message, shown};
 use crate::placing::named_line;
 use std::alloc::{AllocError, Global};
-use wc_diag_spans::{Finding, Refusal, find};
+use wc_diag_spans::{Diagnostic, Refusal, find};
 use wc_diag_texts::{Case, entry_of, hint_of, sentence_of, words_of};
 
 /// What is said of a refusal, in whatever format.
 #[derive(Drop)]
 pub(crate) struct Parts {
     /// What exactly is wrong.
-    pub(crate) finding: Finding,
+    pub(crate) diagnostic: Diagnostic,
     /// The line in what is named; 0 if it is not known.
     pub(crate) line: u32,
     /// What is wrong, in words.
-    pub(crate) told: Message,
+    pub(crate) reported: Message,
     /// What could be there; empty if that is not known.
     pub(crate) expected: Message,
     /// What to write instead; empty if that is not known.
@@ -26,8 +26,8 @@ pub(crate) struct Parts {
 }
 
 /// What is said of what is quoted.
-fn sentence(number: u16, finding: &Finding) -> &'static str {
-    match (sentence_of(number, finding.case), entry_of(number)) {
+fn sentence(number: u16, diagnostic: &Diagnostic) -> &'static str {
+    match (sentence_of(number, diagnostic.case), entry_of(number)) {
         (Some(sentence), _) => sentence,
         (None, Some(entry)) => entry.sentence,
         (None, None) => "a rule is broken",
@@ -35,11 +35,11 @@ fn sentence(number: u16, finding: &Finding) -> &'static str {
 }
 
 /// What to write in place of what is refused; nothing if that is not known.
-fn hint<'a>(number: u16, finding: &'a Finding) -> &'a str {
-    if !finding.advice.is_empty() {
-        return &finding.advice;
+fn hint<'a>(number: u16, diagnostic: &'a Diagnostic) -> &'a str {
+    if !diagnostic.advice.is_empty() {
+        return &diagnostic.advice;
     }
-    match (hint_of(number, finding.hint), entry_of(number)) {
+    match (hint_of(number, diagnostic.hint), entry_of(number)) {
         (Some(hint), _) => hint,
         (None, Some(entry)) => entry.hint,
         (None, None) => "",
@@ -67,7 +67,7 @@ fn write_subject(message: &mut Message, subject: &[u8]) -> Result<(), AllocError
     if subject.is_empty() {
         return Ok(());
     }
-    message.quote(piece(subject, 0, WIDEST))?;
+    message.quote(excerpt(subject, 0, WIDEST))?;
     message.say(" ")?;
     write_left_out(message, subject.len())
 }
@@ -84,27 +84,27 @@ fn write_detail(message: &mut Message, detail: &str) -> Result<(), AllocError>
 }
 
 /// What is said of what is quoted.
-fn statement_of(alloc: Global, number: u16, finding: &Finding) -> Result<Message, AllocError>
+fn statement_of(alloc: Global, number: u16, diagnostic: &Diagnostic) -> Result<Message, AllocError>
     ensures { IfOk result (λ message. IsShown message.bytes.items) }
 {
     let mut message = Message::new(alloc);
-    if matches!(finding.case, Case::Detailed) {
-        message.say(&finding.detail)?;
+    if matches!(diagnostic.case, Case::Detailed) {
+        message.say(&diagnostic.detail)?;
         return Ok(message);
     }
-    message.say(sentence(number, finding))?;
-    write_detail(&mut message, &finding.detail)?;
+    message.say(sentence(number, diagnostic))?;
+    write_detail(&mut message, &diagnostic.detail)?;
     Ok(message)
 }
 
 /// What is wrong, in words.
-fn told_of(alloc: Global, number: u16, finding: &Finding) -> Result<Message, AllocError>
-    ensures { IfOk result (λ told. (said : List ℕ) × (told.bytes.items
-        ≡ quoted_text finding.now.subject.items ++ shown_text said)) }
+fn reported_of(alloc: Global, number: u16, diagnostic: &Diagnostic) -> Result<Message, AllocError>
+    ensures { IfOk result (λ reported. (said : List ℕ) × (reported.bytes.items
+        ≡ quoted_text diagnostic.now.subject.items ++ shown_text said)) }
 {
-    let said = statement_of(alloc, number, finding)?;
+    let said = statement_of(alloc, number, diagnostic)?;
     let mut message = Message::new(alloc);
-    write_subject(&mut message, &finding.subject)?;
+    write_subject(&mut message, &diagnostic.subject)?;
     message.append(&said)?;
     Ok(message)
 }
@@ -113,30 +113,30 @@ fn told_of(alloc: Global, number: u16, finding: &Finding) -> Result<Message, All
 fn said_of(
     alloc: Global,
     number: u16,
-    finding: &Finding,
+    diagnostic: &Diagnostic,
 ) -> Result<(Message, Message, Message), AllocError>
-    ensures told { IfOk result (λ words. (said : List ℕ) × (words.0.bytes.items
-        ≡ quoted_text finding.now.subject.items ++ shown_text said)) }
+    ensures reported { IfOk result (λ words. (said : List ℕ) × (words.0.bytes.items
+        ≡ quoted_text diagnostic.now.subject.items ++ shown_text said)) }
     ensures expected { IfOk result (λ words. IsShown words.1.bytes.items) }
     ensures advice { IfOk result (λ words. IsShown words.2.bytes.items) }
 {
-    let told = told_of(alloc, number, finding)?;
-    let expected = shown(alloc, words_of(finding.awaits).as_bytes())?;
-    let advice = shown(alloc, hint(number, finding).as_bytes())?;
-    Ok((told, expected, advice))
+    let reported = reported_of(alloc, number, diagnostic)?;
+    let expected = shown(alloc, words_of(diagnostic.expected).as_bytes())?;
+    let advice = shown(alloc, hint(number, diagnostic).as_bytes())?;
+    Ok((reported, expected, advice))
 }
 
 /// What is said of a refusal.
 pub(crate) fn parts_of(alloc: Global, refusal: &Refusal<'_>) -> Result<Parts, AllocError>
     ensures { IfOk result (λ parts. IsKnown refusal.now parts) }
 {
-    let finding = find(alloc, refusal)?;
-    let (told, expected, advice) = said_of(alloc, refusal.number, &finding)?;
+    let diagnostic = find(alloc, refusal)?;
+    let (reported, expected, advice) = said_of(alloc, refusal.number, &diagnostic)?;
     Ok(Parts {
-        line: named_line(refusal, finding.line),
-        told,
+        line: named_line(refusal, diagnostic.line),
+        reported,
         expected,
         advice,
-        finding,
+        diagnostic,
     })
 }

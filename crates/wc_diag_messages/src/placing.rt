@@ -1,10 +1,10 @@
 ghost use Rattle.std.specs.Prelude.{◌≡◌, ◌≤◌, ◌++◌, IfOk, IfSome, OnOk, length};
 ghost use Rattle.wc_diag_messages.specs.Explanations.{is_program, line_text, line_under, named_line};
-ghost use Rattle.wc_diag_messages.specs.Locations.{beside_text, column_text, counted_name, counted_text, heading, in_brackets, margin_text, place_text, row_text, section_text};
+ghost use Rattle.wc_diag_messages.specs.Locations.{alongside_text, column_text, counted_name, counted_text, heading, in_brackets, margin_text, place_text, row_text, section_text};
 
 use crate::message::Message;
 use std::alloc::{AllocError, Global};
-use wc_diag_spans::{Finding, Part, Refusal, Spot};
+use wc_diag_spans::{Diagnostic, Part, Refusal, TextSpan};
 
 /// Whether the part is a program.
 fn is_program(part: Part) -> bool
@@ -57,15 +57,16 @@ pub(crate) fn write_line(message: &mut Message, line: u32) -> Result<(), AllocEr
 }
 
 /// Writes the column of the offending slice.
-pub(crate) fn write_column(message: &mut Message, finding: &Finding) -> Result<(), AllocError>
-    requires { IfSome finding.now.spot (λ spot. spot.start ≤ length finding.now.shown.items) }
+pub(crate) fn write_column(message: &mut Message, diagnostic: &Diagnostic) -> Result<(), AllocError>
+    requires { IfSome diagnostic.now.text_span
+        (λ text_span. text_span.start ≤ length diagnostic.now.shown.items) }
     ensures { OnOk result (message.new.bytes.items
-        ≡ message.old.bytes.items ++ column_text finding.now.spot) }
+        ≡ message.old.bytes.items ++ column_text diagnostic.now.text_span) }
 {
-    match finding.spot {
-        Some(spot) => {
+    match diagnostic.text_span {
+        Some(text_span) => {
             message.say(":")?;
-            message.count(spot.start + 1)
+            message.count(text_span.start + 1)
         }
         None => Ok(()),
     }
@@ -160,18 +161,19 @@ fn write_in_brackets(message: &mut Message, words: &Message) -> Result<(), Alloc
 }
 
 /// The column of the offending slice, and the place by which the refusal is counted.
-pub(crate) fn beside(
+pub(crate) fn alongside(
     alloc: Global,
     refusal: &Refusal<'_>,
-    finding: &Finding,
+    diagnostic: &Diagnostic,
 ) -> Result<Message, AllocError>
-    requires { IfSome finding.now.spot (λ spot. spot.start ≤ length finding.now.shown.items) }
+    requires { IfSome diagnostic.now.text_span
+        (λ text_span. text_span.start ≤ length diagnostic.now.shown.items) }
     ensures { IfOk result (λ message. message.bytes.items
-        ≡ beside_text refusal.now finding.now.spot) }
+        ≡ alongside_text refusal.now diagnostic.now.text_span) }
 {
     let counted = place_words(alloc, refusal)?;
     let mut message = Message::new(alloc);
-    write_column(&mut message, finding)?;
+    write_column(&mut message, diagnostic)?;
     write_in_brackets(&mut message, &counted)?;
     Ok(message)
 }

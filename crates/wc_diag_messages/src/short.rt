@@ -1,5 +1,5 @@
 ghost use Rattle.std.specs.Prelude.{◌≡◌, ◌≤◌, [], ◌++◌, IfOk, IfSome, OnOk, length};
-ghost use Rattle.wc_diag_messages.specs.Forms.{TellsShortly, position_text};
+ghost use Rattle.wc_diag_messages.specs.Formats.{ReportsShortly, position_text};
 ghost use Rattle.wc_diag_messages.specs.Known.{IsKnown};
 
 use crate::message::Message;
@@ -15,18 +15,18 @@ fn write_position(
     refusal: &Refusal<'_>,
     parts: &Parts,
 ) -> Result<(), AllocError>
-    requires { IfSome parts.now.finding.spot
-        (λ spot. spot.start ≤ length parts.now.finding.shown.items) }
+    requires { IfSome parts.now.diagnostic.text_span
+        (λ text_span. text_span.start ≤ length parts.now.diagnostic.shown.items) }
     ensures { OnOk result (message.new.bytes.items
         ≡ message.old.bytes.items
-        ++ position_text refusal.now parts.now.line parts.now.finding.spot) }
+        ++ position_text refusal.now parts.now.line parts.now.diagnostic.text_span) }
 {
     if parts.line == 0 {
         let place = place_words(alloc, refusal)?;
         return message.say_before(":", &place);
     }
     write_line(message, parts.line)?;
-    write_column(message, &parts.finding)
+    write_column(message, &parts.diagnostic)
 }
 
 /// Writes what is wrong and where, on one line.
@@ -38,14 +38,14 @@ fn write_short(
 ) -> Result<(), AllocError>
     requires known { IsKnown refusal.now parts.now }
     requires empty { message.old.bytes.items ≡ [] }
-    ensures { OnOk result (TellsShortly refusal.now message.new.bytes.items) }
+    ensures { OnOk result (ReportsShortly refusal.now message.new.bytes.items) }
 {
     message.add(refusal.name)?;
     write_position(alloc, message, refusal, parts)?;
     message.say(": error[")?;
     message.count(refusal.number as usize)?;
     message.say("]: ")?;
-    message.append(&parts.told)?;
+    message.append(&parts.reported)?;
     message.end_line()?;
     Ok(())
 }
@@ -57,7 +57,7 @@ pub(crate) fn short(
     parts: &Parts,
 ) -> Result<Message, AllocError>
     requires { IsKnown refusal.now parts.now }
-    ensures { IfOk result (λ message. TellsShortly refusal.now message.bytes.items) }
+    ensures { IfOk result (λ message. ReportsShortly refusal.now message.bytes.items) }
 {
     let mut message = Message::new(alloc);
     write_short(alloc, &mut message, refusal, parts)?;

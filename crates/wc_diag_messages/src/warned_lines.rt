@@ -2,7 +2,7 @@ ghost use Rattle.std.specs.Prelude.{◌≡◌, ◌≤◌, ◌∷◌, ◌++◌, �
 ghost use Rattle.wc_diag_messages.specs.Explanations.{place_line};
 ghost use Rattle.wc_diag_messages.specs.Locations.{column_text, margin_text};
 ghost use Rattle.wc_diag_messages.specs.Plain.{shown_text};
-ghost use Rattle.wc_diag_messages.specs.Warned.{ExplainsWarning, KnowsWarning, WarnsShortly, spot_text, warning_headline, warning_help, warning_number};
+ghost use Rattle.wc_diag_messages.specs.Warned.{ExplainsWarning, KnowsWarning, WarnsShortly, text_span_text, warning_headline, warning_help, warning_number};
 
 use crate::excerpts::write_excerpt;
 use crate::long::write_place_line;
@@ -10,7 +10,7 @@ use crate::message::Message;
 use crate::placing::{margin, write_column, write_line};
 use crate::warned_parts::WarningParts;
 use std::alloc::{AllocError, Global};
-use wc_diag_spans::Finding;
+use wc_diag_spans::Diagnostic;
 use wc_diag_warnings::Warning;
 
 /// Writes the number of a warning after its W.
@@ -23,14 +23,14 @@ pub(crate) fn write_warning_number(message: &mut Message, number: u8) -> Result<
 }
 
 /// Writes the number and what is suspicious.
-fn write_headline(message: &mut Message, number: u8, told: &Message) -> Result<(), AllocError>
+fn write_headline(message: &mut Message, number: u8, reported: &Message) -> Result<(), AllocError>
     ensures { OnOk result (message.new.bytes.items
-        ≡ message.old.bytes.items ++ warning_headline number told.now.bytes.items) }
+        ≡ message.old.bytes.items ++ warning_headline number reported.now.bytes.items) }
 {
     message.say("warning[")?;
     write_warning_number(message, number)?;
     message.say("]: ")?;
-    message.append(told)?;
+    message.append(reported)?;
     message.end_line()
 }
 
@@ -40,16 +40,17 @@ fn write_place(
     message: &mut Message,
     file: &[u8],
     line: u32,
-    finding: &Finding,
+    diagnostic: &Diagnostic,
 ) -> Result<(), AllocError>
-    requires { IfSome finding.now.spot (λ spot. spot.start ≤ length finding.now.shown.items) }
+    requires { IfSome diagnostic.now.text_span
+        (λ text_span. text_span.start ≤ length diagnostic.now.shown.items) }
     ensures { OnOk result (message.new.bytes.items
         ≡ message.old.bytes.items
-        ++ place_line (margin_text line) file.now line (column_text finding.now.spot)) }
+        ++ place_line (margin_text line) file.now line (column_text diagnostic.now.text_span)) }
 {
     let margin = margin(alloc, line)?;
     let mut column = Message::new(alloc);
-    write_column(&mut column, finding)?;
+    write_column(&mut column, diagnostic)?;
     write_place_line(message, &margin, file, line, &column)
 }
 
@@ -82,16 +83,16 @@ fn write_long(
     warning: &Warning<'_>,
     parts: &WarningParts,
 ) -> Result<(), AllocError>
-    requires within { IfSome parts.now.finding.spot
-        (λ spot. spot.start ≤ length parts.now.finding.shown.items) }
+    requires within { IfSome parts.now.diagnostic.text_span
+        (λ text_span. text_span.start ≤ length parts.now.diagnostic.shown.items) }
     requires empty { message.old.bytes.items ≡ [] }
     ensures { (text : List ℕ) → KnowsWarning text warning.now parts.now
         → OnOk result (ExplainsWarning file.now text warning.now message.new.bytes.items) }
 {
-    write_headline(message, warning.number, &parts.told)?;
-    write_place(alloc, message, file, warning.line, &parts.finding)?;
+    write_headline(message, warning.number, &parts.reported)?;
+    write_place(alloc, message, file, warning.line, &parts.diagnostic)?;
     let nothing = Message::new(alloc);
-    write_excerpt(alloc, message, warning.line, &parts.finding, &nothing)?;
+    write_excerpt(alloc, message, warning.line, &parts.diagnostic, &nothing)?;
     write_help(message, warning.number, &parts.advice)?;
     Ok(())
 }
@@ -103,8 +104,8 @@ pub(crate) fn long_warning(
     warning: &Warning<'_>,
     parts: &WarningParts,
 ) -> Result<Message, AllocError>
-    requires { IfSome parts.now.finding.spot
-        (λ spot. spot.start ≤ length parts.now.finding.shown.items) }
+    requires { IfSome parts.now.diagnostic.text_span
+        (λ text_span. text_span.start ≤ length parts.now.diagnostic.shown.items) }
     ensures { IfOk result (λ message. (text : List ℕ) → KnowsWarning text warning.now parts.now
         → ExplainsWarning file.now text warning.now message.bytes.items) }
 {
@@ -114,13 +115,18 @@ pub(crate) fn long_warning(
 }
 
 /// Writes the line and the column.
-fn write_spot(message: &mut Message, line: u32, finding: &Finding) -> Result<(), AllocError>
-    requires { IfSome finding.now.spot (λ spot. spot.start ≤ length finding.now.shown.items) }
+fn write_text_span(
+    message: &mut Message,
+    line: u32,
+    diagnostic: &Diagnostic,
+) -> Result<(), AllocError>
+    requires { IfSome diagnostic.now.text_span
+        (λ text_span. text_span.start ≤ length diagnostic.now.shown.items) }
     ensures { OnOk result (message.new.bytes.items
-        ≡ message.old.bytes.items ++ spot_text line finding.now.spot) }
+        ≡ message.old.bytes.items ++ text_span_text line diagnostic.now.text_span) }
 {
     write_line(message, line)?;
-    write_column(message, finding)
+    write_column(message, diagnostic)
 }
 
 /// Writes a warning on one line.
@@ -130,18 +136,18 @@ fn write_short(
     warning: &Warning<'_>,
     parts: &WarningParts,
 ) -> Result<(), AllocError>
-    requires within { IfSome parts.now.finding.spot
-        (λ spot. spot.start ≤ length parts.now.finding.shown.items) }
+    requires within { IfSome parts.now.diagnostic.text_span
+        (λ text_span. text_span.start ≤ length parts.now.diagnostic.shown.items) }
     requires empty { message.old.bytes.items ≡ [] }
     ensures { (text : List ℕ) → KnowsWarning text warning.now parts.now
         → OnOk result (WarnsShortly file.now text warning.now message.new.bytes.items) }
 {
     message.add(file)?;
-    write_spot(message, warning.line, &parts.finding)?;
+    write_text_span(message, warning.line, &parts.diagnostic)?;
     message.say(": warning[")?;
     write_warning_number(message, warning.number)?;
     message.say("]: ")?;
-    message.append(&parts.told)?;
+    message.append(&parts.reported)?;
     message.end_line()?;
     Ok(())
 }
@@ -153,8 +159,8 @@ pub(crate) fn short_warning(
     warning: &Warning<'_>,
     parts: &WarningParts,
 ) -> Result<Message, AllocError>
-    requires { IfSome parts.now.finding.spot
-        (λ spot. spot.start ≤ length parts.now.finding.shown.items) }
+    requires { IfSome parts.now.diagnostic.text_span
+        (λ text_span. text_span.start ≤ length parts.now.diagnostic.shown.items) }
     ensures { IfOk result (λ message. (text : List ℕ) → KnowsWarning text warning.now parts.now
         → WarnsShortly file.now text warning.now message.bytes.items) }
 {

@@ -1,40 +1,45 @@
 ghost use Rattle.std.specs.Prelude.{◌≡◌, ◌≤◌, ◌++◌, [], ℕ, List, IfOk, IfSome, OnOk, length};
-ghost use Rattle.wc_diag_messages.specs.Forms.{IsNameOf};
-ghost use Rattle.wc_diag_messages.specs.Warned.{KnowsWarning, WarnsInJson, spot_members, warning_members, warning_tokens};
+ghost use Rattle.wc_diag_messages.specs.Formats.{IsNameOf};
+ghost use Rattle.wc_diag_messages.specs.Warned.{KnowsWarning, WarnsInJson, text_span_members, warning_members, warning_tokens};
 
 use crate::message::shown;
 use crate::object::{
-    column_behind, first_column, line_of, write_number, write_number_if_any, write_text,
+    column_after, first_column, line_of, write_number, write_number_if_any, write_text,
 };
 use crate::warned_parts::WarningParts;
 use json::Writer;
 use std::alloc::{AllocError, Global};
-use wc_diag_spans::Finding;
+use wc_diag_spans::Diagnostic;
 use wc_diag_warnings::Warning;
 
 /// Writes where it is suspicious.
-fn write_spot(writer: &mut Writer, line: u32, finding: &Finding) -> Result<(), AllocError>
-    requires { IfSome finding.now.spot (λ spot. spot.start ≤ length finding.now.shown.items) }
+fn write_text_span(
+    writer: &mut Writer,
+    line: u32,
+    diagnostic: &Diagnostic,
+) -> Result<(), AllocError>
+    requires { IfSome diagnostic.now.text_span
+        (λ text_span. text_span.start ≤ length diagnostic.now.shown.items) }
     ensures before { writer.new.before ≡ writer.old.before }
     ensures tokens { OnOk result (writer.new.tokens
-        ≡ writer.old.tokens ++ spot_members line finding.now) }
+        ≡ writer.old.tokens ++ text_span_members line diagnostic.now) }
 {
     write_number_if_any(writer, "line", line as usize)?;
-    write_number_if_any(writer, "column", first_column(finding))?;
-    write_number_if_any(writer, "endColumn", column_behind(finding))?;
+    write_number_if_any(writer, "column", first_column(diagnostic))?;
+    write_number_if_any(writer, "endColumn", column_after(diagnostic))?;
     Ok(())
 }
 
 /// Writes what is suspicious, and what to write instead.
-fn write_told(writer: &mut Writer, number: u8, parts: &WarningParts) -> Result<(), AllocError>
+fn write_reported(writer: &mut Writer, number: u8, parts: &WarningParts) -> Result<(), AllocError>
     ensures before { writer.new.before ≡ writer.old.before }
     ensures tokens { OnOk result (writer.new.tokens
         ≡ writer.old.tokens
-        ++ warning_members number parts.now.told.bytes.items parts.now.advice.bytes.items) }
+        ++ warning_members number parts.now.reported.bytes.items parts.now.advice.bytes.items) }
 {
     write_text(writer, "severity", "warning")?;
     write_number(writer, "number", number as usize)?;
-    write_text(writer, "sentence", parts.told.as_str())?;
+    write_text(writer, "sentence", parts.reported.as_str())?;
     write_text(writer, "hint", parts.advice.as_str())?;
     Ok(())
 }
@@ -46,8 +51,8 @@ fn write_object(
     parts: &WarningParts,
     name: &str,
 ) -> Result<(), AllocError>
-    requires spot { IfSome parts.now.finding.spot
-        (λ spot. spot.start ≤ length parts.now.finding.shown.items) }
+    requires text_span { IfSome parts.now.diagnostic.text_span
+        (λ text_span. text_span.start ≤ length parts.now.diagnostic.shown.items) }
     requires empty { writer.old.tokens ≡ [] }
     ensures before { writer.new.before ≡ writer.old.before }
     ensures tokens { OnOk result (writer.new.tokens
@@ -55,8 +60,8 @@ fn write_object(
 {
     writer.begin_object()?;
     write_text(writer, "file", name)?;
-    write_spot(writer, warning.line, &parts.finding)?;
-    write_told(writer, warning.number, parts)?;
+    write_text_span(writer, warning.line, &parts.diagnostic)?;
+    write_reported(writer, warning.number, parts)?;
     writer.end_object()?;
     Ok(())
 }
@@ -69,8 +74,8 @@ fn named_object(
     parts: &WarningParts,
     name: &str,
 ) -> Result<Vec<u8>, AllocError>
-    requires spot { IfSome parts.now.finding.spot
-        (λ spot. spot.start ≤ length parts.now.finding.shown.items) }
+    requires text_span { IfSome parts.now.diagnostic.text_span
+        (λ text_span. text_span.start ≤ length parts.now.diagnostic.shown.items) }
     requires name { IsNameOf file.now name.now }
     ensures { IfOk result (λ bytes. (text : List ℕ) → KnowsWarning text warning.now parts.now
         → WarnsInJson file.now text warning.now bytes.items) }
@@ -89,8 +94,8 @@ pub(crate) fn warning_object(
     warning: &Warning<'_>,
     parts: &WarningParts,
 ) -> Result<Vec<u8>, AllocError>
-    requires { IfSome parts.now.finding.spot
-        (λ spot. spot.start ≤ length parts.now.finding.shown.items) }
+    requires { IfSome parts.now.diagnostic.text_span
+        (λ text_span. text_span.start ≤ length parts.now.diagnostic.shown.items) }
     ensures { IfOk result (λ bytes. (text : List ℕ) → KnowsWarning text warning.now parts.now
         → WarnsInJson file.now text warning.now bytes.items) }
 {

@@ -1,23 +1,23 @@
 ghost use Rattle.std.specs.Prelude.{◌≡◌, ◌≤◌, ◌++◌, ℕ, [], true, List, IfOk, IfSome, OnOk, drop, length, take, unwrap_or};
 ghost use Rattle.wc_diag_spans.specs.Lines.{line_of_number};
 ghost use Rattle.wc_diag_messages.specs.Plain.{shown_text};
-ghost use Rattle.wc_diag_messages.specs.Warned.{KnowsWarning, StandsThere, named_text};
+ghost use Rattle.wc_diag_messages.specs.Warned.{KnowsWarning, IsNamedThere, named_text};
 
-use crate::excerpts::piece;
+use crate::excerpts::excerpt;
 use crate::message::{Message, shown};
 use crate::warning_entries::warning_of;
 use std::alloc::{AllocError, Global};
-use wc_diag_spans::{Finding, Spot, line_at};
-use wc_diag_texts::{Awaits, Case};
+use wc_diag_spans::{Diagnostic, TextSpan, line_at};
+use wc_diag_texts::{Case, Expected};
 use wc_diag_warnings::Warning;
 
 /// What is said of a warning, in whatever format.
 #[derive(Drop)]
 pub(crate) struct WarningParts {
     /// The line that is shown with its offending slice.
-    pub(crate) finding: Finding,
+    pub(crate) diagnostic: Diagnostic,
     /// What is suspicious, in words.
-    pub(crate) told: Message,
+    pub(crate) reported: Message,
     /// What to write instead.
     pub(crate) advice: Message,
 }
@@ -39,12 +39,12 @@ fn is_part(byte: u8) -> bool {
 
 /// Whether the byte before a place of a line, and the one after the name there, are of no longer name.
 fn is_whole(line: &[u8], place: usize, name: &[u8]) -> bool {
-    let (before, behind) = line.split_at(place.min(line.len()));
+    let (before, following) = line.split_at(place.min(line.len()));
     let begins = match before.last() {
         Some(byte) => !is_part(*byte),
         None => true,
     };
-    let ends = match behind.get(name.len()) {
+    let ends = match following.get(name.len()) {
         Some(byte) => !is_part(*byte),
         None => true,
     };
@@ -52,49 +52,49 @@ fn is_whole(line: &[u8], place: usize, name: &[u8]) -> bool {
 }
 
 /// Whether a name is at a place of a line, and no longer one.
-fn stands_at(line: &[u8], place: usize, name: &[u8]) -> bool
+fn is_at(line: &[u8], place: usize, name: &[u8]) -> bool
     ensures { result ≡ true → take (length name.now) (drop place line.now) ≡ name.now }
 {
-    piece(line, place, name.len()) == name && is_whole(line, place, name)
+    excerpt(line, place, name.len()) == name && is_whole(line, place, name)
 }
 
 /// The first byte of a line that is not a blank, and those after it.
-fn whole_spot(line: &[u8]) -> Option<Spot>
-    ensures { IfSome result (λ spot. spot.start ≤ length line.now) }
+fn whole_text_span(line: &[u8]) -> Option<TextSpan>
+    ensures { IfSome result (λ text_span. text_span.start ≤ length line.now) }
 {
     for start in 0..line.len() {
         if line[start] > b' ' {
             let length = line.len() - start;
-            return Some(Spot { start, length });
+            return Some(TextSpan { start, length });
         }
     }
     None
 }
 
 /// Where a name is in a line for the first time.
-fn name_spot(line: &[u8], name: &[u8]) -> Option<Spot>
-    ensures within { IfSome result (λ spot. spot.start ≤ length line.now) }
-    ensures stands { IfSome result
-        (λ spot. take spot.length (drop spot.start line.now) ≡ name.now) }
+fn name_text_span(line: &[u8], name: &[u8]) -> Option<TextSpan>
+    ensures within { IfSome result (λ text_span. text_span.start ≤ length line.now) }
+    ensures represents { IfSome result
+        (λ text_span. take text_span.length (drop text_span.start line.now) ≡ name.now) }
 {
     for start in 0..line.len() {
-        if stands_at(line, start, name) {
+        if is_at(line, start, name) {
             let length = name.len();
-            return Some(Spot { start, length });
+            return Some(TextSpan { start, length });
         }
     }
     None
 }
 
 /// Where a name is in a line for the first time; with no name what is on the line.
-fn spot_of(line: &[u8], name: &[u8]) -> Option<Spot>
-    ensures within { IfSome result (λ spot. spot.start ≤ length line.now) }
-    ensures stands { IfSome result (StandsThere name.now line.now) }
+fn text_span_of(line: &[u8], name: &[u8]) -> Option<TextSpan>
+    ensures within { IfSome result (λ text_span. text_span.start ≤ length line.now) }
+    ensures represents { IfSome result (IsNamedThere name.now line.now) }
 {
     if name.is_empty() {
-        return whole_spot(line);
+        return whole_text_span(line);
     }
-    name_spot(line, name)
+    name_text_span(line, name)
 }
 
 /// The sentence of a warning.
@@ -126,8 +126,8 @@ fn write_name(message: &mut Message, name: &[u8]) -> Result<(), AllocError>
 }
 
 /// What is suspicious, in words.
-fn told_of(alloc: Global, warning: &Warning<'_>) -> Result<Message, AllocError>
-    ensures { IfOk result (λ told. (said : List ℕ) × (told.bytes.items
+fn reported_of(alloc: Global, warning: &Warning<'_>) -> Result<Message, AllocError>
+    ensures { IfOk result (λ reported. (said : List ℕ) × (reported.bytes.items
         ≡ named_text warning.now.name.now ++ shown_text said)) }
 {
     let mut message = Message::new(alloc);
@@ -137,23 +137,27 @@ fn told_of(alloc: Global, warning: &Warning<'_>) -> Result<Message, AllocError>
 }
 
 /// The line of a warning, with its offending slice.
-fn finding_of(alloc: Global, text: &[u8], warning: &Warning<'_>) -> Result<Finding, AllocError>
-    ensures shows { IfOk result (λ finding. finding.shown.items
+fn diagnostic_of(
+    alloc: Global,
+    text: &[u8],
+    warning: &Warning<'_>,
+) -> Result<Diagnostic, AllocError>
+    ensures shows { IfOk result (λ diagnostic. diagnostic.shown.items
         ≡ unwrap_or (line_of_number warning.now.line text.now) []) }
-    ensures within { IfOk result (λ finding. IfSome finding.spot
-        (λ spot. spot.start ≤ length finding.shown.items)) }
-    ensures stands { IfOk result (λ finding. IfSome finding.spot
-        (StandsThere warning.now.name.now finding.shown.items)) }
+    ensures within { IfOk result (λ diagnostic. IfSome diagnostic.text_span
+        (λ text_span. text_span.start ≤ length diagnostic.shown.items)) }
+    ensures represents { IfOk result (λ diagnostic. IfSome diagnostic.text_span
+        (IsNamedThere warning.now.name.now diagnostic.shown.items)) }
 {
     let shown = line_shown(alloc, text, warning.line)?;
-    Ok(Finding {
+    Ok(Diagnostic {
         line: warning.line,
-        spot: spot_of(&shown, warning.name),
+        text_span: text_span_of(&shown, warning.name),
         shown,
         subject: Vec::new(alloc),
         case: Case::Unknown,
         detail: String::new(alloc),
-        awaits: Awaits::Nothing,
+        expected: Expected::Nothing,
         hint: Case::Unknown,
         advice: String::new(alloc),
     })
@@ -167,12 +171,12 @@ pub(crate) fn warning_parts(
 ) -> Result<WarningParts, AllocError>
     ensures { IfOk result (λ parts. KnowsWarning text.now warning.now parts) }
 {
-    let finding = finding_of(alloc, text, warning)?;
-    let told = told_of(alloc, warning)?;
+    let diagnostic = diagnostic_of(alloc, text, warning)?;
+    let reported = reported_of(alloc, warning)?;
     let advice = shown(alloc, hint(warning.number).as_bytes())?;
     Ok(WarningParts {
-        finding,
-        told,
+        diagnostic,
+        reported,
         advice,
     })
 }

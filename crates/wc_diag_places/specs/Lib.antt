@@ -1,7 +1,7 @@
-pub mod Awaited
-pub mod LaterSpots
+pub mod Allowed
+pub mod LaterTextSpans
 pub mod Listed
-pub mod Pieces
-pub mod ReadingSpots
+pub mod Excerpts
+pub mod ReadingTextSpans
 pub mod Spotting
 pub mod Stopping

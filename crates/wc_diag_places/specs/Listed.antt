@@ -1,13 +1,13 @@
 -- Which tokens the sentence about an unexpected token lists, and that this list is exact. (The profile's own.)
 use Rattle.std.specs.Prelude.{◌≡◌, ⊤, ◌⊎◌, ◌||◌, ℕ, Bool, true, false, Some, None, is_some}
 use Rattle.wc_laws_grammar.specs.LineMoves.{Start, Ended}
-use Rattle.wc_laws_grammar.specs.Moves.{State, OnLine, judge, move, is_colon, is_identifier}
+use Rattle.wc_laws_grammar.specs.Moves.{State, OnLine, validate, move, is_colon, is_identifier}
 use Rattle.wc_laws_grammar.specs.Words.{found, literal_of, operation_of, unit_kinds}
 use Rattle.wc_model.specs.Language.Names.{name_of}
 use Rattle.wc_model.specs.Text.Marks.{Symbol, Identifier, Whole, Duration, Truth, Direct, OpeningBracket, ClosingBracket, Comma, Semicolon, Point, Assign, Arrow, LineEnd}
-use Rattle.wc_diag_places.specs.Awaited.{awaited}
-use Rattle.wc_diag_texts.specs.declared.awaits.Awaits.{Awaits}
-use Rattle.wc_diag_texts.specs.declared.awaits.Awaits.TheVariants as awaits
+use Rattle.wc_diag_places.specs.Allowed.{allowed}
+use Rattle.wc_diag_texts.specs.declared.expected.Expected.{Expected}
+use Rattle.wc_diag_texts.specs.declared.expected.Expected.TheVariants as expected
 
 -- PROGRAM or FUNCTION_BLOCK
 abbrev pub is_unit_word : Symbol → Bool
@@ -65,48 +65,48 @@ is_end LineEnd = true
 is_end _ = false
 
 -- the sentence lists the token
-abbrev pub lists : Awaits → Symbol → Bool
-lists awaits.Nothing symbol = false
-lists awaits.LabelColon symbol = is_colon symbol
-lists awaits.UnitWord symbol = is_unit_word symbol
-lists awaits.UnitName symbol = is_identifier symbol
-lists awaits.NameOrEndVar symbol = is_identifier symbol
-lists awaits.CommaOrColon symbol = is_comma symbol || is_colon symbol
-lists awaits.Name symbol = is_identifier symbol
-lists awaits.TypeName symbol = is_identifier symbol
-lists awaits.AssignOrSemicolon symbol = is_assign symbol || is_semicolon symbol
-lists awaits.Literal symbol = is_some (literal_of symbol)
-lists awaits.Semicolon symbol = is_semicolon symbol
-lists awaits.Instruction symbol = is_instruction symbol
-lists awaits.InstructionOrClosing symbol = is_operator symbol || is_closing symbol
-lists awaits.InstructionOrLineEnd symbol = is_operator symbol || is_end symbol
-lists awaits.Operand symbol = is_operand symbol
-lists awaits.OperandOrOpening symbol = is_operand symbol || is_opening symbol
-lists awaits.OperandOrLineEnd symbol = is_operand symbol || is_end symbol
-lists awaits.Label symbol = is_identifier symbol
-lists awaits.Instance symbol = is_identifier symbol
-lists awaits.LineEnd symbol = is_end symbol
-lists awaits.OpeningOrLineEnd symbol = is_opening symbol || is_end symbol
-lists awaits.PointOrLineEnd symbol = is_point symbol || is_end symbol
-lists awaits.Field symbol = is_identifier symbol
-lists awaits.FormalOrClosing symbol = is_identifier symbol || is_closing symbol
-lists awaits.Formal symbol = is_identifier symbol
-lists awaits.AssignOrArrow symbol = is_assign symbol || is_arrow symbol
-lists awaits.CommaOrClosing symbol = is_comma symbol || is_closing symbol
-lists awaits.CommaPointOrClosing symbol = is_comma symbol || (is_point symbol || is_closing symbol)
+abbrev pub lists : Expected → Symbol → Bool
+lists expected.Nothing symbol = false
+lists expected.LabelColon symbol = is_colon symbol
+lists expected.UnitWord symbol = is_unit_word symbol
+lists expected.UnitName symbol = is_identifier symbol
+lists expected.NameOrEndVar symbol = is_identifier symbol
+lists expected.CommaOrColon symbol = is_comma symbol || is_colon symbol
+lists expected.Name symbol = is_identifier symbol
+lists expected.TypeName symbol = is_identifier symbol
+lists expected.AssignOrSemicolon symbol = is_assign symbol || is_semicolon symbol
+lists expected.Literal symbol = is_some (literal_of symbol)
+lists expected.Semicolon symbol = is_semicolon symbol
+lists expected.Instruction symbol = is_instruction symbol
+lists expected.InstructionOrClosing symbol = is_operator symbol || is_closing symbol
+lists expected.InstructionOrLineEnd symbol = is_operator symbol || is_end symbol
+lists expected.Operand symbol = is_operand symbol
+lists expected.OperandOrOpening symbol = is_operand symbol || is_opening symbol
+lists expected.OperandOrLineEnd symbol = is_operand symbol || is_end symbol
+lists expected.Label symbol = is_identifier symbol
+lists expected.Instance symbol = is_identifier symbol
+lists expected.LineEnd symbol = is_end symbol
+lists expected.OpeningOrLineEnd symbol = is_opening symbol || is_end symbol
+lists expected.PointOrLineEnd symbol = is_point symbol || is_end symbol
+lists expected.Field symbol = is_identifier symbol
+lists expected.FormalOrClosing symbol = is_identifier symbol || is_closing symbol
+lists expected.Formal symbol = is_identifier symbol
+lists expected.AssignOrArrow symbol = is_assign symbol || is_arrow symbol
+lists expected.CommaOrClosing symbol = is_comma symbol || is_closing symbol
+lists expected.CommaPointOrClosing symbol = is_comma symbol || (is_point symbol || is_closing symbol)
 
 -- a walk stops before a line or on it, never at the start of one that it is on, nor on one that has ended
 abbrev pub IsStop : State → Type 0
 IsStop (OnLine p Start) = ⊥
-IsStop (OnLine p (Ended form)) = ⊥
+IsStop (OnLine p (Ended line_shape)) = ⊥
 IsStop state = ⊤
 
 -- if the text goes on with a token, the sentence lists it, or it is the end of a line where lines may end
 abbrev pub ListsAll : Type 0
-ListsAll = (state next : State) (symbol : Symbol) (line : ℕ) (colon : Bool) → judge state symbol line colon ≡ None → move state symbol line colon ≡ Some next →
-    (symbol ≡ LineEnd) ⊎ (lists (awaited state) symbol ≡ true)
+ListsAll = (state next : State) (symbol : Symbol) (line : ℕ) (colon : Bool) → validate state symbol line colon ≡ None → move state symbol line colon ≡ Some next →
+    (symbol ≡ LineEnd) ⊎ (lists (allowed state) symbol ≡ true)
 
 -- a token that the sentence lists is not unexpected: the text goes on with it, or another rule refuses it
 abbrev pub ListsNoOther : Type 0
-ListsNoOther = (state : State) (symbol : Symbol) (line : ℕ) (colon : Bool) → IsStop state → lists (awaited state) symbol ≡ true →
-    (is_some (judge state symbol line colon) ≡ true) ⊎ (is_some (move state symbol line colon) ≡ true)
+ListsNoOther = (state : State) (symbol : Symbol) (line : ℕ) (colon : Bool) → IsStop state → lists (allowed state) symbol ≡ true →
+    (is_some (validate state symbol line colon) ≡ true) ⊎ (is_some (move state symbol line colon) ≡ true)

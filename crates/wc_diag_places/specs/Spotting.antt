@@ -4,8 +4,8 @@ use Rattle.wc_lexer.specs.declared.shape.Token.{Token}
 use Rattle.wc_model.specs.Language.Tree.{Text}
 use Rattle.wc_model.specs.declared.fault.Fault.{Fault}
 use Rattle.wc_model.specs.declared.fault.Fault.TheVariants.{Memory, Refused}
-use Rattle.wc_diag_places.specs.LaterSpots.{IsBodyFault, IsTokenFault}
-use Rattle.wc_diag_places.specs.Pieces.{IsPieceOf, length_of_piece, line_at, on_line, start_of_piece}
+use Rattle.wc_diag_places.specs.LaterTextSpans.{IsBodyFault, IsTokenFault}
+use Rattle.wc_diag_places.specs.Excerpts.{IsExcerptOf, length_of_excerpt, line_at, on_line, start_of_excerpt}
 use Rattle.wc_diag_places.specs.declared.span.RefusalSpan.{RefusalSpan}
 
 -- a fault of pass 3 or of the costs
@@ -19,17 +19,17 @@ IsInBody text Memory = Unit {0}
 IsInBody text (Refused number place) = IsBodyFault text number place
 
 -- a refusal of that number on the line of the first of these tokens, with this slice
-pub record PointsTo (number : ℕ) (tokens piece : List Token) (spot : RefusalSpan) : Type 0 where
-  pub fault_is : spot.fault ≡ Refused number (line_at (slice_get tokens 0))
-  pub start_is : spot.start ≡ start_of_piece piece
-  pub length_is : spot.length ≡ length_of_piece piece
+pub record PointsTo (number : ℕ) (tokens excerpt : List Token) (text_span : RefusalSpan) : Type 0 where
+  pub fault_is : text_span.fault ≡ Refused number (line_at (slice_get tokens 0))
+  pub start_is : text_span.start ≡ start_of_excerpt excerpt
+  pub length_is : text_span.length ≡ length_of_excerpt excerpt
 
 -- a refusal with a slice of the instruction that begins with these tokens
-pub record IsMeantThere (number : ℕ) (tokens : List Token) (spot : RefusalSpan) : Type 0 where
-  pub meant : List Token
-  pub means : IsPieceOf number tokens meant
-  pub points : PointsTo number tokens (on_line tokens meant) spot
+pub record IsOffendingThere (number : ℕ) (tokens : List Token) (text_span : RefusalSpan) : Type 0 where
+  pub offending : List Token
+  pub means : IsExcerptOf number tokens offending
+  pub points : PointsTo number tokens (on_line tokens offending) text_span
 
 -- or out of memory
-abbrev pub PointsToMeant : ℕ → List Token → RefusalSpan → Type 0
-PointsToMeant number tokens spot = (spot.fault ≡ Memory) ⊎ IsMeantThere number tokens spot
+abbrev pub PointsToOffending : ℕ → List Token → RefusalSpan → Type 0
+PointsToOffending number tokens text_span = (text_span.fault ≡ Memory) ⊎ IsOffendingThere number tokens text_span

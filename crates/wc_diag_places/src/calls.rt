@@ -1,8 +1,8 @@
 ghost use Rattle.std.specs.Prelude.{◌≡◌, ◌⊎◌};
-ghost use Rattle.wc_diag_places.specs.Pieces.{IsOfCall, begins_item, operator_of};
+ghost use Rattle.wc_diag_places.specs.Excerpts.{IsOfCall, begins_item, operator_of};
 
+use crate::excerpts::{case_of_operand, line_at, list_end, operator_of, tokens_at};
 use crate::kinds::{entity_in, is_bit, is_instance};
-use crate::pieces::{case_of_operand, line_at, list_end, operator_of, tokens_at};
 use std::alloc::Global;
 use wc_diag_texts::Case;
 use wc_lexer::{Shape, Token};
@@ -122,7 +122,7 @@ fn unknown_formal(
 }
 
 /// The offending slice in one of a call's list that breaks the rule, if it does.
-fn meant_in_item<'a>(
+fn offending_in_item<'a>(
     tables: &Tables<'a>,
     unit: usize,
     declared: DeclaredType,
@@ -142,11 +142,11 @@ fn meant_in_item<'a>(
             )
         });
     }
-    let piece = tokens_at(tokens, item.value, item.count);
-    let case = match (number, entity_in(tables, unit, piece), formal) {
-        (401, None, _) => case_of_operand(piece),
+    let excerpt = tokens_at(tokens, item.value, item.count);
+    let case = match (number, entity_in(tables, unit, excerpt), formal) {
+        (401, None, _) => case_of_operand(excerpt),
         (402, Some(entity), Some(formal)) => {
-            unfit_value(entity.kind, formal.kind, into && is_bit(piece))?
+            unfit_value(entity.kind, formal.kind, into && is_bit(excerpt))?
         }
         (404, Some(entity), _) if !into && !entity.writable => Case::Plain,
         (405, Some(entity), _) if into && !entity.readable => Case::Plain,
@@ -161,7 +161,7 @@ fn meant_in_item<'a>(
 }
 
 /// The offending slice in a call whose list, which ends there, breaks the rule; else the operator.
-fn meant_in_list<'a>(
+fn offending_in_list<'a>(
     tables: &Tables<'a>,
     unit: usize,
     declared: DeclaredType,
@@ -174,7 +174,7 @@ fn meant_in_list<'a>(
         if item.name >= end {
             return at_index(0, Case::Result);
         }
-        if let Some(found) = meant_in_item(tables, unit, declared, tokens, number, item) {
+        if let Some(found) = offending_in_item(tables, unit, declared, tokens, number, item) {
             return found;
         }
         item = item_after(tokens, item.end);
@@ -212,7 +212,7 @@ fn named_twice(alloc: Global, tokens: &[Token<'_>], end: usize) -> Result<InCall
 }
 
 /// What a refusal of that number means in a call with a list.
-pub(crate) fn meant_in_call<'a>(
+pub(crate) fn offending_in_call<'a>(
     alloc: Global,
     tables: &Tables<'a>,
     unit: usize,
@@ -226,7 +226,7 @@ pub(crate) fn meant_in_call<'a>(
         _ if number == 402 && !is_instance(tables, unit, name) => Ok(at_index(1, Case::NoInstance)),
         _ if number == 410 => named_twice(alloc, tokens, end),
         Some(found) if number != 403 => {
-            Ok(meant_in_list(tables, unit, found.declared, tokens, number, end))
+            Ok(offending_in_list(tables, unit, found.declared, tokens, number, end))
         }
         _ => Ok(at_index(0, Case::Plain)),
     }
@@ -249,7 +249,7 @@ fn begins_item(tokens: &[Token<'_>], index: usize) -> bool
 }
 
 /// The offending tokens, where they are in the call; else the operator.
-pub(crate) fn piece_of_call<'a, 't>(tokens: &'t [Token<'a>], call: InCall) -> &'t [Token<'a>]
+pub(crate) fn excerpt_of_call<'a, 't>(tokens: &'t [Token<'a>], call: InCall) -> &'t [Token<'a>]
     ensures { (result.now ≡ operator_of tokens.now) ⊎ IsOfCall tokens.now result.now }
 {
     let end = list_end(tokens);

@@ -1,4 +1,4 @@
-use crate::pieces::{is_listed, line_at, span_of};
+use crate::excerpts::{is_listed, line_at, span_of};
 use crate::span::Slice;
 use wc_diag_texts::Case;
 use wc_lexer::Token;
@@ -21,11 +21,11 @@ fn type_of<'a>(source: &Source<'a>, unit: usize, name: &[u8]) -> Option<Word<'a>
 }
 
 /// The instance that a slice of an instruction refers to: that of a field, or of the call.
-fn instance_in<'a>(tokens: &[Token<'a>], piece: &[Token<'a>], case: Case) -> Option<Token<'a>> {
+fn instance_in<'a>(tokens: &[Token<'a>], excerpt: &[Token<'a>], case: Case) -> Option<Token<'a>> {
     match case {
-        Case::Field => piece.first().copied(),
+        Case::Field => excerpt.first().copied(),
         _ if is_listed(tokens) => tokens.get(1).copied(),
-        _ if piece.len() > 1 => piece.first().copied(),
+        _ if excerpt.len() > 1 => excerpt.first().copied(),
         _ => None,
     }
 }
@@ -35,10 +35,10 @@ pub(crate) fn block_in(
     source: &Source<'_>,
     unit: usize,
     tokens: &[Token<'_>],
-    piece: &[Token<'_>],
+    excerpt: &[Token<'_>],
     case: Case,
 ) -> Option<Slice> {
-    let instance = instance_in(tokens, piece, case)?;
+    let instance = instance_in(tokens, excerpt, case)?;
     let named = type_of(source, unit, instance.text)?;
     Some(Slice {
         start: named.line as usize,
@@ -48,9 +48,9 @@ pub(crate) fn block_in(
 }
 
 /// The bytes of some tokens, if there are any.
-pub(crate) fn slice_of(piece: &[Token<'_>]) -> Option<Slice> {
-    let line = line_at(Some(piece.first()?));
-    let (start, length) = span_of(piece);
+pub(crate) fn slice_of(excerpt: &[Token<'_>]) -> Option<Slice> {
+    let line = line_at(Some(excerpt.first()?));
+    let (start, length) = span_of(excerpt);
     Some(Slice {
         start,
         length,

@@ -1,4 +1,4 @@
-use crate::pieces::{is_closing, opens};
+use crate::excerpts::{is_closing, opens};
 use wc_diag_texts::Case;
 use wc_lexer::{Shape, Token};
 use wc_model::{Kind, Operand, Storing};
@@ -8,9 +8,9 @@ use wc_text_lines::{Operating, Operation, operation_of};
 use wc_text_short_lines::operand_of;
 
 /// The operand that some tokens are: one alone, or a name with a field.
-pub(crate) fn operand_in<'a>(piece: &[Token<'a>]) -> Option<Operand<'a>> {
-    match (piece.first(), piece.last()) {
-        (Some(first), Some(last)) if piece.len() > 1 => Some(Operand::Field {
+pub(crate) fn operand_in<'a>(excerpt: &[Token<'a>]) -> Option<Operand<'a>> {
+    match (excerpt.first(), excerpt.last()) {
+        (Some(first), Some(last)) if excerpt.len() > 1 => Some(Operand::Field {
             instance: first.text,
             field: last.text,
         }),
@@ -20,13 +20,13 @@ pub(crate) fn operand_in<'a>(piece: &[Token<'a>]) -> Option<Operand<'a>> {
 }
 
 /// What some tokens name.
-pub(crate) fn entity_in(tables: &Tables<'_>, unit: usize, piece: &[Token<'_>]) -> Option<Entity> {
-    tables.entity(unit, &operand_in(piece)?)
+pub(crate) fn entity_in(tables: &Tables<'_>, unit: usize, excerpt: &[Token<'_>]) -> Option<Entity> {
+    tables.entity(unit, &operand_in(excerpt)?)
 }
 
 /// Whether some tokens are a literal 0 or 1.
-pub(crate) fn is_bit(piece: &[Token<'_>]) -> bool {
-    matches!(piece.first(), Some(token) if matches!(token.shape, Shape::Whole(0 | 1)))
+pub(crate) fn is_bit(excerpt: &[Token<'_>]) -> bool {
+    matches!(excerpt.first(), Some(token) if matches!(token.shape, Shape::Whole(0 | 1)))
 }
 
 /// What does not fit if an operand of a kind follows its operator.

@@ -2,23 +2,23 @@
 //! an instruction a later pass refers to. Each is the pass itself once more, over places for lines.
 #![tactic(auto)]
 
-mod awaits;
 mod calls;
+mod excerpts;
+mod expected;
 mod instances;
 mod kinds;
 mod listing;
-mod pieces;
-mod placed;
 mod places;
 mod result_kind;
 mod span;
-mod spots;
+mod spanned_source;
 mod stops;
+mod text_spans;
 mod twice;
 
 pub use listing::the_list_is_exact;
-pub use placed::{Placed, read_by_places};
 pub use result_kind::ResultKind;
 pub use span::{RefusalSpan, Slice};
-pub use spots::spot_in;
+pub use spanned_source::{SpannedSource, read_by_places};
 pub use stops::stop_of;
+pub use text_spans::text_span_in;

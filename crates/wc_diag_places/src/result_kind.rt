@@ -1,5 +1,5 @@
+use crate::excerpts::{is_closing, line_at, opens, operand_of, tokens_at};
 use crate::kinds::entity_in;
-use crate::pieces::{is_closing, line_at, opens, operand_of, tokens_at};
 use wc_lexer::{Shape, Token};
 use wc_model::{Condition, Kind};
 use wc_names::Tables;

@@ -1,7 +1,7 @@
 ghost use Rattle.std.specs.Prelude.{◌≡◌, None, false};
 
 use crate::result_kind::ResultKind;
-use wc_diag_texts::{Awaits, Case};
+use wc_diag_texts::{Case, Expected};
 use wc_model::Fault;
 
 /// Bytes of a text.
@@ -25,7 +25,7 @@ pub struct RefusalSpan {
     /// The number of its bytes; 0 if there is none.
     pub length: usize,
     /// What could be there, if a token is unexpected.
-    pub awaits: Awaits,
+    pub expected: Expected,
     /// In which way a rule of the later passes is broken.
     pub case: Case,
     /// The line of the first of two that have one name; 0: there are no two.
@@ -51,7 +51,7 @@ impl RefusalSpan {
           fault = fault;
           start = start;
           length = length;
-          awaits = Awaits.Nothing;
+          expected = Expected.Nothing;
           case = Case.Plain;
           first = 0;
           result = None;
@@ -66,7 +66,7 @@ impl RefusalSpan {
             fault,
             start,
             length,
-            awaits: Awaits::Nothing,
+            expected: Expected::Nothing,
             case: Case::Plain,
             first: 0,
             result: None,

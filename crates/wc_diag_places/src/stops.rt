@@ -8,87 +8,91 @@ ghost use Rattle.wc_model.specs.Text.Reading.{last_line};
 ghost use Rattle.wc_model.specs.Text.Tokens.{IsCut, most_bytes};
 ghost use Rattle.wc_reader.specs.TextViews.{IsStateCounted, reading_view};
 ghost use Rattle.wc_text_short_lines.specs.Walks.{walk};
-ghost use Rattle.wc_diag_places.specs.Awaited.{awaited_with};
-ghost use Rattle.wc_diag_places.specs.ReadingSpots.{IsReadByPlaces, StopsReading, length_of, line_of, meant_at, start_of, token_at, token_before, word_or_token};
-ghost use Rattle.wc_diag_places.specs.Stopping.{IsAwaitedAs, IsPieceAt, IsStopAt, ReadsText, TellsMet};
+ghost use Rattle.wc_diag_places.specs.Allowed.{allowed_with};
+ghost use Rattle.wc_diag_places.specs.ReadingTextSpans.{IsReadByPlaces, StopsReading, length_of, line_of, offending_at, start_of, token_at, token_before, word_or_token};
+ghost use Rattle.wc_diag_places.specs.Stopping.{IsAllowedAs, IsExcerptAt, IsStopAt, ReadsText, ReportsRaised};
 
-use crate::awaits::awaits_at;
+use crate::expected::expected_at;
 use crate::places::exchange;
 use crate::span::RefusalSpan;
 use std::alloc::Global;
-use wc_diag_texts::Awaits;
+use wc_diag_texts::Expected;
 use wc_lexer::{Token, tokens_or_stop};
 use wc_model::Fault;
 use wc_reader::{Reading, at_text_end, last_line, read_at, reading_start, take_lines};
 
 /// A fault that is found, and what could be there.
 #[derive(Clone, Copy)]
-struct MetFault {
+struct RaisedFault {
     fault: Fault,
-    awaits: Awaits,
+    expected: Expected,
 }
 
 /// What is found at the end of the tokens; nothing if the text is read.
-fn met_at_end<'a>(alloc: Global, reading: &mut Reading<'a>, last: u32) -> Option<MetFault>
+fn raised_at_end<'a>(alloc: Global, reading: &mut Reading<'a>, last: u32) -> Option<RaisedFault>
     ensures read { IfNone result (ReadsText (walk (reading_view reading.old) [] last)) }
     ensures stopped { IfSome result
-        (λ met. TellsMet (walk (reading_view reading.old) [] last) met.fault met.awaits) }
+        (λ raised. ReportsRaised (walk
+        (reading_view reading.old) [] last) raised.fault raised.expected) }
     // It takes no memory, so a refusal is not reported as out of memory.
-    ensures refuses { IfSome result (λ met. met.fault ≡ Fault.Memory → ⊥) }
+    ensures refuses { IfSome result (λ raised. raised.fault ≡ Fault.Memory → ⊥) }
 {
-    let awaits = awaits_at(reading);
+    let expected = expected_at(reading);
     match at_text_end(alloc, reading, last) {
         Ok(_) => None,
-        Err(fault) => Some(MetFault { fault, awaits }),
+        Err(fault) => Some(RaisedFault { fault, expected }),
     }
 }
 
 /// Where the reading of these tokens stops; nothing if they are read. As the reader does, it takes
 /// short lines in one step: there is no fault in them.
-fn met_on<'a>(
+fn raised_on<'a>(
     alloc: Global,
     reading: &mut Reading<'a>,
     tokens: &[Token<'a>],
     last: u32,
-) -> Option<MetFault>
+) -> Option<RaisedFault>
     requires { IsStateCounted reading.old.state }
     ensures read { IfNone result
         (ReadsText (walk (reading_view reading.old) (marks_of tokens.now) last)) }
     ensures stopped { IfSome result
-        (λ met.
-        TellsMet (walk (reading_view reading.old) (marks_of tokens.now) last) met.fault
-        met.awaits) }
+        (λ raised.
+        ReportsRaised (walk (reading_view reading.old) (marks_of tokens.now) last) raised.fault
+        raised.expected) }
     // At the end no memory is taken.
-    ensures room { IfSome result (λ met. met.fault ≡ Fault.Memory → 0 < length tokens.now) }
+    ensures capacity { IfSome result (λ raised. raised.fault ≡ Fault.Memory
+        → 0 < length tokens.now) }
 {
     let mut place = 0;
     while place < tokens.len() {
-        let awaits = awaits_at(reading);
+        let expected = expected_at(reading);
         if let Err(fault) = read_at(alloc, reading, tokens, place) {
-            return Some(MetFault { fault, awaits });
+            return Some(RaisedFault { fault, expected });
         }
         place = match take_lines(alloc, reading, tokens, place + 1) {
             Ok(next) => next,
             Err(_) => {
-                return Some(MetFault {
+                return Some(RaisedFault {
                     fault: Fault::Memory,
-                    awaits,
+                    expected,
                 });
             }
         };
     }
-    met_at_end(alloc, reading, last)
+    raised_at_end(alloc, reading, last)
 }
 
 /// Where the reading of these tokens stops from the start of a text; nothing if they are read.
-fn met_in<'a>(alloc: Global, tokens: &[Token<'a>], last: u32) -> Option<MetFault>
+fn raised_in<'a>(alloc: Global, tokens: &[Token<'a>], last: u32) -> Option<RaisedFault>
     ensures read { IfNone result (ReadsText (walk at_first (marks_of tokens.now) last)) }
     ensures stopped { IfSome result
-        (λ met. TellsMet (walk at_first (marks_of tokens.now) last) met.fault met.awaits) }
-    ensures room { IfSome result (λ met. met.fault ≡ Fault.Memory → 0 < length tokens.now) }
+        (λ raised. ReportsRaised (walk at_first
+        (marks_of tokens.now) last) raised.fault raised.expected) }
+    ensures capacity { IfSome result (λ raised. raised.fault ≡ Fault.Memory
+        → 0 < length tokens.now) }
 {
     let mut reading = reading_start(alloc);
-    met_on(alloc, &mut reading, tokens, last)
+    raised_on(alloc, &mut reading, tokens, last)
 }
 
 /// The token that starts at a byte.
@@ -99,12 +103,12 @@ fn token_at<'a, 't>(tokens: &'t [Token<'a>], start: u32) -> Option<&'t Token<'a>
 }
 
 /// What could be there is reported if a token is unexpected.
-fn told_awaits(number: u16, awaits: Awaits) -> Awaits
-    ensures { result ≡ awaited_with number awaits }
+fn reported_expected(number: u16, expected: Expected) -> Expected
+    ensures { result ≡ allowed_with number expected }
 {
     match number {
-        201 => awaits,
-        _ => Awaits::Nothing,
+        201 => expected,
+        _ => Expected::Nothing,
     }
 }
 
@@ -140,11 +144,15 @@ fn word_or_token<'a, 't>(
 }
 
 /// The offending token if one is found at a byte.
-fn meant_at<'a, 't>(tokens: &'t [Token<'a>], place: u32, awaits: Awaits) -> Option<&'t Token<'a>>
-    ensures { option_copied result ≡ meant_at tokens.now place awaits }
+fn offending_at<'a, 't>(
+    tokens: &'t [Token<'a>],
+    place: u32,
+    expected: Expected,
+) -> Option<&'t Token<'a>>
+    ensures { option_copied result ≡ offending_at tokens.now place expected }
 {
-    match awaits {
-        Awaits::LabelColon => word_or_token(token_before(tokens, place), token_at(tokens, place)),
+    match expected {
+        Expected::LabelColon => word_or_token(token_before(tokens, place), token_at(tokens, place)),
         _ => token_at(tokens, place),
     }
 }
@@ -161,11 +169,11 @@ fn line_at(text: &[u8], tokens: &[Token<'_>], place: u32) -> u32
 }
 
 /// Where the offending slice starts, and its number of bytes.
-fn piece_of(text: &[u8], meant: Option<&Token<'_>>) -> (usize, usize)
-    ensures start { result.0 ≡ start_of (option_copied meant.entry) (length text.now) }
-    ensures length { result.1 ≡ length_of (option_copied meant.entry) }
+fn excerpt_of(text: &[u8], offending: Option<&Token<'_>>) -> (usize, usize)
+    ensures start { result.0 ≡ start_of (option_copied offending.entry) (length text.now) }
+    ensures length { result.1 ≡ length_of (option_copied offending.entry) }
 {
-    match meant {
+    match offending {
         Some(token) => (token.start as usize, token.text.len()),
         None => (text.len(), 0),
     }
@@ -177,27 +185,27 @@ fn stop_at(
     tokens: &[Token<'_>],
     number: u16,
     place: u32,
-    awaits: Awaits,
+    expected: Expected,
 ) -> RefusalSpan
     requires { length text.now ≤ most_bytes }
-    ensures { IsPieceAt text.now tokens.now number place awaits result }
+    ensures { IsExcerptAt text.now tokens.now number place expected result }
 {
-    let awaits = told_awaits(number, awaits);
-    let (start, length) = piece_of(text, meant_at(tokens, place, awaits));
+    let expected = reported_expected(number, expected);
+    let (start, length) = excerpt_of(text, offending_at(tokens, place, expected));
     let place = line_at(text, tokens, place);
     RefusalSpan {
-        awaits,
+        expected,
         ..RefusalSpan::new(Fault::Refused { number, place }, start, length)
     }
 }
 
 /// What is found in these tokens, with its line and its slice.
-fn stop_met(text: &[u8], tokens: &[Token<'_>], met: MetFault) -> RefusalSpan
+fn stop_raised(text: &[u8], tokens: &[Token<'_>], raised: RaisedFault) -> RefusalSpan
     requires { length text.now ≤ most_bytes }
-    ensures { IsStopAt text.now tokens.now met.fault met.awaits result }
+    ensures { IsStopAt text.now tokens.now raised.fault raised.expected result }
 {
-    match met.fault {
-        Fault::Refused { number, place } => stop_at(text, tokens, number, place, met.awaits),
+    match raised.fault {
+        Fault::Refused { number, place } => stop_at(text, tokens, number, place, raised.expected),
         Fault::Memory => RefusalSpan::new(Fault::Memory, 0, 0),
     }
 }
@@ -207,15 +215,15 @@ fn stop_in(alloc: Global, text: &[u8], tokens: &mut [Token<'_>]) -> Option<Refus
     requires short { length text.now ≤ most_bytes }
     requires cut { IsCut text.now (map token_view tokens.old) }
     ensures stopped { IfSome result
-        (λ stop. StopsReading text.now stop.fault stop.start stop.length stop.awaits) }
-    ensures awaited { IfSome result (λ stop. IsAwaitedAs stop.fault stop.awaits) }
+        (λ stop. StopsReading text.now stop.fault stop.start stop.length stop.expected) }
+    ensures allowed { IfSome result (λ stop. IsAllowedAs stop.fault stop.expected) }
     ensures read { IfNone result (IsReadByPlaces text.now) }
 {
     exchange(tokens);
-    let met = met_in(alloc, tokens, text.len() as u32);
+    let raised = raised_in(alloc, tokens, text.len() as u32);
     exchange(tokens);
-    match met {
-        Some(met) => Some(stop_met(text, tokens, met)),
+    match raised {
+        Some(raised) => Some(stop_raised(text, tokens, raised)),
         None => None,
     }
 }
@@ -224,8 +232,8 @@ fn stop_in(alloc: Global, text: &[u8], tokens: &mut [Token<'_>]) -> Option<Refus
 /// same pass as that of `read`, over tokens that have their places for their lines.
 pub fn stop_of(alloc: Global, text: &[u8]) -> Option<RefusalSpan>
     ensures stopped { IfSome result
-        (λ stop. StopsReading text.now stop.fault stop.start stop.length stop.awaits) }
-    ensures awaited { IfSome result (λ stop. IsAwaitedAs stop.fault stop.awaits) }
+        (λ stop. StopsReading text.now stop.fault stop.start stop.length stop.expected) }
+    ensures allowed { IfSome result (λ stop. IsAllowedAs stop.fault stop.expected) }
     ensures read { IfNone result (IsReadByPlaces text.now) }
 {
     match tokens_or_stop(alloc, text) {

@@ -30,7 +30,7 @@ fn variables_until(unit: &Unit<'_>, place: u32) -> usize {
 }
 
 /// In which way a unit has too much at a name (306): the rule on variables or on places is broken.
-pub(crate) fn case_of_room(source: &Source<'_>, place: u32) -> Case {
+pub(crate) fn case_of_capacity(source: &Source<'_>, place: u32) -> Case {
     match source.units.get(unit_at(source, place)) {
         Some(unit) if variables_until(unit, place) > MOST_VARIABLES => Case::Variable,
         _ => Case::Plain,

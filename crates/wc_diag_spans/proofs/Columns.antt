@@ -9,12 +9,12 @@ abbrev pub is_other : ℕ → Bool
 is_other byte = not (byte == 10)
 
 -- that number of bytes at the end of these were not an LF
-abbrev pub StandsBack : List ℕ → ℕ → Type 0
-StandsBack above count =
+abbrev pub IsBack : List ℕ → ℕ → Type 0
+IsBack above count =
     suffix_len is_other above ≡ count + suffix_len is_other (take (length above - count) above)
 
 -- none was looked at
-pub back_begins : (above : List ℕ) → StandsBack above 0
+pub back_begins : (above : List ℕ) → IsBack above 0
 back_begins above =
     let all : length above - 0 ≡ length above = omega arith in
     ap (suffix_len is_other) (sym (ap (λ k. take k above) all ∙ take-length above)) ∙ sym (zero-add _)

@@ -89,39 +89,39 @@ line_kept (byte ∷ next ∷ rest) other =
     ap (λ l. byte ∷ l) (line_kept (next ∷ rest) last)
 
 -- after that number of lines come these bytes
-abbrev pub StandsBehind : List ℕ → ℕ → List ℕ → Type 0
-StandsBehind text count rest = drop count (cut_lines text) ≡ cut_lines rest
+abbrev pub IsAfterRecords : List ℕ → ℕ → List ℕ → Type 0
+IsAfterRecords text count rest = drop count (cut_lines text) ≡ cut_lines rest
 
 -- one line more
-pub stands_further : (text : List ℕ) (count : ℕ) (rest below : List ℕ) → StandsBehind text count rest → HasBelow rest below → StandsBehind text (count + 1) below
-stands_further text count rest below stands has =
-    sym (drop-drop 1 count (cut_lines text)) ∙ ap (drop 1) (stands ∙ has.1)
+pub is_further : (text : List ℕ) (count : ℕ) (rest below : List ℕ) → IsAfterRecords text count rest → HasBelow rest below → IsAfterRecords text (count + 1) below
+is_further text count rest below represents has =
+    sym (drop-drop 1 count (cut_lines text)) ∙ ap (drop 1) (represents ∙ has.1)
 
 -- an item after a number of others
-item_behind : (items : List (List ℕ)) (count n : ℕ) → slice_get items (count + n) ≡ slice_get (drop count items) n
-item_behind items zero n = ap (slice_get items) (zero-add n)
-item_behind [] (suc k) n = refl
-item_behind (item ∷ items) (suc k) n =
+item_after : (items : List (List ℕ)) (count n : ℕ) → slice_get items (count + n) ≡ slice_get (drop count items) n
+item_after items zero n = ap (slice_get items) (zero-add n)
+item_after [] (suc k) n = refl
+item_after (item ∷ items) (suc k) n =
     let more : suc k + n ≡ suc (k + n) = omega arith in
-    ap (slice_get (item ∷ items)) more ∙ item_behind items k n
+    ap (slice_get (item ∷ items)) more ∙ item_after items k n
 
 -- the line after a number of others
-pub line_behind : (text : List ℕ) (count n : ℕ) (rest : List ℕ) → StandsBehind text count rest → slice_get (lines_of text) (count + n) ≡ option_map without_return (slice_get (cut_lines rest) n)
-line_behind text count n rest stands =
+pub line_after : (text : List ℕ) (count n : ℕ) (rest : List ℕ) → IsAfterRecords text count rest → slice_get (lines_of text) (count + n) ≡ option_map without_return (slice_get (cut_lines rest) n)
+line_after text count n rest represents =
     slice_get-map without_return (cut_lines text) (count + n)
-    ∙ ap (option_map without_return) (item_behind (cut_lines text) count n ∙ ap (λ l. slice_get l n) stands)
+    ∙ ap (option_map without_return) (item_after (cut_lines text) count n ∙ ap (λ l. slice_get l n) represents)
 
 -- the line of a number
 numbered_line : (text : List ℕ) (number before : ℕ) → number ≡ suc before → line_of_number number text ≡ slice_get (lines_of text) before
 numbered_line text number before e = ap (λ k. line_of_number k text) e
 
 -- the line that is looked for
-pub line_is : (text : List ℕ) (number count : ℕ) (rest first : List ℕ) → number ≡ suc count → StandsBehind text count rest → slice_get (cut_lines rest) 0 ≡ Some first → Some (without_return first) ≡ line_of_number number text
-line_is text number count rest first e stands is =
-    sym (numbered_line text number count e ∙ ap (slice_get (lines_of text)) (sym (add-zero count)) ∙ line_behind text count 0 rest stands ∙ ap (option_map without_return) is)
+pub line_is : (text : List ℕ) (number count : ℕ) (rest first : List ℕ) → number ≡ suc count → IsAfterRecords text count rest → slice_get (cut_lines rest) 0 ≡ Some first → Some (without_return first) ≡ line_of_number number text
+line_is text number count rest first e represents is =
+    sym (numbered_line text number count e ∙ ap (slice_get (lines_of text)) (sym (add-zero count)) ∙ line_after text count 0 rest represents ∙ ap (option_map without_return) is)
 
 -- no line of that number is there
-pub line_is_missing : (text : List ℕ) (number count : ℕ) (rest : List ℕ) → suc count < number → StandsBehind text count rest → IsOneLine rest → None ≡ line_of_number number text
-line_is_missing text number count rest h stands one =
+pub line_is_missing : (text : List ℕ) (number count : ℕ) (rest : List ℕ) → suc count < number → IsAfterRecords text count rest → IsOneLine rest → None ≡ line_of_number number text
+line_is_missing text number count rest h represents one =
     let more : number ≡ suc (count + suc (number - suc (suc count))) = omega arith in
-    sym (numbered_line text number (count + suc (number - suc (suc count))) more ∙ line_behind text count (suc (number - suc (suc count))) rest stands ∙ ap (λ l. option_map without_return (slice_get l (suc (number - suc (suc count))))) one)
+    sym (numbered_line text number (count + suc (number - suc (suc count))) more ∙ line_after text count (suc (number - suc (suc count))) rest represents ∙ ap (λ l. option_map without_return (slice_get l (suc (number - suc (suc count))))) one)

@@ -4,21 +4,21 @@ use Rattle.std.proofs.lemmas.List.{append_assoc, append-nil, take_min}
 use Rattle.std.specs.Prelude.{flat_map, unwrap_or}
 use Rattle.csv.specs.Records.{field_at}
 use Rattle.wc_diag_spans.specs.Finds.{IsCutTo}
-use Rattle.wc_diag_spans.specs.Meant.{IsKept}
-use Rattle.wc_diag_spans.specs.Rows.{MeansField, behind_comma, cut_field, glued, joined, shown_field, shown_row}
-use Rattle.wc_diag_spans.specs.declared.finding.Finding.{Finding}
-use Rattle.wc_diag_spans.specs.declared.finding.Spot.{Spot}
+use Rattle.wc_diag_spans.specs.OffendingTokens.{IsKept}
+use Rattle.wc_diag_spans.specs.Rows.{MeansField, after_comma, cut_field, glued, joined, shown_field, shown_row}
+use Rattle.wc_diag_spans.specs.declared.diagnostic.Diagnostic.{Diagnostic}
+use Rattle.wc_diag_spans.specs.declared.diagnostic.TextSpan.{TextSpan}
 use Rattle.wc_model.specs.Run.Log.{Record}
 
 -- one field more after others
 later_field : (fields : Record) (k : ℕ) (field : List ℕ) → field_at fields k ≡ Some field
-    → flat_map behind_comma (take (suc k) fields) ≡ flat_map behind_comma (take k fields) ++ behind_comma field
+    → flat_map after_comma (take (suc k) fields) ≡ flat_map after_comma (take k fields) ++ after_comma field
 unfolding field_at
 later_field [] k field e = absurd (cc)
 later_field (f ∷ fs) zero field e =
     let same : f ≡ field = cc in
-    rw same (append-nil (behind_comma field))
-later_field (f ∷ fs) (suc k) field e = ap (λ rest. behind_comma f ++ rest) (later_field fs k field e) ∙ sym (append_assoc (behind_comma f) (flat_map behind_comma (take k fs)) (behind_comma field))
+    rw same (append-nil (after_comma field))
+later_field (f ∷ fs) (suc k) field e = ap (λ rest. after_comma f ++ rest) (later_field fs k field e) ∙ sym (append_assoc (after_comma f) (flat_map after_comma (take k fs)) (after_comma field))
 
 -- one field more
 pub one_field_more : (fields : Record) (k : ℕ) (field : List ℕ) → field_at fields k ≡ Some field
@@ -28,7 +28,7 @@ one_field_more [] k field e = absurd (cc)
 one_field_more (f ∷ fs) zero field e =
     let same : f ≡ field = cc in
     rw same (append-nil (cut_field field))
-one_field_more (f ∷ fs) (suc k) field e = ap (λ rest. cut_field f ++ rest) (later_field fs k field e) ∙ sym (append_assoc (cut_field f) (flat_map behind_comma (take k fs)) (behind_comma field))
+one_field_more (f ∷ fs) (suc k) field e = ap (λ rest. cut_field f ++ rest) (later_field fs k field e) ∙ sym (append_assoc (cut_field f) (flat_map after_comma (take k fs)) (after_comma field))
 
 -- a field that is there
 field_there : (fields : Record) (k : ℕ) → k < length fields → field_at fields k ≡ Some (unwrap_or (field_at fields k) [])
@@ -50,8 +50,8 @@ row_shown fields count e =
     ap (λ n. joined (take n fields)) turned ∙ ap joined (take_min 128 fields)
 
 -- a span that is kept refers to the field that was found
-pub field_kept : (number line : ℕ) (fields : Record) (old new : Finding) (spot : Option Spot) → IfSome old.spot (MeansField number fields)
-    → IfSome spot (λ s. IsKept old new line s) → IfSome spot (λ s. (found : Spot) × MeansField number fields found × IsCutTo new.shown.items found s)
+pub field_kept : (number line : ℕ) (fields : Record) (old new : Diagnostic) (text_span : Option TextSpan) → IfSome old.text_span (MeansField number fields)
+    → IfSome text_span (λ s. IsKept old new line s) → IfSome text_span (λ s. (found : TextSpan) × MeansField number fields found × IsCutTo new.shown.items found s)
 field_kept number line fields old new None means kept = tt
 field_kept number line fields old new (Some s) means kept =
     (kept.found, subst (λ o. IfSome o (MeansField number fields)) kept.was means, record { start = kept.start; size = kept.size })

@@ -1,5 +1,5 @@
 pub mod Lines
 pub mod Showing
-pub mod Meant
+pub mod OffendingTokens
 pub mod Rows
 pub mod Finds

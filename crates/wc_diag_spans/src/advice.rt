@@ -1,5 +1,5 @@
 use crate::differences::{block_of, words_at};
-use crate::lines::{behind, front, line_of, piece};
+use crate::lines::{excerpt, following, line_of, prefix};
 use crate::members::member_advice;
 use crate::mistakes::word_before;
 use crate::near::{
@@ -24,20 +24,20 @@ fn short_words(text: &[u8]) -> &str {
 
 /// The likely operator for one whose letters are exchanged.
 fn exchanged_advice(alloc: Global, word: &[u8]) -> Result<String, AllocError> {
-    let meant = if is_word(b"jmpnc", word) {
+    let offending = if is_word(b"jmpnc", word) {
         "JMPCN"
     } else if is_word(b"calnc", word) {
         "CALCN"
     } else {
         "RETCN"
     };
-    text_with(alloc, Values::NearOf(meant, "The C comes before the N"))
+    text_with(alloc, Values::NearOf(offending, "The C comes before the N"))
 }
 
 /// How to set an input that is used as an operator: the instance is the word after it.
 fn setting_advice(alloc: Global, text: &[u8], span: &RefusalSpan) -> Result<String, AllocError> {
-    let input = short_words(piece(text, span.start, span.length));
-    let rest = behind(text, span.start.saturating_add(span.length));
+    let input = short_words(excerpt(text, span.start, span.length));
+    let rest = following(text, span.start.saturating_add(span.length));
     let instance = short_words(first_word(rest));
     if input.is_empty() || instance.is_empty() {
         return Ok(String::new(alloc));
@@ -52,7 +52,7 @@ fn section_advice(alloc: Global, text: &[u8], span: &RefusalSpan) -> Result<Stri
         return Ok(String::new(alloc));
     }
     // The word is on the last line above the token that has more than blanks.
-    let above = front(text, span.start).trim_ascii_end();
+    let above = prefix(text, span.start).trim_ascii_end();
     text_with(
         alloc,
         Values::NearEnd(short_words(word), line_of(text, above.len())),
@@ -91,7 +91,7 @@ fn bit_advice(alloc: Global, address: &[u8]) -> Result<String, AllocError> {
         return Ok(String::new(alloc));
     };
     let area = if is_output { "Q" } else { "I" };
-    let number = short_words(behind(address, 2));
+    let number = short_words(following(address, 2));
     let first = format!(in alloc; "%{area}X{number}.0")?;
     address_advice(alloc, &first, is_output)
 }
@@ -102,16 +102,16 @@ fn field_advice(alloc: Global, text: &[u8], span: &RefusalSpan) -> Result<String
     if block.is_empty() {
         return Ok(String::new(alloc));
     }
-    let word = meant_at(text, span);
+    let word = offending_at(text, span);
     let instance = first_word(word);
     let dot = instance.len().saturating_add(1);
-    let before = piece(word, 0, dot);
+    let before = excerpt(word, 0, dot);
     member_advice(
         alloc,
         text,
         block.as_bytes(),
         before,
-        behind(word, dot).trim_ascii(),
+        following(word, dot).trim_ascii(),
     )
 }
 
@@ -121,14 +121,14 @@ fn formal_advice(alloc: Global, text: &[u8], span: &RefusalSpan) -> Result<Strin
     if block.is_empty() {
         return Ok(String::new(alloc));
     }
-    member_advice(alloc, text, block.as_bytes(), b"", meant_at(text, span))
+    member_advice(alloc, text, block.as_bytes(), b"", offending_at(text, span))
 }
 
 /// The offending slice, also if it is on a line below.
-fn meant_at<'a>(text: &'a [u8], span: &RefusalSpan) -> &'a [u8] {
+fn offending_at<'a>(text: &'a [u8], span: &RefusalSpan) -> &'a [u8] {
     match span.below {
         Some(below) => words_at(text, Some(below)).as_bytes(),
-        None => piece(text, span.start, span.length),
+        None => excerpt(text, span.start, span.length),
     }
 }
 
@@ -140,7 +140,7 @@ fn advice_of_token(
     span: &RefusalSpan,
     mistake: Case,
 ) -> Result<String, AllocError> {
-    let word = piece(text, span.start, span.length);
+    let word = excerpt(text, span.start, span.length);
     match (number, mistake) {
         (201, Case::NoOperator) => operator_advice(alloc, word),
         (201, Case::NoUnit) => unit_advice(alloc, word),
@@ -161,7 +161,7 @@ pub(crate) fn advice_at(
     span: &RefusalSpan,
     mistake: Case,
 ) -> Result<String, AllocError> {
-    let word = meant_at(text, span);
+    let word = offending_at(text, span);
     match (number, mistake) {
         (401, Case::Plain) => advice_for(alloc, text, word, span.start),
         (401, Case::Field) => field_advice(alloc, text, span),

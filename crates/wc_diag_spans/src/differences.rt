@@ -1,4 +1,4 @@
-use crate::lines::piece;
+use crate::lines::excerpt;
 use crate::types::{Family, family_of, operator_before, taken_by};
 use std::alloc::{AllocError, Global};
 use wc_built_in::elementary_type;
@@ -18,7 +18,9 @@ pub(crate) fn name_of(kind: Kind) -> &'static str {
 /// Bytes of the text; empty if there are none, or if they are not words.
 pub(crate) fn words_at(text: &[u8], slice: Option<Slice>) -> &str {
     match slice {
-        Some(slice) => str::from_utf8(piece(text, slice.start, slice.length.min(64))).unwrap_or(""),
+        Some(slice) => str::from_utf8(excerpt(text, slice.start, slice.length.min(64))).unwrap_or(
+            "",
+        ),
         None => "",
     }
 }
@@ -64,7 +66,7 @@ fn untaken<'a>(text: &'a [u8], span: &RefusalSpan, kind: Kind) -> Option<Differe
 
 /// A result that the operator does not take.
 fn needing<'a>(text: &'a [u8], span: &RefusalSpan, before: ResultKind) -> Option<Difference<'a>> {
-    let taken = taken_by(family_of(piece(text, span.start, span.length)));
+    let taken = taken_by(family_of(excerpt(text, span.start, span.length)));
     if taken.is_empty() {
         return None;
     }

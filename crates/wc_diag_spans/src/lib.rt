@@ -4,14 +4,14 @@
 #![tactic(auto)]
 
 mod advice;
+mod diagnostic;
 mod differences;
-mod finding;
+mod excerpts;
 mod lines;
 mod members;
 mod mistakes;
 mod near;
 mod parentheses;
-mod pieces;
 mod plates;
 mod programs;
 mod refusal;
@@ -19,7 +19,7 @@ mod rows;
 mod searching;
 mod types;
 
-pub use finding::{Finding, Spot};
+pub use diagnostic::{Diagnostic, TextSpan};
 pub use lines::line_at;
 pub use refusal::{Evidence, Part, Refusal};
 pub use searching::find;

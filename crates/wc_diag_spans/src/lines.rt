@@ -1,12 +1,12 @@
 ghost use Rattle.std.specs.Prelude.{◌≡◌, ◌≤◌, ◌==◌, MatchOption, length, min, option_map, slice_get, take, drop, Some};
 ghost use Rattle.std.specs.List.{position_or_len};
-ghost use Rattle.wc_diag_spans.specs.Meant.{StandsAt};
+ghost use Rattle.wc_diag_spans.specs.OffendingTokens.{IsAt};
 ghost use Rattle.wc_diag_spans.specs.Lines.{HasBelow, IsOneLine, column_at, cut_lines, line_of_number, without_return};
 
 use memchr::{memchr, memchr_iter};
 
 /// What comes after that number of bytes.
-pub(crate) fn behind(text: &[u8], start: usize) -> &[u8]
+pub(crate) fn following(text: &[u8], start: usize) -> &[u8]
     ensures { result.now ≡ drop (min start (length text.now)) text.now }
 {
     let (_, rest) = text.split_at(start.min(text.len()));
@@ -14,7 +14,7 @@ pub(crate) fn behind(text: &[u8], start: usize) -> &[u8]
 }
 
 /// The first bytes, up to that number.
-pub(crate) fn front(text: &[u8], end: usize) -> &[u8]
+pub(crate) fn prefix(text: &[u8], end: usize) -> &[u8]
     ensures { result.now ≡ take (min end (length text.now)) text.now }
 {
     let (first, _) = text.split_at(end.min(text.len()));
@@ -22,10 +22,10 @@ pub(crate) fn front(text: &[u8], end: usize) -> &[u8]
 }
 
 /// That number of bytes, from a place on.
-pub(crate) fn piece(text: &[u8], start: usize, length: usize) -> &[u8]
-    ensures { StandsAt text.now start result.now }
+pub(crate) fn excerpt(text: &[u8], start: usize, length: usize) -> &[u8]
+    ensures { IsAt text.now start result.now }
 {
-    front(behind(text, start), length)
+    prefix(following(text, start), length)
 }
 
 /// The number of bytes before the first line feed.
@@ -52,7 +52,7 @@ fn without_return(line: &[u8]) -> &[u8]
     }
     let last = line.len() - 1;
     if line[last] == b'\r' {
-        return front(line, last);
+        return prefix(line, last);
     }
     line
 }
@@ -61,7 +61,7 @@ fn without_return(line: &[u8]) -> &[u8]
 fn first_line(text: &[u8]) -> &[u8]
     ensures { slice_get (cut_lines text.now) 0 ≡ Some result.now }
 {
-    front(text, line_length(text))
+    prefix(text, line_length(text))
 }
 
 /// What is below the first line, if it ends with LF.
@@ -70,7 +70,7 @@ fn below_line(text: &[u8]) -> Option<&[u8]>
 {
     let place = line_length(text);
     if place < text.len() {
-        Some(behind(text, place + 1))
+        Some(following(text, place + 1))
     } else {
         None
     }
@@ -95,7 +95,7 @@ pub fn line_at(text: &[u8], number: u32) -> Option<&[u8]>
 
 /// The number of the line that a place is on, counted from 1.
 pub(crate) fn line_of(text: &[u8], place: usize) -> u32 {
-    let feeds = memchr_iter(b'\n', front(text, place)).count();
+    let feeds = memchr_iter(b'\n', prefix(text, place)).count();
     feeds.saturating_add(1).min(1048577) as u32
 }
 
@@ -103,7 +103,7 @@ pub(crate) fn line_of(text: &[u8], place: usize) -> u32 {
 pub(crate) fn column_at(text: &[u8], place: usize) -> usize
     ensures { result ≡ column_at text.now place }
 {
-    let above = front(text, place);
+    let above = prefix(text, place);
     for count in 0..above.len() {
         if above[above.len() - count - 1] == b'\n' {
             return count;

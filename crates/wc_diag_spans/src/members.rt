@@ -1,4 +1,4 @@
-use crate::lines::front;
+use crate::lines::prefix;
 use crate::near::{ends_section, first_word, keyword_on};
 use memchr::memchr;
 use std::alloc::{AllocError, Global};
@@ -73,7 +73,7 @@ fn add_declared(list: &mut String, declaration: &[u8]) -> Result<(), AllocError>
     let Some(colon) = memchr(b':', declaration) else {
         return Ok(());
     };
-    for name in front(declaration, colon).split(|byte| *byte == b',') {
+    for name in prefix(declaration, colon).split(|byte| *byte == b',') {
         add_name(list, name.trim_ascii())?;
     }
     Ok(())
@@ -148,8 +148,8 @@ fn near_advice(
     near: &str,
 ) -> Result<String, AllocError> {
     let instance = str::from_utf8(instance).unwrap_or("");
-    let meant = format!(in alloc; "{instance}{near}")?;
-    text_with(alloc, Values::NearOf(&meant, members_said(block)))
+    let offending = format!(in alloc; "{instance}{near}")?;
+    text_with(alloc, Values::NearOf(&offending, members_said(block)))
 }
 
 /// What to write for a name that a standard block does not have.

@@ -1,9 +1,9 @@
-use crate::lines::{behind, front, piece};
+use crate::lines::{excerpt, following, prefix};
 use crate::near::is_near;
 use crate::types::{is_conditional, type_hint};
 use wc_built_in::{Keyword, elementary_type, keyword_named, standard_block};
 use wc_diag_places::RefusalSpan;
-use wc_diag_texts::{Awaits, Case};
+use wc_diag_texts::{Case, Expected};
 use wc_model::{UnitKind, is_word};
 
 /// Words of a conditional statement of Structured Text.
@@ -93,24 +93,24 @@ fn is_among(words: &[&'static [u8]], text: &[u8]) -> bool {
 
 /// The word that ends right before a place, blanks apart; empty if there is none.
 pub(crate) fn word_before(text: &[u8], start: usize) -> &[u8] {
-    let above = front(text, start).trim_ascii_end();
+    let above = prefix(text, start).trim_ascii_end();
     let letters = above
         .iter()
         .rev()
         .take_while(|byte| byte.is_ascii_alphanumeric() || **byte == b'_')
         .count();
-    behind(above, above.len().saturating_sub(letters))
+    following(above, above.len().saturating_sub(letters))
 }
 
 /// What is before a place on its line.
 fn line_before(text: &[u8], start: usize) -> &[u8] {
-    let above = front(text, start);
+    let above = prefix(text, start);
     let length = above
         .iter()
         .rev()
         .take_while(|byte| **byte != b'\n')
         .count();
-    behind(above, above.len().saturating_sub(length))
+    following(above, above.len().saturating_sub(length))
 }
 
 /// A `=` in place of something else, by what is before it on its line.
@@ -232,14 +232,14 @@ fn mistaken_word(word: &[u8], next: &[u8]) -> Case {
 }
 
 /// A mistake that the word before an unexpected token shows.
-fn mistaken_before(before: &[u8], awaits: Awaits) -> Option<Case> {
-    match (keyword_named(before), awaits) {
-        (Some(Keyword::Not), Awaits::LineEnd | Awaits::PointOrLineEnd) => Some(
+fn mistaken_before(before: &[u8], expected: Expected) -> Option<Case> {
+    match (keyword_named(before), expected) {
+        (Some(Keyword::Not), Expected::LineEnd | Expected::PointOrLineEnd) => Some(
             Case::NegatedOperand,
         ),
-        (Some(Keyword::Kept), Awaits::CommaOrColon) => Some(left_out(before)),
-        (Some(_), Awaits::CommaOrColon) => Some(Case::OpenSection),
-        (None, Awaits::CommaOrColon) if is_near(b"END_VAR", before) => Some(Case::OpenSection),
+        (Some(Keyword::Kept), Expected::CommaOrColon) => Some(left_out(before)),
+        (Some(_), Expected::CommaOrColon) => Some(Case::OpenSection),
+        (None, Expected::CommaOrColon) if is_near(b"END_VAR", before) => Some(Case::OpenSection),
         _ => None,
     }
 }
@@ -251,7 +251,7 @@ fn is_type(word: &[u8]) -> bool {
 
 /// Whether nothing but blanks is between a place and the line end before it.
 fn begins_line(text: &[u8], start: usize) -> bool {
-    let above = front(text, start);
+    let above = prefix(text, start);
     above
         .iter()
         .rev()
@@ -260,46 +260,49 @@ fn begins_line(text: &[u8], start: usize) -> bool {
 }
 
 /// A mistake that an unexpected token shows; `rest` begins after it.
-fn mistaken_token(token: &[u8], rest: &[u8], awaits: Awaits) -> Case {
+fn mistaken_token(token: &[u8], rest: &[u8], expected: Expected) -> Case {
     let next = rest.trim_ascii_start();
-    match (awaits, token.first(), keyword_named(token)) {
-        (Awaits::Nothing, _, _) => match mistaken_unit(token) {
+    match (expected, token.first(), keyword_named(token)) {
+        (Expected::Nothing, _, _) => match mistaken_unit(token) {
             Case::Configuration => Case::Configuration,
             _ => Case::AfterProgram,
         },
-        (Awaits::UnitWord, _, _) => mistaken_unit(token),
-        (Awaits::Field, Some(b'0'..=b'9'), _) => Case::NoAddress,
-        (Awaits::LineEnd | Awaits::PointOrLineEnd | Awaits::OperandOrLineEnd, Some(b')'), _) => {
-            Case::Closing
-        }
-        (Awaits::FormalOrClosing | Awaits::Formal | Awaits::AssignOrArrow, _, _)
-        | (Awaits::OpeningOrLineEnd, Some(b'A'..=b'Z' | b'a'..=b'z' | b'%'), _) =>
+        (Expected::UnitWord, _, _) => mistaken_unit(token),
+        (Expected::Field, Some(b'0'..=b'9'), _) => Case::NoAddress,
+        (
+            Expected::LineEnd | Expected::PointOrLineEnd | Expected::OperandOrLineEnd,
+            Some(b')'),
+            _,
+        ) => { Case::Closing }
+        (Expected::FormalOrClosing | Expected::Formal | Expected::AssignOrArrow, _, _)
+        | (Expected::OpeningOrLineEnd, Some(b'A'..=b'Z' | b'a'..=b'z' | b'%'), _) =>
             Case::UnnamedInput,
-        (Awaits::CommaPointOrClosing | Awaits::CommaOrClosing, Some(_), _) => {
+        (Expected::CommaPointOrClosing | Expected::CommaOrClosing, Some(_), _) => {
             if next.starts_with(b":=") || next.starts_with(b"=>") {
                 Case::MissingComma
             } else {
                 Case::NoVariable
             }
         }
-        (Awaits::CommaOrColon, Some(b';'), _) => Case::MissingType,
-        (Awaits::Name | Awaits::TypeName | Awaits::Literal, Some(b';'), _) => Case::Declaration,
+        (Expected::CommaOrColon, Some(b';'), _) => Case::MissingType,
+        (Expected::Name | Expected::TypeName | Expected::Literal, Some(b';'), _) =>
+            Case::Declaration,
         (_, Some(b';'), _) => Case::Semicolon,
-        (Awaits::InstructionOrLineEnd, _, _) if is_type(token) => Case::OutsideSection,
-        (Awaits::LineEnd | Awaits::PointOrLineEnd, _, Some(Keyword::Apply(_))) => {
+        (Expected::InstructionOrLineEnd, _, _) if is_type(token) => Case::OutsideSection,
+        (Expected::LineEnd | Expected::PointOrLineEnd, _, Some(Keyword::Apply(_))) => {
             Case::SecondOperator
         }
-        (Awaits::Instruction | Awaits::InstructionOrLineEnd, Some(b'%'), _) => Case::Assignment,
-        (Awaits::Instruction | Awaits::InstructionOrLineEnd, Some(b'('), _) => Case::ListBelow,
+        (Expected::Instruction | Expected::InstructionOrLineEnd, Some(b'%'), _) => Case::Assignment,
+        (Expected::Instruction | Expected::InstructionOrLineEnd, Some(b'('), _) => Case::ListBelow,
         (_, _, Some(Keyword::Kept)) => left_out(token),
         (
-            Awaits::NameOrEndVar
-            | Awaits::CommaOrColon
-            | Awaits::Name
-            | Awaits::TypeName
-            | Awaits::AssignOrSemicolon
-            | Awaits::Literal
-            | Awaits::Semicolon,
+            Expected::NameOrEndVar
+            | Expected::CommaOrColon
+            | Expected::Name
+            | Expected::TypeName
+            | Expected::AssignOrSemicolon
+            | Expected::Literal
+            | Expected::Semicolon,
             _,
             _,
         ) => Case::Declaration,
@@ -310,10 +313,10 @@ fn mistaken_token(token: &[u8], rest: &[u8], awaits: Awaits) -> Case {
 /// Whether a token is a comma between two digits.
 fn is_decimal_comma(text: &[u8], start: usize, token: &[u8]) -> bool {
     token.starts_with(b",")
-        && front(text, start)
+        && prefix(text, start)
             .last()
             .is_some_and(|byte| byte.is_ascii_digit())
-        && behind(text, start)
+        && following(text, start)
             .get(1)
             .is_some_and(|byte| byte.is_ascii_digit())
 }
@@ -321,17 +324,16 @@ fn is_decimal_comma(text: &[u8], start: usize, token: &[u8]) -> bool {
 /// A mistake that an unexpected token shows by where it is, and else by itself.
 fn mistaken_at(text: &[u8], span: RefusalSpan, token: &[u8]) -> Case {
     let before = word_before(text, span.start);
-    match (mistaken_before(before, span.awaits), span.awaits) {
+    match (mistaken_before(before, span.expected), span.expected) {
         (Some(mistake), _) => mistake,
-        (None, Awaits::AssignOrSemicolon | Awaits::Semicolon) if begins_line(text, span.start) => {
-            Case::DeclarationAbove
-        }
-        (None, Awaits::LineEnd | Awaits::Semicolon) if is_decimal_comma(text, span.start, token) =>
-            { Case::DecimalComma }
-        (None, awaits) => mistaken_token(
+        (None, Expected::AssignOrSemicolon | Expected::Semicolon)
+            if begins_line(text, span.start) => { Case::DeclarationAbove }
+        (None, Expected::LineEnd | Expected::Semicolon)
+            if is_decimal_comma(text, span.start, token) => { Case::DecimalComma }
+        (None, expected) => mistaken_token(
             token,
-            behind(text, span.start.saturating_add(span.length)),
-            awaits,
+            following(text, span.start.saturating_add(span.length)),
+            expected,
         ),
     }
 }
@@ -420,7 +422,7 @@ pub(crate) fn is_bare_duration(text: &[u8]) -> bool {
         .take_while(|byte| byte.is_ascii_digit() || matches!(byte, b'.' | b'_'))
         .count();
     let units: [&[u8]; 5] = [b"ms", b"s", b"m", b"h", b"d"];
-    digits > 0 && is_among(&units, behind(text, digits))
+    digits > 0 && is_among(&units, following(text, digits))
 }
 
 /// Whether the name of a type is used as that of a variable.
@@ -430,14 +432,14 @@ pub(crate) fn names_type(word: &[u8]) -> bool {
 
 /// Which mistake a refusal of that number and case refers to at a slice of the text: its hint.
 pub(crate) fn mistake_at(text: &[u8], number: u16, span: RefusalSpan, case: Case) -> Case {
-    let rest = behind(text, span.start);
-    let token = piece(text, span.start, span.length);
-    match (number, span.awaits) {
+    let rest = following(text, span.start);
+    let token = excerpt(text, span.start, span.length);
+    match (number, span.expected) {
         (101, _) => mistaken_byte(line_before(text, span.start), rest, case),
         (105, _) => mistaken_number(word_before(text, span.start), token, case),
-        (106, _) => mistaken_duration(token, behind(rest, span.length), case),
-        (201, Awaits::LabelColon) => mistaken_operator(token, behind(rest, span.length)),
-        (201, Awaits::CommaPointOrClosing | Awaits::CommaOrClosing)
+        (106, _) => mistaken_duration(token, following(rest, span.length), case),
+        (201, Expected::LabelColon) => mistaken_operator(token, following(rest, span.length)),
+        (201, Expected::CommaPointOrClosing | Expected::CommaOrClosing)
             if keyword_named(token).is_some() && begins_line(text, span.start) => { Case::OpenList }
         (201, _) => mistaken_at(text, span, token),
         (203, _) => mistaken_program(text, token, case),
@@ -445,7 +447,8 @@ pub(crate) fn mistake_at(text: &[u8], number: u16, span: RefusalSpan, case: Case
         (304, _) => mistaken_address(token),
         (402, _) => type_hint(text, token, span),
         (403, _) if is_conditional(token) => Case::NoCondition,
-        (403, _) if front(text, span.start).trim_ascii_end().last() == Some(&b':') => Case::AtLabel,
+        (403, _) if prefix(text, span.start).trim_ascii_end().last() == Some(&b':') =>
+            Case::AtLabel,
         (404, _) => mistaken_target(token),
         (406, _) if span.first != 0 => Case::LabelAbove,
         _ => case,

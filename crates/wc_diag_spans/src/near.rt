@@ -1,11 +1,11 @@
-use crate::lines::{behind, front};
+use crate::lines::{following, prefix};
 use memchr::memchr;
 use std::alloc::{AllocError, Global};
 use wc_built_in::{Keyword, keyword_named};
 use wc_diag_texts::{Values, text_with};
 
 /// The number of bytes at the start of both that are the same letters.
-fn same_front(a: &[u8], b: &[u8]) -> usize {
+fn same_prefix(a: &[u8], b: &[u8]) -> usize {
     a.iter()
         .zip(b.iter())
         .take_while(|(x, y)| x.eq_ignore_ascii_case(y))
@@ -24,7 +24,9 @@ fn same_end(a: &[u8], b: &[u8]) -> usize {
 /// Whether two names differ by one letter, more, less or other, or by two that are exchanged.
 pub(crate) fn is_near(a: &[u8], b: &[u8]) -> bool {
     let (shorter, longer) = (a.len().min(b.len()), a.len().max(b.len()));
-    let same = same_front(a, b).saturating_add(same_end(a, b)).min(shorter);
+    let same = same_prefix(a, b)
+        .saturating_add(same_end(a, b))
+        .min(shorter);
     let differ = longer.saturating_sub(same);
     shorter > 1 && (differ <= 1 || differ == 2 && a.len() == b.len())
 }
@@ -82,9 +84,9 @@ const TYPES: [&str; 10] = [
 
 /// Which of some words another may be a misspelling of; empty if none is near.
 fn word_advice(alloc: Global, words: &[&'static str], word: &[u8]) -> Result<String, AllocError> {
-    for meant in words {
-        if is_near(meant.as_bytes(), word) {
-            return text_with(alloc, Values::Near(meant));
+    for offending in words {
+        if is_near(offending.as_bytes(), word) {
+            return text_with(alloc, Values::Near(offending));
         }
     }
     Ok(String::new(alloc))
@@ -102,7 +104,7 @@ pub(crate) fn unit_advice(alloc: Global, word: &[u8]) -> Result<String, AllocErr
 
 /// Whether a line begins with a word, in letters of either case.
 fn begins(line: &[u8], word: &[u8]) -> bool {
-    front(line, word.len()).eq_ignore_ascii_case(word)
+    prefix(line, word.len()).eq_ignore_ascii_case(word)
 }
 
 /// The keyword with which a line begins, and what follows it.
@@ -115,14 +117,14 @@ pub(crate) fn keyword_on(line: &[u8]) -> (Option<Keyword>, &[u8]) {
         .next()
         .unwrap_or(b"");
     match keyword_named(word) {
-        Some(keyword) => (Some(keyword), behind(line, word.len())),
+        Some(keyword) => (Some(keyword), following(line, word.len())),
         None => (None, line),
     }
 }
 
 /// Whether a section of declarations ends at the end of a line.
 pub(crate) fn ends_section(line: &[u8]) -> bool {
-    behind(line, line.len().saturating_sub(7)).eq_ignore_ascii_case(b"END_VAR")
+    following(line, line.len().saturating_sub(7)).eq_ignore_ascii_case(b"END_VAR")
 }
 
 /// The name among those before a type that is spelled almost as this one; empty if none is.
@@ -130,7 +132,7 @@ fn near_in_declaration<'a>(declaration: &'a [u8], name: &[u8]) -> &'a [u8] {
     let Some(colon) = memchr(b':', declaration) else {
         return b"";
     };
-    for declared in front(declaration, colon).split(|byte| *byte == b',') {
+    for declared in prefix(declaration, colon).split(|byte| *byte == b',') {
         let declared = declared.trim_ascii();
         if is_near(declared, name) {
             return declared;
@@ -154,7 +156,7 @@ fn near_on_line<'a>(line: &'a [u8], name: &[u8]) -> &'a [u8] {
 /// upwards from the place, so that a text of many units costs no more than the last of them.
 fn near_name<'a>(text: &'a [u8], name: &[u8], place: usize) -> &'a [u8] {
     let mut in_section = false;
-    for line in front(text, place).rsplit(|byte| *byte == b'\n') {
+    for line in prefix(text, place).rsplit(|byte| *byte == b'\n') {
         let line = line.trim_ascii();
         let (keyword, names) = keyword_on(line);
         if matches!(keyword, Some(Keyword::UnitStart(_))) {
@@ -193,13 +195,13 @@ pub(crate) fn first_word(text: &[u8]) -> &[u8] {
         .iter()
         .take_while(|byte| byte.is_ascii_alphanumeric() || **byte == b'_')
         .count();
-    front(text, length)
+    prefix(text, length)
 }
 
 /// The label of a line that is spelled almost as this one; empty if it has none.
 fn near_label_on<'a>(line: &'a [u8], name: &[u8]) -> &'a [u8] {
     let label = first_word(line);
-    let rest = behind(line.trim_ascii_start(), label.len()).trim_ascii_start();
+    let rest = following(line.trim_ascii_start(), label.len()).trim_ascii_start();
     if rest.first() == Some(&b':') && is_near(label, name) {
         return label;
     }
@@ -208,7 +210,7 @@ fn near_label_on<'a>(line: &'a [u8], name: &[u8]) -> &'a [u8] {
 
 /// The label below a place, in the same unit, that is spelled almost as this one; empty if none is.
 fn near_label<'a>(text: &'a [u8], name: &[u8], place: usize) -> &'a [u8] {
-    for line in behind(text, place).split(|byte| *byte == b'\n') {
+    for line in following(text, place).split(|byte| *byte == b'\n') {
         if matches!(keyword_named(first_word(line)), Some(Keyword::UnitEnd(_))) {
             return b"";
         }
@@ -238,7 +240,7 @@ pub(crate) fn label_advice(
 
 /// The function block above a place whose name is spelled almost as this one; empty if none is.
 fn near_block<'a>(text: &'a [u8], name: &[u8], place: usize) -> &'a [u8] {
-    for line in front(text, place).split(|byte| *byte == b'\n') {
+    for line in prefix(text, place).split(|byte| *byte == b'\n') {
         let (keyword, rest) = keyword_on(line.trim_ascii());
         let block = first_word(rest);
         if matches!(keyword, Some(Keyword::UnitStart(_))) && is_near(block, name) {

@@ -1,5 +1,5 @@
-use crate::finding::Finding;
-use crate::lines::{behind, column_at, line_length, line_of, piece};
+use crate::diagnostic::Diagnostic;
+use crate::lines::{column_at, excerpt, following, line_length, line_of};
 use memchr::{memchr, memmem};
 use std::alloc::{AllocError, Global};
 use toml::de::Error;
@@ -35,21 +35,21 @@ fn value_length(text: &[u8]) -> usize {
 /// Where that key is given its value, if the first line does so, with that number of lines above it.
 fn key_on(line: &[u8], above: usize, name: &str) -> Option<KeyLine> {
     let key = blanks(line);
-    if !behind(line, key).starts_with(name.as_bytes()) {
+    if !following(line, key).starts_with(name.as_bytes()) {
         return None;
     }
     let end = key.saturating_add(name.len());
-    let sign = end.saturating_add(blanks(behind(line, end)));
-    if behind(line, sign).first() != Some(&b'=') {
+    let sign = end.saturating_add(blanks(following(line, end)));
+    if following(line, sign).first() != Some(&b'=') {
         return None;
     }
     let value = sign.saturating_add(1);
-    let value = value.saturating_add(blanks(behind(line, value)));
+    let value = value.saturating_add(blanks(following(line, value)));
     Some(KeyLine {
         line: above.saturating_add(1).min(u32::MAX as usize) as u32,
         key,
         value,
-        length: value_length(behind(line, value)).max(1),
+        length: value_length(following(line, value)).max(1),
     })
 }
 
@@ -63,17 +63,17 @@ fn search_key(text: &[u8], name: &str) -> Option<KeyLine> {
     let mut found = None;
     let (mut start, mut number) = (0_usize, 0_usize);
     for _line in 0..text.len() {
-        let rest = behind(text, start).iter();
+        let rest = following(text, start).iter();
         let above = rest.take_while(|byte| **byte == b'\n').count();
         start = start.saturating_add(above);
         number = number.saturating_add(above);
-        if let Some(here) = key_on(behind(text, start), number, name) {
+        if let Some(here) = key_on(following(text, start), number, name) {
             if found.is_some() {
                 return None;
             }
             found = Some(here);
         }
-        match memchr(b'\n', behind(text, start)) {
+        match memchr(b'\n', following(text, start)) {
             Some(length) => start = start.saturating_add(length),
             None => return found,
         }
@@ -82,15 +82,15 @@ fn search_key(text: &[u8], name: &str) -> Option<KeyLine> {
 }
 
 /// Points to a key or to its value, if one line gives it.
-fn point_to(finding: &mut Finding, text: &[u8], name: &str, is_key: bool) {
+fn point_to(diagnostic: &mut Diagnostic, text: &[u8], name: &str, is_key: bool) {
     let Some(found) = search_key(text, name) else {
         return;
     };
-    finding.line = found.line;
+    diagnostic.line = found.line;
     if is_key {
-        finding.point(found.key, name.len());
+        diagnostic.point(found.key, name.len());
     } else {
-        finding.point(found.value, found.length);
+        diagnostic.point(found.value, found.length);
     }
 }
 
@@ -145,70 +145,70 @@ fn advice_of(alloc: Global, rule: BrokenRule<'_>) -> Result<String, AllocError> 
 }
 
 /// Says which rule is broken, and points to the key that is referred to.
-fn tell_rule(
+fn report_rule(
     alloc: Global,
-    finding: &mut Finding,
+    diagnostic: &mut Diagnostic,
     text: &[u8],
     rule: BrokenRule<'_>,
 ) -> Result<(), AllocError> {
     match rule {
         BrokenRule::UnknownKey { key, missing } => {
-            point_to(finding, text, key, true);
+            point_to(diagnostic, text, key, true);
             if let Some(missing) = missing {
-                finding.advice = text_with(alloc, Values::MissingKey(missing))?;
+                diagnostic.advice = text_with(alloc, Values::MissingKey(missing))?;
             }
-            finding.tell(key.as_bytes(), Case::UnknownKey)
+            diagnostic.report(key.as_bytes(), Case::UnknownKey)
         }
-        BrokenRule::MissingKey { key } => finding.tell(key.as_bytes(), Case::MissingKey),
+        BrokenRule::MissingKey { key } => diagnostic.report(key.as_bytes(), Case::MissingKey),
         BrokenRule::WrongKind { key } => {
-            point_to(finding, text, key, false);
+            point_to(diagnostic, text, key, false);
             let case = match key {
                 "unit" => Case::NoText,
                 _ => Case::NoWholeNumber,
             };
-            finding.tell(key.as_bytes(), case)
+            diagnostic.report(key.as_bytes(), case)
         }
         rule => {
             let (key, case) = key_of(rule);
-            point_to(finding, text, key, false);
-            finding.case = case;
-            finding.advice = advice_of(alloc, rule)?;
+            point_to(diagnostic, text, key, false);
+            diagnostic.case = case;
+            diagnostic.advice = advice_of(alloc, rule)?;
             Ok(())
         }
     }
 }
 
 /// Says where a text stops being TOML, and why.
-fn tell_syntax(
+fn report_syntax(
     alloc: Global,
-    finding: &mut Finding,
+    diagnostic: &mut Diagnostic,
     text: &[u8],
     error: &Error,
 ) -> Result<(), AllocError> {
     let Some(span) = error.span() else {
         return Err(AllocError);
     };
-    let meant = piece(text, span.start, span.end.saturating_sub(span.start));
-    finding.line = line_of(text, span.start);
-    finding.point(column_at(text, span.start), line_length(meant).max(1));
+    let offending = excerpt(text, span.start, span.end.saturating_sub(span.start));
+    diagnostic.line = line_of(text, span.start);
+    diagnostic.point(column_at(text, span.start), line_length(offending).max(1));
     let why = error.message();
-    finding.detail = format!(in alloc; "{why}")?;
+    diagnostic.detail = format!(in alloc; "{why}")?;
     Ok(())
 }
 
 /// Finds the fault of a plate: the rule of that number that its check names.
 pub(crate) fn find_plate_fault(
     alloc: Global,
-    finding: &mut Finding,
+    diagnostic: &mut Diagnostic,
     text: &[u8],
     number: u16,
 ) -> Result<(), AllocError> {
     match toml::table_from_slice(alloc, text) {
         Ok(table) => match plate_of(&table) {
-            Err(rule) if rule.number() == number => tell_rule(alloc, finding, text, rule),
+            Err(rule) if rule.number() == number => report_rule(alloc, diagnostic, text, rule),
             _ => Ok(()),
         },
-        Err(error) if number == 501 => tell_syntax(alloc, finding, text, &error),
+        Err(error) if number == 501 => report_syntax(alloc, diagnostic, text, &error),
         // a text that is too long was not read to its end
         Err(_) => Ok(()),
     }

@@ -1,20 +1,20 @@
 ghost use Rattle.std.specs.Prelude.{◌≡◌, ◌≤◌, ◌<◌, IfOk, IfSome, None, OnOk, Some};
 ghost use Rattle.wc_diag_spans.specs.Lines.{column_at};
-ghost use Rattle.wc_diag_spans.specs.Meant.{HasLaterSpot, HasStop, StandsAt};
-ghost use Rattle.wc_diag_places.specs.LaterSpots.{RefusesLater};
-ghost use Rattle.wc_diag_places.specs.ReadingSpots.{StopsReading};
+ghost use Rattle.wc_diag_spans.specs.OffendingTokens.{HasLaterTextSpan, HasStop, IsAt};
+ghost use Rattle.wc_diag_places.specs.LaterTextSpans.{RefusesLater};
+ghost use Rattle.wc_diag_places.specs.ReadingTextSpans.{StopsReading};
 
 use crate::advice::advice_at;
+use crate::diagnostic::Diagnostic;
 use crate::differences::{difference_said, names_operator, words_at};
-use crate::finding::Finding;
-use crate::lines::{behind, column_at, front, piece};
+use crate::excerpts::{BYTE_ORDER_MARK, case_of_excerpt};
+use crate::lines::{column_at, excerpt, following, prefix};
 use crate::mistakes::{mistake_at, names_type, word_before};
 use crate::parentheses::lines_to_opening;
-use crate::pieces::{BYTE_ORDER_MARK, case_of_piece};
 use std::alloc::{AllocError, Global};
 use wc_built_in::{Keyword, keyword_named};
-use wc_diag_places::{RefusalSpan, read_by_places, spot_in, stop_of};
-use wc_diag_texts::{Awaits, Case, Values, sentence_of, text_with};
+use wc_diag_places::{RefusalSpan, read_by_places, stop_of, text_span_in};
+use wc_diag_texts::{Case, Expected, Values, sentence_of, text_with};
 use wc_model::{Fault, is_word};
 
 /// In which way a word does not begin a line, if only a colon could follow it.
@@ -40,10 +40,10 @@ fn case_of_token(token: &[u8]) -> Case {
 
 /// In which way a rule is broken at a slice of the text, which goes on like `text`.
 fn case_at(number: u16, text: &[u8], span: RefusalSpan) -> Case {
-    let token = front(text, span.length);
-    match (number, span.awaits) {
-        (101..=107, _) => case_of_piece(number, text, token),
-        (201, Awaits::LabelColon) => case_of_word(token),
+    let token = prefix(text, span.length);
+    match (number, span.expected) {
+        (101..=107, _) => case_of_excerpt(number, text, token),
+        (201, Expected::LabelColon) => case_of_word(token),
         (201..=208, _) => case_of_token(token),
         (401, _) if names_type(token) => Case::BlockType,
         _ => span.case,
@@ -88,7 +88,7 @@ fn detail_of(
     span: &RefusalSpan,
 ) -> Result<String, AllocError> {
     if number == 205 {
-        if let Some(lines) = lines_to_opening(front(text, span.start)) {
+        if let Some(lines) = lines_to_opening(prefix(text, span.start)) {
             return text_with(alloc, Values::OpenSince(line.saturating_sub(lines)));
         }
     }
@@ -122,7 +122,7 @@ fn said_there(
     case: Case,
     mistake: Case,
 ) -> Result<String, AllocError> {
-    let word = piece(text, span.start, span.length);
+    let word = excerpt(text, span.start, span.length);
     match mistake {
         Case::LabelAbove => text_with(alloc, Values::LabelLine(span.first)),
         Case::InputOperator => text_with(alloc, Values::InputOf(block_of_input(word))),
@@ -164,7 +164,7 @@ fn said_of(
 }
 
 /// The case by which the headline is made: what is said in place of the sentence is in the detail.
-fn case_told(said: &str, case: Case) -> Case {
+fn case_reported(said: &str, case: Case) -> Case {
     if said.is_empty() {
         case
     } else {
@@ -188,31 +188,31 @@ fn detail_or(
 }
 
 /// Points to the slice at which a pass refuses a text, and says what is wrong with it.
-fn point_to_piece(
+fn point_to_excerpt(
     alloc: Global,
-    finding: &mut Finding,
+    diagnostic: &mut Diagnostic,
     text: &[u8],
     number: u16,
     span: RefusalSpan,
 ) -> Result<(), AllocError>
-    ensures spot { finding.new.spot
+    ensures text_span { diagnostic.new.text_span
         ≡ Some (record { start = column_at text.now span.start; length = span.length }) }
-    ensures line { finding.new.line ≡ finding.old.line }
-    ensures quoted { OnOk result (StandsAt text.now span.start finding.new.subject.items) }
+    ensures line { diagnostic.new.line ≡ diagnostic.old.line }
+    ensures quoted { OnOk result (IsAt text.now span.start diagnostic.new.subject.items) }
 {
-    finding.point(column_at(text, span.start), span.length);
-    finding.awaits = span.awaits;
-    let case = case_at(number, behind(text, span.start), span);
+    diagnostic.point(column_at(text, span.start), span.length);
+    diagnostic.expected = span.expected;
+    let case = case_at(number, following(text, span.start), span);
     let mistake = mistake_at(text, number, span, case);
     let case = case_said(case, mistake);
     let length = quoted_length(text, number, case, &span);
     let said = said_of(alloc, text, number, &span, case, mistake)?;
     let advice = advice_at(alloc, text, number, &span, mistake)?;
-    let told = case_told(&said, case);
-    finding.detail = detail_or(alloc, said, text, number, finding.line, &span)?;
-    finding.tell(piece(text, span.start, length), told)?;
-    finding.hint = mistake;
-    finding.advice = advice;
+    let reported = case_reported(&said, case);
+    diagnostic.detail = detail_or(alloc, said, text, number, diagnostic.line, &span)?;
+    diagnostic.report(excerpt(text, span.start, length), reported)?;
+    diagnostic.hint = mistake;
+    diagnostic.advice = advice;
     Ok(())
 }
 
@@ -220,7 +220,7 @@ fn point_to_piece(
 fn span_in(alloc: Global, text: &[u8], number: u16) -> Result<Option<RefusalSpan>, AllocError>
     ensures stops { number < 300 → IfOk result
         (λ found. IfSome found
-        (λ span. StopsReading text.now span.fault span.start span.length span.awaits)) }
+        (λ span. StopsReading text.now span.fault span.start span.length span.expected)) }
     ensures refuses { 300 ≤ number → IfOk result
         (λ found. IfSome found
         (λ span. RefusesLater text.now span.fault span.start span.length)) }
@@ -229,7 +229,7 @@ fn span_in(alloc: Global, text: &[u8], number: u16) -> Result<Option<RefusalSpan
         return Ok(stop_of(alloc, text));
     }
     match read_by_places(alloc, text) {
-        Ok(placed) => Ok(spot_in(alloc, &placed)),
+        Ok(spanned_source) => Ok(text_span_in(alloc, &spanned_source)),
         Err(Fault::Memory) => Err(AllocError),
         Err(_) => Ok(None),
     }
@@ -238,17 +238,17 @@ fn span_in(alloc: Global, text: &[u8], number: u16) -> Result<Option<RefusalSpan
 /// Finds the fault of a program's text on its line: where a pass refuses it.
 pub(crate) fn find_program_fault(
     alloc: Global,
-    finding: &mut Finding,
+    diagnostic: &mut Diagnostic,
     text: &[u8],
     number: u16,
 ) -> Result<(), AllocError>
-    requires { finding.old.spot ≡ None }
+    requires { diagnostic.old.text_span ≡ None }
     ensures stopped { number < 300
-        → IfOk result (λ _. HasStop text.now number finding.old.line finding.new) }
-    ensures meant { 300 ≤ number
-        → IfOk result (λ _. HasLaterSpot text.now number finding.old.line finding.new) }
+        → IfOk result (λ _. HasStop text.now number diagnostic.old.line diagnostic.new) }
+    ensures offending { 300 ≤ number
+        → IfOk result (λ _. HasLaterTextSpan text.now number diagnostic.old.line diagnostic.new) }
 {
-    if finding.line == 0 {
+    if diagnostic.line == 0 {
         return Ok(());
     }
     let Some(span) = span_in(alloc, text, number)? else {
@@ -256,10 +256,10 @@ pub(crate) fn find_program_fault(
     };
     match span.fault {
         Fault::Refused {
-            number: told,
+            number: reported,
             place,
-        } if told == number && place == finding.line => {
-            point_to_piece(alloc, finding, text, number, span)
+        } if reported == number && place == diagnostic.line => {
+            point_to_excerpt(alloc, diagnostic, text, number, span)
         }
         Fault::Memory => Err(AllocError),
         _ => Ok(()),

@@ -1,10 +1,10 @@
 ghost use Rattle.std.specs.Prelude.{◌≡◌, ◌≤◌, ◌++◌, IfOk, IfSome, None, OnOk, length};
 ghost use Rattle.wc_diag_spans.specs.Rows as rows;
 ghost use Rattle.wc_diag_spans.specs.Rows.{IsInField, MeansField, glued};
-ghost use Rattle.wc_record.specs.Told.{fields_told};
+ghost use Rattle.wc_record.specs.Reported.{fields_reported};
 
-use crate::finding::Finding;
-use crate::lines::{front, piece};
+use crate::diagnostic::Diagnostic;
+use crate::lines::{excerpt, prefix};
 use std::alloc::{AllocError, Global};
 use wc_diag_texts::Case;
 use wc_record::RefusedRow;
@@ -17,18 +17,18 @@ const MOST_FIELDS: usize = 128;
 
 /// A field of a row as it is shown: an empty one after the last.
 fn shown_field(row: &RefusedRow, place: usize) -> &[u8]
-    ensures field { result.now ≡ rows.shown_field (fields_told row.now) place }
+    ensures field { result.now ≡ rows.shown_field (fields_reported row.now) place }
     ensures short { length result.now ≤ 16384 }
 {
     match row.field(place) {
-        Some(field) => front(field, LONGEST_FIELD),
+        Some(field) => prefix(field, LONGEST_FIELD),
         None => b"",
     }
 }
 
 /// Where one of the first three fields starts in the row as it is shown.
 fn field_start(row: &RefusedRow, place: usize) -> usize
-    ensures start { result ≡ rows.field_start (fields_told row.now) place }
+    ensures start { result ≡ rows.field_start (fields_reported row.now) place }
     ensures short { result ≤ 32770 }
 {
     let second = shown_field(row, 0).len() + 1;
@@ -42,7 +42,7 @@ fn field_start(row: &RefusedRow, place: usize) -> usize
 /// Adds a field after those before it.
 fn add_field(text: &mut Vec<u8>, row: &RefusedRow, place: usize) -> Result<(), AllocError>
     ensures { OnOk result (text.new.items
-        ≡ text.old.items ++ glued place (rows.shown_field (fields_told row.now) place)) }
+        ≡ text.old.items ++ glued place (rows.shown_field (fields_reported row.now) place)) }
 {
     if place > 0 {
         text.push(b',')?;
@@ -52,7 +52,7 @@ fn add_field(text: &mut Vec<u8>, row: &RefusedRow, place: usize) -> Result<(), A
 
 /// The row as it is shown: its fields, up to 128, with commas between.
 pub(crate) fn shown_row(alloc: Global, row: &RefusedRow) -> Result<Vec<u8>, AllocError>
-    ensures { IfOk result (λ text. text.items ≡ rows.shown_row (fields_told row.now)) }
+    ensures { IfOk result (λ text. text.items ≡ rows.shown_row (fields_reported row.now)) }
 {
     let mut text = Vec::new(alloc);
     for place in 0..row.len().min(MOST_FIELDS) {
@@ -78,16 +78,16 @@ fn case_of_heading(row: &RefusedRow) -> Case {
 }
 
 /// Says the number of fields of a row.
-fn tell_fields(finding: &mut Finding, row: &RefusedRow, place: u32) {
+fn report_fields(diagnostic: &mut Diagnostic, row: &RefusedRow, place: u32) {
     if place == 1 {
-        finding.case = case_of_heading(row);
+        diagnostic.case = case_of_heading(row);
     } else if row.len() > 3 {
-        finding.case = Case::MoreFields;
-        finding.point(field_start(row, 2) + shown_field(row, 2).len(), 1);
+        diagnostic.case = Case::MoreFields;
+        diagnostic.point(field_start(row, 2) + shown_field(row, 2).len(), 1);
     } else if has_semicolons(row) {
-        finding.case = Case::Semicolons;
+        diagnostic.case = Case::Semicolons;
     } else {
-        finding.case = Case::Plain;
+        diagnostic.case = Case::Plain;
     }
 }
 
@@ -123,18 +123,18 @@ fn case_of_length(kind: &[u8], digits: usize) -> Case {
 }
 
 /// Says what is wrong with hexadecimal data.
-fn tell_hexadecimal(finding: &mut Finding, row: &RefusedRow) -> Result<(), AllocError>
-    ensures { IfSome finding.new.spot (IsInField (fields_told row.now) 2) }
+fn report_hexadecimal(diagnostic: &mut Diagnostic, row: &RefusedRow) -> Result<(), AllocError>
+    ensures { IfSome diagnostic.new.text_span (IsInField (fields_reported row.now) 2) }
 {
     let data = shown_field(row, 2);
     let start = field_start(row, 2);
     let digits = hexadecimal_length(data);
     if digits < data.len() {
-        finding.point(start + digits, 1);
-        return finding.tell(piece(data, digits, 1), Case::NoDigit);
+        diagnostic.point(start + digits, 1);
+        return diagnostic.report(excerpt(data, digits, 1), Case::NoDigit);
     }
-    finding.point(start, digits.max(1));
-    finding.case = case_of_length(shown_field(row, 1), digits);
+    diagnostic.point(start, digits.max(1));
+    diagnostic.case = case_of_length(shown_field(row, 1), digits);
     Ok(())
 }
 
@@ -151,44 +151,44 @@ fn case_of_field(number: u16, row: &RefusedRow) -> Case {
 }
 
 /// Says what is wrong with a field, and points to it.
-fn tell_field(
-    finding: &mut Finding,
+fn report_field(
+    diagnostic: &mut Diagnostic,
     row: &RefusedRow,
     number: u16,
     place: usize,
 ) -> Result<(), AllocError>
-    ensures { IfSome finding.new.spot (IsInField (fields_told row.now) place) }
+    ensures { IfSome diagnostic.new.text_span (IsInField (fields_reported row.now) place) }
 {
     let field = shown_field(row, place);
-    finding.point(field_start(row, place), field.len().max(1));
+    diagnostic.point(field_start(row, place), field.len().max(1));
     if field.is_empty() {
-        finding.case = Case::Missing;
+        diagnostic.case = Case::Missing;
         return Ok(());
     }
-    finding.tell(field, case_of_field(number, row))
+    diagnostic.report(field, case_of_field(number, row))
 }
 
 /// Says which rule of its number a row breaks, and points to the offending field.
-pub(crate) fn tell_row(
-    finding: &mut Finding,
+pub(crate) fn report_row(
+    diagnostic: &mut Diagnostic,
     row: &RefusedRow,
     number: u16,
     place: u32,
 ) -> Result<(), AllocError>
-    requires { finding.old.spot ≡ None }
-    ensures { IfSome finding.new.spot (MeansField number (fields_told row.now)) }
+    requires { diagnostic.old.text_span ≡ None }
+    ensures { IfSome diagnostic.new.text_span (MeansField number (fields_reported row.now)) }
 {
     match number {
         601 => {
-            tell_fields(finding, row, place);
+            report_fields(diagnostic, row, place);
             Ok(())
         }
-        602 | 603 => tell_field(finding, row, number, 0),
-        604 => tell_field(finding, row, number, 1),
-        605 | 608 => tell_field(finding, row, number, 2),
-        606 => tell_hexadecimal(finding, row),
+        602 | 603 => report_field(diagnostic, row, number, 0),
+        604 => report_field(diagnostic, row, number, 1),
+        605 | 608 => report_field(diagnostic, row, number, 2),
+        606 => report_hexadecimal(diagnostic, row),
         609 => {
-            finding.point(field_start(row, 1), shown_field(row, 1).len().max(1));
+            diagnostic.point(field_start(row, 1), shown_field(row, 1).len().max(1));
             Ok(())
         }
         _ => Ok(()),

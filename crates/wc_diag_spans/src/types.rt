@@ -1,4 +1,4 @@
-use crate::lines::front;
+use crate::lines::prefix;
 use wc_built_in::{Keyword, keyword_named};
 use wc_diag_places::{RefusalSpan, ResultKind};
 use wc_diag_texts::Case;
@@ -78,7 +78,7 @@ pub(crate) fn is_conditional(word: &[u8]) -> bool {
 
 /// The operator before an operand, which begins there: the word before it, or `&`.
 pub(crate) fn operator_before(text: &[u8], start: usize) -> &[u8] {
-    let above = front(text, start).trim_ascii_end();
+    let above = prefix(text, start).trim_ascii_end();
     let letters = above
         .iter()
         .rev()

@@ -16,7 +16,7 @@ pub fn hint_of(number: u16, case: Case) -> Option<&'static str>
         401..=409 => match case {
             Case::NotOfBlock(block) => Some(members_hint(block)),
             _ if number == 402 => kind_hint(number, case),
-            _ => piece_hint(number, case),
+            _ => excerpt_hint(number, case),
         },
         _ => None,
     }
@@ -124,7 +124,7 @@ fn declaration_hint(number: u16, case: Case) -> Option<&'static str> {
 }
 
 /// Of a slice of an instruction.
-fn piece_hint(number: u16, case: Case) -> Option<&'static str> {
+fn excerpt_hint(number: u16, case: Case) -> Option<&'static str> {
     text_among! {
         number, case;
         401, Case::Field => "after the dot comes an output of an instance that is declared in VAR, such as t.Q";

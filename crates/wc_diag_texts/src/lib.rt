@@ -2,20 +2,20 @@
 //! (`sentence_of`, `hint_of`), of what could be there (`words_of`) and with values (`text_with`); and the formats of a message.
 #![tactic(auto)]
 
-mod awaits;
 mod case;
 mod catalogue;
 mod differences;
-mod form;
+mod expected;
+mod format;
 mod hints;
 mod sentences;
 mod values;
 
-pub use awaits::{Awaits, words_of};
 pub use case::Case;
 pub use catalogue::{Entry, entry_of};
 pub use differences::{Difference, difference_text};
-pub use form::Form;
+pub use expected::{Expected, words_of};
+pub use format::Format;
 pub use hints::hint_of;
 pub use sentences::sentence_of;
 pub use values::{Values, text_with};

@@ -27,7 +27,7 @@ pub fn sentence_of(number: u16, case: Case) -> Option<&'static str>
         (201..=208, _) => reading_sentence(number, case),
         (301..=308, _) => declaration_sentence(number, case),
         (402, _) => kind_sentence(number, case),
-        (401..=411, _) => piece_sentence(number, case),
+        (401..=411, _) => excerpt_sentence(number, case),
         (501..=508, _) => plate_sentence(number, case),
         (601..=609, _) => log_sentence(number, case),
         _ => None,
@@ -95,7 +95,7 @@ fn declaration_sentence(number: u16, case: Case) -> Option<&'static str> {
 }
 
 /// Of a slice of an instruction.
-fn piece_sentence(number: u16, case: Case) -> Option<&'static str> {
+fn excerpt_sentence(number: u16, case: Case) -> Option<&'static str> {
     text_among! {
         number, case;
         401, Case::Field => "is not an input or output of a declared instance";

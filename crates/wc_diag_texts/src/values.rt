@@ -45,7 +45,7 @@ pub fn text_with(alloc: Global, values: Values<'_>) -> Result<String, AllocError
         Values::LabelLine(line) => {
             format!(in alloc; "is the label of line {line}, above this jump")
         },
-        Values::Below(piece, line, said) => format!(in alloc; "`{piece}` (line {line}) {said}"),
+        Values::Below(excerpt, line, said) => format!(in alloc; "`{excerpt}` (line {line}) {said}"),
         Values::Near(name) => format!(in alloc; "did you mean `{name}`?"),
         Values::NearOf(name, others) => format!(in alloc; "did you mean `{name}`? {others}"),
         Values::NearEnd(word, line) => {

@@ -2,12 +2,12 @@
 use Rattle.std.proofs.Common.{◌≡◌, ℕ, Bool, true, false, not, ◌&&◌, ◌||◌, List, [], ◌∷◌, ◌++◌, inl, inr, Some, refl, ap, sym, ◌∙◌, subst, append_assoc}
 use Rattle.std.specs.List.{list_any}
 use Rattle.wc_model.specs.Language.DirectVariables.{DirectVariable}
-use Rattle.wc_diag_warnings.proofs.WayLaws.{or_true, left_true, right_true, true_or, or_left, both_true, not_true, not_false, ways_there}
+use Rattle.wc_diag_warnings.proofs.WayLaws.{or_true, left_true, right_true, true_or, or_left, both_true, not_true, not_false, edges_there}
 use Rattle.wc_diag_warnings.specs.Addresses.{doing_asks, doing_stores, reads_valid, reads_weight, stores}
 use Rattle.wc_diag_warnings.specs.Events.{Doing, Begins, Labels, Reads, Stores, Sets, Calls, Gives, Jumps, Returns, Happening}
 use Rattle.wc_diag_warnings.specs.Laws.{IsNoted, not_reached, stored_again, unasked, EachEventWarningIsSo}
 use Rattle.wc_diag_warnings.specs.Warnings.{begins_stretch, doing_begins, event_number, is_above_reached, is_stored_again, is_unasked, number_at}
-use Rattle.wc_diag_warnings.specs.Ways.{is_reached, is_stored_before}
+use Rattle.wc_diag_warnings.specs.Edges.{is_reached, is_stored_before}
 
 -- what begins an instruction does nothing else, and what reads stores nothing
 begins_is : (doing : Doing) → doing_begins doing ≡ true → doing ≡ Begins
@@ -64,19 +64,19 @@ module _ (events before : List Happening) (e : Happening) where
   renumbered numbers n m q w = let same : n ≡ m = cc in subst (λ k. IsNoted numbers events before e k) same w
 
   -- some output of the list
-  again_so : (numbers front all : List ℕ) → all ≡ front ++ numbers → is_stored_again numbers before e ≡ true → IsNoted all events before e 8
-  again_so [] front all whole found = cc
-  again_so (output ∷ numbers) front all whole found =
+  again_so : (numbers prefix all : List ℕ) → all ≡ prefix ++ numbers → is_stored_again numbers before e ≡ true → IsNoted all events before e 8
+  again_so [] prefix all whole found = cc
+  again_so (output ∷ numbers) prefix all whole found =
       let here = is_stored_before output before e && stores output e in
       elim (or_true here (is_stored_again numbers before e) found) [
-        | inl h ↦ stored_again front numbers output whole (right_true (is_stored_before output before e) (stores output e) h)
-            ((ways_there false (stores output) before e).0 (left_true (is_stored_before output before e) (stores output e) h))
-        | inr h ↦ again_so numbers (front ++ output ∷ []) all (whole ∙ sym (append_assoc front (output ∷ []) numbers)) h
+        | inl h ↦ stored_again prefix numbers output whole (right_true (is_stored_before output before e) (stores output e) h)
+            ((edges_there false (stores output) before e).0 (left_true (is_stored_before output before e) (stores output e) h))
+        | inr h ↦ again_so numbers (prefix ++ output ∷ []) all (whole ∙ sym (append_assoc prefix (output ∷ []) numbers)) h
       ]
 
-  again_found : (output : ℕ) (front behind : List ℕ) → is_stored_before output before e ≡ true → stores output e ≡ true → is_stored_again (front ++ output ∷ behind) before e ≡ true
-  again_found output [] behind s h = or_left (is_stored_before output before e && stores output e) (is_stored_again behind before e) (both_true (is_stored_before output before e) (stores output e) s h)
-  again_found output (n ∷ front) behind s h = true_or (is_stored_before n before e && stores n e) (is_stored_again (front ++ output ∷ behind) before e) (again_found output front behind s h)
+  again_found : (output : ℕ) (prefix following : List ℕ) → is_stored_before output before e ≡ true → stores output e ≡ true → is_stored_again (prefix ++ output ∷ following) before e ≡ true
+  again_found output [] following s h = or_left (is_stored_before output before e && stores output e) (is_stored_again following before e) (both_true (is_stored_before output before e) (stores output e) s h)
+  again_found output (n ∷ prefix) following s h = true_or (is_stored_before n before e && stores n e) (is_stored_again (prefix ++ output ∷ following) before e) (again_found output prefix following s h)
 
   none_again : (numbers : List ℕ) → reads_weight e ≡ true → is_stored_again numbers before e ≡ false
   none_again [] r = refl
@@ -86,11 +86,11 @@ module _ (events before : List Happening) (e : Happening) where
   -- a stretch begins
   stretch_so : (numbers : List ℕ) → begins_stretch before e ≡ true → IsNoted numbers events before e 7
   stretch_so numbers s =
-      let front = left_true (doing_begins e.doing && is_above_reached before) (not (is_reached before e)) s in
+      let prefix = left_true (doing_begins e.doing && is_above_reached before) (not (is_reached before e)) s in
       let off = not_true (is_reached before e) (right_true (doing_begins e.doing && is_above_reached before) (not (is_reached before e)) s) in
-      not_reached (begins_is e.doing (left_true (doing_begins e.doing) (is_above_reached before) front))
-      (λ w. let on = (ways_there true (λ any. false) before e).1 w in let no : true ≡ false = sym on ∙ off in elim (no_truth no) [ ])
-      (right_true (doing_begins e.doing) (is_above_reached before) front)
+      not_reached (begins_is e.doing (left_true (doing_begins e.doing) (is_above_reached before) prefix))
+      (λ w. let on = (edges_there true (λ any. false) before e).1 w in let no : true ≡ false = sym on ∙ off in elim (no_truth no) [ ])
+      (right_true (doing_begins e.doing) (is_above_reached before) prefix)
     where
       no_truth : true ≡ false → ⊥
       no_truth q = cc
@@ -111,15 +111,15 @@ module _ (events before : List Happening) (e : Happening) where
   -- what is so is warned of
   noted : {numbers : List ℕ} {number : ℕ} → IsNoted numbers events before e number → number_at numbers events before e ≡ Some number
   noted {numbers} (not_reached b w a) =
-      let off = fails_if (is_reached before e) (λ on. w ((ways_there true (λ any. false) before e).0 on)) in
+      let off = fails_if (is_reached before e) (λ on. w ((edges_there true (λ any. false) before e).0 on)) in
       let s : begins_stretch before e ≡ true =
       both_true (doing_begins e.doing && is_above_reached before) (not (is_reached before e)) (both_true (doing_begins e.doing) (is_above_reached before) (ap doing_begins b) a) (not_false (is_reached before e) off) in
       ap (λ x. event_number x (is_stored_again numbers before e) (is_unasked events before e)) s
-  noted {numbers} (stored_again front behind output whole h w) =
+  noted {numbers} (stored_again prefix following output whole h w) =
       let s : begins_stretch before e ≡ false =
       first_fails (doing_begins e.doing && is_above_reached before) (not (is_reached before e)) (first_fails (doing_begins e.doing) (is_above_reached before) (no_store_begins _ e.doing h)) in
       let a : is_stored_again numbers before e ≡ true =
-      ap (λ ns. is_stored_again ns before e) whole ∙ again_found output front behind ((ways_there false (stores output) before e).1 w) h in
+      ap (λ ns. is_stored_again ns before e) whole ∙ again_found output prefix following ((edges_there false (stores output) before e).1 w) h in
       ap (λ x. event_number x (is_stored_again numbers before e) (is_unasked events before e)) s ∙ ap (λ x. event_number false x (is_unasked events before e)) a
   noted {numbers} (unasked r v b) =
       let s : begins_stretch before e ≡ false =

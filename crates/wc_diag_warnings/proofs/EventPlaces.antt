@@ -5,15 +5,15 @@ use Rattle.std.specs.Prelude.{slice_get}
 use Rattle.std.specs.List.{list_any}
 use Rattle.wc_diag_warnings.specs.Addresses.{stores}
 use Rattle.wc_diag_warnings.specs.Events.{Happening}
-use Rattle.wc_diag_warnings.specs.Places.{Tracked, again_at, is_again, is_passed, on_at, ways_from}
+use Rattle.wc_diag_warnings.specs.Places.{Tracked, again_at, is_again, is_passed, on_at, edges_from}
 use Rattle.wc_diag_warnings.specs.Warnings.{is_stored_again}
-use Rattle.wc_diag_warnings.specs.Ways.{Passed, is_on, is_reached, is_stored_before, passed}
+use Rattle.wc_diag_warnings.specs.Edges.{Passed, is_on, is_reached, is_stored_before, passed}
 
 -- a list around the event at a place
 pub record Around (events : List Happening) (place : ℕ) (e : Happening) : Type 0 where
   pub before : List Happening
-  pub behind : List Happening
-  pub whole : events ≡ before ++ e ∷ behind
+  pub following : List Happening
+  pub whole : events ≡ before ++ e ∷ following
   pub at : length before ≡ place
 
 -- an item at its place
@@ -27,41 +27,41 @@ length_passed starts marks [] = refl
 length_passed starts marks (e ∷ before) = ap suc (length_passed starts marks before)
 
 -- what is known of the first events is not changed by those after
-pub record Fronts (all known : List Passed) : Type 0 where
-  pub front : List Passed
-  pub is : all ≡ front ++ known
+pub record Prefixes (all known : List Passed) : Type 0 where
+  pub prefix : List Passed
+  pub is : all ≡ prefix ++ known
 
-passed_behind : (starts : Bool) (marks : Happening → Bool) (late early : List Happening) → Fronts (passed starts marks (late ++ early)) (passed starts marks early)
-passed_behind starts marks [] early = record { front = []; is = refl }
-passed_behind starts marks (e ∷ late) early =
-    let h = passed_behind starts marks late early in
-    record { front = record { event = e; on = is_on starts marks (late ++ early) e } ∷ h.front; is = ap (λ ps. record { event = e; on = is_on starts marks (late ++ early) e } ∷ ps) h.is }
+passed_after : (starts : Bool) (marks : Happening → Bool) (late early : List Happening) → Prefixes (passed starts marks (late ++ early)) (passed starts marks early)
+passed_after starts marks [] early = record { prefix = []; is = refl }
+passed_after starts marks (e ∷ late) early =
+    let h = passed_after starts marks late early in
+    record { prefix = record { event = e; on = is_on starts marks (late ++ early) e } ∷ h.prefix; is = ap (λ ps. record { event = e; on = is_on starts marks (late ++ early) e } ∷ ps) h.is }
 
 -- the event between those before and after it, newest first
-turned_whole : (before : List Happening) (e : Happening) (behind : List Happening) → reverse (before ++ e ∷ behind) ≡ reverse behind ++ e ∷ reverse before
-turned_whole before e behind =
-    reverse-append before (e ∷ behind) ∙ ap (λ xs. xs ++ reverse before) (reverse-append (e ∷ []) behind) ∙ append_assoc (reverse behind) (e ∷ []) (reverse before)
+turned_whole : (before : List Happening) (e : Happening) (following : List Happening) → reverse (before ++ e ∷ following) ≡ reverse following ++ e ∷ reverse before
+turned_whole before e following =
+    reverse-append before (e ∷ following) ∙ ap (λ xs. xs ++ reverse before) (reverse-append (e ∷ []) following) ∙ append_assoc (reverse following) (e ∷ []) (reverse before)
 
 -- an event with what is known of it is at its place
-pub passed_at : (starts : Bool) (marks : Happening → Bool) (before : List Happening) (e : Happening) (behind : List Happening) →
-    slice_get (reverse (passed starts marks (reverse (before ++ e ∷ behind)))) (length before) ≡ Some (record { event = e; on = is_on starts marks (reverse before) e })
-passed_at starts marks before e behind =
+pub passed_at : (starts : Bool) (marks : Happening → Bool) (before : List Happening) (e : Happening) (following : List Happening) →
+    slice_get (reverse (passed starts marks (reverse (before ++ e ∷ following)))) (length before) ≡ Some (record { event = e; on = is_on starts marks (reverse before) e })
+passed_at starts marks before e following =
     let known = passed starts marks (reverse before) in
     let item : Passed = record { event = e; on = is_on starts marks (reverse before) e } in
-    let h = passed_behind starts marks (reverse behind) (e ∷ reverse before) in
+    let h = passed_after starts marks (reverse following) (e ∷ reverse before) in
     let n : length (reverse known) ≡ length before = length-reverse known ∙ length_passed starts marks (reverse before) ∙ length-reverse before in
-    let cut : reverse (passed starts marks (reverse (before ++ e ∷ behind))) ≡ reverse known ++ item ∷ reverse h.front =
-    ap (λ es. reverse (passed starts marks es)) (turned_whole before e behind) ∙ ap reverse h.is
-    ∙ reverse-append h.front (item ∷ known) ∙ ap (λ ps. ps ++ reverse h.front) (reverse-append (item ∷ []) known) ∙ append_assoc (reverse known) (item ∷ []) (reverse h.front) in
-    ap (λ ps. slice_get ps (length before)) cut ∙ ap (λ k. slice_get (reverse known ++ item ∷ reverse h.front) k) (sym n) ∙ slice_at (reverse known) item (reverse h.front)
+    let cut : reverse (passed starts marks (reverse (before ++ e ∷ following))) ≡ reverse known ++ item ∷ reverse h.prefix =
+    ap (λ es. reverse (passed starts marks es)) (turned_whole before e following) ∙ ap reverse h.is
+    ∙ reverse-append h.prefix (item ∷ known) ∙ ap (λ ps. ps ++ reverse h.prefix) (reverse-append (item ∷ []) known) ∙ append_assoc (reverse known) (item ∷ []) (reverse h.prefix) in
+    ap (λ ps. slice_get ps (length before)) cut ∙ ap (λ k. slice_get (reverse known ++ item ∷ reverse h.prefix) k) (sym n) ∙ slice_at (reverse known) item (reverse h.prefix)
 
 -- and at the place of an event of a list
 found_at : (starts : Bool) (marks : Happening → Bool) (events : List Happening) (place : ℕ) (e : Happening) (a : Around events place e) →
     slice_get (reverse (passed starts marks (reverse events))) place ≡ Some (record { event = e; on = is_on starts marks (reverse a.before) e })
 found_at starts marks events place e a =
     ap (λ es. slice_get (reverse (passed starts marks (reverse es))) place) a.whole
-    ∙ ap (λ k. slice_get (reverse (passed starts marks (reverse (a.before ++ e ∷ a.behind)))) k) (sym a.at)
-    ∙ passed_at starts marks a.before e a.behind
+    ∙ ap (λ k. slice_get (reverse (passed starts marks (reverse (a.before ++ e ∷ a.following)))) k) (sym a.at)
+    ∙ passed_at starts marks a.before e a.following
 
 -- the paths of the start
 pub reached_at : (events : List Happening) (known : List Passed) (place : ℕ) (e : Happening) (a : Around events place e) → known ≡ reverse (passed true (λ any. false) (reverse events)) →
@@ -70,13 +70,13 @@ reached_at events known place e a is = ap (λ ps. on_at ps place) is ∙ ap is_p
 
 -- the paths of each output
 again_with : (events : List Happening) (place : ℕ) (e : Happening) (a : Around events place e) (numbers : List ℕ) →
-    list_any (again_at place) (map (ways_from events) numbers) ≡ is_stored_again numbers (reverse a.before) e
+    list_any (again_at place) (map (edges_from events) numbers) ≡ is_stored_again numbers (reverse a.before) e
 again_with events place e a [] = refl
 again_with events place e a (n ∷ ns) =
-    ap (λ b. b || list_any (again_at place) (map (ways_from events) ns)) (ap (is_again n) (found_at false (stores n) events place e a))
+    ap (λ b. b || list_any (again_at place) (map (edges_from events) ns)) (ap (is_again n) (found_at false (stores n) events place e a))
     ∙ ap (λ b. (is_stored_before n (reverse a.before) e && stores n e) || b) (again_with events place e a ns)
 
-pub stored_at : (events : List Happening) (rows : List Tracked) (place : ℕ) (e : Happening) (a : Around events place e) (numbers : List ℕ) → rows ≡ map (ways_from events) numbers →
+pub stored_at : (events : List Happening) (rows : List Tracked) (place : ℕ) (e : Happening) (a : Around events place e) (numbers : List ℕ) → rows ≡ map (edges_from events) numbers →
     list_any (again_at place) rows ≡ is_stored_again numbers (reverse a.before) e
 stored_at events rows place e a numbers is = ap (λ rs. list_any (again_at place) rs) is ∙ again_with events place e a numbers
 
@@ -86,7 +86,7 @@ around events place e below left =
     let within : place ≤ length events = omega arith in
     record {
       before = take place events;
-      behind = drop (place + 1) events;
+      following = drop (place + 1) events;
       whole = sym (take-append-drop place events) ∙ ap (λ es. take place events ++ es) left;
       at = length-take-le place events within;
     }

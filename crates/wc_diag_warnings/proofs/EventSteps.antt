@@ -3,11 +3,11 @@ use Rattle.std.proofs.Common.{◌≡◌, ℕ, ◌+◌, Bool, true, false, not, �
 use Rattle.std.proofs.Math.Bool.{or_comm}
 use Rattle.std.specs.Prelude.{if◌then◌else◌}
 use Rattle.std.specs.List.{flat_map, list_any}
-use Rattle.wc_model.specs.Language.Checks.{spots_behind}
+use Rattle.wc_model.specs.Language.Checks.{positions_after}
 use Rattle.wc_diag_warnings.specs.Addresses.{reads_valid, reads_weight}
 use Rattle.wc_diag_warnings.specs.Events.{Happening}
 use Rattle.wc_diag_warnings.specs.Warnings.{Caution, address_of, begins_stretch, caution, doing_begins, event_cautions, event_number, is_above_reached, is_stored_again, is_unasked}
-use Rattle.wc_diag_warnings.specs.Ways.{is_reached}
+use Rattle.wc_diag_warnings.specs.Edges.{is_reached}
 
 -- a truth that comes last may come before the second
 swapped : (v b w : Bool) → ((v || b) || w) ≡ (v || (w || b))
@@ -51,14 +51,14 @@ pub found_step : (numbers : List ℕ) (events before more left rest : List Happe
     more ≡ e ∷ before → left ≡ e ∷ rest →
     new ≡ old ++ caution number e.line (address_of e.doing) →
     number ≡ event_number (begins_stretch before e) (is_stored_again numbers before e) (is_unasked events before e) →
-    old ++ flat_map (event_cautions numbers events) (spots_behind before left) ≡ all →
-    new ++ flat_map (event_cautions numbers events) (spots_behind more rest) ≡ all
+    old ++ flat_map (event_cautions numbers events) (positions_after before left) ≡ all →
+    new ++ flat_map (event_cautions numbers events) (positions_after more rest) ≡ all
 found_step numbers events before more left rest e number old new all more_is left_is pushed counted so_far =
     let own = caution (event_number (begins_stretch before e) (is_stored_again numbers before e) (is_unasked events before e)) e.line (address_of e.doing) in
-    let others = flat_map (event_cautions numbers events) (spots_behind (e ∷ before) rest) in
-    ap (λ es. new ++ flat_map (event_cautions numbers events) (spots_behind es rest)) more_is
+    let others = flat_map (event_cautions numbers events) (positions_after (e ∷ before) rest) in
+    ap (λ es. new ++ flat_map (event_cautions numbers events) (positions_after es rest)) more_is
     ∙ ap (λ cs. cs ++ others) pushed
     ∙ ap (λ n. (old ++ caution n e.line (address_of e.doing)) ++ others) counted
     ∙ append_assoc old own others
-    ∙ sym (ap (λ es. old ++ flat_map (event_cautions numbers events) (spots_behind before es)) left_is)
+    ∙ sym (ap (λ es. old ++ flat_map (event_cautions numbers events) (positions_after before es)) left_is)
     ∙ so_far

@@ -14,11 +14,11 @@ left_numbers n below =
     let e : 45 - n ≡ suc (45 - (n + 1)) = omega arith in
     ap (numbers_from n) e
 
-pub rows_more : (ways : ℕ → Tracked) (old new : List Row) (row : Row) (n : ℕ) (all : List Tracked) → new ≡ old ++ row ∷ [] → row_view row ≡ ways n → n < 45 →
-    map row_view old ++ map ways (numbers_from n (45 - n)) ≡ all → map row_view new ++ map ways (numbers_from (n + 1) (45 - (n + 1))) ≡ all
-rows_more ways old new row n all pushed seen below so_far =
-    let left = map ways (numbers_from (n + 1) (45 - (n + 1))) in
+pub rows_more : (edges : ℕ → Tracked) (old new : List Row) (row : Row) (n : ℕ) (all : List Tracked) → new ≡ old ++ row ∷ [] → row_view row ≡ edges n → n < 45 →
+    map row_view old ++ map edges (numbers_from n (45 - n)) ≡ all → map row_view new ++ map edges (numbers_from (n + 1) (45 - (n + 1))) ≡ all
+rows_more edges old new row n all pushed seen below so_far =
+    let left = map edges (numbers_from (n + 1) (45 - (n + 1))) in
     ap (λ rows. map row_view rows ++ left) pushed ∙ ap (λ rows. rows ++ left) (map_push row_view old row)
     ∙ append_assoc (map row_view old) (row_view row ∷ []) left
     ∙ ap (λ w. map row_view old ++ (w ∷ left)) seen
-    ∙ sym (ap (λ ns. map row_view old ++ map ways ns) (left_numbers n below)) ∙ so_far
+    ∙ sym (ap (λ ns. map row_view old ++ map edges ns) (left_numbers n below)) ∙ so_far

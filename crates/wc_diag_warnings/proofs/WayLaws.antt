@@ -3,8 +3,8 @@ use Rattle.std.proofs.Common.{◌≡◌, Bool, true, false, not, ◌&&◌, ◌||
 use Rattle.std.specs.List.{list_any}
 use Rattle.wc_model.specs.Language.Names.{Name}
 use Rattle.wc_diag_warnings.specs.Events.{Doing, Begins, Labels, Reads, Stores, Sets, Calls, Gives, Jumps, Returns, Happening}
-use Rattle.wc_diag_warnings.specs.Laws.{IsWay, at_start, from_mark, onward, by_jump, WaysAreThere}
-use Rattle.wc_diag_warnings.specs.Ways.{Passed, comes_by_jump, comes_down, doing_jumps, doing_leaves, is_on, passed}
+use Rattle.wc_diag_warnings.specs.Laws.{IsWay, at_start, from_mark, onward, by_jump, EdgesAreThere}
+use Rattle.wc_diag_warnings.specs.Edges.{Passed, comes_by_jump, comes_down, doing_jumps, doing_leaves, is_on, passed}
 
 -- one of two truths holds, or both
 pub or_true : (a b : Bool) → (a || b) ≡ true → (a ≡ true) ⊎ (b ≡ true)
@@ -41,58 +41,58 @@ not_false false e = refl
 
 module _ (starts : Bool) (marks : Happening → Bool) where
   -- each of these events that is on has a path to it
-  abbrev AllWays : List Happening → Type 0
-  AllWays [] = Unit {0}
-  AllWays (e ∷ before) = (is_on starts marks before e ≡ true → IsWay starts marks before e) × AllWays before
+  abbrev AllEdges : List Happening → Type 0
+  AllEdges [] = Unit {0}
+  AllEdges (e ∷ before) = (is_on starts marks before e ≡ true → IsWay starts marks before e) × AllEdges before
 
   -- a jump that is on, among these followed by others
   abbrev jumps_here : Name → Passed → Bool
   jumps_here name j = j.on && doing_jumps j.event.doing name
 
-  jumped : (name : Name) (all between before : List Happening) (e : Happening) → all ≡ between ++ before → AllWays before → e.doing ≡ Labels name →
+  jumped : (name : Name) (all between before : List Happening) (e : Happening) → all ≡ between ++ before → AllEdges before → e.doing ≡ Labels name →
       list_any (jumps_here name) (passed starts marks before) ≡ true → IsWay starts marks all e
-  jumped name all between [] e whole ways at found = cc
-  jumped name all between (jump ∷ before) e whole ways at found =
+  jumped name all between [] e whole edges at found = cc
+  jumped name all between (jump ∷ before) e whole edges at found =
       let here = is_on starts marks before jump && doing_jumps jump.doing name in
       let others = list_any (jumps_here name) (passed starts marks before) in
       elim (or_true here others found) [
-        | inl h ↦ by_jump all between before jump e name whole (ways.0 (left_true (is_on starts marks before jump) (doing_jumps jump.doing name) h)) (right_true (is_on starts marks before jump) (doing_jumps jump.doing name) h) at
-        | inr h ↦ jumped name all (between ++ jump ∷ []) before e (whole ∙ sym (append_assoc between (jump ∷ []) before)) ways.1 at h
+        | inl h ↦ by_jump all between before jump e name whole (edges.0 (left_true (is_on starts marks before jump) (doing_jumps jump.doing name) h)) (right_true (is_on starts marks before jump) (doing_jumps jump.doing name) h) at
+        | inr h ↦ jumped name all (between ++ jump ∷ []) before e (whole ∙ sym (append_assoc between (jump ∷ []) before)) edges.1 at h
       ]
 
   -- a path by a jump
-  came_by_jump : (doing : Doing) (before : List Happening) (e : Happening) → AllWays before → e.doing ≡ doing → comes_by_jump (passed starts marks before) doing ≡ true → IsWay starts marks before e
-  came_by_jump (Labels name) before e ways at found = jumped name before [] before e refl ways at found
-  came_by_jump Begins before e ways at found = cc
-  came_by_jump (Reads term) before e ways at found = cc
-  came_by_jump (Stores term) before e ways at found = cc
-  came_by_jump (Sets term) before e ways at found = cc
-  came_by_jump (Calls instance) before e ways at found = cc
-  came_by_jump (Gives instance input) before e ways at found = cc
-  came_by_jump (Jumps condition label) before e ways at found = cc
-  came_by_jump (Returns condition) before e ways at found = cc
+  came_by_jump : (doing : Doing) (before : List Happening) (e : Happening) → AllEdges before → e.doing ≡ doing → comes_by_jump (passed starts marks before) doing ≡ true → IsWay starts marks before e
+  came_by_jump (Labels name) before e edges at found = jumped name before [] before e refl edges at found
+  came_by_jump Begins before e edges at found = cc
+  came_by_jump (Reads term) before e edges at found = cc
+  came_by_jump (Stores term) before e edges at found = cc
+  came_by_jump (Sets term) before e edges at found = cc
+  came_by_jump (Calls instance) before e edges at found = cc
+  came_by_jump (Gives instance input) before e edges at found = cc
+  came_by_jump (Jumps condition label) before e edges at found = cc
+  came_by_jump (Returns condition) before e edges at found = cc
 
   -- a path from right above
-  came_down : (before : List Happening) (e : Happening) → AllWays before → comes_down starts marks (passed starts marks before) ≡ true → IsWay starts marks before e
-  came_down [] e ways found = at_start e found
-  came_down (last ∷ before) e ways found =
+  came_down : (before : List Happening) (e : Happening) → AllEdges before → comes_down starts marks (passed starts marks before) ≡ true → IsWay starts marks before e
+  came_down [] e edges found = at_start e found
+  came_down (last ∷ before) e edges found =
       let on = is_on starts marks before last in
       let goes = not_true (doing_leaves last.doing) (left_true (not (doing_leaves last.doing)) (on || marks last) found) in
       elim (or_true on (marks last) (right_true (not (doing_leaves last.doing)) (on || marks last) found)) [
-        | inl h ↦ onward before last e (ways.0 h) goes
+        | inl h ↦ onward before last e (edges.0 h) goes
         | inr h ↦ from_mark before last e h goes
       ]
 
-  pub came : (before : List Happening) (e : Happening) → AllWays before → is_on starts marks before e ≡ true → IsWay starts marks before e
-  came before e ways found =
+  pub came : (before : List Happening) (e : Happening) → AllEdges before → is_on starts marks before e ≡ true → IsWay starts marks before e
+  came before e edges found =
       elim (or_true (comes_down starts marks (passed starts marks before)) (comes_by_jump (passed starts marks before) e.doing) found) [
-        | inl h ↦ came_down before e ways h
-        | inr h ↦ came_by_jump e.doing before e ways refl h
+        | inl h ↦ came_down before e edges h
+        | inr h ↦ came_by_jump e.doing before e edges refl h
       ]
 
-  pub all_ways : (before : List Happening) → AllWays before
-  all_ways [] = tt
-  all_ways (e ∷ before) = (came before e (all_ways before), all_ways before)
+  pub all_edges : (before : List Happening) → AllEdges before
+  all_edges [] = tt
+  all_edges (e ∷ before) = (came before e (all_edges before), all_edges before)
 
   -- a jump that is on is found, whatever follows it
   jump_found : (name : Name) (between before : List Happening) (jump : Happening) → is_on starts marks before jump ≡ true → doing_jumps jump.doing name ≡ true →
@@ -115,5 +115,5 @@ module _ (starts : Bool) (marks : Happening → Bool) where
       true_or (comes_down starts marks (passed starts marks all)) (comes_by_jump (passed starts marks all) e.doing)
       (ap (comes_by_jump (passed starts marks all)) at ∙ ap (λ es. list_any (jumps_here name) (passed starts marks es)) whole ∙ jump_found name between before jump (leads w) jumps)
 
-pub ways_there : WaysAreThere
-ways_there starts marks before e = (came starts marks before e (all_ways starts marks before), λ w. leads starts marks w)
+pub edges_there : EdgesAreThere
+edges_there starts marks before e = (came starts marks before e (all_edges starts marks before), λ w. leads starts marks w)

@@ -11,7 +11,7 @@ use Rattle.wc_diag_warnings.specs.Addresses.{reads_valid, reads_weight, stores}
 use Rattle.wc_diag_warnings.specs.Events.{Begins, Labels, Happening}
 use Rattle.wc_diag_warnings.specs.Uses.{is_called, is_given, is_read, is_written}
 use Rattle.wc_diag_warnings.specs.Warnings.{declared_number, is_above_reached, is_timer, number_at}
-use Rattle.wc_diag_warnings.specs.Ways.{doing_jumps, doing_leaves, is_on}
+use Rattle.wc_diag_warnings.specs.Edges.{doing_jumps, doing_leaves, is_on}
 
 -- A run comes to an event after those before it, newest first. It begins at the body's start or at a marked
 -- event; it goes on to the next event, unless that before always leaves; and from a jump to a label ahead.
@@ -23,8 +23,8 @@ pub data IsWay (starts : Bool) (marks : Happening → Bool) : List Happening →
       doing_jumps jump.doing name ≡ true → e.doing ≡ Labels name → IsWay starts marks all e
 
 -- what is computed of the paths to an event is so
-abbrev pub WaysAreThere : Type 0
-WaysAreThere = (starts : Bool) (marks : Happening → Bool) (before : List Happening) (e : Happening) → (is_on starts marks before e ≡ true) ↔ IsWay starts marks before e
+abbrev pub EdgesAreThere : Type 0
+EdgesAreThere = (starts : Bool) (marks : Happening → Bool) (before : List Happening) (e : Happening) → (is_on starts marks before e ≡ true) ↔ IsWay starts marks before e
 
 -- a variable that is not an instance, and one that is
 abbrev pub IsPlain : Variable → Type 0
@@ -56,7 +56,7 @@ EachDeclaredWarningIsSo = (kind : UnitKind) (events : List Happening) (v : Varia
 -- which warning an event of a body has, after those before it
 pub data IsNoted (numbers : List ℕ) (events before : List Happening) (e : Happening) : ℕ → Type 0 where
   not_reached : e.doing ≡ Begins → ¬ (IsWay true (λ any. false) before e) → is_above_reached before ≡ true → IsNoted numbers events before e 7
-  stored_again : (front back : List ℕ) (output : ℕ) → numbers ≡ front ++ output ∷ back → stores output e ≡ true → IsWay false (stores output) before e → IsNoted numbers events before e 8
+  stored_again : (prefix back : List ℕ) (output : ℕ) → numbers ≡ prefix ++ output ∷ back → stores output e ≡ true → IsWay false (stores output) before e → IsNoted numbers events before e 8
   unasked : reads_weight e ≡ true → list_any reads_valid events ≡ false → list_any reads_weight before ≡ false → IsNoted numbers events before e 9
 
 -- an event has a warning of that number exactly then

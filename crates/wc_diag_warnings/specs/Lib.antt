@@ -1,7 +1,7 @@
 pub mod Events
 pub mod Uses
 pub mod Addresses
-pub mod Ways
+pub mod Edges
 pub mod Warnings
 pub mod Seen
 pub mod Places

@@ -5,9 +5,9 @@ use Rattle.wc_model.specs.Language.Names.{Name}
 use Rattle.wc_diag_warnings.specs.Addresses.{stores}
 use Rattle.wc_diag_warnings.specs.Events.{Labels, Happening}
 use Rattle.wc_diag_warnings.specs.Seen.{known_view, marks, starts}
-use Rattle.wc_diag_warnings.specs.Ways.{Passed, comes_by_jump, passed}
+use Rattle.wc_diag_warnings.specs.Edges.{Passed, comes_by_jump, passed}
 use Rattle.wc_diag_warnings.specs.declared.again.Row.{Row}
-use Rattle.wc_diag_warnings.specs.declared.ways.Asked.{Asked}
+use Rattle.wc_diag_warnings.specs.declared.edges.Asked.{Asked}
 
 -- the events of a body, in text order, each with whether a path to it comes from a store of that output
 pub record Tracked : Type 0 where
@@ -17,12 +17,12 @@ pub record Tracked : Type 0 where
 abbrev pub row_view : Row → Tracked
 row_view row = record { output = row.output; events = map known_view row.known.items }
 
-abbrev pub ways_from : List Happening → ℕ → Tracked
-ways_from events output = record { output = output; events = reverse (passed false (stores output) (reverse events)) }
+abbrev pub edges_from : List Happening → ℕ → Tracked
+edges_from events output = record { output = output; events = reverse (passed false (stores output) (reverse events)) }
 
 -- the events of a body, each with whether a path to it comes from the start
-abbrev pub AreWays : List Happening → List Passed → Type 0
-AreWays events known = reverse known ≡ passed true (λ any. false) (reverse events)
+abbrev pub AreEdges : List Happening → List Passed → Type 0
+AreEdges events known = reverse known ≡ passed true (λ any. false) (reverse events)
 
 -- whether there is a path to the event at a place
 abbrev pub is_passed : Option Passed → Bool
@@ -51,5 +51,5 @@ AreLed earlier led = (name : Name) → is_among led name ≡ comes_by_jump earli
 
 -- what is known of the events before, newest first: the paths to them, and the labels to which these go on
 pub record IsFollowed (asked : Asked) (before : List Happening) (known : List Passed) (led : List Name) : Type 0 where
-  pub ways : reverse known ≡ passed (starts asked) (marks asked) before
+  pub edges : reverse known ≡ passed (starts asked) (marks asked) before
   pub labels : AreLed (passed (starts asked) (marks asked) before) led

@@ -15,7 +15,7 @@ use Rattle.wc_model.specs.declared.tree.Line.{Line}
 use Rattle.wc_diag_warnings.specs.Addresses.{stores}
 use Rattle.wc_diag_warnings.specs.Events.{Doing, Begins, Labels, Reads, Stores, Sets, Calls, Gives, Jumps, Returns, Happening, at}
 use Rattle.wc_diag_warnings.specs.Uses.{Used, doing_calls, doing_gives, doing_reads, doing_writes}
-use Rattle.wc_diag_warnings.specs.Ways.{Passed}
+use Rattle.wc_diag_warnings.specs.Edges.{Passed}
 use Rattle.wc_diag_warnings.specs.Warnings.{Caution}
 use Rattle.wc_diag_warnings.specs.declared.event.Deed.{Deed}
 use Rattle.wc_diag_warnings.specs.declared.event.Deed.TheVariants as deeds
@@ -24,9 +24,9 @@ use Rattle.wc_diag_warnings.specs.declared.used.Uses.{Uses}
 use Rattle.wc_diag_warnings.specs.declared.uses.Use.{Use}
 use Rattle.wc_diag_warnings.specs.declared.uses.Use.TheVariants.{Read, Written, Called, Given}
 use Rattle.wc_diag_warnings.specs.declared.warning.Warning.{Warning}
-use Rattle.wc_diag_warnings.specs.declared.ways.Asked.{Asked}
-use Rattle.wc_diag_warnings.specs.declared.ways.Asked.TheVariants.{Begun, Stored}
-use Rattle.wc_diag_warnings.specs.declared.ways.Known.{Known}
+use Rattle.wc_diag_warnings.specs.declared.edges.Asked.{Asked}
+use Rattle.wc_diag_warnings.specs.declared.edges.Asked.TheVariants.{StartedLine, Stored}
+use Rattle.wc_diag_warnings.specs.declared.edges.Known.{Known}
 
 abbrev pub deed_view : Deed → Doing
 deed_view deeds.Begin = Begins
@@ -77,11 +77,11 @@ uses_view uses name = record {
 
 -- what is asked of the paths to an event: how they begin
 abbrev pub starts : Asked → Bool
-starts Begun = true
+starts StartedLine = true
 starts (Stored number) = false
 
 abbrev pub marks : Asked → Happening → Bool
-marks Begun e = false
+marks StartedLine e = false
 marks (Stored number) e = stores number e
 
 -- an instruction as a line of a body that has no label

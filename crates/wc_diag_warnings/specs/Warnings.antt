@@ -5,7 +5,7 @@
 -- 9: a weight is read, for the first time, in a body that never reads `%IX1.5`.
 use Rattle.std.specs.Prelude.{ℕ, Bool, true, false, not, ◌&&◌, ◌||◌, List, [], ◌∷◌, ◌++◌, Option, Some, None, is_some, if◌then◌else◌}
 use Rattle.std.specs.List.{flat_map, list_any}
-use Rattle.wc_model.specs.Language.Checks.{Spot, spots_of}
+use Rattle.wc_model.specs.Language.Checks.{Position, positions_of}
 use Rattle.wc_model.specs.Language.Declarations.{Variable, elementary_types, named_in, standard_blocks, variables_of}
 use Rattle.wc_model.specs.Language.Names.{Name}
 use Rattle.wc_model.specs.Language.Tree.{Term, Address, ProgramUnit, Text}
@@ -19,7 +19,7 @@ use Rattle.wc_model.specs.declared.source.UnitKind.TheVariants.{FunctionBlock, P
 use Rattle.wc_diag_warnings.specs.Addresses.{outputs, reads_valid, reads_weight, stores}
 use Rattle.wc_diag_warnings.specs.Events.{Doing, Begins, Reads, Stores, Happening, events_of}
 use Rattle.wc_diag_warnings.specs.Uses.{Used, used_in}
-use Rattle.wc_diag_warnings.specs.Ways.{is_reached, is_stored_before}
+use Rattle.wc_diag_warnings.specs.Edges.{is_reached, is_stored_before}
 
 -- a warning: its number, its line, and the name of which it is; no name for lines that no run reaches
 pub record Caution : Type 0 where
@@ -115,8 +115,8 @@ address_of doing = []
 abbrev pub number_at : List ℕ → List Happening → List Happening → Happening → Option ℕ
 number_at numbers events before e = event_number (begins_stretch before e) (is_stored_again numbers before e) (is_unasked events before e)
 
-abbrev pub event_cautions : List ℕ → List Happening → Spot Happening → List Caution
-event_cautions numbers events spot = caution (number_at numbers events spot.before spot.item) spot.item.line (address_of spot.item.doing)
+abbrev pub event_cautions : List ℕ → List Happening → Position Happening → List Caution
+event_cautions numbers events position = caution (number_at numbers events position.before position.item) position.item.line (address_of position.item.doing)
 
 -- addresses are in the program alone
 abbrev pub outputs_in : UnitKind → List ℕ
@@ -127,7 +127,7 @@ abbrev pub declared_cautions : UnitKind → (Name → Used) → List Variable �
 declared_cautions kind uses variables = flat_map (variable_cautions kind uses) variables
 
 abbrev pub all_event_cautions : List ℕ → List Happening → List Caution
-all_event_cautions numbers events = flat_map (event_cautions numbers events) (spots_of events)
+all_event_cautions numbers events = flat_map (event_cautions numbers events) (positions_of events)
 
 abbrev pub body_cautions : UnitKind → List Happening → List Caution
 body_cautions kind events = all_event_cautions (outputs_in kind) events

@@ -1,12 +1,12 @@
 ghost use Rattle.std.specs.Prelude.{◌≡◌, IfOk, IsOkUnless, map};
 ghost use Rattle.std.specs.List.{list_any};
 ghost use Rattle.wc_diag_warnings.specs.Addresses.{outputs};
-ghost use Rattle.wc_diag_warnings.specs.Places.{again_at, on_at, row_view, ways_from};
+ghost use Rattle.wc_diag_warnings.specs.Places.{again_at, on_at, row_view, edges_from};
 ghost use Rattle.wc_diag_warnings.specs.Seen.{events_view, known_view};
 
 use crate::addresses::{DIRECT_VARIABLES, FIRST_OUTPUT, stores};
+use crate::edges::{Asked, Known, edges};
 use crate::event::Event;
-use crate::ways::{Asked, Known, ways};
 use std::alloc::Global;
 use wc_model::Fault;
 
@@ -22,12 +22,12 @@ pub(crate) struct Row<'a> {
 /// The rows of all outputs.
 pub(crate) fn rows<'a>(alloc: Global, events: &[Event<'a>]) -> Result<Vec<Row<'a>>, Fault>
     ensures found { IfOk result (λ rows. map row_view rows.items
-        ≡ map (ways_from (events_view events.now)) outputs) }
+        ≡ map (edges_from (events_view events.now)) outputs) }
     ensures memory { IsOkUnless result Fault.Memory }
 {
     let mut rows = Vec::new(alloc);
     for output in FIRST_OUTPUT..DIRECT_VARIABLES {
-        let known = ways(alloc, Asked::Stored(output), events)?;
+        let known = edges(alloc, Asked::Stored(output), events)?;
         match rows.push(Row { output, known }) {
             Ok(()) => {}
             Err(_) => return Err(Fault::Memory),

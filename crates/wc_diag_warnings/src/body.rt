@@ -1,15 +1,15 @@
 ghost use Rattle.std.specs.Prelude.{◌≡◌, ℕ, not, ◌&&◌, ◌||◌, if◌then◌else◌, ◌++◌, List, IfOk, OnOk, IsOkUnless, map};
 ghost use Rattle.wc_model.specs.Language.Names.{name_of};
-ghost use Rattle.wc_diag_warnings.specs.Places.{AreWays, row_view, ways_from};
+ghost use Rattle.wc_diag_warnings.specs.Places.{AreEdges, row_view, edges_from};
 ghost use Rattle.wc_diag_warnings.specs.Seen.{event_view, events_view, known_view, warnings_view};
 ghost use Rattle.wc_diag_warnings.specs.Warnings.{address_of, all_event_cautions, body_cautions, caution, doing_begins, event_number, outputs_in};
 
 use crate::addresses::{is_asked, reads_weight};
 use crate::again::{Row, is_on, rows, stored_again};
 use crate::declared::warn;
+use crate::edges::{Asked, Known, edges};
 use crate::event::{Deed, Event};
 use crate::warning::Warning;
-use crate::ways::{Asked, Known, ways};
 use std::alloc::Global;
 use wc_model::{Fault, Operand, UnitKind};
 
@@ -32,7 +32,7 @@ fn address_of<'a>(event: &Event<'a>) -> &'a [u8]
 
 /// What is known of an event and of those before it.
 #[derive(Clone, Copy)]
-struct Standing {
+struct Representation {
     /// An instruction begins.
     begins: bool,
     /// The instruction before it is reached, or there is none.
@@ -48,7 +48,7 @@ struct Standing {
 }
 
 /// The warning of an event: it begins a stretch that no run reaches, stores an output again, or reads a weight unasked.
-fn number_of(event: Standing) -> Option<u8>
+fn number_of(event: Representation) -> Option<u8>
     ensures { result ≡ event_number (event.begins && event.above && not event.reached) event.again
         (event.weighs && not event.asked) }
 {
@@ -64,7 +64,7 @@ fn number_of(event: Standing) -> Option<u8>
 }
 
 /// Whether the last instruction is reached, after an event.
-fn is_above(event: Standing) -> bool
+fn is_above(event: Representation) -> bool
     ensures { result ≡ (if event.begins then event.reached else event.above) }
 {
     if event.begins {
@@ -75,7 +75,7 @@ fn is_above(event: Standing) -> bool
 }
 
 /// Whether a weight is read or `%IX1.5` anywhere, after an event.
-fn is_asked_now(event: Standing) -> bool
+fn is_asked_now(event: Representation) -> bool
     ensures { result ≡ (event.asked || event.weighs) }
 {
     event.asked || event.weighs
@@ -101,7 +101,7 @@ fn warn_event<'a>(
 /// The rows of the outputs that a unit may store: outputs are in the program alone.
 fn rows_in<'a>(alloc: Global, kind: UnitKind, events: &[Event<'a>]) -> Result<Vec<Row<'a>>, Fault>
     ensures found { IfOk result (λ rows. map row_view rows.items
-        ≡ map (ways_from (events_view events.now)) (outputs_in kind)) }
+        ≡ map (edges_from (events_view events.now)) (outputs_in kind)) }
     ensures memory { IsOkUnless result Fault.Memory }
 {
     match kind {
@@ -113,13 +113,13 @@ fn rows_in<'a>(alloc: Global, kind: UnitKind, events: &[Event<'a>]) -> Result<Ve
 /// Adds the warnings of a body's events, of which the paths from the start and from stores are known.
 fn warn_events<'a>(
     warnings: &mut Vec<Warning<'a>>,
-    begun: &[Known<'a>],
+    started: &[Known<'a>],
     stored: &[Row<'a>],
     events: &[Event<'a>],
 ) -> Result<(), Fault>
     ensures added { OnOk result ((numbers : List ℕ)
-        → AreWays (events_view events.now) (map known_view begun.now)
-        → map row_view stored.now ≡ map (ways_from (events_view events.now)) numbers
+        → AreEdges (events_view events.now) (map known_view started.now)
+        → map row_view stored.now ≡ map (edges_from (events_view events.now)) numbers
         → warnings_view warnings.new.items
         ≡ warnings_view warnings.old.items
         ++ all_event_cautions numbers (events_view events.now)) }
@@ -128,17 +128,17 @@ fn warn_events<'a>(
     let mut above = true;
     let mut asked = is_asked(events);
     for (index, event) in events.iter().enumerate() {
-        let standing = Standing {
+        let entity_at = Representation {
             begins: begins(event),
             above,
-            reached: is_on(begun, index),
+            reached: is_on(started, index),
             again: stored_again(stored, index),
             weighs: reads_weight(event),
             asked,
         };
-        warn_event(warnings, event, number_of(standing))?;
-        above = is_above(standing);
-        asked = is_asked_now(standing);
+        warn_event(warnings, event, number_of(entity_at))?;
+        above = is_above(entity_at);
+        asked = is_asked_now(entity_at);
     }
     Ok(())
 }
@@ -155,7 +155,7 @@ pub(crate) fn warn_body<'a>(
         ++ body_cautions kind (events_view events.now)) }
     ensures memory { IsOkUnless result Fault.Memory }
 {
-    let begun = ways(alloc, Asked::Begun, events)?;
+    let started = edges(alloc, Asked::StartedLine, events)?;
     let stored = rows_in(alloc, kind, events)?;
-    warn_events(warnings, &begun, &stored, events)
+    warn_events(warnings, &started, &stored, events)
 }

@@ -1,8 +1,8 @@
-ghost use Rattle.wc_diag_warnings.specs.Laws.{EachDeclaredWarningIsSo, EachEventWarningIsSo, WaysAreThere};
+ghost use Rattle.wc_diag_warnings.specs.Laws.{EachDeclaredWarningIsSo, EachEventWarningIsSo, EdgesAreThere};
 
 /// A run comes to an event exactly if a path leads to it.
-pub fn ways_are_there()
-    ensures { WaysAreThere }
+pub fn edges_are_there()
+    ensures { EdgesAreThere }
 {}
 
 /// A declared name has a warning exactly if what the warning says of it is so.

@@ -14,7 +14,7 @@ pub fn same_names_keep_their_values()
 {}
 
 /// A variable of another kind does not keep its value, and no field of another block does.
-pub fn other_kinds_start_anew()
+pub fn other_kinds_start_again()
     ensures variable { keeps old_text other_kinds (plain (codes "n")) ≡ false }
     ensures timer { keeps old_text other_kinds (field (codes "t") (codes "in")) ≡ false }
     ensures no_place { keeps old_text other_kinds (field (codes "n") (codes "in")) ≡ false }

@@ -65,6 +65,6 @@ pub fn job_sections_missing()
         ≡ Err 701 }
     ensures not_first { sections_of
         (lines_text ([] ∷ codes "@plate" ∷ codes "@program" ∷ codes "@log" ∷ [])) ≡ Err 701 }
-    ensures beside { sections_of
+    ensures alongside { sections_of
         (lines_text (codes "@plate" ∷ codes "@program x" ∷ codes "@log" ∷ [])) ≡ Err 701 }
 {}

@@ -84,7 +84,7 @@ pub fn row_order()
 {}
 
 /// A chunk of the line has at most 4096 bytes.
-pub fn longest_piece()
+pub fn longest_chunk()
     ensures whole { log_with_rows (three_fields (codes "0") (codes "L") (replicate 8192 48) ∷ [])
         ≡ with_row (record { number = 2; ms = 0; brings = Bytes (replicate 4096 0) })
         (record { rows = []; refusal = None }) }

@@ -9,7 +9,7 @@ ghost use Rattle.wc_examples_instrument.specs.Worked.{plate_of_15_kg, four_rows,
 pub fn texts_of_streams()
     ensures aborted { requests (10 ∷ 90 ∷ 27 ∷ 13 ∷ []) ≡ [] }
     ensures empty { requests (10 ∷ 13 ∷ []) ≡ [] ∷ [] }
-    ensures anew { requests (65 ∷ 10 ∷ 10 ∷ 87 ∷ 13 ∷ 13 ∷ []) ≡ codes "W" ∷ [] }
+    ensures again { requests (65 ∷ 10 ∷ 10 ∷ 87 ∷ 13 ∷ 13 ∷ []) ≡ codes "W" ∷ [] }
     ensures two { requests (10 ∷ codes "W" ++ 13 ∷ 10 ∷ codes "Z" ++ 13 ∷ [])
         ≡ codes "W" ∷ codes "Z" ∷ [] }
 {}

@@ -8,7 +8,7 @@ ghost use Rattle.wc_examples_instrument.specs.Worked.{plate_of_15_kg, plate_of_2
 pub fn centre_of_zero()
     ensures centre { replies plate_of_15_kg (four_rows (pos 10050) ++ asks (codes "W") ∷ [])
         ≡ framed (codes "Z1G       0.000kg ") }
-    ensures beside { replies plate_of_15_kg (four_rows (pos 10051) ++ asks (codes "W") ∷ [])
+    ensures alongside { replies plate_of_15_kg (four_rows (pos 10051) ++ asks (codes "W") ∷ [])
         ≡ framed (codes " 1G       0.000kg ") }
 {}
 

@@ -17,8 +17,8 @@ always_jumps =
     program [] (jump 2 Always "l" (ld 3 (num (pos 1)) (labelled 4 "l" (Load false (num (pos 2))) (st 5 (at 5 "%qd0") End)))) ∷ []
 
 -- LD %IX0.0 / JMPC A / JMP B / A: LD TRUE / JMP C / B: ST %QX0.0 / C: ST %QX0.1
-abbrev pub two_ways_program : ProgramUnit
-two_ways_program =
+abbrev pub two_paths_program : ProgramUnit
+two_paths_program =
     program []
     (ld 2 (at 2 "%ix0.0") (jump 3 IfTrue "a" (jump 4 Always "b" (labelled 5 "a" (Load false yes') (jump 6 Always "c"
     (labelled 7 "b" (StoreStep Result (at 7 "%qx0.0")) (labelled 8 "c" (StoreStep Result (at 8 "%qx0.1")) End)))))))

@@ -1,7 +1,7 @@
 -- The units whose paths are looked at.
 use Rattle.std.specs.Prelude.{[], ◌∷◌}
 use Rattle.wc_examples_language.specs.CountingBlock.{counting_block, two_counters_program}
-use Rattle.wc_examples_language.specs.Jumps.{two_ways_program}
+use Rattle.wc_examples_language.specs.Jumps.{two_paths_program}
 use Rattle.wc_examples_language.specs.Timers.{on_delay_program}
 use Rattle.wc_model.specs.Language.Scopes.{Scope}
 
@@ -10,8 +10,8 @@ abbrev pub timer_scope : Scope
 timer_scope = record { before = []; unit = on_delay_program }
 
 -- the program with two paths of equal length
-abbrev pub ways_scope : Scope
-ways_scope = record { before = []; unit = two_ways_program }
+abbrev pub paths_scope : Scope
+paths_scope = record { before = []; unit = two_paths_program }
 
 -- the counting block, and the program with two instances of it
 abbrev pub block_scope : Scope

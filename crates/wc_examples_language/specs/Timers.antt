@@ -46,5 +46,5 @@ five_calls = (0, false) ∷ (10, true) ∷ (20, false) ∷ (119, false) ∷ (120
 abbrev pub timer_call : ℕ → Bool → TimerCall
 timer_call moment input = record { moment = moment; input = input; pt = pos 100 }
 
-abbrev pub five_told : List TimerCall
-five_told = timer_call 120 false ∷ timer_call 119 false ∷ timer_call 20 false ∷ timer_call 10 true ∷ timer_call 0 false ∷ []
+abbrev pub five_reported : List TimerCall
+five_reported = timer_call 120 false ∷ timer_call 119 false ∷ timer_call 20 false ∷ timer_call 10 true ∷ timer_call 0 false ∷ []

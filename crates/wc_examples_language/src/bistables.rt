@@ -12,7 +12,7 @@ pub fn rs_has_its_table()
 {}
 
 /// RS by its history: the last call with S or R1 TRUE decides, and with both it resets.
-pub fn rs_is_told()
+pub fn rs_is_reported()
     ensures never { (f : RsFields) → FitsRs (rs_call false false ∷ []) f → f.q1 ≡ false }
     ensures set { (f : RsFields)
         → FitsRs (rs_call false false ∷ rs_call true false ∷ rs_call false true ∷ []) f

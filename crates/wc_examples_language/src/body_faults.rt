@@ -37,8 +37,8 @@ pub fn divisors_are_refused()
 {}
 
 /// 0 and 1 are BOOLs next to a BOOL, and nowhere else.
-pub fn literals_are_judged_by_their_place()
-    ensures beside_a_dint { body_fault (doing (ld 2 (num (pos 1)) (op 3 And yes' End)))
+pub fn literals_are_validated_by_their_place()
+    ensures alongside_a_dint { body_fault (doing (ld 2 (num (pos 1)) (op 3 And yes' End)))
         ≡ refused 402 3 }
     ensures equal_to_a_bool { body_fault (doing (ld 2 (num (pos 1)) (op 3 Eq yes' End)))
         ≡ refused 402 3 }
@@ -101,7 +101,7 @@ pub fn outputs_are_guarded()
         ≡ refused 402 3 }
     ensures whole_instance { body_fault (with_timer (call 3 "t" (out "q" (var "t") ∷ []) End))
         ≡ refused 402 3 }
-    ensures first_is_told { body_fault
+    ensures first_is_reported { body_fault
         (with_timer (call 3 "t" (out "et" (at 3 "%qx0.0") ∷ arg "q" yes' ∷ []) End))
         ≡ refused 402 3 }
     ensures then_the_next { body_fault

@@ -4,7 +4,7 @@ ghost use Rattle.wc_examples_language.specs.CountingBlock.{two_counters};
 ghost use Rattle.wc_examples_language.specs.Counters.{counts_to_two};
 ghost use Rattle.wc_examples_language.specs.Jumps.{may_jump, always_jumps};
 ghost use Rattle.wc_examples_language.specs.NumberPrograms.{divides_minus_seven, passes_the_greatest, passes_the_longest_time};
-ghost use Rattle.wc_examples_language.specs.Parentheses.{long_form, short_form};
+ghost use Rattle.wc_examples_language.specs.Parentheses.{long_format, short_format};
 ghost use Rattle.wc_examples_language.specs.Showing.{shown_by, scan, shows};
 ghost use Rattle.wc_examples_language.specs.Timers.{on_delay};
 
@@ -44,13 +44,13 @@ pub fn longest_time_is_passed()
 
 /// A deferred AND combines at its `)`: the opening line and the `)` count one each.
 pub fn parenthesis_defers()
-    ensures { shown_by long_form (scan 0 4 ∷ scan 1 5 ∷ [])
+    ensures { shown_by long_format (scan 0 4 ∷ scan 1 5 ∷ [])
         ≡ shows 6 0 (pos 0) (pos 0) ∷ shows 6 1 (pos 0) (pos 0) ∷ [] }
 {}
 
 /// The short form loads its operand first, in one step less.
 pub fn short_parenthesis_defers()
-    ensures { shown_by short_form (scan 0 4 ∷ scan 1 5 ∷ [])
+    ensures { shown_by short_format (scan 0 4 ∷ scan 1 5 ∷ [])
         ≡ shows 5 0 (pos 0) (pos 0) ∷ shows 5 1 (pos 0) (pos 0) ∷ [] }
 {}
 

@@ -1,5 +1,5 @@
 ghost use Rattle.std.specs.Prelude.{[], ◌∷◌};
-ghost use Rattle.wc_examples_language.specs.PathScopes.{timer_scope, ways_scope, block_scope, counters_scope};
+ghost use Rattle.wc_examples_language.specs.PathScopes.{timer_scope, paths_scope, block_scope, counters_scope};
 ghost use Rattle.wc_model.specs.Language.Paths.{IsLongest};
 ghost use Rattle.wc_model.specs.Language.WorstPaths.{AreWorstLines};
 
@@ -11,8 +11,8 @@ pub fn timer_path()
 
 /// If two paths are equally long, the worst path takes the next line.
 pub fn worst_path_takes_the_next_line()
-    ensures longest { IsLongest ways_scope 5 }
-    ensures lines { AreWorstLines ways_scope (2 ∷ 3 ∷ 4 ∷ 7 ∷ 8 ∷ []) }
+    ensures longest { IsLongest paths_scope 5 }
+    ensures lines { AreWorstLines paths_scope (2 ∷ 3 ∷ 4 ∷ 7 ∷ 8 ∷ []) }
 {}
 
 /// The counting block takes at most 8 steps.

@@ -15,7 +15,7 @@ pub fn pulse_steps()
 {}
 
 /// TP by its history: the fields that fit the same calls have these outputs.
-pub fn pulse_is_told()
+pub fn pulse_is_reported()
     ensures { (f : TpFields) → FitsTp (reverse pulse_calls) f
         → (f.q ≡ true) × (f.et ≡ pos 0) × (f.start ≡ 130) }
 {}
@@ -24,7 +24,7 @@ pub fn pulse_is_told()
 pub fn lowered_preset_ends_the_pulse()
     ensures outputs { outputs lowered_calls ≡ true ∷ false ∷ false ∷ false ∷ [] }
     ensures times { times lowered_calls ≡ pos 0 ∷ pos 40 ∷ pos 200 ∷ pos 0 ∷ [] }
-    ensures told { (f : TpFields) → FitsTp (reverse lowered_calls) f
+    ensures reported { (f : TpFields) → FitsTp (reverse lowered_calls) f
         → (f.q ≡ false) × (f.phase ≡ 0) }
 {}
 
@@ -33,7 +33,7 @@ pub fn raised_preset_draws_the_pulse_out()
     ensures outputs { outputs raised_calls ≡ true ∷ true ∷ true ∷ false ∷ true ∷ [] }
     ensures times { times raised_calls ≡ pos 0 ∷ pos 99 ∷ pos 299 ∷ pos 0 ∷ pos 0 ∷ [] }
     ensures phases { phases raised_calls ≡ 1 ∷ 1 ∷ 1 ∷ 0 ∷ 1 ∷ [] }
-    ensures told { (f : TpFields) → FitsTp (reverse raised_calls) f
+    ensures reported { (f : TpFields) → FitsTp (reverse raised_calls) f
         → (f.q ≡ true) × (f.start ≡ 301) }
 {}
 

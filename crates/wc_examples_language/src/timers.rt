@@ -1,5 +1,5 @@
 ghost use Rattle.std.specs.Prelude.{◌≡◌, [], ◌∷◌, map, pos, true, false};
-ghost use Rattle.wc_examples_language.specs.Timers.{new_tof, tof_run, five_calls, five_told};
+ghost use Rattle.wc_examples_language.specs.Timers.{new_tof, tof_run, five_calls, five_reported};
 ghost use Rattle.wc_model.specs.Language.Blocks.{TofFields};
 ghost use Rattle.wc_model.specs.Language.Histories.{FitsTof};
 
@@ -12,6 +12,6 @@ pub fn off_delay_steps()
 {}
 
 /// TOF by its history: the fields that fit the same five calls have these outputs.
-pub fn off_delay_is_told()
-    ensures { (f : TofFields) → FitsTof five_told f → (f.q ≡ false) × (f.et ≡ pos 100) }
+pub fn off_delay_is_reported()
+    ensures { (f : TofFields) → FitsTof five_reported f → (f.q ≡ false) × (f.et ≡ pos 100) }
 {}

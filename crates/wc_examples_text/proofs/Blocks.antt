@@ -3,7 +3,7 @@ use Rattle.std.proofs.Common.{◌≡◌, ◌≤◌, ℕ, zero, suc, List, [], �
 use Rattle.std.specs.Prelude.{codes, length}
 use Rattle.wc_model.specs.Language.Tree.{ProgramUnit}
 use Rattle.wc_model.specs.Text.Grammar.{units}
-use Rattle.wc_model.specs.Text.ReadingFaults.{IsMet, TooMany}
+use Rattle.wc_model.specs.Text.ReadingFaults.{IsRaised, TooMany}
 use Rattle.wc_model.specs.declared.source.UnitKind.TheVariants.{Program}
 use Rattle.wc_laws_grammar.proofs.Languages.{next, pass, regroup}
 use Rattle.wc_examples_text.specs.Texts.{ident, block_b}
@@ -25,7 +25,7 @@ whole_blocks (suc n) =
     regroup (regroup (pass tt (regroup (regroup (next (refl, refl) (regroup (next (refl, refl, refl) (pass ([], refl, refl) (regroup (pass tt (next refl (whole_blocks n))))))))))))
 
 -- one more unit is too many
-pub one_unit_more : (n line : ℕ) → 64 ≤ n → IsMet TooMany (blocks n) (ident (codes "PROGRAM") line ∷ ident (codes "P") line ∷ []) line line
+pub one_unit_more : (n line : ℕ) → 64 ≤ n → IsRaised TooMany (blocks n) (ident (codes "PROGRAM") line ∷ ident (codes "P") line ∷ []) line line
 one_unit_more n line many =
     let h : length (block_list n) ≡ n = length_of_blocks n in
     (inl (block_list n, whole_blocks n, omega arith, (Program, refl)), refl)

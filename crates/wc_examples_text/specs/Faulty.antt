@@ -16,8 +16,8 @@ abbrev pub loaded : List Mark
 loaded = program_p ++ ident (codes "LD") 2 ∷ ident (codes "TRUE") 2 ∷ end_of 2 ∷ []
 
 -- it stops at the start of line 3, with no parenthesis open
-abbrev pub behind_load : Position
-behind_load = record { before = []; unit = program_of End; openings = []; done = Plain None 2 load_true End }
+abbrev pub after_load : Position
+after_load = record { before = []; unit = program_of End; openings = []; done = Plain None 2 load_true End }
 
 -- `PROGRAM P / LD TRUE / AND( /`
 abbrev pub opened : List Mark
@@ -28,8 +28,8 @@ abbrev pub empty_opening : Opening
 empty_opening = record { before = Plain None 2 load_true End; label = None; line = 3; operator = And; operand = None }
 
 -- it stops inside
-abbrev pub behind_opening : Position
-behind_opening = record { before = []; unit = program_of End; openings = empty_opening ∷ []; done = End }
+abbrev pub following_opening : Position
+following_opening = record { before = []; unit = program_of End; openings = empty_opening ∷ []; done = End }
 
 -- `PROGRAM P / LD TRUE / AND( TRUE /`
 abbrev pub opened_short : List Mark
@@ -40,8 +40,8 @@ abbrev pub short_opening : Opening
 short_opening = record empty_opening { operand = Some (Constant (BoolValue true)) }
 
 -- it stops inside
-abbrev pub behind_short_opening : Position
-behind_short_opening = record behind_opening { openings = short_opening ∷ [] }
+abbrev pub after_short_opening : Position
+after_short_opening = record following_opening { openings = short_opening ∷ [] }
 
 -- `PROGRAM P / END_PROGRAM /`
 abbrev pub one_program : List Mark
@@ -60,8 +60,8 @@ abbrev pub inner_opening : ℕ → Opening
 inner_opening line = record empty_opening { before = End; line = line }
 
 -- its line starts inside eight parentheses
-abbrev pub behind_eight_openings : Position
-behind_eight_openings = record behind_opening {
+abbrev pub after_eight_openings : Position
+after_eight_openings = record following_opening {
   openings = map inner_opening (10 ∷ 9 ∷ 8 ∷ 7 ∷ 6 ∷ 5 ∷ 4 ∷ []) ++ empty_opening ∷ [];
 }
 

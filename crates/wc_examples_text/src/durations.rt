@@ -26,7 +26,7 @@ pub fn durations_have_32_bits()
 {}
 
 /// An overflow after the first part, units that rise, and a fraction of a millisecond.
-pub fn other_forms_are_no_durations()
+pub fn other_formats_are_no_durations()
     ensures overflow { shape_of (codes "T#1h60m") ≡ Err 106 }
     ensures rising { shape_of (codes "T#1s2m") ≡ Err 106 }
     ensures twice { shape_of (codes "T#1s2s") ≡ Err 106 }

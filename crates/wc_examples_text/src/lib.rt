@@ -18,11 +18,11 @@ pub use reading_faults::{
     a_load_of_nothing, a_return_in_parentheses, a_second_program, an_empty_text,
     an_open_parenthesis_at_the_texts_end, an_open_parenthesis_at_the_units_end, an_open_unit,
     empty_parentheses, first_fault_is_an_unknown_operator, nine_parentheses, one_line_too_many,
-    one_unit_too_many, the_texts_end_behind_a_bracket, the_texts_end_behind_a_units_first_word,
-    the_texts_end_behind_an_operator,
+    one_unit_too_many, the_texts_end_after_a_bracket, the_texts_end_after_a_units_first_word,
+    the_texts_end_after_an_operator,
 };
 pub use spelled::{
     a_call_on_two_lines, a_copy_of_one_bit, a_declaration_of_two_names, ampersands,
-    calls_without_arguments, end_behind_the_name, labels_jumps_and_parentheses,
+    calls_without_arguments, end_after_the_name, labels_jumps_and_parentheses,
     two_units_on_one_line,
 };

@@ -29,7 +29,7 @@ pub fn based_numbers_have_their_value()
 {}
 
 /// Too great a number, two underscores, a point, letters, a sign alone, other bases, and a base with a sign.
-pub fn other_forms_are_no_numbers()
+pub fn other_formats_are_no_numbers()
     ensures above { shape_of (codes "16#80000000") ≡ Err 105 }
     ensures underscores { shape_of (codes "1__0") ≡ Err 105 }
     ensures last_underscore { shape_of (codes "1_") ≡ Err 105 }

@@ -21,7 +21,7 @@ pub fn an_empty_body_is_line_ends()
 {}
 
 /// `PROGRAM P END_PROGRAM` on one line.
-pub fn end_behind_the_name()
+pub fn end_after_the_name()
     ensures { Spells
         (ident (codes "PROGRAM") 1 ∷ ident (codes "P") 1 ∷ ident (codes "END_PROGRAM") 1 ∷ [])
         (program_of End ∷ []) }

@@ -6,8 +6,8 @@ ghost use Rattle.wc_examples_text.specs.Spelled.{lines};
 /// A `#` of no literal, `=` and `>` alone, and a CR that is not directly before an LF.
 pub fn bytes_that_belong_to_nothing()
     ensures hash { IsFirstTokenFault (codes "#") 101 1 }
-    ensures hash_behind_operator { IsFirstTokenFault (codes "&N#5") 101 1 }
-    ensures hash_behind_address { IsFirstTokenFault (codes "%IX0.0#") 101 1 }
+    ensures hash_after_operator { IsFirstTokenFault (codes "&N#5") 101 1 }
+    ensures hash_after_address { IsFirstTokenFault (codes "%IX0.0#") 101 1 }
     ensures greater { IsFirstTokenFault (codes ":=>") 101 1 }
     ensures equal { IsFirstTokenFault (codes "a=b") 101 1 }
     ensures star { IsFirstTokenFault (codes "*") 101 1 }
@@ -34,6 +34,6 @@ pub fn malformed_lexemes()
     ensures type_name { IsFirstTokenFault (codes "INT#5") 105 1 }
     ensures duration { IsFirstTokenFault
         (lines (codes "PROGRAM P") (lines (codes "LD T#1.0005s") (codes "END_PROGRAM"))) 106 2 }
-    ensures behind_a_comment { IsFirstTokenFault (lines (codes "(*") (codes "*) a_")) 104 2 }
+    ensures after_a_comment { IsFirstTokenFault (lines (codes "(*") (codes "*) a_")) 104 2 }
     ensures first_of_two { IsFirstTokenFault (codes "a_ #") 104 1 }
 {}

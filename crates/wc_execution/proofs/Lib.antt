@@ -3,7 +3,7 @@ pub mod Moments
 pub mod Kept
 pub mod BlockCalls
 pub mod BlockSlots
-pub mod Behind
+pub mod After
 pub mod Filling
 pub mod Lefts
 pub mod BodyLines

@@ -1,7 +1,7 @@
 ghost use Rattle.std.specs.Prelude.{◌≡◌, ◌+◌, ◌-◌, ◌^◌, ◌<◌, ◌≤◌};
 ghost use Rattle.wc_execution.specs.Courses.{course_view, line_at};
 
-use crate::course::{Course, next_line};
+use crate::course::{Flow, next_line};
 
 /// How far a body is executed: the number of steps counted, and from where to where lines were executed one after
 /// another since, each a step. So a line that goes on to the next one counts nothing.
@@ -27,7 +27,7 @@ pub fn with_lines(steps: u32, from: usize, at: usize) -> u32
 
 /// The count after a line that takes this course, if a body of `end` lines would go on at `at`.
 #[inline(always)]
-pub fn count_on(steps: u32, from: usize, at: usize, course: Course, end: usize) -> Count
+pub fn count_on(steps: u32, from: usize, at: usize, course: Flow, end: usize) -> Count
     requires order { from ≤ at }
     requires fits { steps + (at - from) < 2 ^ 32 }
     requires near { at < 2 ^ 63 }
@@ -37,7 +37,7 @@ pub fn count_on(steps: u32, from: usize, at: usize, course: Course, end: usize) 
     ensures ahead { at ≤ end → at ≤ result.at }
 {
     match course {
-        Course::On => Count { steps, from, at },
+        Flow::On => Count { steps, from, at },
         _ => {
             let on = next_line(course, at, end);
             Count {

@@ -4,7 +4,7 @@ ghost use Rattle.wc_execution.specs.Courses.{course_view, line_at};
 
 /// Where a body goes on after a line.
 #[derive(Clone, Copy)]
-pub enum Course {
+pub enum Flow {
     /// On, to the next line.
     On,
     /// On, but n lines are passed over.
@@ -19,7 +19,7 @@ pub struct Moved {
     /// The result, whatever it was if there is none.
     pub current: i32,
     /// Where the body goes on.
-    pub course: Course,
+    pub course: Flow,
 }
 
 /// On to the next line, with this result.
@@ -30,7 +30,7 @@ pub(crate) fn on(current: i32) -> Moved
 {
     Moved {
         current,
-        course: Course::On,
+        course: Flow::On,
     }
 }
 
@@ -43,11 +43,7 @@ pub(crate) fn over(current: i32, passes: bool, skip: u32) -> Moved
 {
     Moved {
         current,
-        course: if passes {
-            Course::Skips(skip)
-        } else {
-            Course::On
-        },
+        course: if passes { Flow::Skips(skip) } else { Flow::On },
     }
 }
 
@@ -59,20 +55,20 @@ pub(crate) fn out(current: i32, leaves: bool) -> Moved
 {
     Moved {
         current,
-        course: if leaves { Course::Ended } else { Course::On },
+        course: if leaves { Flow::Ended } else { Flow::On },
     }
 }
 
 /// The line at which a body of `end` lines goes on, if the next one is `at`.
 #[inline(always)]
-pub fn next_line(course: Course, at: usize, end: usize) -> usize
+pub fn next_line(course: Flow, at: usize, end: usize) -> usize
     requires { at < 2 ^ 63 }
     ensures line { result ≡ line_at (course_view course) at end }
     ensures ahead { at ≤ end → at ≤ result }
 {
     match course {
-        Course::On => at,
-        Course::Skips(skip) => at + skip as usize,
-        Course::Ended => end,
+        Flow::On => at,
+        Flow::Skips(skip) => at + skip as usize,
+        Flow::Ended => end,
     }
 }

@@ -14,7 +14,7 @@ use wc_store::Store;
 /// The fields of a CTU whose places begin there.
 #[inline(always)]
 fn fields_at<S: Store>(store: &S, at: usize) -> Ctu
-    requires room { length (S.slot_kinds store.now) ≤ 65536 }
+    requires capacity { length (S.slot_kinds store.now) ≤ 65536 }
     requires slots { AreSlots (slots_of blocks.Ctu) (S.slot_kinds store.now) at }
     ensures { block_called blocks.Ctu 0 (S.slot_kinds store.now) (S.numbers store.now) at
         ≡ Some (with_numbers (S.numbers store.now) (at + 3)
@@ -33,7 +33,7 @@ fn fields_at<S: Store>(store: &S, at: usize) -> Ctu
 /// Writes the fields that a call may change: all but CU, R and PV.
 #[inline(always)]
 fn set_fields<S: Store>(store: &mut S, at: usize, block: Ctu)
-    requires room { length (S.slot_kinds store.old) ≤ 65536 }
+    requires capacity { length (S.slot_kinds store.old) ≤ 65536 }
     requires slots { AreSlots (slots_of blocks.Ctu) (S.slot_kinds store.old) at }
     ensures numbers { S.numbers store.new ≡ with_numbers (S.numbers store.old) (at + 3)
         (drop 3 (field_numbers (ctu_contents (ctu_view block)))) }
@@ -48,7 +48,7 @@ fn set_fields<S: Store>(store: &mut S, at: usize, block: Ctu)
 
 /// Calls the CTU whose places begin there.
 pub(crate) fn call<S: Store>(store: &mut S, at: usize)
-    requires room { length (S.slot_kinds store.old) ≤ 65536 }
+    requires capacity { length (S.slot_kinds store.old) ≤ 65536 }
     requires slots { AreSlots (slots_of blocks.Ctu) (S.slot_kinds store.old) at }
     ensures called { block_called blocks.Ctu 0 (S.slot_kinds store.old) (S.numbers store.old) at
         ≡ Some (S.numbers store.new) }

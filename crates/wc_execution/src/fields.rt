@@ -10,7 +10,7 @@ use wc_store::Store;
 /// A BOOL of a block.
 #[inline(always)]
 pub(crate) fn truth_at<S: Store>(store: &S, at: usize) -> bool
-    requires room { length (S.slot_kinds store.now) ≤ 65536 }
+    requires capacity { length (S.slot_kinds store.now) ≤ 65536 }
     requires kind { is_slot slots.Bool (slice_get (S.slot_kinds store.now) at) ≡ true }
     ensures { number_from slots.Bool (S.slot_kinds store.now) (S.numbers store.now) at 0
         ≡ Some (bit_number result) }
@@ -21,7 +21,7 @@ pub(crate) fn truth_at<S: Store>(store: &S, at: usize) -> bool
 /// A DINT of a block.
 #[inline(always)]
 pub(crate) fn count_at<S: Store>(store: &S, at: usize) -> i32
-    requires room { length (S.slot_kinds store.now) ≤ 65536 }
+    requires capacity { length (S.slot_kinds store.now) ≤ 65536 }
     requires kind { is_slot slots.Dint (slice_get (S.slot_kinds store.now) at) ≡ true }
     ensures { number_from slots.Dint (S.slot_kinds store.now) (S.numbers store.now) at 0
         ≡ Some result }
@@ -32,7 +32,7 @@ pub(crate) fn count_at<S: Store>(store: &S, at: usize) -> i32
 /// A TIME of a block, in milliseconds.
 #[inline(always)]
 pub(crate) fn time_at<S: Store>(store: &S, at: usize) -> i32
-    requires room { length (S.slot_kinds store.now) ≤ 65536 }
+    requires capacity { length (S.slot_kinds store.now) ≤ 65536 }
     requires kind { is_slot slots.Time (slice_get (S.slot_kinds store.now) at) ≡ true }
     ensures { number_from slots.Time (S.slot_kinds store.now) (S.numbers store.now) at 0
         ≡ Some result }
@@ -43,7 +43,7 @@ pub(crate) fn time_at<S: Store>(store: &S, at: usize) -> i32
 /// The moment that a timer keeps, in milliseconds.
 #[inline(always)]
 pub(crate) fn moment_at<S: Store>(store: &S, at: usize) -> u64
-    requires room { length (S.slot_kinds store.now) ≤ 65536 }
+    requires capacity { length (S.slot_kinds store.now) ≤ 65536 }
     requires kind { is_slot slots.Moment (slice_get (S.slot_kinds store.now) at) ≡ true }
     ensures number { number_from slots.Moment (S.slot_kinds store.now) (S.numbers store.now) at 0
         ≡ Some (pos result) }
@@ -56,7 +56,7 @@ pub(crate) fn moment_at<S: Store>(store: &S, at: usize) -> u64
 /// The phase that a timer keeps, 0 to 2.
 #[inline(always)]
 pub(crate) fn phase_at<S: Store>(store: &S, at: usize) -> u8
-    requires room { length (S.slot_kinds store.now) ≤ 65536 }
+    requires capacity { length (S.slot_kinds store.now) ≤ 65536 }
     requires kind { is_slot slots.Phase (slice_get (S.slot_kinds store.now) at) ≡ true }
     ensures { number_from slots.Phase (S.slot_kinds store.now) (S.numbers store.now) at 0
         ≡ Some (pos result) }

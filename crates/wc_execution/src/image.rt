@@ -58,7 +58,7 @@ fn four_bits(bits: u16) -> FourBits
 #[inline(always)]
 fn copy_four<S: Store>(store: &mut S, first: usize, bits: u16)
     requires slots { AreAll slots.Bool (S.slot_kinds store.old) first 4 }
-    requires room { length (S.slot_kinds store.old) ≤ 65536 }
+    requires capacity { length (S.slot_kinds store.old) ≤ 65536 }
     ensures numbers { S.numbers store.new ≡ with_four (S.numbers store.old) first
         (bit_number (is_bit_set bits 0)) (bit_number (is_bit_set bits 1))
         (bit_number (is_bit_set bits 2)) (bit_number (is_bit_set bits 3)) }
@@ -74,7 +74,7 @@ fn copy_four<S: Store>(store: &mut S, first: usize, bits: u16)
 fn copy_inputs<S: Store>(store: &mut S, inputs: u16)
     requires slots { AreAll slots.Bool (S.slot_kinds store.old) 0 16 }
     requires within { 16 ≤ length (S.numbers store.old) }
-    requires room { length (S.slot_kinds store.old) ≤ 65536 }
+    requires capacity { length (S.slot_kinds store.old) ≤ 65536 }
     ensures numbers { S.numbers store.new
         ≡ map (λ i. bit_number (is_bit_set inputs i)) (numbers_below 16)
         ++ drop 16 (S.numbers store.old) }
@@ -92,12 +92,12 @@ fn copy_bits<S: Store>(store: &mut S, first: usize, count: u8, bits: u16)
     requires few { count ≤ 16 }
     requires slots { AreAll slots.Bool (S.slot_kinds store.old) first count }
     requires within { first + count ≤ length (S.numbers store.old) }
-    requires room { length (S.slot_kinds store.old) ≤ 65536 }
+    requires capacity { length (S.slot_kinds store.old) ≤ 65536 }
     requires near { first < 64 }
-    ensures numbers { (front rest : List ℤ) → length front ≡ first
-        → S.numbers store.old ≡ front ++ rest
+    ensures numbers { (prefix rest : List ℤ) → length prefix ≡ first
+        → S.numbers store.old ≡ prefix ++ rest
         → S.numbers store.new
-        ≡ front ++ map (λ i. bit_number (is_bit_set bits i)) (numbers_below count)
+        ≡ prefix ++ map (λ i. bit_number (is_bit_set bits i)) (numbers_below count)
         ++ drop count rest }
     ensures size { length (S.numbers store.new) ≡ length (S.numbers store.old) }
     ensures kinds { S.slot_kinds store.new ≡ S.slot_kinds store.old }
@@ -113,12 +113,12 @@ fn copy_bits<S: Store>(store: &mut S, first: usize, count: u8, bits: u16)
 fn copy_weights<S: Store>(store: &mut S, first: usize, weights: &[i32; 3])
     requires slots { AreAll slots.Dint (S.slot_kinds store.old) first 3 }
     requires within { first + 3 ≤ length (S.numbers store.old) }
-    requires room { length (S.slot_kinds store.old) ≤ 65536 }
+    requires capacity { length (S.slot_kinds store.old) ≤ 65536 }
     requires near { first < 64 }
-    ensures numbers { (front rest : List ℤ) → length front ≡ first
-        → S.numbers store.old ≡ front ++ rest
+    ensures numbers { (prefix rest : List ℤ) → length prefix ≡ first
+        → S.numbers store.old ≡ prefix ++ rest
         → S.numbers store.new
-        ≡ front ++ map (λ i. slice_index_or weights.now i (pos 0)) (numbers_below 3)
+        ≡ prefix ++ map (λ i. slice_index_or weights.now i (pos 0)) (numbers_below 3)
         ++ drop 3 rest }
     ensures size { length (S.numbers store.new) ≡ length (S.numbers store.old) }
     ensures kinds { S.slot_kinds store.new ≡ S.slot_kinds store.old }
@@ -135,7 +135,7 @@ pub fn copy_image<S: Store>(store: &mut S, image: &Image)
     requires inputs { AreAll slots.Bool (S.slot_kinds store.old) 0 22 }
     requires weights { AreAll slots.Dint (S.slot_kinds store.old) 22 3 }
     requires within { 25 ≤ length (S.numbers store.old) }
-    requires room { length (S.slot_kinds store.old) ≤ 65536 }
+    requires capacity { length (S.slot_kinds store.old) ≤ 65536 }
     ensures numbers { S.numbers store.new ≡ with_image_numbers image.now (S.numbers store.old) }
     ensures kinds { S.slot_kinds store.new ≡ S.slot_kinds store.old }
     ensures moments { (now : ℕ) → AreBefore now (S.slot_kinds store.old) (S.numbers store.old)

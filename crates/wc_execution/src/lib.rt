@@ -25,7 +25,7 @@ mod tp;
 mod written;
 
 pub use count::{Count, count_on, with_lines};
-pub use course::{Course, Moved, next_line};
+pub use course::{Flow, Moved, next_line};
 pub use image::copy_image;
 pub use numbers_written::number_written;
 pub use outputs::read_outputs;

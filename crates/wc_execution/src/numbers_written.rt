@@ -23,7 +23,7 @@ fn number_stored(storing: Storing, current: i32) -> Option<i32>
 
 /// The number that a line is going to write to the place that it names.
 pub fn number_written<S: Store>(store: &S, current: i32, line: &Code, base: usize) -> Option<i32>
-    requires room { length (S.slot_kinds store.now) ≤ 65536 }
+    requires capacity { length (S.slot_kinds store.now) ≤ 65536 }
     requires there { IsWritable base (S.slot_kinds store.now) (S.numbers store.now) current
         line.now }
     ensures { result ≡ number_written (here_at base 0 (S.slot_kinds store.now) no_calls)

@@ -11,7 +11,7 @@ use wc_store::Store;
 fn is_on<S: Store>(store: &S, bit: u8) -> bool
     requires bit { bit < 16 }
     requires slots { AreAll slots.Bool (S.slot_kinds store.now) 25 16 }
-    requires room { length (S.slot_kinds store.now) ≤ 65536 }
+    requires capacity { length (S.slot_kinds store.now) ≤ 65536 }
     ensures { slice_get (S.numbers store.now) (25 + bit) ≡ Some (pos (if result then 1 else 0)) }
 {
     truth_at(store, 25 + usize::from(bit))
@@ -20,7 +20,7 @@ fn is_on<S: Store>(store: &S, bit: u8) -> bool
 /// The output bits, bit i for `%QX0.i`, which are at the places from 25 on.
 fn bits<S: Store>(store: &S) -> u16
     requires slots { AreAll slots.Bool (S.slot_kinds store.now) 25 16 }
-    requires room { length (S.slot_kinds store.now) ≤ 65536 }
+    requires capacity { length (S.slot_kinds store.now) ≤ 65536 }
     ensures { (on : ℕ → ℕ)
         → ((i : ℕ) → i < 16 → slice_get (S.numbers store.now) (25 + i) ≡ Some (pos (on i)))
         → result ≡ sum (map (λ i. 2 ^ i * on i) (numbers_below 16)) }
@@ -38,7 +38,7 @@ fn bits<S: Store>(store: &S) -> u16
 fn word<S: Store>(store: &S, number: usize) -> i32
     requires number { number < 4 }
     requires slots { AreAll slots.Dint (S.slot_kinds store.now) 41 4 }
-    requires room { length (S.slot_kinds store.now) ≤ 65536 }
+    requires capacity { length (S.slot_kinds store.now) ≤ 65536 }
     ensures { slice_get (S.numbers store.now) (41 + number) ≡ Some result }
 {
     count_at(store, 41 + number)
@@ -48,7 +48,7 @@ fn word<S: Store>(store: &S, number: usize) -> i32
 pub fn read_outputs<S: Store>(store: &S) -> Outputs
     requires bits { AreAll slots.Bool (S.slot_kinds store.now) 25 16 }
     requires words { AreAll slots.Dint (S.slot_kinds store.now) 41 4 }
-    requires room { length (S.slot_kinds store.now) ≤ 65536 }
+    requires capacity { length (S.slot_kinds store.now) ≤ 65536 }
     ensures bits { (on : ℕ → ℕ)
         → ((i : ℕ) → i < 16 → slice_get (S.numbers store.now) (25 + i) ≡ Some (pos (on i)))
         → result.bits ≡ sum (map (λ i. 2 ^ i * on i) (numbers_below 16)) }

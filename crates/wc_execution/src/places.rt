@@ -28,7 +28,7 @@ fn negated_where(negated: bool, number: i32) -> i32
 /// The number at a place of the instance that begins at `base`.
 #[inline(always)]
 pub(crate) fn read<S: Store>(store: &S, base: usize, place: Place) -> i32
-    requires room { length (S.slot_kinds store.now) ≤ 65536 }
+    requires capacity { length (S.slot_kinds store.now) ≤ 65536 }
     requires there { IsSome (held base (S.slot_kinds store.now) (S.numbers store.now) place) }
     ensures { held base (S.slot_kinds store.now) (S.numbers store.now) place ≡ Some result }
 {
@@ -38,7 +38,7 @@ pub(crate) fn read<S: Store>(store: &S, base: usize, place: Place) -> i32
 /// Writes a number to a place of the instance that begins at `base`.
 #[inline(always)]
 pub(crate) fn write<S: Store>(store: &mut S, base: usize, place: Place, number: i32)
-    requires room { length (S.slot_kinds store.old) ≤ 65536 }
+    requires capacity { length (S.slot_kinds store.old) ≤ 65536 }
     requires there { IsSome
         (written base (S.slot_kinds store.old) (S.numbers store.old) place number) }
     ensures numbers { written base (S.slot_kinds store.old) (S.numbers store.old) place number
@@ -53,7 +53,7 @@ pub(crate) fn write<S: Store>(store: &mut S, base: usize, place: Place, number: 
 /// LD and LDN of a place.
 #[inline(always)]
 pub(crate) fn load<S: Store>(store: &S, base: usize, negated: bool, place: Place) -> i32
-    requires room { length (S.slot_kinds store.now) ≤ 65536 }
+    requires capacity { length (S.slot_kinds store.now) ≤ 65536 }
     requires there { IsSome
         (loaded base (S.slot_kinds store.now) (S.numbers store.now) negated place) }
     ensures { loaded base (S.slot_kinds store.now) (S.numbers store.now) negated place
@@ -83,7 +83,7 @@ pub(crate) fn put<S: Store>(
     place: Place,
     current: i32,
 )
-    requires room { length (S.slot_kinds store.old) ≤ 65536 }
+    requires capacity { length (S.slot_kinds store.old) ≤ 65536 }
     requires there { IsSome
         (stored base (S.slot_kinds store.old) (S.numbers store.old) storing place current) }
     ensures numbers { stored base (S.slot_kinds store.old) (S.numbers store.old) storing place
@@ -112,7 +112,7 @@ pub(crate) fn put<S: Store>(
 /// An argument that is at a place.
 #[inline(always)]
 pub(crate) fn pass<S: Store>(store: &mut S, base: usize, place: Place, target: Place)
-    requires room { length (S.slot_kinds store.old) ≤ 65536 }
+    requires capacity { length (S.slot_kinds store.old) ≤ 65536 }
     requires there { IsSome
         (passed base (S.slot_kinds store.old) (S.numbers store.old) place target) }
     ensures numbers { passed base (S.slot_kinds store.old) (S.numbers store.old) place target

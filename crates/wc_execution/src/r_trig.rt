@@ -14,7 +14,7 @@ use wc_store::Store;
 /// The fields of an R_TRIG whose places begin there.
 #[inline(always)]
 fn fields_at<S: Store>(store: &S, at: usize) -> RTrig
-    requires room { length (S.slot_kinds store.now) ≤ 65536 }
+    requires capacity { length (S.slot_kinds store.now) ≤ 65536 }
     requires slots { AreSlots (slots_of blocks.RTrig) (S.slot_kinds store.now) at }
     ensures { block_called blocks.RTrig 0 (S.slot_kinds store.now) (S.numbers store.now) at
         ≡ Some (with_numbers (S.numbers store.now) (at + 1)
@@ -30,7 +30,7 @@ fn fields_at<S: Store>(store: &S, at: usize) -> RTrig
 /// Writes the fields that a call may change: all but CLK.
 #[inline(always)]
 fn set_fields<S: Store>(store: &mut S, at: usize, block: RTrig)
-    requires room { length (S.slot_kinds store.old) ≤ 65536 }
+    requires capacity { length (S.slot_kinds store.old) ≤ 65536 }
     requires slots { AreSlots (slots_of blocks.RTrig) (S.slot_kinds store.old) at }
     ensures numbers { S.numbers store.new ≡ with_numbers (S.numbers store.old) (at + 1)
         (drop 1 (field_numbers (r_trig_contents (r_trig_view block)))) }
@@ -44,7 +44,7 @@ fn set_fields<S: Store>(store: &mut S, at: usize, block: RTrig)
 
 /// Calls the R_TRIG whose places begin there.
 pub(crate) fn call<S: Store>(store: &mut S, at: usize)
-    requires room { length (S.slot_kinds store.old) ≤ 65536 }
+    requires capacity { length (S.slot_kinds store.old) ≤ 65536 }
     requires slots { AreSlots (slots_of blocks.RTrig) (S.slot_kinds store.old) at }
     ensures called { block_called blocks.RTrig 0 (S.slot_kinds store.old) (S.numbers store.old) at
         ≡ Some (S.numbers store.new) }

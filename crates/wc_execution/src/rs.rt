@@ -14,7 +14,7 @@ use wc_store::Store;
 /// The fields of an RS whose places begin there.
 #[inline(always)]
 fn fields_at<S: Store>(store: &S, at: usize) -> Rs
-    requires room { length (S.slot_kinds store.now) ≤ 65536 }
+    requires capacity { length (S.slot_kinds store.now) ≤ 65536 }
     requires slots { AreSlots (slots_of blocks.Rs) (S.slot_kinds store.now) at }
     ensures { block_called blocks.Rs 0 (S.slot_kinds store.now) (S.numbers store.now) at
         ≡ Some (with_numbers (S.numbers store.now) (at + 2)
@@ -30,7 +30,7 @@ fn fields_at<S: Store>(store: &S, at: usize) -> Rs
 /// Writes the fields that a call may change: all but S and R1.
 #[inline(always)]
 fn set_fields<S: Store>(store: &mut S, at: usize, block: Rs)
-    requires room { length (S.slot_kinds store.old) ≤ 65536 }
+    requires capacity { length (S.slot_kinds store.old) ≤ 65536 }
     requires slots { AreSlots (slots_of blocks.Rs) (S.slot_kinds store.old) at }
     ensures numbers { S.numbers store.new ≡ with_numbers (S.numbers store.old) (at + 2)
         (drop 2 (field_numbers (rs_contents (rs_view block)))) }
@@ -43,7 +43,7 @@ fn set_fields<S: Store>(store: &mut S, at: usize, block: Rs)
 
 /// Calls the RS whose places begin there.
 pub(crate) fn call<S: Store>(store: &mut S, at: usize)
-    requires room { length (S.slot_kinds store.old) ≤ 65536 }
+    requires capacity { length (S.slot_kinds store.old) ≤ 65536 }
     requires slots { AreSlots (slots_of blocks.Rs) (S.slot_kinds store.old) at }
     ensures called { block_called blocks.Rs 0 (S.slot_kinds store.old) (S.numbers store.old) at
         ≡ Some (S.numbers store.new) }

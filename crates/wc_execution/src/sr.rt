@@ -14,7 +14,7 @@ use wc_store::Store;
 /// The fields of an SR whose places begin there.
 #[inline(always)]
 fn fields_at<S: Store>(store: &S, at: usize) -> Sr
-    requires room { length (S.slot_kinds store.now) ≤ 65536 }
+    requires capacity { length (S.slot_kinds store.now) ≤ 65536 }
     requires slots { AreSlots (slots_of blocks.Sr) (S.slot_kinds store.now) at }
     ensures { block_called blocks.Sr 0 (S.slot_kinds store.now) (S.numbers store.now) at
         ≡ Some (with_numbers (S.numbers store.now) (at + 2)
@@ -30,7 +30,7 @@ fn fields_at<S: Store>(store: &S, at: usize) -> Sr
 /// Writes the fields that a call may change: all but S1 and R.
 #[inline(always)]
 fn set_fields<S: Store>(store: &mut S, at: usize, block: Sr)
-    requires room { length (S.slot_kinds store.old) ≤ 65536 }
+    requires capacity { length (S.slot_kinds store.old) ≤ 65536 }
     requires slots { AreSlots (slots_of blocks.Sr) (S.slot_kinds store.old) at }
     ensures numbers { S.numbers store.new ≡ with_numbers (S.numbers store.old) (at + 2)
         (drop 2 (field_numbers (sr_contents (sr_view block)))) }
@@ -43,7 +43,7 @@ fn set_fields<S: Store>(store: &mut S, at: usize, block: Sr)
 
 /// Calls the SR whose places begin there.
 pub(crate) fn call<S: Store>(store: &mut S, at: usize)
-    requires room { length (S.slot_kinds store.old) ≤ 65536 }
+    requires capacity { length (S.slot_kinds store.old) ≤ 65536 }
     requires slots { AreSlots (slots_of blocks.Sr) (S.slot_kinds store.old) at }
     ensures called { block_called blocks.Sr 0 (S.slot_kinds store.old) (S.numbers store.old) at
         ≡ Some (S.numbers store.new) }

@@ -8,7 +8,7 @@ use wc_store::Store;
 
 /// Calls the standard block whose places begin there, at a moment in milliseconds.
 pub(crate) fn call<S: Store>(store: &mut S, block: StandardBlock, at: usize, now: u64)
-    requires room { length (S.slot_kinds store.old) ≤ 65536 }
+    requires capacity { length (S.slot_kinds store.old) ≤ 65536 }
     requires there { IsSome
         (block_called block now (S.slot_kinds store.old) (S.numbers store.old) at) }
     requires moment { now ≤ 1099511627775 }

@@ -14,7 +14,7 @@ use wc_store::Store;
 /// The fields of a TP whose places begin there.
 #[inline(always)]
 fn fields_at<S: Store>(store: &S, at: usize) -> Tp
-    requires room { length (S.slot_kinds store.now) ≤ 65536 }
+    requires capacity { length (S.slot_kinds store.now) ≤ 65536 }
     requires slots { AreSlots (slots_of blocks.Tp) (S.slot_kinds store.now) at }
     ensures called { (now : ℕ)
         → block_called blocks.Tp now (S.slot_kinds store.now) (S.numbers store.now) at
@@ -36,7 +36,7 @@ fn fields_at<S: Store>(store: &S, at: usize) -> Tp
 /// Writes the fields that a call may change: all but IN and PT.
 #[inline(always)]
 fn set_fields<S: Store>(store: &mut S, at: usize, block: Tp)
-    requires room { length (S.slot_kinds store.old) ≤ 65536 }
+    requires capacity { length (S.slot_kinds store.old) ≤ 65536 }
     requires slots { AreSlots (slots_of blocks.Tp) (S.slot_kinds store.old) at }
     requires range { block.start ≤ 1099511627775 }
     requires phase { block.phase ≤ 2 }
@@ -55,7 +55,7 @@ fn set_fields<S: Store>(store: &mut S, at: usize, block: Tp)
 
 /// Calls the TP whose places begin there, at a moment.
 pub(crate) fn call<S: Store>(store: &mut S, at: usize, now: u64)
-    requires room { length (S.slot_kinds store.old) ≤ 65536 }
+    requires capacity { length (S.slot_kinds store.old) ≤ 65536 }
     requires slots { AreSlots (slots_of blocks.Tp) (S.slot_kinds store.old) at }
     requires moment { now ≤ 1099511627775 }
     requires forward { AreBefore now (S.slot_kinds store.old) (S.numbers store.old) }

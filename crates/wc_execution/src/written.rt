@@ -9,7 +9,7 @@ use wc_store::Store;
 /// Writes a BOOL of a block.
 #[inline(always)]
 pub(crate) fn set_truth<S: Store>(store: &mut S, at: usize, truth: bool)
-    requires room { length (S.slot_kinds store.old) ≤ 65536 }
+    requires capacity { length (S.slot_kinds store.old) ≤ 65536 }
     requires kind { is_slot slots.Bool (slice_get (S.slot_kinds store.old) at) ≡ true }
     ensures number { S.numbers store.new ≡ slice_set (S.numbers store.old) at (bit_number truth) }
     ensures kinds { S.slot_kinds store.new ≡ S.slot_kinds store.old }
@@ -22,7 +22,7 @@ pub(crate) fn set_truth<S: Store>(store: &mut S, at: usize, truth: bool)
 /// Writes a DINT of a block.
 #[inline(always)]
 pub(crate) fn set_count<S: Store>(store: &mut S, at: usize, count: i32)
-    requires room { length (S.slot_kinds store.old) ≤ 65536 }
+    requires capacity { length (S.slot_kinds store.old) ≤ 65536 }
     requires kind { is_slot slots.Dint (slice_get (S.slot_kinds store.old) at) ≡ true }
     ensures number { S.numbers store.new ≡ slice_set (S.numbers store.old) at count }
     ensures kinds { S.slot_kinds store.new ≡ S.slot_kinds store.old }
@@ -35,7 +35,7 @@ pub(crate) fn set_count<S: Store>(store: &mut S, at: usize, count: i32)
 /// Writes a TIME of a block.
 #[inline(always)]
 pub(crate) fn set_time<S: Store>(store: &mut S, at: usize, time: i32)
-    requires room { length (S.slot_kinds store.old) ≤ 65536 }
+    requires capacity { length (S.slot_kinds store.old) ≤ 65536 }
     requires kind { is_slot slots.Time (slice_get (S.slot_kinds store.old) at) ≡ true }
     ensures number { S.numbers store.new ≡ slice_set (S.numbers store.old) at time }
     ensures kinds { S.slot_kinds store.new ≡ S.slot_kinds store.old }
@@ -48,7 +48,7 @@ pub(crate) fn set_time<S: Store>(store: &mut S, at: usize, time: i32)
 /// Writes the moment that a timer keeps.
 #[inline(always)]
 pub(crate) fn set_moment<S: Store>(store: &mut S, at: usize, moment: u64)
-    requires room { length (S.slot_kinds store.old) ≤ 65536 }
+    requires capacity { length (S.slot_kinds store.old) ≤ 65536 }
     requires kind { is_slot slots.Moment (slice_get (S.slot_kinds store.old) at) ≡ true }
     requires range { moment ≤ 1099511627775 }
     ensures number { S.numbers store.new ≡ slice_set (S.numbers store.old) at (pos moment) }
@@ -63,7 +63,7 @@ pub(crate) fn set_moment<S: Store>(store: &mut S, at: usize, moment: u64)
 /// Writes the phase that a timer keeps.
 #[inline(always)]
 pub(crate) fn set_phase<S: Store>(store: &mut S, at: usize, phase: u8)
-    requires room { length (S.slot_kinds store.old) ≤ 65536 }
+    requires capacity { length (S.slot_kinds store.old) ≤ 65536 }
     requires kind { is_slot slots.Phase (slice_get (S.slot_kinds store.old) at) ≡ true }
     requires range { phase ≤ 2 }
     ensures number { S.numbers store.new ≡ slice_set (S.numbers store.old) at (pos phase) }

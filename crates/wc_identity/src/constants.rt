@@ -6,8 +6,8 @@ macro_rules! with_constants {
         $macro!(
             "0.1.0",
             "rattle-kit-13 logic dac8208d650f15bf",
-            "5b95c92c9859778d61dee2e7d0ee3ad00f6bf4c083453fe47580aad129cbfa0c",
-            "d74389cb2bebf3bd5b8a92e75fd735d7e98f35090ef7087d9f0524ced5810a3f"
+            "15fd1b5e08def123242c3e4d7ab587eb5a6a5336a4f7dfed8e97063787f50175",
+            "9cb620bb82557fed51f9e1ab5f4dd6b76206d23d7b9d1b6b95e8882492eb4641"
         )
     };
 }

@@ -5,13 +5,13 @@ use Rattle.std.specs.Prelude.{ℤ, Some, None, Result, Ok, Err, IsOk, OnOk, ◌�
 use Rattle.wc_laws_instrument.proofs.LastItems.{last_of, one_more}
 use Rattle.wc_model.specs.Instrument.Plates.{PlateData, IsPlate}
 use Rattle.wc_model.specs.Instrument.WeighingHistories.{History, Sample, samples, last_items}
-use Rattle.wc_indicator.specs.Kept.{IndicatorState, StandsForHistory}
+use Rattle.wc_indicator.specs.Kept.{IndicatorState, RepresentsHistory}
 
 -- an indicator that takes one more sample
-pub stands_after : (k : IndicatorState) (p : PlateData) (history : History) (x : ℤ) (latest : List ℤ) → StandsForHistory k p history →
+pub represents_after : (k : IndicatorState) (p : PlateData) (history : History) (x : ℤ) (latest : List ℤ) → RepresentsHistory k p history →
     latest ≡ last_items k.plate.window (k.latest ++ x ∷ []) →
-    StandsForHistory (record { plate = k.plate; latest = latest; last = Some x; zero = k.zero; tare = k.tare }) p (Sample x ∷ history)
-stands_after k p history x latest h e = record {
+    RepresentsHistory (record { plate = k.plate; latest = latest; last = Some x; zero = k.zero; tare = k.tare }) p (Sample x ∷ history)
+represents_after k p history x latest h e = record {
   same_plate = h.same_plate;
   same_latest = e ∙ ap (λ q. last_items q.window (k.latest ++ x ∷ [])) h.same_plate
       ∙ ap (λ xs. last_items p.window (xs ++ x ∷ [])) h.same_latest ∙ one_more p.window (samples history) x;
@@ -21,11 +21,11 @@ stands_after k p history x latest h e = record {
 }
 
 -- the last samples are few
-pub few_latest : (k : IndicatorState) (p : PlateData) (history : History) → IsPlate k.plate → StandsForHistory k p history → length k.latest ≤ 16
-few_latest k p history plate stands =
-    let same : k.plate.window ≡ p.window = ap (λ q. q.window) stands.same_plate in
+pub few_latest : (k : IndicatorState) (p : PlateData) (history : History) → IsPlate k.plate → RepresentsHistory k p history → length k.latest ≤ 16
+few_latest k p history plate represents =
+    let same : k.plate.window ≡ p.window = ap (λ q. q.window) represents.same_plate in
     let few : length k.latest ≡ length (samples history) - (length (samples history) - p.window) =
-    ap length stands.same_latest ∙ length-drop (length (samples history) - p.window) (samples history) in
+    ap length represents.same_latest ∙ length-drop (length (samples history) - p.window) (samples history) in
     omega (arith, few, same, plate.window_in_range.1)
 
 -- what holds of a success

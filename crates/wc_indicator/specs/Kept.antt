@@ -14,7 +14,7 @@ pub record IndicatorState : Type 0 where
   pub tare : Option ℤ
 
 -- the indicator represents a plate and all that has come to it
-pub record StandsForHistory (indicator : IndicatorState) (p : PlateData) (history : History) : Type 0 where
+pub record RepresentsHistory (indicator : IndicatorState) (p : PlateData) (history : History) : Type 0 where
   pub same_plate : indicator.plate ≡ p
   pub same_latest : indicator.latest ≡ window_of p history
   pub same_last : indicator.last ≡ last_sample history
@@ -22,8 +22,8 @@ pub record StandsForHistory (indicator : IndicatorState) (p : PlateData) (histor
   pub same_tare : indicator.tare ≡ active_tare p history
 
 -- the answer is the value at each plate and history that the indicator represents
-abbrev pub Tells : {X : Type 0} → (PlateData → History → X) → IndicatorState → X → Type 0
-Tells value indicator answer = (p : PlateData) (history : History) → StandsForHistory indicator p history → answer ≡ value p history
+abbrev pub Reports : {X : Type 0} → (PlateData → History → X) → IndicatorState → X → Type 0
+Reports value indicator answer = (p : PlateData) (history : History) → RepresentsHistory indicator p history → answer ≡ value p history
 
 -- no farther from 0 than a sample can be
 abbrev pub IsCount : ℤ → Type 0

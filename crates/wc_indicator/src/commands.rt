@@ -1,9 +1,9 @@
 ghost use Rattle.std.specs.Prelude.{◌≡◌, ◌∷◌, IfErr};
 ghost use Rattle.wc_model.specs.Instrument.Plates.{PlateData};
 ghost use Rattle.wc_model.specs.Instrument.WeighingHistories.{SetZero, SetTare, ClearTare, History};
-ghost use Rattle.wc_model.specs.Instrument.Indication as told;
-ghost use Rattle.wc_indicator.specs.Kept.{StandsForHistory, Tells};
-ghost use Rattle.wc_indicator.specs.Refusals.{told_by, refusal_view};
+ghost use Rattle.wc_model.specs.Instrument.Indication as reported;
+ghost use Rattle.wc_indicator.specs.Kept.{RepresentsHistory, Reports};
+ghost use Rattle.wc_indicator.specs.Refusals.{reported_by, refusal_view};
 
 use crate::Indicator;
 use crate::refused::{Refused, refused_unless};
@@ -11,7 +11,7 @@ use crate::refused::{Refused, refused_unless};
 impl Indicator {
     /// Whether the load is within 2 % of the greatest load of the calibrated zero.
     fn near_zero(&self) -> bool
-        ensures { Tells told.is_near_zero self.now result }
+        ensures { Reports reported.is_near_zero self.now result }
     {
         let distance = (self.present_counts() - self.plate.zero_counts()).unsigned_abs();
         50 * u64::from(distance) <= self.plate.span_counts() as u64
@@ -19,7 +19,7 @@ impl Indicator {
 
     /// Whether the gross weight lies from one interval to the greatest load.
     fn can_be_tared(&self) -> bool
-        ensures { Tells told.can_be_tared self.now result }
+        ensures { Reports reported.can_be_tared self.now result }
     {
         let gross = self.gross_intervals();
         1 <= gross && gross <= i64::from(self.plate.n())
@@ -27,14 +27,14 @@ impl Indicator {
 
     /// Why a zero command would be refused now.
     fn zero_refusal(&self) -> Option<Refused>
-        ensures { Tells told.zero_refusal self.now (told_by result) }
+        ensures { Reports reported.zero_refusal self.now (reported_by result) }
     {
         refused_unless(self.stable(), self.near_zero())
     }
 
     /// Why a tare command would be refused now.
     fn tare_refusal(&self) -> Option<Refused>
-        ensures { Tells told.tare_refusal self.now (told_by result) }
+        ensures { Reports reported.tare_refusal self.now (reported_by result) }
     {
         refused_unless(self.stable(), self.can_be_tared())
     }
@@ -42,9 +42,10 @@ impl Indicator {
     /// Sets zero at the present load, and ends the tare. `Motion` if the scale is not stable, else `Range` if
     /// the load is farther than 2 % of the greatest load from the calibrated zero (OIML R 76-1:2006, 4.5.1 and 4.5.4).
     pub fn set_zero(&mut self) -> Result<(), Refused>
-        ensures stands { (p : PlateData) (history : History) → StandsForHistory self.old p history
-            → StandsForHistory self.new p (SetZero ∷ history) }
-        ensures refused { Tells told.zero_refusal self.old (refusal_view result) }
+        ensures represents { (p : PlateData) (history : History)
+            → RepresentsHistory self.old p history
+            → RepresentsHistory self.new p (SetZero ∷ history) }
+        ensures refused { Reports reported.zero_refusal self.old (refusal_view result) }
         // A refused command changes nothing.
         ensures same { IfErr result (λ refused. self.new ≡ self.old) }
     {
@@ -62,9 +63,10 @@ impl Indicator {
     /// scale is not stable, else `Range` if the gross weight is below one interval or above the greatest load
     /// (OIML R 76-1:2006, 4.6.4, 4.6.8 and 4.6.10).
     pub fn set_tare(&mut self) -> Result<(), Refused>
-        ensures stands { (p : PlateData) (history : History) → StandsForHistory self.old p history
-            → StandsForHistory self.new p (SetTare ∷ history) }
-        ensures refused { Tells told.tare_refusal self.old (refusal_view result) }
+        ensures represents { (p : PlateData) (history : History)
+            → RepresentsHistory self.old p history
+            → RepresentsHistory self.new p (SetTare ∷ history) }
+        ensures refused { Reports reported.tare_refusal self.old (refusal_view result) }
         // A refused command changes nothing.
         ensures same { IfErr result (λ refused. self.new ≡ self.old) }
     {
@@ -79,8 +81,8 @@ impl Indicator {
 
     /// Ends the tare, also in motion.
     pub fn clear_tare(&mut self)
-        ensures { (p : PlateData) (history : History) → StandsForHistory self.old p history
-            → StandsForHistory self.new p (ClearTare ∷ history) }
+        ensures { (p : PlateData) (history : History) → RepresentsHistory self.old p history
+            → RepresentsHistory self.new p (ClearTare ∷ history) }
     {
         self.tare = None;
     }

@@ -1,6 +1,6 @@
 ghost use Rattle.std.specs.Prelude.{◌≡◌};
 ghost use Rattle.wc_model.specs.Instrument.Indication.{refused_unless};
-ghost use Rattle.wc_indicator.specs.Refusals.{told_by};
+ghost use Rattle.wc_indicator.specs.Refusals.{reported_by};
 
 use thiserror::Error;
 
@@ -17,7 +17,7 @@ pub enum Refused {
 
 /// Why a command is refused, if it is: for motion first.
 pub(crate) fn refused_unless(stable: bool, within: bool) -> Option<Refused>
-    ensures { told_by result ≡ refused_unless stable within }
+    ensures { reported_by result ≡ refused_unless stable within }
 {
     if !stable {
         Some(Refused::Motion)

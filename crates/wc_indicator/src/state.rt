@@ -1,6 +1,6 @@
 ghost use Rattle.wc_laws_instrument.specs.Preludes as prelude;
-ghost use Rattle.wc_model.specs.Instrument.Indication as told;
-ghost use Rattle.wc_indicator.specs.Kept.{Tells};
+ghost use Rattle.wc_model.specs.Instrument.Indication as reported;
+ghost use Rattle.wc_indicator.specs.Kept.{Reports};
 
 use crate::Indicator;
 use arrayvec::ArrayVec;
@@ -8,7 +8,8 @@ use arrayvec::ArrayVec;
 impl Indicator {
     /// The sample at which zero was set, if the zero point is not the calibrated zero.
     pub fn zero_load(&self) -> Option<i32>
-        ensures { Tells (λ p history. prelude.moved_zero p (told.zero_point p history)) self.now
+        ensures { Reports (λ p history. prelude.moved_zero p
+            (reported.zero_point p history)) self.now
             result }
     {
         if self.zero == self.plate.zero_counts() {
@@ -20,8 +21,8 @@ impl Indicator {
 
     /// The sample at which the tare was taken, if one is active.
     pub fn tare_load(&self) -> Option<i32>
-        ensures { Tells (λ p history. prelude.tare_load (told.zero_point p history)
-            (told.active_tare p history)) self.now result }
+        ensures { Reports (λ p history. prelude.tare_load (reported.zero_point p history)
+            (reported.active_tare p history)) self.now result }
     {
         match self.tare {
             Some(tare) => Some(self.zero + tare),
@@ -31,7 +32,7 @@ impl Indicator {
 
     /// The last samples, the oldest first: as many as the window holds, or all if fewer have come.
     pub fn window(&self) -> ArrayVec<i32, 16>
-        ensures { Tells told.window_of self.now result.items }
+        ensures { Reports reported.window_of self.now result.items }
     {
         let mut window = ArrayVec::new();
         let (first, second) = self.latest.as_slices();

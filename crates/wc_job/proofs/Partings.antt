@@ -21,18 +21,18 @@ passed_line word (byte ∷ rest) line after some h other =
     ap (part_at word) h.0 ∙ ap (λ v. if v then Some (record { section = []; rest = whole_lines after }) else with_line line (part_at word (whole_lines after))) other
 
 -- a list cut after its prefix
-cut_behind : (front after : List ℕ) → (take (length front) (front ++ after) ≡ front) × (drop (length front) (front ++ after) ≡ after)
-cut_behind [] after = (refl, refl)
-cut_behind (x ∷ xs) after = let more = cut_behind xs after in (ap (λ l. x ∷ l) more.0, more.1)
+cut_after : (prefix after : List ℕ) → (take (length prefix) (prefix ++ after) ≡ prefix) × (drop (length prefix) (prefix ++ after) ≡ after)
+cut_after [] after = (refl, refl)
+cut_after (x ∷ xs) after = let more = cut_after xs after in (ap (λ l. x ∷ l) more.0, more.1)
 
 -- after one more line
 pub found_further : (word text before rest line after : List ℕ) (start : ℕ) → IsFoundFrom word text start → before ≡ take start text → rest ≡ drop start text → length before ≡ start → text ≡ before ++ rest → rest ≡ line ++ after → 0 < length rest → BeginsWithLine rest line after → is_heading word line ≡ false → IsFoundFrom word text (start + length line)
 found_further word text before rest line after start so e f long whole cut some h other =
-    let front : text ≡ (before ++ line) ++ after = whole ∙ ap (λ r. before ++ r) cut ∙ sym (append_assoc before line after) in
+    let prefix : text ≡ (before ++ line) ++ after = whole ∙ ap (λ r. before ++ r) cut ∙ sym (append_assoc before line after) in
     let count : start + length line ≡ length (before ++ line) = omega (arith, length-append before line, long) in
-    let parts = cut_behind (before ++ line) after in
-    let taken : take (start + length line) text ≡ before ++ line = rw (count, front) parts.0 in
-    let left : drop (start + length line) text ≡ after = rw (count, front) parts.1 in
+    let parts = cut_after (before ++ line) after in
+    let taken : take (start + length line) text ≡ before ++ line = rw (count, prefix) parts.0 in
+    let left : drop (start + length line) text ≡ after = rw (count, prefix) parts.1 in
     so
     ∙ ap (λ r. with_line (take start text) (part_at word (whole_lines r))) (sym f)
     ∙ ap (λ b. with_line b (part_at word (whole_lines rest))) (sym e)

@@ -3,7 +3,7 @@ use Rattle.std.specs.Prelude.{◌≡◌, ℕ, ◌+◌, ◌<◌, ◌==◌, min, L
 use Rattle.std.specs.List.{position_or_len}
 use Rattle.wc_job.specs.declared.headings.Heading.{Heading}
 use Rattle.wc_job.specs.declared.headings.Heading.TheVariants.{Plate, Program, Next, Log}
-use Rattle.wc_job.specs.declared.parts.Parting.{Parting}
+use Rattle.wc_job.specs.declared.parts.SplitLine.{SplitLine}
 use Rattle.wc_job.specs.declared.parts.Sections as answer
 use Rattle.wc_model.specs.Run.JobSections.{Parted, Sections, whole_lines}
 
@@ -24,9 +24,9 @@ BeginsWithLine [] line after = (line ≡ []) × (after ≡ [])
 BeginsWithLine (byte ∷ rest) line after = (whole_lines (byte ∷ rest) ≡ line ∷ whole_lines after) × (0 < length line)
 
 -- the bytes before a heading, and the lines after it
-abbrev pub parted_view : Option Parting → Option Parted
+abbrev pub parted_view : Option SplitLine → Option Parted
 parted_view None = None
-parted_view (Some parting) = Some (record { section = parting.section.now; rest = whole_lines parting.rest.now })
+parted_view (Some split_line) = Some (record { section = split_line.section.now; rest = whole_lines split_line.rest.now })
 
 -- the sections
 abbrev pub sections_view : answer.Sections → Sections

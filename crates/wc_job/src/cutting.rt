@@ -4,11 +4,11 @@ ghost use Rattle.wc_model.specs.Run.JobSections.{part_at, sections_in, sections_
 
 use crate::headings::{Heading, is_heading};
 use crate::lines::first_line;
-use crate::parts::{Parting, Sections};
+use crate::parts::{Sections, SplitLine};
 use wc_model::LONGEST_JOB;
 
 /// What precedes and follows the first line that is this heading.
-fn part_at<'a>(heading: Heading, text: &'a [u8]) -> Option<Parting<'a>>
+fn part_at<'a>(heading: Heading, text: &'a [u8]) -> Option<SplitLine<'a>>
     ensures { parted_view result ≡ part_at (heading_view heading) (whole_lines text.now) }
 {
     let mut start = 0_usize;
@@ -16,7 +16,7 @@ fn part_at<'a>(heading: Heading, text: &'a [u8]) -> Option<Parting<'a>>
         let (before, rest) = text.split_at(start);
         let (line, after) = first_line(rest);
         if is_heading(heading, line) {
-            return Some(Parting {
+            return Some(SplitLine {
                 section: before,
                 rest: after,
             });
@@ -48,7 +48,7 @@ fn with_programs<'a>(plate: &'a [u8], between: &'a [u8], log: &'a [u8]) -> Secti
 }
 
 /// The sections after the first heading.
-fn sections_behind<'a>(text: &'a [u8]) -> Option<Sections<'a>>
+fn sections_after<'a>(text: &'a [u8]) -> Option<Sections<'a>>
     ensures { found_view result
         ≡ sections_with_program (part_at (codes "@program") (whole_lines text.now)) }
 {
@@ -67,7 +67,7 @@ fn sections_in<'a>(text: &'a [u8]) -> Option<Sections<'a>>
 {
     let (first, rest) = first_line(text);
     if is_heading(Heading::Plate, first) {
-        sections_behind(rest)
+        sections_after(rest)
     } else {
         None
     }

@@ -13,7 +13,7 @@ pub struct Sections<'a> {
 
 /// What precedes a heading and what follows it.
 #[derive(Clone, Copy)]
-pub(crate) struct Parting<'a> {
+pub(crate) struct SplitLine<'a> {
     pub(crate) section: &'a [u8],
     pub(crate) rest: &'a [u8],
 }

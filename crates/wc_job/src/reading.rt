@@ -23,7 +23,7 @@ pub enum ReadFault {
 }
 
 /// The number of bytes read at once.
-const PIECE: usize = 4096;
+const CHUNK: usize = 4096;
 
 /// Reads into the start of the buffer, at most n bytes.
 fn read_up_to<R: ByteIn>(reader: &mut R, buffer: &mut [u8], most: usize) -> io::Result<usize>
@@ -44,8 +44,8 @@ fn read_more<R: ByteIn>(reader: &mut R, bytes: &mut Vec<u8>) -> Result<bool, Rea
     ensures failures { R.failure_count reader.new
         ≡ failures_after (R.failure_count reader.old) result }
 {
-    let mut buffer = [0_u8; PIECE];
-    let most = (LONGEST_JOB + 1 - bytes.len()).min(PIECE);
+    let mut buffer = [0_u8; CHUNK];
+    let most = (LONGEST_JOB + 1 - bytes.len()).min(CHUNK);
     match read_up_to(reader, &mut buffer, most) {
         Err(_) => Err(ReadFault::Read),
         Ok(0) => Ok(false),

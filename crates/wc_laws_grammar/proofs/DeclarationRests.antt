@@ -1,6 +1,6 @@
 -- What tokens complete a section of declarations from a place in it. Line ends are passed over, and are in none of these.
 use Rattle.std.specs.Prelude.{◌≡◌, List, [], ◌∷◌, ◌++◌, Some}
-use Rattle.wc_laws_grammar.specs.Moves.{InDeclaration, Undeclared, BehindNames, BehindComma, BehindColon, BehindType, BehindAssign, BehindValue}
+use Rattle.wc_laws_grammar.specs.Moves.{InDeclaration, Undeclared, AfterNames, AfterComma, AfterColon, AfterType, AfterAssign, AfterValue}
 use Rattle.wc_model.specs.Text.Grammar.{symbol, declaration, initial_value, IsLiteral, IsOn}
 use Rattle.wc_model.specs.Text.Languages.{Language, nothing, one, ◌then◌, optional, each}
 use Rattle.wc_model.specs.Text.Marks.{Mark, Comma, Colon, Semicolon, IsWord}
@@ -36,15 +36,15 @@ from_names section others d more = more_names others then symbol Colon then from
 abbrev pub declared_rest : Section → InDeclaration → List Declaration → Language Mark
 declared_rest section Undeclared ds tokens = declarations_of section ds tokens
 declared_rest section place [] tokens = nothing tokens
-declared_rest section (BehindNames names) (d ∷ more) tokens =
+declared_rest section (AfterNames names) (d ∷ more) tokens =
     (others : List Word) × (d.section ≡ section) × (d.names ≡ names ++ others) × from_names section others d more tokens
-declared_rest section (BehindComma names) (d ∷ more) tokens =
+declared_rest section (AfterComma names) (d ∷ more) tokens =
     (word : Word) × (others : List Word) × (d.section ≡ section) × (d.names ≡ names ++ word ∷ others) × (one (IsWord word) then from_names section others d more) tokens
-declared_rest section (BehindColon names) (d ∷ more) tokens = (d.section ≡ section) × (d.names ≡ names) × from_type section d more tokens
-declared_rest section (BehindType names type_name) (d ∷ more) tokens =
+declared_rest section (AfterColon names) (d ∷ more) tokens = (d.section ≡ section) × (d.names ≡ names) × from_type section d more tokens
+declared_rest section (AfterType names type_name) (d ∷ more) tokens =
     (d.section ≡ section) × (d.names ≡ names) × (d.type_name ≡ type_name) × from_initial section d more tokens
-declared_rest section (BehindAssign names type_name) (d ∷ more) tokens =
+declared_rest section (AfterAssign names type_name) (d ∷ more) tokens =
     (initial : Initial) × (d ≡ record { section = section; names = names; type_name = type_name; initial = Some initial })
     × (one (IsOn initial.line (IsLiteral initial.value)) then from_end section more) tokens
-declared_rest section (BehindValue names type_name initial) (d ∷ more) tokens =
+declared_rest section (AfterValue names type_name initial) (d ∷ more) tokens =
     (d ≡ record { section = section; names = names; type_name = type_name; initial = Some initial }) × from_end section more tokens

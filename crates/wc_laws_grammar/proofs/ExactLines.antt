@@ -1,9 +1,9 @@
 -- The walk on a line keeps what precedes and follows its operator.
 use Rattle.std.proofs.Common.{◌≡◌, ℕ, Bool, true, false, List, [], ◌∷◌, ◌++◌, Option, Some, None, refl, ap, append_assoc, append-nil, subst, if◌then◌else◌, ◌∙◌, sym}
-use Rattle.wc_laws_grammar.specs.LineMoves.{Begun, Listed, OperandOf, OfStep, OfOpening, OfArgument, InList, AtFirst, AtNext, AtAssign, AtValue, AtEnd, LineState, Start, Worded, Labelled, Operated, Jumped, Called, Instanced, Listing, Bracketed, Named, Pointed, Stepped, BracketedWith, Ended, at_bracketed, at_field, at_labelled, at_list, at_operand, at_operated, at_operator, at_start, at_start_in, behind_name, behind_operand, behind_operator, line_move, name_or_literal, operator_or_label, simple_operator}
+use Rattle.wc_laws_grammar.specs.LineMoves.{StartedLine, Listed, OperandOf, OfStep, OfOpening, OfArgument, InList, AtFirst, AtNext, AtAssign, AtValue, AtEnd, LineState, Start, Worded, Labelled, Operated, Jumped, Called, Instanced, Listing, Bracketed, Named, Pointed, Stepped, BracketedWith, Ended, at_bracketed, at_field, at_labelled, at_list, at_operand, at_operated, at_operator, at_start, at_start_in, after_name, after_operand, after_operator, line_move, name_or_literal, operator_or_label, simple_operator}
 use Rattle.wc_laws_grammar.proofs.Appending.{append_last}
 use Rattle.wc_laws_grammar.proofs.LineSound.{AllowsFrom, mark_on}
-use Rattle.wc_laws_grammar.proofs.Told.{Exact, PartOpened}
+use Rattle.wc_laws_grammar.proofs.Reported.{Exact, PartOpened}
 use Rattle.wc_laws_grammar.proofs.WordLaws.{is_operator}
 use Rattle.wc_laws_grammar.specs.Words.{Operating, Applies, Operation, Operates, Negates, found, is_transfer, operation_of, operations, truths}
 use Rattle.wc_laws_grammar.proofs.Languages.{joined}
@@ -26,30 +26,30 @@ NoOpening (OfStep operating) = Unit {0}
 NoOpening (OfOpening operator) = ⊥
 NoOpening (OfArgument call input) = Unit {0}
 
-exact_operand : (setting : Setting) (begun : Begun) (place : OperandOf) (x : Term) (tokens : List Mark) → NoOpening place → Exact setting (behind_operand begun place x) tokens
-exact_operand setting begun (OfStep operating) x tokens n = tt
-exact_operand setting begun (OfOpening operator) x tokens n = absurd n
-exact_operand setting begun (OfArgument call input) x tokens n = tt
+exact_operand : (setting : Setting) (started : StartedLine) (place : OperandOf) (x : Term) (tokens : List Mark) → NoOpening place → Exact setting (after_operand started place x) tokens
+exact_operand setting started (OfStep operating) x tokens n = tt
+exact_operand setting started (OfOpening operator) x tokens n = absurd n
+exact_operand setting started (OfArgument call input) x tokens n = tt
 
-exact_begun_name : (setting : Setting) (begun : Begun) (place : OperandOf) (name : Name) (tokens : List Mark) → NoOpening place → Exact setting (Named begun place name) tokens
-exact_begun_name setting begun (OfStep operating) name tokens n = tt
-exact_begun_name setting begun (OfOpening operator) name tokens n = absurd n
-exact_begun_name setting begun (OfArgument call input) name tokens n = tt
+exact_started_name : (setting : Setting) (started : StartedLine) (place : OperandOf) (name : Name) (tokens : List Mark) → NoOpening place → Exact setting (Named started place name) tokens
+exact_started_name setting started (OfStep operating) name tokens n = tt
+exact_started_name setting started (OfOpening operator) name tokens n = absurd n
+exact_started_name setting started (OfArgument call input) name tokens n = tt
 
-exact_name : (setting : Setting) (begun : Begun) (place : OperandOf) (name : Name) (truth : Option Bool) (tokens : List Mark) → NoOpening place → Exact setting (name_or_literal begun place name truth) tokens
-exact_name setting begun place name None tokens n = exact_begun_name setting begun place name tokens n
-exact_name setting begun place name (Some value) tokens n = exact_operand setting begun place _ tokens n
+exact_name : (setting : Setting) (started : StartedLine) (place : OperandOf) (name : Name) (truth : Option Bool) (tokens : List Mark) → NoOpening place → Exact setting (name_or_literal started place name truth) tokens
+exact_name setting started place name None tokens n = exact_started_name setting started place name tokens n
+exact_name setting started place name (Some value) tokens n = exact_operand setting started place _ tokens n
 
-exact_at_operand : (setting : Setting) (begun : Begun) (place : OperandOf) (symbol : Symbol) (line : ℕ) (tokens : List Mark) → NoOpening place → ExactNext setting tokens (at_operand begun place symbol line)
-exact_at_operand setting begun place (Identifier bytes) line tokens n = exact_name setting begun place (name_of bytes) (found truths (name_of bytes)) tokens n
-exact_at_operand setting begun place (Direct bytes) line tokens n = exact_operand setting begun place _ tokens n
-exact_at_operand setting begun place (Whole number) line tokens n = exact_operand setting begun place _ tokens n
-exact_at_operand setting begun place (Duration number) line tokens n = exact_operand setting begun place _ tokens n
-exact_at_operand setting begun place (Truth value) line tokens n = exact_operand setting begun place _ tokens n
-exact_at_operand setting begun place _ line tokens n = tt
+exact_at_operand : (setting : Setting) (started : StartedLine) (place : OperandOf) (symbol : Symbol) (line : ℕ) (tokens : List Mark) → NoOpening place → ExactNext setting tokens (at_operand started place symbol line)
+exact_at_operand setting started place (Identifier bytes) line tokens n = exact_name setting started place (name_of bytes) (found truths (name_of bytes)) tokens n
+exact_at_operand setting started place (Direct bytes) line tokens n = exact_operand setting started place _ tokens n
+exact_at_operand setting started place (Whole number) line tokens n = exact_operand setting started place _ tokens n
+exact_at_operand setting started place (Duration number) line tokens n = exact_operand setting started place _ tokens n
+exact_at_operand setting started place (Truth value) line tokens n = exact_operand setting started place _ tokens n
+exact_at_operand setting started place _ line tokens n = tt
 
 exact_operator : (setting : Setting) (label : Option Word) (symbol : Symbol) (line : ℕ) (operation : Operation) (tokens : List Mark) → operation_of symbol ≡ Some operation → label_in setting label tokens
-    → Exact setting (behind_operator label line operation) (tokens ++ mark_on symbol line ∷ [])
+    → Exact setting (after_operator label line operation) (tokens ++ mark_on symbol line ∷ [])
 exact_operator setting label symbol line (Operates operating) tokens e h = joined tokens (mark_on symbol line ∷ []) h (e, refl)
 exact_operator setting label symbol line Negates tokens e h = tt
 exact_operator setting label symbol line another tokens e h = tt
@@ -73,7 +73,7 @@ exact_simple : (symbol : Symbol) (line : ℕ) (operation : Option Operation) →
 exact_simple symbol line None e = tt
 exact_simple symbol line (Some operation) e = by_transfer (is_transfer operation)
   where
-    by_transfer : (b : Bool) → ExactNext InParentheses (mark_on symbol line ∷ []) (if b then None else Some (behind_operator None line operation))
+    by_transfer : (b : Bool) → ExactNext InParentheses (mark_on symbol line ∷ []) (if b then None else Some (after_operator None line operation))
     by_transfer true = tt
     by_transfer false = exact_operator InParentheses None symbol line operation [] e refl
 
@@ -87,14 +87,14 @@ exact_labelled setting label LineEnd line tokens h = tt
 exact_labelled setting label symbol line tokens h = exact_at_operator setting (Some label) symbol line (operation_of symbol) tokens refl (subst (λ s. label_in s (Some label) tokens) (sym h.0) h.1)
 
 -- the next is an opening line of this instruction, or its end
-abbrev IsOpeningOf : Begun → Operator → Option LineState → Type 0
-IsOpeningOf begun operator None = Unit {0}
-IsOpeningOf begun operator (Some (Ended form)) = Unit {0}
-IsOpeningOf begun operator (Some (Bracketed b o)) = (b ≡ begun) × (o ≡ operator)
-IsOpeningOf begun operator (Some (BracketedWith b o x)) = (b ≡ begun) × (o ≡ operator)
-IsOpeningOf begun operator (Some (Named b (OfOpening o) name)) = (b ≡ begun) × (o ≡ operator)
-IsOpeningOf begun operator (Some (Pointed b (OfOpening o) name)) = (b ≡ begun) × (o ≡ operator)
-IsOpeningOf begun operator (Some _) = ⊥
+abbrev IsOpeningOf : StartedLine → Operator → Option LineState → Type 0
+IsOpeningOf started operator None = Unit {0}
+IsOpeningOf started operator (Some (Ended line_shape)) = Unit {0}
+IsOpeningOf started operator (Some (Bracketed b o)) = (b ≡ started) × (o ≡ operator)
+IsOpeningOf started operator (Some (BracketedWith b o x)) = (b ≡ started) × (o ≡ operator)
+IsOpeningOf started operator (Some (Named b (OfOpening o) name)) = (b ≡ started) × (o ≡ operator)
+IsOpeningOf started operator (Some (Pointed b (OfOpening o) name)) = (b ≡ started) × (o ≡ operator)
+IsOpeningOf started operator (Some _) = ⊥
 
 pub one_operator : (line : ℕ) (operator : Operator) (tokens : List Mark) → one (IsOn line (λ mark. operation_of mark.symbol ≡ Some (Operates (Applies operator)))) tokens → one (IsOn line (IsOperator operator)) tokens
 one_operator line operator [] h = absurd h
@@ -102,105 +102,105 @@ one_operator line operator (mark ∷ []) h = (is_operator operator mark.symbol m
 one_operator line operator (x ∷ y ∷ more) h = absurd h
 
 -- after the bracket of an opening line
-exact_bracket : (setting : Setting) (begun : Begun) (operator : Operator) (line : ℕ) (tokens : List Mark) → Exact setting (Operated begun (Applies operator)) tokens → Exact setting (Bracketed begun operator) (tokens ++ mark_on OpeningBracket line ∷ [])
-exact_bracket setting begun operator line tokens h = record {
-  front = tokens ++ mark_on OpeningBracket line ∷ [];
-  behind = [];
+exact_bracket : (setting : Setting) (started : StartedLine) (operator : Operator) (line : ℕ) (tokens : List Mark) → Exact setting (Operated started (Applies operator)) tokens → Exact setting (Bracketed started operator) (tokens ++ mark_on OpeningBracket line ∷ [])
+exact_bracket setting started operator line tokens h = record {
+  prefix = tokens ++ mark_on OpeningBracket line ∷ [];
+  following = [];
   whole = sym (append-nil (tokens ++ mark_on OpeningBracket line ∷ []));
-  begins = append_last (mark_on OpeningBracket line ∷ []) (λ ts k. joined ts (mark_on OpeningBracket line ∷ []) (one_operator begun.line operator ts k) refl) h;
-  goes = λ form more r. (r.0, r.2);
+  begins = append_last (mark_on OpeningBracket line ∷ []) (λ ts k. joined ts (mark_on OpeningBracket line ∷ []) (one_operator started.line operator ts k) refl) h;
+  goes = λ line_shape more r. (r.0, r.2);
 }
 
-exact_operated : (setting : Setting) (begun : Begun) (operating : Operating) (symbol : Symbol) (line : ℕ) (tokens : List Mark) → Exact setting (Operated begun operating) tokens
-    → ExactNext setting (tokens ++ mark_on symbol line ∷ []) (at_operated begun operating symbol line)
-exact_operated setting begun (Applies operator) OpeningBracket line tokens h = exact_bracket setting begun operator line tokens h
-exact_operated setting begun operating symbol line tokens h = exact_at_operand setting begun (OfStep operating) symbol line (tokens ++ mark_on symbol line ∷ []) tt
+exact_operated : (setting : Setting) (started : StartedLine) (operating : Operating) (symbol : Symbol) (line : ℕ) (tokens : List Mark) → Exact setting (Operated started operating) tokens
+    → ExactNext setting (tokens ++ mark_on symbol line ∷ []) (at_operated started operating symbol line)
+exact_operated setting started (Applies operator) OpeningBracket line tokens h = exact_bracket setting started operator line tokens h
+exact_operated setting started operating symbol line tokens h = exact_at_operand setting started (OfStep operating) symbol line (tokens ++ mark_on symbol line ∷ []) tt
 
 -- an opening line that goes on
-part_on : (setting : Setting) (begun : Begun) (operator : Operator) (state next : LineState) (mark : Mark) (tokens : List Mark) → AllowsFrom state mark (Some next) → PartOpened setting begun operator state tokens → PartOpened setting begun operator next (tokens ++ mark ∷ [])
-part_on setting begun operator state next mark tokens a h = record {
-  front = h.front;
-  behind = h.behind ++ mark ∷ [];
-  whole = ap (λ ts. ts ++ mark ∷ []) h.whole ∙ append_assoc h.front h.behind (mark ∷ []);
+part_on : (setting : Setting) (started : StartedLine) (operator : Operator) (state next : LineState) (mark : Mark) (tokens : List Mark) → AllowsFrom state mark (Some next) → PartOpened setting started operator state tokens → PartOpened setting started operator next (tokens ++ mark ∷ [])
+part_on setting started operator state next mark tokens a h = record {
+  prefix = h.prefix;
+  following = h.following ++ mark ∷ [];
+  whole = ap (λ ts. ts ++ mark ∷ []) h.whole ∙ append_assoc h.prefix h.following (mark ∷ []);
   begins = h.begins;
-  goes = λ form more r. let g = h.goes form (mark ∷ more) (a form more r) in (g.0, subst (optional operand g.0 then grammar.symbol LineEnd) (sym (append_assoc h.behind (mark ∷ []) more)) g.1);
+  goes = λ line_shape more r. let g = h.goes line_shape (mark ∷ more) (a line_shape more r) in (g.0, subst (optional operand g.0 then grammar.symbol LineEnd) (sym (append_assoc h.following (mark ∷ []) more)) g.1);
 }
 
 -- one token more of an opening line, after which it is one, or ends
-opening_on : (setting : Setting) (begun : Begun) (operator : Operator) (state : LineState) (mark : Mark) (tokens : List Mark) (next : Option LineState) → IsOpeningOf begun operator next → AllowsFrom state mark next → PartOpened setting begun operator state tokens
+opening_on : (setting : Setting) (started : StartedLine) (operator : Operator) (state : LineState) (mark : Mark) (tokens : List Mark) (next : Option LineState) → IsOpeningOf started operator next → AllowsFrom state mark next → PartOpened setting started operator state tokens
     → ExactNext setting (tokens ++ mark ∷ []) next
-opening_on setting begun operator state mark tokens None o a h = tt
-opening_on setting begun operator state mark tokens (Some (Ended form)) o a h = tt
-opening_on setting begun operator state mark tokens (Some (Bracketed b p)) o a h = subst (λ q. PartOpened setting b q (Bracketed b p) (tokens ++ mark ∷ [])) (sym o.1) (subst (λ c. PartOpened setting c operator (Bracketed b p) (tokens ++ mark ∷ [])) (sym o.0) (part_on setting begun operator state (Bracketed b p) mark tokens a h))
-opening_on setting begun operator state mark tokens (Some (BracketedWith b p x)) o a h = subst (λ q. PartOpened setting b q (BracketedWith b p x) (tokens ++ mark ∷ [])) (sym o.1) (subst (λ c. PartOpened setting c operator (BracketedWith b p x) (tokens ++ mark ∷ [])) (sym o.0) (part_on setting begun operator state (BracketedWith b p x) mark tokens a h))
-opening_on setting begun operator state mark tokens (Some (Named b (OfOpening p) name)) o a h = subst (λ q. PartOpened setting b q (Named b (OfOpening p) name) (tokens ++ mark ∷ [])) (sym o.1) (subst (λ c. PartOpened setting c operator (Named b (OfOpening p) name) (tokens ++ mark ∷ [])) (sym o.0) (part_on setting begun operator state (Named b (OfOpening p) name) mark tokens a h))
-opening_on setting begun operator state mark tokens (Some (Pointed b (OfOpening p) name)) o a h = subst (λ q. PartOpened setting b q (Pointed b (OfOpening p) name) (tokens ++ mark ∷ [])) (sym o.1) (subst (λ c. PartOpened setting c operator (Pointed b (OfOpening p) name) (tokens ++ mark ∷ [])) (sym o.0) (part_on setting begun operator state (Pointed b (OfOpening p) name) mark tokens a h))
-opening_on setting begun operator state mark tokens (Some (Named b (OfStep q) name)) o a h = absurd o
-opening_on setting begun operator state mark tokens (Some (Named b (OfArgument c i) name)) o a h = absurd o
-opening_on setting begun operator state mark tokens (Some (Pointed b (OfStep q) name)) o a h = absurd o
-opening_on setting begun operator state mark tokens (Some (Pointed b (OfArgument c i) name)) o a h = absurd o
-opening_on setting begun operator state mark tokens (Some _) o a h = absurd o
+opening_on setting started operator state mark tokens None o a h = tt
+opening_on setting started operator state mark tokens (Some (Ended line_shape)) o a h = tt
+opening_on setting started operator state mark tokens (Some (Bracketed b p)) o a h = subst (λ q. PartOpened setting b q (Bracketed b p) (tokens ++ mark ∷ [])) (sym o.1) (subst (λ c. PartOpened setting c operator (Bracketed b p) (tokens ++ mark ∷ [])) (sym o.0) (part_on setting started operator state (Bracketed b p) mark tokens a h))
+opening_on setting started operator state mark tokens (Some (BracketedWith b p x)) o a h = subst (λ q. PartOpened setting b q (BracketedWith b p x) (tokens ++ mark ∷ [])) (sym o.1) (subst (λ c. PartOpened setting c operator (BracketedWith b p x) (tokens ++ mark ∷ [])) (sym o.0) (part_on setting started operator state (BracketedWith b p x) mark tokens a h))
+opening_on setting started operator state mark tokens (Some (Named b (OfOpening p) name)) o a h = subst (λ q. PartOpened setting b q (Named b (OfOpening p) name) (tokens ++ mark ∷ [])) (sym o.1) (subst (λ c. PartOpened setting c operator (Named b (OfOpening p) name) (tokens ++ mark ∷ [])) (sym o.0) (part_on setting started operator state (Named b (OfOpening p) name) mark tokens a h))
+opening_on setting started operator state mark tokens (Some (Pointed b (OfOpening p) name)) o a h = subst (λ q. PartOpened setting b q (Pointed b (OfOpening p) name) (tokens ++ mark ∷ [])) (sym o.1) (subst (λ c. PartOpened setting c operator (Pointed b (OfOpening p) name) (tokens ++ mark ∷ [])) (sym o.0) (part_on setting started operator state (Pointed b (OfOpening p) name) mark tokens a h))
+opening_on setting started operator state mark tokens (Some (Named b (OfStep q) name)) o a h = absurd o
+opening_on setting started operator state mark tokens (Some (Named b (OfArgument c i) name)) o a h = absurd o
+opening_on setting started operator state mark tokens (Some (Pointed b (OfStep q) name)) o a h = absurd o
+opening_on setting started operator state mark tokens (Some (Pointed b (OfArgument c i) name)) o a h = absurd o
+opening_on setting started operator state mark tokens (Some _) o a h = absurd o
 
-opened_name : (begun : Begun) (operator : Operator) (name : Name) (truth : Option Bool) → IsOpeningOf begun operator (Some (name_or_literal begun (OfOpening operator) name truth))
-opened_name begun operator name None = (refl, refl)
-opened_name begun operator name (Some value) = (refl, refl)
+opened_name : (started : StartedLine) (operator : Operator) (name : Name) (truth : Option Bool) → IsOpeningOf started operator (Some (name_or_literal started (OfOpening operator) name truth))
+opened_name started operator name None = (refl, refl)
+opened_name started operator name (Some value) = (refl, refl)
 
-opened_operand : (begun : Begun) (operator : Operator) (symbol : Symbol) (line : ℕ) → IsOpeningOf begun operator (at_operand begun (OfOpening operator) symbol line)
-opened_operand begun operator (Identifier bytes) line = opened_name begun operator (name_of bytes) (found truths (name_of bytes))
-opened_operand begun operator (Direct bytes) line = (refl, refl)
-opened_operand begun operator (Whole number) line = (refl, refl)
-opened_operand begun operator (Duration number) line = (refl, refl)
-opened_operand begun operator (Truth value) line = (refl, refl)
-opened_operand begun operator _ line = tt
+opened_operand : (started : StartedLine) (operator : Operator) (symbol : Symbol) (line : ℕ) → IsOpeningOf started operator (at_operand started (OfOpening operator) symbol line)
+opened_operand started operator (Identifier bytes) line = opened_name started operator (name_of bytes) (found truths (name_of bytes))
+opened_operand started operator (Direct bytes) line = (refl, refl)
+opened_operand started operator (Whole number) line = (refl, refl)
+opened_operand started operator (Duration number) line = (refl, refl)
+opened_operand started operator (Truth value) line = (refl, refl)
+opened_operand started operator _ line = tt
 
-opened_bracket : (begun : Begun) (operator : Operator) (symbol : Symbol) (line : ℕ) → IsOpeningOf begun operator (at_bracketed begun operator symbol line)
-opened_bracket begun operator LineEnd line = tt
-opened_bracket begun operator symbol line = opened_operand begun operator symbol line
+opened_bracket : (started : StartedLine) (operator : Operator) (symbol : Symbol) (line : ℕ) → IsOpeningOf started operator (at_bracketed started operator symbol line)
+opened_bracket started operator LineEnd line = tt
+opened_bracket started operator symbol line = opened_operand started operator symbol line
 
-opened_behind : (begun : Begun) (operator : Operator) (name : Name) (symbol : Symbol) (line : ℕ) (setting : Setting) (colon : Bool) → IsOpeningOf begun operator (line_move setting (Named begun (OfOpening operator) name) symbol line colon)
-opened_behind begun operator name Point line setting colon = (refl, refl)
-opened_behind begun operator name LineEnd line setting colon = tt
-opened_behind begun operator name _ line setting colon = tt
+opened_after : (started : StartedLine) (operator : Operator) (name : Name) (symbol : Symbol) (line : ℕ) (setting : Setting) (colon : Bool) → IsOpeningOf started operator (line_move setting (Named started (OfOpening operator) name) symbol line colon)
+opened_after started operator name Point line setting colon = (refl, refl)
+opened_after started operator name LineEnd line setting colon = tt
+opened_after started operator name _ line setting colon = tt
 
-opened_field : (begun : Begun) (operator : Operator) (name : Name) (symbol : Symbol) → IsOpeningOf begun operator (at_field begun (OfOpening operator) name symbol)
-opened_field begun operator name (Identifier bytes) = (refl, refl)
-opened_field begun operator name _ = tt
+opened_field : (started : StartedLine) (operator : Operator) (name : Name) (symbol : Symbol) → IsOpeningOf started operator (at_field started (OfOpening operator) name symbol)
+opened_field started operator name (Identifier bytes) = (refl, refl)
+opened_field started operator name _ = tt
 
-opened_with : (begun : Begun) (operator : Operator) (x : Term) (symbol : Symbol) (line : ℕ) (setting : Setting) (colon : Bool) → IsOpeningOf begun operator (line_move setting (BracketedWith begun operator x) symbol line colon)
-opened_with begun operator x LineEnd line setting colon = tt
-opened_with begun operator x _ line setting colon = tt
+opened_with : (started : StartedLine) (operator : Operator) (x : Term) (symbol : Symbol) (line : ℕ) (setting : Setting) (colon : Bool) → IsOpeningOf started operator (line_move setting (BracketedWith started operator x) symbol line colon)
+opened_with started operator x LineEnd line setting colon = tt
+opened_with started operator x _ line setting colon = tt
 
-exact_list : (setting : Setting) (begun : Begun) (call : Listed) (item : InList) (symbol : Symbol) (line : ℕ) (tokens : List Mark) → ExactNext setting tokens (at_list begun call item symbol line)
-exact_list setting begun call item LineEnd line tokens = tt
-exact_list setting begun call AtFirst (Identifier bytes) line tokens = tt
-exact_list setting begun call AtFirst ClosingBracket line tokens = tt
-exact_list setting begun call AtNext (Identifier bytes) line tokens = tt
-exact_list setting begun call (AtAssign input) Assign line tokens = tt
-exact_list setting begun call (AtAssign input) Arrow line tokens = tt
-exact_list setting begun call (AtValue input) symbol line tokens = exact_at_operand setting begun (OfArgument call input) symbol line tokens tt
-exact_list setting begun call AtEnd Comma line tokens = tt
-exact_list setting begun call AtEnd ClosingBracket line tokens = tt
-exact_list setting begun call item _ line tokens = tt
+exact_list : (setting : Setting) (started : StartedLine) (call : Listed) (item : InList) (symbol : Symbol) (line : ℕ) (tokens : List Mark) → ExactNext setting tokens (at_list started call item symbol line)
+exact_list setting started call item LineEnd line tokens = tt
+exact_list setting started call AtFirst (Identifier bytes) line tokens = tt
+exact_list setting started call AtFirst ClosingBracket line tokens = tt
+exact_list setting started call AtNext (Identifier bytes) line tokens = tt
+exact_list setting started call (AtAssign input) Assign line tokens = tt
+exact_list setting started call (AtAssign input) Arrow line tokens = tt
+exact_list setting started call (AtValue input) symbol line tokens = exact_at_operand setting started (OfArgument call input) symbol line tokens tt
+exact_list setting started call AtEnd Comma line tokens = tt
+exact_list setting started call AtEnd ClosingBracket line tokens = tt
+exact_list setting started call item _ line tokens = tt
 
-exact_behind_name : (setting : Setting) (begun : Begun) (place : OperandOf) (name : Name) (symbol : Symbol) (tokens : List Mark) → NoOpening place → ExactNext setting tokens (behind_name begun place name symbol)
-exact_behind_name setting begun (OfStep operating) name LineEnd tokens n = tt
-exact_behind_name setting begun (OfOpening operator) name LineEnd tokens n = absurd n
-exact_behind_name setting begun (OfArgument call input) name LineEnd tokens n = tt
-exact_behind_name setting begun another name third tokens n = tt
+exact_after_name : (setting : Setting) (started : StartedLine) (place : OperandOf) (name : Name) (symbol : Symbol) (tokens : List Mark) → NoOpening place → ExactNext setting tokens (after_name started place name symbol)
+exact_after_name setting started (OfStep operating) name LineEnd tokens n = tt
+exact_after_name setting started (OfOpening operator) name LineEnd tokens n = absurd n
+exact_after_name setting started (OfArgument call input) name LineEnd tokens n = tt
+exact_after_name setting started another name third tokens n = tt
 
-exact_pointed : (setting : Setting) (begun : Begun) (place : OperandOf) (name : Name) (tokens : List Mark) → NoOpening place → Exact setting (Pointed begun place name) tokens
-exact_pointed setting begun (OfStep operating) name tokens n = tt
-exact_pointed setting begun (OfOpening operator) name tokens n = absurd n
-exact_pointed setting begun (OfArgument call input) name tokens n = tt
+exact_pointed : (setting : Setting) (started : StartedLine) (place : OperandOf) (name : Name) (tokens : List Mark) → NoOpening place → Exact setting (Pointed started place name) tokens
+exact_pointed setting started (OfStep operating) name tokens n = tt
+exact_pointed setting started (OfOpening operator) name tokens n = absurd n
+exact_pointed setting started (OfArgument call input) name tokens n = tt
 
-exact_named : (setting : Setting) (begun : Begun) (place : OperandOf) (name : Name) (symbol : Symbol) (line : ℕ) (colon : Bool) (tokens : List Mark) → NoOpening place → ExactNext setting tokens (line_move setting (Named begun place name) symbol line colon)
-exact_named setting begun place name Point line colon tokens n = exact_pointed setting begun place name tokens n
-exact_named setting begun place name symbol line colon tokens n = exact_behind_name setting begun place name symbol tokens n
+exact_named : (setting : Setting) (started : StartedLine) (place : OperandOf) (name : Name) (symbol : Symbol) (line : ℕ) (colon : Bool) (tokens : List Mark) → NoOpening place → ExactNext setting tokens (line_move setting (Named started place name) symbol line colon)
+exact_named setting started place name Point line colon tokens n = exact_pointed setting started place name tokens n
+exact_named setting started place name symbol line colon tokens n = exact_after_name setting started place name symbol tokens n
 
-exact_field : (setting : Setting) (begun : Begun) (place : OperandOf) (name : Name) (symbol : Symbol) (tokens : List Mark) → NoOpening place → ExactNext setting tokens (at_field begun place name symbol)
-exact_field setting begun place name (Identifier bytes) tokens n = exact_operand setting begun place _ tokens n
-exact_field setting begun (OfArgument call input) name LineEnd tokens n = tt
-exact_field setting begun place name _ tokens n = tt
+exact_field : (setting : Setting) (started : StartedLine) (place : OperandOf) (name : Name) (symbol : Symbol) (tokens : List Mark) → NoOpening place → ExactNext setting tokens (at_field started place name symbol)
+exact_field setting started place name (Identifier bytes) tokens n = exact_operand setting started place _ tokens n
+exact_field setting started (OfArgument call input) name LineEnd tokens n = tt
+exact_field setting started place name _ tokens n = tt
 
 -- one more token of a line
 pub exact_move : (setting : Setting) (state : LineState) (symbol : Symbol) (line : ℕ) (colon : Bool) (tokens : List Mark) → AllowsFrom state (mark_on symbol line) (line_move setting state symbol line colon) → Exact setting state tokens
@@ -208,19 +208,19 @@ pub exact_move : (setting : Setting) (state : LineState) (symbol : Symbol) (line
 exact_move setting Start symbol line colon tokens a h = absurd h
 exact_move setting (Worded label) Colon line colon tokens a h = (h.0, joined tokens (mark_on Colon line ∷ []) h.1 refl)
 exact_move setting (Labelled label) symbol line colon tokens a h = exact_labelled setting label symbol line tokens h
-exact_move setting (Operated begun operating) symbol line colon tokens a h = exact_operated setting begun operating symbol line tokens h
-exact_move setting (Jumped begun condition) (Identifier bytes) line colon tokens a h = tt
-exact_move setting (Called begun condition) (Identifier bytes) line colon tokens a h = tt
-exact_move setting (Instanced begun condition instance) LineEnd line colon tokens a h = tt
-exact_move setting (Instanced begun condition instance) OpeningBracket line colon tokens a h = tt
-exact_move setting (Listing begun call item) symbol line colon tokens a h = exact_list setting begun call item symbol line (tokens ++ mark_on symbol line ∷ [])
-exact_move setting (Bracketed begun operator) symbol line colon tokens a h = opening_on setting begun operator (Bracketed begun operator) (mark_on symbol line) tokens (at_bracketed begun operator symbol line) (opened_bracket begun operator symbol line) a h
-exact_move setting (Named begun (OfOpening operator) name) symbol line colon tokens a h =
-    opening_on setting begun operator (Named begun (OfOpening operator) name) (mark_on symbol line) tokens (line_move setting (Named begun (OfOpening operator) name) symbol line colon) (opened_behind begun operator name symbol line setting colon) a h
-exact_move setting (Named begun place name) symbol line colon tokens a h = exact_named setting begun place name symbol line colon (tokens ++ mark_on symbol line ∷ []) tt
-exact_move setting (Pointed begun (OfOpening operator) name) symbol line colon tokens a h = opening_on setting begun operator (Pointed begun (OfOpening operator) name) (mark_on symbol line) tokens (at_field begun (OfOpening operator) name symbol) (opened_field begun operator name symbol) a h
-exact_move setting (Pointed begun place name) symbol line colon tokens a h = exact_field setting begun place name symbol (tokens ++ mark_on symbol line ∷ []) tt
-exact_move setting (Stepped begun step) LineEnd line colon tokens a h = tt
-exact_move setting (BracketedWith begun operator x) symbol line colon tokens a h =
-    opening_on setting begun operator (BracketedWith begun operator x) (mark_on symbol line) tokens (line_move setting (BracketedWith begun operator x) symbol line colon) (opened_with begun operator x symbol line setting colon) a h
+exact_move setting (Operated started operating) symbol line colon tokens a h = exact_operated setting started operating symbol line tokens h
+exact_move setting (Jumped started condition) (Identifier bytes) line colon tokens a h = tt
+exact_move setting (Called started condition) (Identifier bytes) line colon tokens a h = tt
+exact_move setting (Instanced started condition instance) LineEnd line colon tokens a h = tt
+exact_move setting (Instanced started condition instance) OpeningBracket line colon tokens a h = tt
+exact_move setting (Listing started call item) symbol line colon tokens a h = exact_list setting started call item symbol line (tokens ++ mark_on symbol line ∷ [])
+exact_move setting (Bracketed started operator) symbol line colon tokens a h = opening_on setting started operator (Bracketed started operator) (mark_on symbol line) tokens (at_bracketed started operator symbol line) (opened_bracket started operator symbol line) a h
+exact_move setting (Named started (OfOpening operator) name) symbol line colon tokens a h =
+    opening_on setting started operator (Named started (OfOpening operator) name) (mark_on symbol line) tokens (line_move setting (Named started (OfOpening operator) name) symbol line colon) (opened_after started operator name symbol line setting colon) a h
+exact_move setting (Named started place name) symbol line colon tokens a h = exact_named setting started place name symbol line colon (tokens ++ mark_on symbol line ∷ []) tt
+exact_move setting (Pointed started (OfOpening operator) name) symbol line colon tokens a h = opening_on setting started operator (Pointed started (OfOpening operator) name) (mark_on symbol line) tokens (at_field started (OfOpening operator) name symbol) (opened_field started operator name symbol) a h
+exact_move setting (Pointed started place name) symbol line colon tokens a h = exact_field setting started place name symbol (tokens ++ mark_on symbol line ∷ []) tt
+exact_move setting (Stepped started step) LineEnd line colon tokens a h = tt
+exact_move setting (BracketedWith started operator x) symbol line colon tokens a h =
+    opening_on setting started operator (BracketedWith started operator x) (mark_on symbol line) tokens (line_move setting (BracketedWith started operator x) symbol line colon) (opened_with started operator x symbol line setting colon) a h
 exact_move setting _ symbol line colon tokens a h = tt

@@ -2,10 +2,10 @@
 use Rattle.std.proofs.Common.{◌≡◌, ◌≢◌, ℕ, Bool, true, false, List, [], ◌∷◌, ◌++◌, Option, Some, None, refl, ap, subst, if◌then◌else◌, ◌∙◌, inl, inr}
 use Rattle.std.specs.List.{AllByRecursion}
 use Rattle.std.specs.Prelude.{◌⊎◌}
-use Rattle.wc_laws_grammar.specs.LineMoves.{with_actual, LineForm, LabelAlone, Instructs, Opens, Begun, Listed, OfStep, OfOpening, OfArgument, InList, AtFirst, AtNext, AtAssign, AtValue, AtEnd, LineState, Start, Worded, Labelled, Operated, Jumped, Called, Instanced, Listing, Bracketed, Named, Pointed, Stepped, BracketedWith, Ended}
+use Rattle.wc_laws_grammar.specs.LineMoves.{with_actual, LineShape, LabelAlone, Instructs, Opens, StartedLine, Listed, OfStep, OfOpening, OfArgument, InList, AtFirst, AtNext, AtAssign, AtValue, AtEnd, LineState, Start, Worded, Labelled, Operated, Jumped, Called, Instanced, Listing, Bracketed, Named, Pointed, Stepped, BracketedWith, Ended}
 use Rattle.wc_laws_grammar.proofs.LineRests.{rest_of}
 use Rattle.wc_laws_grammar.proofs.LineSound.{mark_on}
-use Rattle.wc_laws_grammar.specs.Moves.{InDeclaration, Undeclared, BehindNames, BehindComma, BehindColon, BehindType, BehindAssign, BehindValue, State, Outside, Unnamed, Declaring, AtLine, OnLine, Closed, behind_closing, behind_line, behind_unit, body_start, colon_next, is_colon, has_content, lines_and, move, named_unit, start_move, on_line, open_in, open_on, unit_with, walk, section_or_line, section_begun, with_declaration}
+use Rattle.wc_laws_grammar.specs.Moves.{InDeclaration, Undeclared, AfterNames, AfterComma, AfterColon, AfterType, AfterAssign, AfterValue, State, Outside, Unnamed, Declaring, AtLine, OnLine, Closed, after_closing, after_line, after_unit, body_start, colon_next, is_colon, has_content, lines_and, move, named_unit, start_move, on_line, open_in, open_on, unit_with, walk, section_or_line, section_started, with_declaration}
 use Rattle.wc_laws_grammar.proofs.WalkedLines.{on_line_walked, walk_on, walk_then}
 use Rattle.wc_laws_grammar.specs.Words.{step_of}
 use Rattle.wc_laws_grammar.proofs.Languages.{next, pass}
@@ -32,94 +32,94 @@ truth = Constant (BoolValue true)
 
 -- an opening line after its bracket
 abbrev pub IsOpening : LineState → Type 0
-IsOpening (Bracketed begun operator) = Unit {0}
-IsOpening (BracketedWith begun operator x) = Unit {0}
-IsOpening (Named begun (OfOpening operator) name) = Unit {0}
-IsOpening (Pointed begun (OfOpening operator) name) = Unit {0}
+IsOpening (Bracketed started operator) = Unit {0}
+IsOpening (BracketedWith started operator x) = Unit {0}
+IsOpening (Named started (OfOpening operator) name) = Unit {0}
+IsOpening (Pointed started (OfOpening operator) name) = Unit {0}
 IsOpening _ = ⊥
 
 -- no parenthesis opens
-abbrev pub NoOpens : LineForm → Type 0
+abbrev pub NoOpens : LineShape → Type 0
 NoOpens (Opens label line operator x) = ⊥
 NoOpens _ = Unit {0}
 
 -- what completes a line that has started: a shape and its tokens
 pub record Completed (state : LineState) : Type 0 where
-  pub form : LineForm
+  pub line_shape : LineShape
   pub more : List Mark
-  pub rest : rest_of state form more
-  pub sort : IsOpening state ⊎ (NoOpens form × ((p : Position) → open_on p state ≡ open_in p.unit p.openings))
+  pub rest : rest_of state line_shape more
+  pub sort : IsOpening state ⊎ (NoOpens line_shape × ((p : Position) → open_on p state ≡ open_in p.unit p.openings))
 
 -- a name, and what completes a call's list after it
-list_completed : (begun : Begun) (call : Listed) (item : InList) → Completed (Listing begun call item)
-list_completed begun call AtFirst = record { sort = inr (tt, λ p. refl); form = Instructs begun.label begun.line (Call call.condition call.instance (call.arguments ++ [])); more = sign ClosingBracket ∷ sign LineEnd ∷ []; rest = ([], refl, record { front = []; rest = sign ClosingBracket ∷ sign LineEnd ∷ []; whole = refl; begins = refl; goes_on = next refl refl }) }
-list_completed begun call AtNext =
+list_completed : (started : StartedLine) (call : Listed) (item : InList) → Completed (Listing started call item)
+list_completed started call AtFirst = record { sort = inr (tt, λ p. refl); line_shape = Instructs started.label started.line (Call call.condition call.instance (call.arguments ++ [])); more = sign ClosingBracket ∷ sign LineEnd ∷ []; rest = ([], refl, record { prefix = []; rest = sign ClosingBracket ∷ sign LineEnd ∷ []; whole = refl; begins = refl; goes_on = next refl refl }) }
+list_completed started call AtNext =
     let a : Assignment = record { direction = Into; formal = 97 ∷ []; actual = truth } in
     record {
       sort = inr (tt, λ p. refl);
-      form = Instructs begun.label begun.line (Call call.condition call.instance (call.arguments ++ a ∷ []));
+      line_shape = Instructs started.label started.line (Call call.condition call.instance (call.arguments ++ a ∷ []));
       more = sign (Identifier (97 ∷ [])) ∷ sign Assign ∷ sign (Truth true) ∷ sign ClosingBracket ∷ sign LineEnd ∷ [];
       rest = (
         a ∷ [],
         refl,
         record {
-          front = sign (Identifier (97 ∷ [])) ∷ sign Assign ∷ sign (Truth true) ∷ [];
+          prefix = sign (Identifier (97 ∷ [])) ∷ sign Assign ∷ sign (Truth true) ∷ [];
           rest = sign ClosingBracket ∷ sign LineEnd ∷ [];
           whole = refl;
-          begins = record { front = sign (Identifier (97 ∷ [])) ∷ sign Assign ∷ sign (Truth true) ∷ []; rest = []; whole = refl; begins = next refl (next refl (inl refl)); goes_on = refl };
+          begins = record { prefix = sign (Identifier (97 ∷ [])) ∷ sign Assign ∷ sign (Truth true) ∷ []; rest = []; whole = refl; begins = next refl (next refl (inl refl)); goes_on = refl };
           goes_on = next refl refl;
         },
       );
     }
-list_completed begun call (AtAssign input) =
+list_completed started call (AtAssign input) =
     let a : Assignment = record { direction = Into; formal = input; actual = truth } in
     record {
       sort = inr (tt, λ p. refl);
-      form = Instructs begun.label begun.line (Call call.condition call.instance (call.arguments ++ a ∷ []));
+      line_shape = Instructs started.label started.line (Call call.condition call.instance (call.arguments ++ a ∷ []));
       more = sign Assign ∷ sign (Truth true) ∷ sign ClosingBracket ∷ sign LineEnd ∷ [];
-      rest = (a ∷ [], refl, record { front = sign Assign ∷ sign (Truth true) ∷ []; rest = sign ClosingBracket ∷ sign LineEnd ∷ []; whole = refl; begins = (refl, next refl (next (inl refl) refl)); goes_on = next refl refl });
+      rest = (a ∷ [], refl, record { prefix = sign Assign ∷ sign (Truth true) ∷ []; rest = sign ClosingBracket ∷ sign LineEnd ∷ []; whole = refl; begins = (refl, next refl (next (inl refl) refl)); goes_on = next refl refl });
     }
-list_completed begun call (AtValue input) =
+list_completed started call (AtValue input) =
     let a : Assignment = with_actual input truth in
     record {
       sort = inr (tt, λ p. refl);
-      form = Instructs begun.label begun.line (Call call.condition call.instance (call.arguments ++ a ∷ []));
+      line_shape = Instructs started.label started.line (Call call.condition call.instance (call.arguments ++ a ∷ []));
       more = sign (Truth true) ∷ sign ClosingBracket ∷ sign LineEnd ∷ [];
-      rest = (a ∷ [], refl, record { front = sign (Truth true) ∷ []; rest = sign ClosingBracket ∷ sign LineEnd ∷ []; whole = refl; begins = (refl, next (inl refl) refl); goes_on = next refl refl });
+      rest = (a ∷ [], refl, record { prefix = sign (Truth true) ∷ []; rest = sign ClosingBracket ∷ sign LineEnd ∷ []; whole = refl; begins = (refl, next (inl refl) refl); goes_on = next refl refl });
     }
-list_completed begun call AtEnd = record { sort = inr (tt, λ p. refl); form = Instructs begun.label begun.line (Call call.condition call.instance (call.arguments ++ [])); more = sign ClosingBracket ∷ sign LineEnd ∷ []; rest = ([], refl, record { front = []; rest = sign ClosingBracket ∷ sign LineEnd ∷ []; whole = refl; begins = refl; goes_on = next refl refl }) }
+list_completed started call AtEnd = record { sort = inr (tt, λ p. refl); line_shape = Instructs started.label started.line (Call call.condition call.instance (call.arguments ++ [])); more = sign ClosingBracket ∷ sign LineEnd ∷ []; rest = ([], refl, record { prefix = []; rest = sign ClosingBracket ∷ sign LineEnd ∷ []; whole = refl; begins = refl; goes_on = next refl refl }) }
 
 -- each line that has started may be completed; if no parenthesis opens, to an instruction or a label
-pub completed : (state : LineState) → state ≢ Start → ((form : LineForm) → state ≢ Ended form) → Completed state
+pub completed : (state : LineState) → state ≢ Start → ((line_shape : LineShape) → state ≢ Ended line_shape) → Completed state
 completed Start n m = absurd (n refl)
-completed (Worded label) n m = record { sort = inr (tt, λ p. refl); form = LabelAlone label; more = sign Colon ∷ sign LineEnd ∷ []; rest = next refl (refl, refl) }
-completed (Labelled label) n m = record { sort = inr (tt, λ p. refl); form = LabelAlone label; more = sign LineEnd ∷ []; rest = (refl, refl) }
-completed (Operated begun operating) n m = record { sort = inr (tt, λ p. refl); form = Instructs begun.label begun.line (step_of operating truth); more = sign (Truth true) ∷ sign LineEnd ∷ []; rest = inl (truth, refl, next (inl refl) refl) }
-completed (Jumped begun condition) n m = record { sort = inr (tt, λ p. refl); form = Instructs begun.label begun.line (Jump condition (97 ∷ [])); more = sign (Identifier (97 ∷ [])) ∷ sign LineEnd ∷ []; rest = (97 ∷ [], refl, next refl refl) }
-completed (Called begun condition) n m =
-    record { sort = inr (tt, λ p. refl); form = Instructs begun.label begun.line (Call condition (97 ∷ []) []); more = sign (Identifier (97 ∷ [])) ∷ sign LineEnd ∷ []; rest = (97 ∷ [], [], refl, next refl (pass (inl refl) refl)) }
-completed (Instanced begun condition instance) n m = record { sort = inr (tt, λ p. refl); form = Instructs begun.label begun.line (Call condition instance []); more = sign LineEnd ∷ []; rest = ([], refl, pass (inl refl) refl) }
-completed (Listing begun call item) n m = list_completed begun call item
-completed (Bracketed begun operator) n m = record { sort = inl tt; form = Opens begun.label begun.line operator None; more = sign LineEnd ∷ []; rest = (None, refl, pass refl refl) }
-completed (Named begun (OfStep operating) name) n m = record { sort = inr (tt, λ p. refl); form = Instructs begun.label begun.line (step_of operating (Variable name)); more = sign LineEnd ∷ []; rest = (Variable name, refl, pass (refl, refl) refl) }
-completed (Named begun (OfOpening operator) name) n m = record { sort = inl tt; form = Opens begun.label begun.line operator (Some (Variable name)); more = sign LineEnd ∷ []; rest = (Variable name, refl, pass (refl, refl) refl) }
-completed (Named begun (OfArgument call input) name) n m = record {
+completed (Worded label) n m = record { sort = inr (tt, λ p. refl); line_shape = LabelAlone label; more = sign Colon ∷ sign LineEnd ∷ []; rest = next refl (refl, refl) }
+completed (Labelled label) n m = record { sort = inr (tt, λ p. refl); line_shape = LabelAlone label; more = sign LineEnd ∷ []; rest = (refl, refl) }
+completed (Operated started operating) n m = record { sort = inr (tt, λ p. refl); line_shape = Instructs started.label started.line (step_of operating truth); more = sign (Truth true) ∷ sign LineEnd ∷ []; rest = inl (truth, refl, next (inl refl) refl) }
+completed (Jumped started condition) n m = record { sort = inr (tt, λ p. refl); line_shape = Instructs started.label started.line (Jump condition (97 ∷ [])); more = sign (Identifier (97 ∷ [])) ∷ sign LineEnd ∷ []; rest = (97 ∷ [], refl, next refl refl) }
+completed (Called started condition) n m =
+    record { sort = inr (tt, λ p. refl); line_shape = Instructs started.label started.line (Call condition (97 ∷ []) []); more = sign (Identifier (97 ∷ [])) ∷ sign LineEnd ∷ []; rest = (97 ∷ [], [], refl, next refl (pass (inl refl) refl)) }
+completed (Instanced started condition instance) n m = record { sort = inr (tt, λ p. refl); line_shape = Instructs started.label started.line (Call condition instance []); more = sign LineEnd ∷ []; rest = ([], refl, pass (inl refl) refl) }
+completed (Listing started call item) n m = list_completed started call item
+completed (Bracketed started operator) n m = record { sort = inl tt; line_shape = Opens started.label started.line operator None; more = sign LineEnd ∷ []; rest = (None, refl, pass refl refl) }
+completed (Named started (OfStep operating) name) n m = record { sort = inr (tt, λ p. refl); line_shape = Instructs started.label started.line (step_of operating (Variable name)); more = sign LineEnd ∷ []; rest = (Variable name, refl, pass (refl, refl) refl) }
+completed (Named started (OfOpening operator) name) n m = record { sort = inl tt; line_shape = Opens started.label started.line operator (Some (Variable name)); more = sign LineEnd ∷ []; rest = (Variable name, refl, pass (refl, refl) refl) }
+completed (Named started (OfArgument call input) name) n m = record {
   sort = inr (tt, λ p. refl);
-  form = Instructs begun.label begun.line (Call call.condition call.instance (call.arguments ++ with_actual input (Variable name) ∷ []));
+  line_shape = Instructs started.label started.line (Call call.condition call.instance (call.arguments ++ with_actual input (Variable name) ∷ []));
   more = sign ClosingBracket ∷ sign LineEnd ∷ [];
-  rest = (Variable name, [], refl, record { front = []; rest = sign ClosingBracket ∷ sign LineEnd ∷ []; whole = refl; begins = pass (refl, refl) refl; goes_on = next refl refl });
+  rest = (Variable name, [], refl, record { prefix = []; rest = sign ClosingBracket ∷ sign LineEnd ∷ []; whole = refl; begins = pass (refl, refl) refl; goes_on = next refl refl });
 }
-completed (Pointed begun (OfStep operating) name) n m = record { sort = inr (tt, λ p. refl); form = Instructs begun.label begun.line (step_of operating (Field name (97 ∷ []))); more = sign (Identifier (97 ∷ [])) ∷ sign LineEnd ∷ []; rest = (Field name (97 ∷ []), refl, record { front = sign (Identifier (97 ∷ [])) ∷ []; rest = sign LineEnd ∷ []; whole = refl; begins = (refl, refl); goes_on = refl }) }
-completed (Pointed begun (OfOpening operator) name) n m = record { sort = inl tt; form = Opens begun.label begun.line operator (Some (Field name (97 ∷ []))); more = sign (Identifier (97 ∷ [])) ∷ sign LineEnd ∷ []; rest = (Field name (97 ∷ []), refl, record { front = sign (Identifier (97 ∷ [])) ∷ []; rest = sign LineEnd ∷ []; whole = refl; begins = (refl, refl); goes_on = refl }) }
-completed (Pointed begun (OfArgument call input) name) n m = record {
+completed (Pointed started (OfStep operating) name) n m = record { sort = inr (tt, λ p. refl); line_shape = Instructs started.label started.line (step_of operating (Field name (97 ∷ []))); more = sign (Identifier (97 ∷ [])) ∷ sign LineEnd ∷ []; rest = (Field name (97 ∷ []), refl, record { prefix = sign (Identifier (97 ∷ [])) ∷ []; rest = sign LineEnd ∷ []; whole = refl; begins = (refl, refl); goes_on = refl }) }
+completed (Pointed started (OfOpening operator) name) n m = record { sort = inl tt; line_shape = Opens started.label started.line operator (Some (Field name (97 ∷ []))); more = sign (Identifier (97 ∷ [])) ∷ sign LineEnd ∷ []; rest = (Field name (97 ∷ []), refl, record { prefix = sign (Identifier (97 ∷ [])) ∷ []; rest = sign LineEnd ∷ []; whole = refl; begins = (refl, refl); goes_on = refl }) }
+completed (Pointed started (OfArgument call input) name) n m = record {
   sort = inr (tt, λ p. refl);
-  form = Instructs begun.label begun.line (Call call.condition call.instance (call.arguments ++ with_actual input (Field name (97 ∷ [])) ∷ []));
+  line_shape = Instructs started.label started.line (Call call.condition call.instance (call.arguments ++ with_actual input (Field name (97 ∷ [])) ∷ []));
   more = sign (Identifier (97 ∷ [])) ∷ sign ClosingBracket ∷ sign LineEnd ∷ [];
-  rest = (Field name (97 ∷ []), [], refl, record { front = sign (Identifier (97 ∷ [])) ∷ []; rest = sign ClosingBracket ∷ sign LineEnd ∷ []; whole = refl; begins = record { front = sign (Identifier (97 ∷ [])) ∷ []; rest = []; whole = refl; begins = (refl, refl); goes_on = refl }; goes_on = next refl refl });
+  rest = (Field name (97 ∷ []), [], refl, record { prefix = sign (Identifier (97 ∷ [])) ∷ []; rest = sign ClosingBracket ∷ sign LineEnd ∷ []; whole = refl; begins = record { prefix = sign (Identifier (97 ∷ [])) ∷ []; rest = []; whole = refl; begins = (refl, refl); goes_on = refl }; goes_on = next refl refl });
 }
-completed (Stepped begun step) n m = record { sort = inr (tt, λ p. refl); form = Instructs begun.label begun.line step; more = sign LineEnd ∷ []; rest = (refl, refl) }
-completed (BracketedWith begun operator x) n m = record { sort = inl tt; form = Opens begun.label begun.line operator (Some x); more = sign LineEnd ∷ []; rest = (refl, refl) }
-completed (Ended form) n m = absurd (m form refl)
+completed (Stepped started step) n m = record { sort = inr (tt, λ p. refl); line_shape = Instructs started.label started.line step; more = sign LineEnd ∷ []; rest = (refl, refl) }
+completed (BracketedWith started operator x) n m = record { sort = inl tt; line_shape = Opens started.label started.line operator (Some x); more = sign LineEnd ∷ []; rest = (refl, refl) }
+completed (Ended line_shape) n m = absurd (m line_shape refl)
 
 -- From a state some further tokens lead to the start of a line with no parenthesis open, in the same unit.
 pub record Exits (state : State) (before : List ProgramUnit) (unit : ProgramUnit) : Type 0 where
@@ -148,20 +148,20 @@ holds_more other another label line step = refl
 exits_open : (openings : List Opening) (p : Position) → p.openings ≡ openings → Exits (AtLine p) p.before p.unit
 exits_open [] p e = exits_body p e
 exits_open (o ∷ outer) p e =
-    exits_by (AtLine p) (OnLine p (Stepped not_begun Negate)) p.before p.unit (Identifier not_word) (λ c. ap (λ os. start_move p os (Identifier not_word) 0 c) e)
-    (exits_by (OnLine p (Stepped not_begun Negate)) (AtLine q) p.before p.unit LineEnd (λ c. refl)
+    exits_by (AtLine p) (OnLine p (Stepped not_started Negate)) p.before p.unit (Identifier not_word) (λ c. ap (λ os. start_move p os (Identifier not_word) 0 c) e)
+    (exits_by (OnLine p (Stepped not_started Negate)) (AtLine q) p.before p.unit LineEnd (λ c. refl)
     (exits_by (AtLine q) (Closed r) p.before p.unit ClosingBracket
     (λ c. ap (λ os. start_move q os ClosingBracket 0 c) e ∙ ap (λ b. if b then Some (Closed r) else None) (holds_more o.operand p.done None 0 Negate))
     (exits_by (Closed r) (AtLine r) p.before p.unit LineEnd (λ c. refl) (exits_open outer r refl))))
   where
-    not_begun : Begun
-    not_begun = record { label = None; line = 0 }
+    not_started : StartedLine
+    not_started = record { label = None; line = 0 }
 
     q : Position
-    q = behind_line p (Instructs None 0 Negate)
+    q = after_line p (Instructs None 0 Negate)
 
     r : Position
-    r = behind_closing q o outer 0
+    r = after_closing q o outer 0
 
 -- the start of any line
 pub exits_line : (p : Position) → Exits (AtLine p) p.before p.unit
@@ -227,14 +227,14 @@ ends_unit : (kind : UnitKind) → same_name (name_of (end_word kind)) (end_word 
 ends_unit FunctionBlock = refl
 ends_unit Program = refl
 
-pub unit_ended : (p : Position) → p.openings ≡ [] → move (AtLine p) (Identifier (end_word p.unit.kind)) 0 false ≡ Some (behind_unit p)
+pub unit_ended : (p : Position) → p.openings ≡ [] → move (AtLine p) (Identifier (end_word p.unit.kind)) 0 false ≡ Some (after_unit p)
 unit_ended p e =
     ap (λ os. start_move p os (Identifier (end_word p.unit.kind)) 0 false) e
-    ∙ ap (λ b. if b then Some (behind_unit p) else section_or_line p (end_word p.unit.kind) 0 (section_begun p.done (name_of (end_word p.unit.kind)))) (ends_unit p.unit.kind)
+    ∙ ap (λ b. if b then Some (after_unit p) else section_or_line p (end_word p.unit.kind) 0 (section_started p.done (name_of (end_word p.unit.kind)))) (ends_unit p.unit.kind)
 
 finishes_line : (p : Position) → p.openings ≡ [] → AreBlocks p.before → Finishes (AtLine p)
 finishes_line p e h =
-    finishes_by (AtLine p) (behind_unit p) (Identifier (end_word p.unit.kind)) refl (unit_ended p e) (finishes_unit p.before (unit_with p.unit p.done) p.unit.kind refl h)
+    finishes_by (AtLine p) (after_unit p) (Identifier (end_word p.unit.kind)) refl (unit_ended p e) (finishes_unit p.before (unit_with p.unit p.done) p.unit.kind refl h)
 
 -- Some further tokens lead to the end of a text, whatever the first of them is.
 pub record Finishing (state : State) : Type 0 where
@@ -263,27 +263,27 @@ exits_walk state next before unit tokens e h = record {
   leads = walk_then state next tokens h.more false _ (e (colon_next h.more false)) h.leads;
 }
 
-line_before : (p : Position) (form : LineForm) → (behind_line p form).before ≡ p.before
+line_before : (p : Position) (line_shape : LineShape) → (after_line p line_shape).before ≡ p.before
 line_before p (LabelAlone label) = refl
 line_before p (Instructs label line step) = refl
 line_before p (Opens label line operator x) = refl
 
-line_unit : (p : Position) (form : LineForm) → (behind_line p form).unit ≡ p.unit
+line_unit : (p : Position) (line_shape : LineShape) → (after_line p line_shape).unit ≡ p.unit
 line_unit p (LabelAlone label) = refl
 line_unit p (Instructs label line step) = refl
 line_unit p (Opens label line operator x) = refl
 
 -- what is on a line is after a token of it
-on_line_is : (p : Position) (line : LineState) → ((form : LineForm) → line ≢ Ended form) → on_line p line ≡ OnLine p line
-on_line_is p (Ended form) n = absurd (n form refl)
+on_line_is : (p : Position) (line : LineState) → ((line_shape : LineShape) → line ≢ Ended line_shape) → on_line p line ≡ OnLine p line
+on_line_is p (Ended line_shape) n = absurd (n line_shape refl)
 on_line_is p _ n = refl
 
 -- a line that has started
-pub exits_on : (p : Position) (line : LineState) → line ≢ Start → ((form : LineForm) → line ≢ Ended form) → Exits (OnLine p line) p.before p.unit
+pub exits_on : (p : Position) (line : LineState) → line ≢ Start → ((line_shape : LineShape) → line ≢ Ended line_shape) → Exits (OnLine p line) p.before p.unit
 exits_on p line n m =
     let c = completed line n m in
-    exits_walk (OnLine p line) (AtLine (behind_line p c.form)) p.before p.unit c.more (λ colon. subst (λ s. walk s c.more colon ≡ Some (AtLine (behind_line p c.form))) (on_line_is p line m) (on_line_walked p line c.form c.more colon c.rest))
-    (subst (λ u. Exits (AtLine (behind_line p c.form)) p.before u) (line_unit p c.form) (subst (λ b. Exits (AtLine (behind_line p c.form)) b (behind_line p c.form).unit) (line_before p c.form) (exits_line (behind_line p c.form))))
+    exits_walk (OnLine p line) (AtLine (after_line p c.line_shape)) p.before p.unit c.more (λ colon. subst (λ s. walk s c.more colon ≡ Some (AtLine (after_line p c.line_shape))) (on_line_is p line m) (on_line_walked p line c.line_shape c.more colon c.rest))
+    (subst (λ u. Exits (AtLine (after_line p c.line_shape)) p.before u) (line_unit p c.line_shape) (subst (λ b. Exits (AtLine (after_line p c.line_shape)) b (after_line p c.line_shape).unit) (line_before p c.line_shape) (exits_line (after_line p c.line_shape))))
 
 -- after a unit's first word
 pub exits_unnamed : (us : List ProgramUnit) (kind : UnitKind) (line : ℕ) → Exits (Unnamed us kind line) us (named_unit kind line 0 (97 ∷ []))
@@ -302,22 +302,22 @@ section_by us unit unit' section place place' symbol l e h = record { unit' = h.
 section_ended : (us : List ProgramUnit) (unit : ProgramUnit) (section : Section) → SectionExits us unit section Undeclared
 section_ended us unit section = record { unit' = unit; line = refl; exits = exits_by (Declaring us unit section Undeclared) (AtLine (body_start us unit)) us unit (Identifier end_var) (λ c. refl) (exits_body (body_start us unit) refl) }
 
-from_colon : (us : List ProgramUnit) (unit : ProgramUnit) (section : Section) (names : List Word) → SectionExits us unit section (BehindColon names)
+from_colon : (us : List ProgramUnit) (unit : ProgramUnit) (section : Section) (names : List Word) → SectionExits us unit section (AfterColon names)
 from_colon us unit section names =
-    section_by us unit unit section _ (BehindType names (record { line = 0; name = 97 ∷ [] })) (Identifier (97 ∷ [])) refl (λ c. refl)
+    section_by us unit unit section _ (AfterType names (record { line = 0; name = 97 ∷ [] })) (Identifier (97 ∷ [])) refl (λ c. refl)
     (section_by us unit (with_declaration unit section names (record { line = 0; name = 97 ∷ [] }) None) section _ Undeclared Semicolon refl (λ c. refl) (section_ended us _ section))
 
 pub section_exits : (us : List ProgramUnit) (unit : ProgramUnit) (section : Section) (place : InDeclaration) → SectionExits us unit section place
 section_exits us unit section Undeclared = section_ended us unit section
-section_exits us unit section (BehindValue names type_name initial) =
+section_exits us unit section (AfterValue names type_name initial) =
     section_by us unit (with_declaration unit section names type_name (Some initial)) section _ Undeclared Semicolon refl (λ c. refl) (section_ended us _ section)
-section_exits us unit section (BehindAssign names type_name) =
-    section_by us unit unit section _ (BehindValue names type_name (record { value = BoolValue true; line = 0 })) (Truth true) refl (λ c. refl)
+section_exits us unit section (AfterAssign names type_name) =
+    section_by us unit unit section _ (AfterValue names type_name (record { value = BoolValue true; line = 0 })) (Truth true) refl (λ c. refl)
     (section_by us unit (with_declaration unit section names type_name (Some (record { value = BoolValue true; line = 0 }))) section _ Undeclared Semicolon refl (λ c. refl) (section_ended us _ section))
-section_exits us unit section (BehindType names type_name) =
+section_exits us unit section (AfterType names type_name) =
     section_by us unit (with_declaration unit section names type_name None) section _ Undeclared Semicolon refl (λ c. refl) (section_ended us _ section)
-section_exits us unit section (BehindColon names) = from_colon us unit section names
-section_exits us unit section (BehindNames names) = section_by us unit unit section _ (BehindColon names) Colon refl (λ c. refl) (from_colon us unit section names)
-section_exits us unit section (BehindComma names) =
-    section_by us unit unit section _ (BehindNames (names ++ record { line = 0; name = 97 ∷ [] } ∷ [])) (Identifier (97 ∷ [])) refl (λ c. refl)
-    (section_by us unit unit section _ (BehindColon (names ++ record { line = 0; name = 97 ∷ [] } ∷ [])) Colon refl (λ c. refl) (from_colon us unit section _))
+section_exits us unit section (AfterColon names) = from_colon us unit section names
+section_exits us unit section (AfterNames names) = section_by us unit unit section _ (AfterColon names) Colon refl (λ c. refl) (from_colon us unit section names)
+section_exits us unit section (AfterComma names) =
+    section_by us unit unit section _ (AfterNames (names ++ record { line = 0; name = 97 ∷ [] } ∷ [])) (Identifier (97 ∷ [])) refl (λ c. refl)
+    (section_by us unit unit section _ (AfterColon (names ++ record { line = 0; name = 97 ∷ [] } ∷ [])) Colon refl (λ c. refl) (from_colon us unit section _))

@@ -1,21 +1,21 @@
 -- The laws of the grammar.
 use Rattle.std.proofs.Common.{◌≡◌, ℕ, true, false, List, [], ◌∷◌, ◌++◌, Some, refl, ap, subst, append_assoc, ◌∙◌, sym, inl, inr, arith, ◌⊎◌}
 use Rattle.std.specs.Prelude.{Ok, Err, Result}
-use Rattle.wc_laws_grammar.proofs.AtEnds.{at_end_met, told}
+use Rattle.wc_laws_grammar.proofs.AtEnds.{at_end_raised, reported}
 use Rattle.wc_laws_grammar.proofs.Orders.{Ordered}
-use Rattle.wc_laws_grammar.proofs.InParentheses.{inside_is_told}
-use Rattle.wc_laws_grammar.proofs.Judged.{Judged, judged, same_end}
-use Rattle.wc_laws_grammar.specs.Moves.{State, Outside, Met, at_end, at_first, colon_next, has_program, is_colon, judge, move, reading, walk}
+use Rattle.wc_laws_grammar.proofs.InParentheses.{inside_is_reported}
+use Rattle.wc_laws_grammar.proofs.Validated.{Validated, validated, same_end}
+use Rattle.wc_laws_grammar.specs.Moves.{State, Outside, Raised, at_end, at_first, colon_next, has_program, is_colon, validate, move, reading, walk}
 use Rattle.wc_laws_grammar.proofs.Readings.{ended_at, outcome, program_in, read_all, read_is_spelled, refused_is_first, walk_parts}
-use Rattle.wc_laws_grammar.proofs.Told.{Told}
-use Rattle.wc_laws_grammar.proofs.ToldOn.{told_behind, told_first}
+use Rattle.wc_laws_grammar.proofs.Reported.{Reported}
+use Rattle.wc_laws_grammar.proofs.ReportedOn.{reported_after, reported_first}
 use Rattle.wc_laws_grammar.proofs.WalkedUnits.{units_walked}
 use Rattle.wc_laws_grammar.proofs.WithinBack.{no_program}
 use Rattle.wc_laws_grammar.specs.Laws.{FaultSpellsNothing, OneText, TextOrFault}
 use Rattle.wc_model.specs.Text.Grammar.{Spells}
 use Rattle.wc_model.specs.Text.Limits.{IsWithinLimits}
 use Rattle.wc_model.specs.Text.Marks.{Mark}
-use Rattle.wc_model.specs.Text.ReadingFaults.{EmptyParentheses, IsFirstReadingFault, IsMet, MetAtEnd, MetAtToken, NotAllowedInParentheses, NotOneProgramLast, ParenthesisNotPaired, ReadingFault, TooDeep, TooMany, UnexpectedToken, UnitNotClosed, rank_of}
+use Rattle.wc_model.specs.Text.ReadingFaults.{EmptyParentheses, IsFirstReadingFault, IsRaised, RaisedAtEnd, RaisedAtToken, NotAllowedInParentheses, NotOneProgramLast, ParenthesisNotPaired, ReadingFault, TooDeep, TooMany, UnexpectedToken, UnitNotClosed, rank_of}
 use Rattle.wc_model.specs.Language.Tree.{Text}
 
 pub one_text : OneText
@@ -27,32 +27,32 @@ one_text tokens text other s o = outside_is (same_end tokens false (Outside text
 pub text_or_fault : TextOrFault
 text_or_fault tokens last_line = by_reading (reading at_first tokens last_line) refl
   where
-    by_reading : (r : Result Text Met) → reading at_first tokens last_line ≡ r → ((text : Text) × Spells tokens text × IsWithinLimits text) ⊎ ((fault : ReadingFault) × (line : ℕ) × IsFirstReadingFault tokens last_line fault line)
+    by_reading : (r : Result Text Raised) → reading at_first tokens last_line ≡ r → ((text : Text) × Spells tokens text × IsWithinLimits text) ⊎ ((fault : ReadingFault) × (line : ℕ) × IsFirstReadingFault tokens last_line fault line)
     by_reading (Ok text) e = let k = read_is_spelled tokens last_line text e in inl (text, k.0, k.1)
-    by_reading (Err met) e = inr (met.fault, met.line, refused_is_first tokens last_line met e)
+    by_reading (Err raised) e = inr (raised.fault, raised.line, refused_is_first tokens last_line raised e)
 
 -- if a token's text is read on, no fault is detected there
-none_judged : (state : State) (mark : Mark) (marks : List Mark) (last_line : ℕ) (text : Text) (fault : ReadingFault) → reading state (mark ∷ marks) last_line ≡ Ok text → Judged (judge state mark.symbol mark.line (colon_next marks false)) fault → ⊥
-none_judged state mark marks last_line text fault e j =
-    let k : outcome state mark marks last_line (Some j.judged) (move state mark.symbol mark.line (colon_next marks false)) ≡ Ok text =
+none_validated : (state : State) (mark : Mark) (marks : List Mark) (last_line : ℕ) (text : Text) (fault : ReadingFault) → reading state (mark ∷ marks) last_line ≡ Ok text → Validated (validate state mark.symbol mark.line (colon_next marks false)) fault → ⊥
+none_validated state mark marks last_line text fault e j =
+    let k : outcome state mark marks last_line (Some j.validated) (move state mark.symbol mark.line (colon_next marks false)) ≡ Ok text =
     subst (λ q. outcome state mark marks last_line q (move state mark.symbol mark.line (colon_next marks false)) ≡ Ok text) j.is e in
     cc
 
 -- no fault is found at a token of a text that is read
-no_fault_met : (state : State) (before : List Mark) (mark : Mark) (marks : List Mark) (last_line line : ℕ) (text : Text) (fault : ReadingFault) → walk at_first before (is_colon mark.symbol) ≡ Some state → reading state (mark ∷ marks) last_line ≡ Ok text
-    → Spells (before ++ mark ∷ marks) text → ¬ (MetAtToken fault before mark marks line)
-no_fault_met state before mark marks last_line line text UnexpectedToken w e s h = h.0 (marks, (text, subst (λ ts. Spells ts text) (sym (append_assoc before (mark ∷ []) marks)) s))
-no_fault_met state before mark marks last_line line text UnitNotClosed w e s h = h
-no_fault_met state before mark marks last_line line text NotOneProgramLast w e s h = none_judged state mark marks last_line text NotOneProgramLast e (judged NotOneProgramLast before mark marks line state w (λ f. let k = ap rank_of f in omega (arith, k)) h)
-no_fault_met state before mark marks last_line line text EmptyParentheses w e s h = none_judged state mark marks last_line text EmptyParentheses e (judged EmptyParentheses before mark marks line state w (λ f. let k = ap rank_of f in omega (arith, k)) h)
-no_fault_met state before mark marks last_line line text NotAllowedInParentheses w e s h = none_judged state mark marks last_line text NotAllowedInParentheses e (judged NotAllowedInParentheses before mark marks line state w (λ f. let k = ap rank_of f in omega (arith, k)) h)
-no_fault_met state before mark marks last_line line text ParenthesisNotPaired w e s h = none_judged state mark marks last_line text ParenthesisNotPaired e (judged ParenthesisNotPaired before mark marks line state w (λ f. let k = ap rank_of f in omega (arith, k)) h)
-no_fault_met state before mark marks last_line line text TooDeep w e s h = none_judged state mark marks last_line text TooDeep e (judged TooDeep before mark marks line state w (λ f. let k = ap rank_of f in omega (arith, k)) h)
-no_fault_met state before mark marks last_line line text TooMany w e s h = none_judged state mark marks last_line text TooMany e (judged TooMany before mark marks line state w (λ f. let k = ap rank_of f in omega (arith, k)) h)
+no_fault_raised : (state : State) (before : List Mark) (mark : Mark) (marks : List Mark) (last_line line : ℕ) (text : Text) (fault : ReadingFault) → walk at_first before (is_colon mark.symbol) ≡ Some state → reading state (mark ∷ marks) last_line ≡ Ok text
+    → Spells (before ++ mark ∷ marks) text → ¬ (RaisedAtToken fault before mark marks line)
+no_fault_raised state before mark marks last_line line text UnexpectedToken w e s h = h.0 (marks, (text, subst (λ ts. Spells ts text) (sym (append_assoc before (mark ∷ []) marks)) s))
+no_fault_raised state before mark marks last_line line text UnitNotClosed w e s h = h
+no_fault_raised state before mark marks last_line line text NotOneProgramLast w e s h = none_validated state mark marks last_line text NotOneProgramLast e (validated NotOneProgramLast before mark marks line state w (λ f. let k = ap rank_of f in omega (arith, k)) h)
+no_fault_raised state before mark marks last_line line text EmptyParentheses w e s h = none_validated state mark marks last_line text EmptyParentheses e (validated EmptyParentheses before mark marks line state w (λ f. let k = ap rank_of f in omega (arith, k)) h)
+no_fault_raised state before mark marks last_line line text NotAllowedInParentheses w e s h = none_validated state mark marks last_line text NotAllowedInParentheses e (validated NotAllowedInParentheses before mark marks line state w (λ f. let k = ap rank_of f in omega (arith, k)) h)
+no_fault_raised state before mark marks last_line line text ParenthesisNotPaired w e s h = none_validated state mark marks last_line text ParenthesisNotPaired e (validated ParenthesisNotPaired before mark marks line state w (λ f. let k = ap rank_of f in omega (arith, k)) h)
+no_fault_raised state before mark marks last_line line text TooDeep w e s h = none_validated state mark marks last_line text TooDeep e (validated TooDeep before mark marks line state w (λ f. let k = ap rank_of f in omega (arith, k)) h)
+no_fault_raised state before mark marks last_line line text TooMany w e s h = none_validated state mark marks last_line text TooMany e (validated TooMany before mark marks line state w (λ f. let k = ap rank_of f in omega (arith, k)) h)
 
 -- nor at its end
-no_end_fault : (state : State) (before : List Mark) (last_line line : ℕ) (text : Text) (fault : ReadingFault) → walk at_first before false ≡ Some state → at_end state last_line ≡ Ok text → Told state before → ¬ (MetAtEnd fault before last_line line)
-no_end_fault state before last_line line text UnitNotClosed w e t h = let k = ended_at state last_line text e in h.3 (text, subst (λ s. Told s before) k.is t)
+no_end_fault : (state : State) (before : List Mark) (last_line line : ℕ) (text : Text) (fault : ReadingFault) → walk at_first before false ≡ Some state → at_end state last_line ≡ Ok text → Reported state before → ¬ (RaisedAtEnd fault before last_line line)
+no_end_fault state before last_line line text UnitNotClosed w e t h = let k = ended_at state last_line text e in h.3 (text, subst (λ s. Reported s before) k.is t)
 no_end_fault state before last_line line text NotOneProgramLast w e t h =
     let k = ended_at state last_line text e in
     let s = same_end before false state (Outside h.0) w (units_walked h.0 before false refl h.1) in
@@ -62,8 +62,8 @@ no_end_fault state before last_line line text NotOneProgramLast w e t h =
     let m : true ≡ false = sym (subst (λ x. has_program x ≡ true) u k.program) ∙ n in
     cc
 no_end_fault state before last_line line text ParenthesisNotPaired w e t h =
-    let l = inside_is_told h.0 before state h.1 w last_line in
-    let k : Ok text ≡ told (record { fault = ParenthesisNotPaired; line = h.0.line }) = sym e ∙ l in
+    let l = inside_is_reported h.0 before state h.1 w last_line in
+    let k : Ok text ≡ reported (record { fault = ParenthesisNotPaired; line = h.0.line }) = sym e ∙ l in
     cc
 no_end_fault state before last_line line text _ w e t h = h
 
@@ -76,21 +76,21 @@ fault_spells_nothing tokens last_line line fault text first spells within = by_l
     by_left : (left : List Mark) → first.left ≡ left → ⊥
     by_left left e =
         let w : walk at_first (first.before ++ left) false ≡ Some (Outside text) = subst (λ l. walk at_first (first.before ++ l) false ≡ Some (Outside text)) e whole in
-        let m : IsMet fault first.before left last_line line = subst (λ l. IsMet fault first.before l last_line line) e first.met in
+        let m : IsRaised fault first.before left last_line line = subst (λ l. IsRaised fault first.before l last_line line) e first.raised in
         let s : Spells (first.before ++ left) text = subst (λ l. Spells (first.before ++ l) text) e (subst (λ ts. Spells ts text) first.whole spells) in
         at_left left w m s
       where
-        at_left : (left : List Mark) → walk at_first (first.before ++ left) false ≡ Some (Outside text) → IsMet fault first.before left last_line line → Spells (first.before ++ left) text → ⊥
+        at_left : (left : List Mark) → walk at_first (first.before ++ left) false ≡ Some (Outside text) → IsRaised fault first.before left last_line line → Spells (first.before ++ left) text → ⊥
         at_left left w m s =
             let p = walk_parts at_first (Outside text) first.before left false w in
-            let t : Told p.0 first.before = told_behind at_first p.0 [] first.before (colon_next left false) told_first p.1 in
+            let t : Reported p.0 first.before = reported_after at_first p.0 [] first.before (colon_next left false) reported_first p.1 in
             let c = read_all p.0 first.before left last_line text t ((within.units, within.bodies), inr spells.order) (program_in text spells.order) p.2 in
             at_state p.0 left p.1 c.read t m s
           where
-            at_state : (state : State) (left : List Mark) → walk at_first first.before (colon_next left false) ≡ Some state → reading state left last_line ≡ Ok text → Told state first.before → IsMet fault first.before left last_line line → Spells (first.before ++ left) text → ⊥
+            at_state : (state : State) (left : List Mark) → walk at_first first.before (colon_next left false) ≡ Some state → reading state left last_line ≡ Ok text → Reported state first.before → IsRaised fault first.before left last_line line → Spells (first.before ++ left) text → ⊥
             at_state state [] w e t m s = no_end_fault state first.before last_line line text fault w e t m
-            at_state state (mark ∷ marks) w e t m s = no_fault_met state first.before mark marks last_line line text fault w e s m
+            at_state state (mark ∷ marks) w e t m s = no_fault_raised state first.before mark marks last_line line text fault w e s m
 
 -- the fault at the text's end, by the state of the walk there
-pub met_at_end : (tokens : List Mark) (last_line : ℕ) (met : Met) (state : State) → walk at_first tokens false ≡ Some state → Ordered state → at_end state last_line ≡ Err met → MetAtEnd met.fault tokens last_line met.line
-met_at_end tokens last_line met state w o e = (at_end_met state tokens last_line met (told_behind at_first state [] tokens false told_first w) o w e).met_here
+pub raised_at_end : (tokens : List Mark) (last_line : ℕ) (raised : Raised) (state : State) → walk at_first tokens false ≡ Some state → Ordered state → at_end state last_line ≡ Err raised → RaisedAtEnd raised.fault tokens last_line raised.line
+raised_at_end tokens last_line raised state w o e = (at_end_raised state tokens last_line raised (reported_after at_first state [] tokens false reported_first w) o w e).raised_here

@@ -6,8 +6,8 @@ use Rattle.wc_laws_grammar.specs.LineMoves.{LineState}
 use Rattle.wc_laws_grammar.proofs.LineSound.{mark_on}
 use Rattle.wc_laws_grammar.specs.Moves.{InDeclaration, State, Unnamed, Declaring, AtLine, OnLine, Closed, body_start}
 use Rattle.wc_laws_grammar.proofs.Orders.{IsOpen, open_is}
-use Rattle.wc_laws_grammar.proofs.Told.{BehindClosing, Exact, InLine, InSection, Told}
-use Rattle.wc_laws_grammar.proofs.ToldOn.{told_behind}
+use Rattle.wc_laws_grammar.proofs.Reported.{AfterClosing, Exact, InLine, InSection, Reported}
+use Rattle.wc_laws_grammar.proofs.ReportedOn.{reported_after}
 use Rattle.wc_laws_grammar.proofs.Languages.{joined, many_are, next_is, pass, passed, both_empty, ungroup}
 use Rattle.wc_model.specs.Text.Grammar.{IsOn, head, identifier, lines, unit_of, units}
 use Rattle.wc_model.specs.Text.Keywords.{end_word, unit_word}
@@ -31,7 +31,7 @@ pub record Split (tokens : List Mark) (line : ℕ) : Type 0 where
   pub word : Name
   pub first : name_in mark.symbol ≡ Some word
   pub state : State
-  pub told : Told state (mark ∷ own)
+  pub reported : Reported state (mark ∷ own)
   pub unit : ProgramUnit
   pub same_line : unit.line ≡ line
   pub exits : Exits state [] unit
@@ -43,20 +43,20 @@ unit_word_first line word second (mark ∷ own) h = (mark, own, refl, (next_is h
 
 -- a split after whole units
 split : (us : List ProgramUnit) (line : ℕ) (word : Name) (first second : List Mark → Type 0) (tokens more : List Mark) (state : State) (unit : ProgramUnit) → (units us then second) tokens
-    → ((ts : List Mark) → second ts → (one (IsOn line (IsNamed word)) then first) ts) → ((ts : List Mark) → second ts → Told state (ts ++ more)) → unit.line ≡ line → Exits state [] unit → Split (tokens ++ more) line
+    → ((ts : List Mark) → second ts → (one (IsOn line (IsNamed word)) then first) ts) → ((ts : List Mark) → second ts → Reported state (ts ++ more)) → unit.line ≡ line → Exits state [] unit → Split (tokens ++ more) line
 split us line word first second tokens more state unit h f g e x =
     let w = unit_word_first line word first h.rest (f h.rest h.goes_on) in
     record {
       us = us;
-      earlier = h.front;
+      earlier = h.prefix;
       mark = w.0;
       own = w.1 ++ more;
-      whole = ap (λ ts. ts ++ more) (h.whole ∙ ap (λ ts. h.front ++ ts) w.2) ∙ append_assoc h.front (w.0 ∷ w.1) more;
+      whole = ap (λ ts. ts ++ more) (h.whole ∙ ap (λ ts. h.prefix ++ ts) w.2) ∙ append_assoc h.prefix (w.0 ∷ w.1) more;
       begins = h.begins;
       word = word;
       first = w.3;
       state = state;
-      told = subst (λ ts. Told state (ts ++ more)) w.2 (g h.rest h.goes_on);
+      reported = subst (λ ts. Reported state (ts ++ more)) w.2 (g h.rest h.goes_on);
       unit = unit;
       same_line = e;
       exits = x;
@@ -81,29 +81,29 @@ split_line p tokens h =
 pub split_on : (p : Position) (line : LineState) (tokens : List Mark) → IsOpen line → InLine p line tokens → Split tokens p.unit.line
 split_on p line tokens o h =
     subst (λ ts. Split ts p.unit.line) (sym h.whole)
-    (split p.before p.unit.line (unit_word p.unit.kind) _ _ h.front h.part (OnLine (alone p) line) p.unit h.begins (λ ts k. ungroup k)
-    (λ ts k. record { front = ts; part = h.part; whole = refl; begins = alone_line p ts k; goes = h.goes; exact = h.exact }) refl
+    (split p.before p.unit.line (unit_word p.unit.kind) _ _ h.prefix h.part (OnLine (alone p) line) p.unit h.begins (λ ts k. ungroup k)
+    (λ ts k. record { prefix = ts; part = h.part; whole = refl; begins = alone_line p ts k; goes = h.goes; exact = h.exact }) refl
     (exits_on (alone p) line (λ e. subst (λ l. Exact (setting_in p.openings) l h.part) e h.exact) (open_is line o)))
 
-pub split_closed : (p : Position) (tokens : List Mark) → BehindClosing p tokens → Split tokens p.unit.line
+pub split_closed : (p : Position) (tokens : List Mark) → AfterClosing p tokens → Split tokens p.unit.line
 split_closed p tokens h =
     subst (λ ts. Split ts p.unit.line) (sym h.whole)
-    (subst (Split (h.front ++ h.last)) (ap (λ q. q.unit.line) (sym h.position))
-    (split h.inside.before h.inside.unit.line (unit_word h.inside.unit.kind) _ _ h.front h.last (Closed (alone p)) (alone p).unit h.begins (λ ts k. ungroup k)
-    (λ ts k. record { inside = alone h.inside; o = h.o; outer = h.outer; close = h.close; front = ts; last = h.last; whole = refl; begins = alone_line h.inside ts k; opened = h.opened; content = h.content; closing = h.closing; position = ap alone h.position })
+    (subst (Split (h.prefix ++ h.last)) (ap (λ q. q.unit.line) (sym h.position))
+    (split h.inside.before h.inside.unit.line (unit_word h.inside.unit.kind) _ _ h.prefix h.last (Closed (alone p)) (alone p).unit h.begins (λ ts k. ungroup k)
+    (λ ts k. record { inside = alone h.inside; o = h.o; outer = h.outer; close = h.close; prefix = ts; last = h.last; whole = refl; begins = alone_line h.inside ts k; opened = h.opened; content = h.content; closing = h.closing; position = ap alone h.position })
     (ap (λ q. q.unit.line) h.position) (exits_closed (alone p))))
 
 pub split_section : (us : List ProgramUnit) (unit : ProgramUnit) (section : Section) (place : InDeclaration) (tokens : List Mark) → InSection us unit section place tokens → Split tokens unit.line
 split_section us unit section place tokens h =
     let x = section_exits [] unit section place in
     subst (λ ts. Split ts unit.line) (sym h.whole)
-    (split us unit.line (unit_word unit.kind) _ _ h.front h.inside (Declaring [] unit section place) x.unit' h.begins (λ ts k. ungroup k)
-    (λ ts k. record { earlier = h.earlier; done = h.done; parts = h.parts; front = ts; inside = h.inside; whole = refl; begins = pass no_units k; goes = h.goes }) x.line x.exits)
+    (split us unit.line (unit_word unit.kind) _ _ h.prefix h.inside (Declaring [] unit section place) x.unit' h.begins (λ ts k. ungroup k)
+    (λ ts k. record { earlier = h.earlier; done = h.done; parts = h.parts; prefix = ts; inside = h.inside; whole = refl; begins = pass no_units k; goes = h.goes }) x.line x.exits)
 
 pub split_unnamed : (us : List ProgramUnit) (kind : UnitKind) (line : ℕ) (tokens : List Mark) → (units us then one (IsOn line (IsNamed (unit_word kind)))) tokens → Split tokens line
 split_unnamed us kind line tokens h =
     subst (λ ts. Split ts line) (append-nil tokens)
-    (split us line (unit_word kind) (λ ts. ts ≡ []) _ tokens [] (Unnamed [] kind line) _ h (λ ts k. record { front = ts; rest = []; whole = sym (append-nil ts); begins = k; goes_on = refl })
+    (split us line (unit_word kind) (λ ts. ts ≡ []) _ tokens [] (Unnamed [] kind line) _ h (λ ts k. record { prefix = ts; rest = []; whole = sym (append-nil ts); begins = k; goes_on = refl })
     (λ ts k. subst (λ vs. (units [] then one (IsOn line (IsNamed (unit_word kind)))) vs) (sym (append-nil ts)) (pass no_units k)) refl (exits_unnamed [] kind line))
 
 -- no line end precedes a unit's first word
@@ -120,12 +120,12 @@ no_ends_before second mark own word e h = elim (many_are (passed (ungroup h))) [
 pub stops_in_unit : (tokens : List Mark) (line : ℕ) → Split tokens line → (unit : ProgramUnit) × StopsInUnit unit tokens × (line ≡ unit.line)
 stops_in_unit tokens line s =
     let q : Position = record (body_start [] s.unit) { done = s.exits.done } in
-    let t : at_line q ((s.mark ∷ s.own) ++ s.exits.more) = told_behind s.state (AtLine q) (s.mark ∷ s.own) s.exits.more false s.told s.exits.leads in
+    let t : at_line q ((s.mark ∷ s.own) ++ s.exits.more) = reported_after s.state (AtLine q) (s.mark ∷ s.own) s.exits.more false s.reported s.exits.leads in
     let h = no_ends_before _ s.mark (s.own ++ s.exits.more) s.word s.first t in
     let last = mark_on (Identifier (end_word s.unit.kind)) 0 in
     let unit : ProgramUnit = record s.unit { body = s.exits.done } in
     let u : unit_of unit (((s.mark ∷ s.own) ++ s.exits.more) ++ last ∷ []) = append_last (last ∷ []) (λ ts k. joined ts (last ∷ []) (passed k) (ends_so s.unit.kind)) h in
-    (unit, (s.us, record { front = s.earlier; rest = s.mark ∷ s.own; whole = s.whole; begins = s.begins; goes_on = (λ e. cc, goes unit s.exits.more last (subst (unit_of unit) (append_assoc (s.mark ∷ s.own) s.exits.more (last ∷ [])) u)) }), sym s.same_line)
+    (unit, (s.us, record { prefix = s.earlier; rest = s.mark ∷ s.own; whole = s.whole; begins = s.begins; goes_on = (λ e. cc, goes unit s.exits.more last (subst (unit_of unit) (append_assoc (s.mark ∷ s.own) s.exits.more (last ∷ [])) u)) }), sym s.same_line)
   where
     ends_so : (kind : UnitKind) → identifier (end_word kind) (mark_on (Identifier (end_word kind)) 0 ∷ [])
     ends_so FunctionBlock = refl

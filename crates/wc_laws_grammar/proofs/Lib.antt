@@ -2,7 +2,7 @@ pub mod Languages
 pub mod Spelling
 pub mod LineStarts
 pub mod OperatorWords
-pub mod FrontLaws
+pub mod PrefixLaws
 pub mod WordLaws
 pub mod LineRests
 pub mod Skipping
@@ -15,12 +15,12 @@ pub mod WalkedDeclarations
 pub mod WalkedUnits
 pub mod Appending
 pub mod DeclarationSound
-pub mod Told
+pub mod Reported
 pub mod ExactLines
-pub mod ToldOn
+pub mod ReportedOn
 pub mod Exits
-pub mod Judged
-pub mod MetThere
+pub mod Validated
+pub mod RaisedThere
 pub mod Orders
 pub mod Stops
 pub mod InParentheses

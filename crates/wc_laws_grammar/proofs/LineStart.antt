@@ -1,7 +1,7 @@
 -- The first token of a line is taken by the walk.
 use Rattle.std.proofs.Common.{◌≡◌, ℕ, Bool, false, List, [], ◌∷◌, Some, None, refl, ap, subst, if◌then◌else◌, ◌∙◌, sym, inl, inr}
-use Rattle.wc_laws_grammar.proofs.LineComplete.{Leads, end_is, behind_step, step_parts, opening_parts}
-use Rattle.wc_laws_grammar.specs.LineMoves.{LineForm, LabelAlone, Instructs, Opens, Worded, at_operator, behind_operator, operator_or_label, at_start, simple_operator, at_start_in}
+use Rattle.wc_laws_grammar.proofs.LineComplete.{Leads, end_is, after_step, step_parts, opening_parts}
+use Rattle.wc_laws_grammar.specs.LineMoves.{LineShape, LabelAlone, Instructs, Opens, Worded, at_operator, after_operator, operator_or_label, at_start, simple_operator, at_start_in}
 use Rattle.wc_laws_grammar.proofs.LineRests.{line_of, labelled_rest, rest_of}
 use Rattle.wc_laws_grammar.proofs.LineSound.{mark_on}
 use Rattle.wc_laws_grammar.specs.Moves.{is_colon, colon_next}
@@ -9,7 +9,7 @@ use Rattle.wc_laws_grammar.proofs.WordLaws.{operation_in}
 use Rattle.wc_laws_grammar.specs.Words.{Applies, Operation, Operates, is_transfer, operation_of}
 use Rattle.wc_laws_grammar.proofs.Languages.{next_is, passed, both_empty, given_are, ungroup, after}
 use Rattle.wc_model.specs.Text.Grammar as grammar
-use Rattle.wc_model.specs.Text.Grammar.{operand, operands_of, IsLiteral, Setting, InBody, InParentheses, MayStand}
+use Rattle.wc_model.specs.Text.Grammar.{operand, operands_of, IsLiteral, Setting, InBody, InParentheses, MayOccur}
 use Rattle.wc_model.specs.Text.Languages.{◌then◌}
 use Rattle.wc_model.specs.Text.Marks.{Symbol, Identifier, Colon, LineEnd, OpeningBracket, Mark, IsWord, name_in, address_in, Ampersand, AmpersandN}
 use Rattle.wc_model.specs.Language.Names.{Name, name_of}
@@ -72,7 +72,7 @@ bracket_no_colon second [] colon h = absurd ((both_empty h).0)
 bracket_no_colon second (mark ∷ marks) colon h = no_colon mark.symbol OpeningBracket (next_is h).0 refl
 
 -- an operator that no colon follows is taken in a body
-pub operator_taken : (symbol : Symbol) (line : ℕ) (operation : Operation) (colon : Bool) → operation_of symbol ≡ Some operation → colon ≡ false → at_start symbol line colon ≡ Some (behind_operator None line operation)
+pub operator_taken : (symbol : Symbol) (line : ℕ) (operation : Operation) (colon : Bool) → operation_of symbol ≡ Some operation → colon ≡ false → at_start symbol line colon ≡ Some (after_operator None line operation)
 operator_taken (Identifier bytes) line operation colon e n =
     ap (λ c. at_start (Identifier bytes) line c) n ∙ ap (λ o. Some (operator_or_label (record { line = line; name = name_of bytes }) o)) e
 operator_taken Ampersand line operation colon e n = ap (λ o. at_operator None line o) e
@@ -80,11 +80,11 @@ operator_taken AmpersandN line operation colon e n = ap (λ o. at_operator None 
 operator_taken _ line operation colon e n = absurd (cc)
 
 -- and one that is not a jump, call or return is taken inside parentheses
-pub simple_taken : (symbol : Symbol) (line : ℕ) (operation : Operation) → operation_of symbol ≡ Some operation → is_transfer operation ≡ false → simple_operator line (operation_of symbol) ≡ Some (behind_operator None line operation)
-simple_taken symbol line operation e n = ap (simple_operator line) e ∙ ap (λ b. if b then None else Some (behind_operator None line operation)) n
+pub simple_taken : (symbol : Symbol) (line : ℕ) (operation : Operation) → operation_of symbol ≡ Some operation → is_transfer operation ≡ false → simple_operator line (operation_of symbol) ≡ Some (after_operator None line operation)
+simple_taken symbol line operation e n = ap (simple_operator line) e ∙ ap (λ b. if b then None else Some (after_operator None line operation)) n
 
 -- what is inside parentheses is not a transfer
-pub no_transfer : (step : Step) → MayStand InParentheses step → is_transfer (operation_in step) ≡ false
+pub no_transfer : (step : Step) → MayOccur InParentheses step → is_transfer (operation_in step) ≡ false
 no_transfer (Load negated x) h = refl
 no_transfer (Store storing x) h = refl
 no_transfer (Apply operator x) h = refl
@@ -95,25 +95,25 @@ no_transfer (Return condition) h = absurd (h tt)
 
 -- an operator is taken, where it may be
 pub taken : (setting : Setting) (symbol : Symbol) (line : ℕ) (operation : Operation) (colon : Bool) → operation_of symbol ≡ Some operation → colon ≡ false → (setting ≡ InParentheses → is_transfer operation ≡ false)
-    → at_start_in setting symbol line colon ≡ Some (behind_operator None line operation)
+    → at_start_in setting symbol line colon ≡ Some (after_operator None line operation)
 taken InBody symbol line operation colon e n may = operator_taken symbol line operation colon e n
 taken InParentheses symbol line operation colon e n may = simple_taken symbol line operation e (may refl)
 
-label_word : (label : Word) (form : LineForm) (symbol : Symbol) (line : ℕ) (tokens : List Mark) (colon : Bool) → IsWord label (mark_on symbol line) → (grammar.symbol Colon then labelled_rest label form) tokens
-    → Leads (at_start symbol line (colon_next tokens colon)) form tokens
-label_word label form symbol line [] colon e h = absurd ((both_empty h).0)
-label_word label form (Identifier bytes) line (mark ∷ marks) colon e h =
+label_word : (label : Word) (line_shape : LineShape) (symbol : Symbol) (line : ℕ) (tokens : List Mark) (colon : Bool) → IsWord label (mark_on symbol line) → (grammar.symbol Colon then labelled_rest label line_shape) tokens
+    → Leads (at_start symbol line (colon_next tokens colon)) line_shape tokens
+label_word label line_shape symbol line [] colon e h = absurd ((both_empty h).0)
+label_word label line_shape (Identifier bytes) line (mark ∷ marks) colon e h =
     let k = next_is h in
-    subst (λ s. Leads (at_start (Identifier bytes) line (is_colon s)) form (mark ∷ marks)) (sym k.0)
-    (subst (λ w. rest_of (Worded w) form (mark ∷ marks)) (sym (word_is bytes line label (e.0) e.1)) h)
+    subst (λ s. Leads (at_start (Identifier bytes) line (is_colon s)) line_shape (mark ∷ marks)) (sym k.0)
+    (subst (λ w. rest_of (Worded w) line_shape (mark ∷ marks)) (sym (word_is bytes line label (e.0) e.1)) h)
   where
     word_is : (bytes : List ℕ) (line : ℕ) (label : Word) → Some (name_of bytes) ≡ Some label.name → line ≡ label.line → record { line = line; name = name_of bytes } ≡ label
     word_is bytes line label a b = let n : name_of bytes ≡ label.name = cc in λ i. record { line = b i; name = n i }
-label_word label form _ line (mark ∷ marks) colon e h = let k = e.0 in absurd (cc)
+label_word label line_shape _ line (mark ∷ marks) colon e h = let k = e.0 in absurd (cc)
 
 -- the first token of a line is taken, if a colon follows it or does not
-pub start_led : (setting : Setting) (form : LineForm) (symbol : Symbol) (line : ℕ) (tokens : List Mark) (colon : Bool) → line_of setting form (mark_on symbol line ∷ tokens)
-    → Leads (at_start_in setting symbol line (colon_next tokens colon)) form tokens
+pub start_led : (setting : Setting) (line_shape : LineShape) (symbol : Symbol) (line : ℕ) (tokens : List Mark) (colon : Bool) → line_of setting line_shape (mark_on symbol line ∷ tokens)
+    → Leads (at_start_in setting symbol line (colon_next tokens colon)) line_shape tokens
 start_led InBody (LabelAlone label) symbol line tokens colon h = let k = next_is (ungroup h) in label_word label (LabelAlone label) symbol line tokens colon k.0 (after (λ ts l. (refl, l)) k.1)
 start_led InParentheses (LabelAlone label) symbol line tokens colon h = absurd h.begins
 start_led InBody (Instructs (Some label) at step) symbol line tokens colon h =
@@ -124,8 +124,8 @@ start_led InBody (Opens (Some label) at operator x) symbol line tokens colon h =
 start_led InParentheses (Opens (Some label) at operator x) symbol line tokens colon h = absurd h.begins
 start_led setting (Instructs None at step) symbol line tokens colon h =
     let k = step_parts at step symbol line tokens (passed h.1) in
-    subst (λ o. Leads o (Instructs None at step) tokens) (sym (taken setting symbol line (operation_in step) (colon_next tokens colon) k.0 (step_no_colon step tokens colon k.2) (λ e. no_transfer step (subst (λ s. MayStand s step) e h.0))))
-    (subst (λ n. rest_of (behind_operator None line (operation_in step)) (Instructs None n step) tokens) k.1 (behind_step None line step tokens k.2))
+    subst (λ o. Leads o (Instructs None at step) tokens) (sym (taken setting symbol line (operation_in step) (colon_next tokens colon) k.0 (step_no_colon step tokens colon k.2) (λ e. no_transfer step (subst (λ s. MayOccur s step) e h.0))))
+    (subst (λ n. rest_of (after_operator None line (operation_in step)) (Instructs None n step) tokens) k.1 (after_step None line step tokens k.2))
 start_led setting (Opens None at operator x) symbol line tokens colon h =
     let k = opening_parts at operator x symbol line tokens (passed h) in
     subst (λ o. Leads o (Opens None at operator x) tokens) (sym (taken setting symbol line (Operates (Applies operator)) (colon_next tokens colon) k.0 (bracket_no_colon _ tokens colon k.2) (λ e. refl)))

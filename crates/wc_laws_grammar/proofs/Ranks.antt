@@ -2,8 +2,8 @@
 use Rattle.std.proofs.Common.{◌≡◌, ◌≤◌, ℕ, suc, ◌*◌, Bool, true, false, List, [], ◌∷◌, length, length-append, Option, Some, None, if◌then◌else◌, subst, arith}
 use Rattle.std.specs.Prelude.{option_map}
 use Rattle.wc_laws_grammar.proofs.WalkedLines.{walk_on}
-use Rattle.wc_laws_grammar.specs.LineMoves.{LineForm, LabelAlone, Instructs, Opens, LineState, Start, Ended, line_move}
-use Rattle.wc_laws_grammar.specs.Moves.{InDeclaration, Undeclared, BehindNames, BehindComma, BehindColon, BehindType, BehindAssign, BehindValue, State, Outside, Unnamed, Declaring, AtLine, OnLine, Closed, at_value, begun_line, behind_closing, behind_line, behind_unit, body_move, body_start, colon_next, declaration_move, has_content, move, section_begun, section_or_line, start_move, unit_with, walk}
+use Rattle.wc_laws_grammar.specs.LineMoves.{LineShape, LabelAlone, Instructs, Opens, LineState, Start, Ended, line_move}
+use Rattle.wc_laws_grammar.specs.Moves.{InDeclaration, Undeclared, AfterNames, AfterComma, AfterColon, AfterType, AfterAssign, AfterValue, State, Outside, Unnamed, Declaring, AtLine, OnLine, Closed, at_value, started_line, after_closing, after_line, after_unit, body_move, body_start, colon_next, declaration_move, has_content, move, section_started, section_or_line, start_move, unit_with, walk}
 use Rattle.wc_laws_grammar.specs.Words.{found, literal_of, unit_kinds}
 use Rattle.wc_model.specs.Language.Declarations.{same_name}
 use Rattle.wc_model.specs.Language.Names.{name_of}
@@ -38,53 +38,53 @@ value_rises : (us : List ProgramUnit) (unit : ProgramUnit) (section : Section) (
 value_rises us unit section names type_name line None = tt
 value_rises us unit section names type_name line (Some value) = omega arith
 
-first_rises : (us : List ProgramUnit) (unit : ProgramUnit) (section : Section) (word : Word) (b : Bool) → suc (2 * length us) ≤ rank (if b then AtLine (body_start us unit) else Declaring us unit section (BehindNames (word ∷ [])))
+first_rises : (us : List ProgramUnit) (unit : ProgramUnit) (section : Section) (word : Word) (b : Bool) → suc (2 * length us) ≤ rank (if b then AtLine (body_start us unit) else Declaring us unit section (AfterNames (word ∷ [])))
 first_rises us unit section word true = omega arith
 first_rises us unit section word false = omega arith
 
 section_rises : (us : List ProgramUnit) (unit : ProgramUnit) (section : Section) (place : InDeclaration) (symbol : Symbol) (line : ℕ) → Rises (suc (2 * length us)) (declaration_move us unit section place symbol line)
 section_rises us unit section place LineEnd line = omega arith
 section_rises us unit section Undeclared (Identifier bytes) line = first_rises us unit section (record { line = line; name = name_of bytes }) (same_name (name_of bytes) end_var)
-section_rises us unit section (BehindNames names) Comma line = omega arith
-section_rises us unit section (BehindNames names) Colon line = omega arith
-section_rises us unit section (BehindComma names) (Identifier bytes) line = omega arith
-section_rises us unit section (BehindColon names) (Identifier bytes) line = omega arith
-section_rises us unit section (BehindType names type_name) Assign line = omega arith
-section_rises us unit section (BehindType names type_name) Semicolon line = omega arith
-section_rises us unit section (BehindAssign names type_name) symbol line = value_rises us unit section names type_name line (literal_of symbol)
-section_rises us unit section (BehindValue names type_name initial) Semicolon line = omega arith
+section_rises us unit section (AfterNames names) Comma line = omega arith
+section_rises us unit section (AfterNames names) Colon line = omega arith
+section_rises us unit section (AfterComma names) (Identifier bytes) line = omega arith
+section_rises us unit section (AfterColon names) (Identifier bytes) line = omega arith
+section_rises us unit section (AfterType names type_name) Assign line = omega arith
+section_rises us unit section (AfterType names type_name) Semicolon line = omega arith
+section_rises us unit section (AfterAssign names type_name) symbol line = value_rises us unit section names type_name line (literal_of symbol)
+section_rises us unit section (AfterValue names type_name initial) Semicolon line = omega arith
 section_rises us unit section place symbol line = tt
 
-form_rises : (p : Position) (form : LineForm) → suc (2 * length p.before) ≤ rank (AtLine (behind_line p form))
-form_rises p (LabelAlone label) = omega arith
-form_rises p (Instructs label line step) = omega arith
-form_rises p (Opens label line operator x) = omega arith
+shape_rises : (p : Position) (line_shape : LineShape) → suc (2 * length p.before) ≤ rank (AtLine (after_line p line_shape))
+shape_rises p (LabelAlone label) = omega arith
+shape_rises p (Instructs label line step) = omega arith
+shape_rises p (Opens label line operator x) = omega arith
 
-begun_rises : (p : Position) (next : Option LineState) → Rises (suc (2 * length p.before)) (begun_line p next)
-begun_rises p None = tt
-begun_rises p (Some (Ended form)) = form_rises p form
-begun_rises p (Some line) = omega arith
+started_rises : (p : Position) (next : Option LineState) → Rises (suc (2 * length p.before)) (started_line p next)
+started_rises p None = tt
+started_rises p (Some (Ended line_shape)) = shape_rises p line_shape
+started_rises p (Some line) = omega arith
 
 section_or_line_rises : (p : Position) (bytes : List ℕ) (line : ℕ) (section : Option Section) → Rises (suc (2 * length p.before)) (section_or_line p bytes line section)
-section_or_line_rises p bytes line None = begun_rises p (line_move InBody Start (Identifier bytes) line false)
+section_or_line_rises p bytes line None = started_rises p (line_move InBody Start (Identifier bytes) line false)
 section_or_line_rises p bytes line (Some section) = omega arith
 
-word_rises : (p : Position) (bytes : List ℕ) (line : ℕ) (b : Bool) → Rises (suc (2 * length p.before)) (if b then Some (behind_unit p) else section_or_line p bytes line (section_begun p.done (name_of bytes)))
+word_rises : (p : Position) (bytes : List ℕ) (line : ℕ) (b : Bool) → Rises (suc (2 * length p.before)) (if b then Some (after_unit p) else section_or_line p bytes line (section_started p.done (name_of bytes)))
 word_rises p bytes line true = let one = length-append p.before (unit_with p.unit p.done ∷ []) in omega (arith, one)
-word_rises p bytes line false = section_or_line_rises p bytes line (section_begun p.done (name_of bytes))
+word_rises p bytes line false = section_or_line_rises p bytes line (section_started p.done (name_of bytes))
 
 body_rises : (p : Position) (symbol : Symbol) (line : ℕ) (colon : Bool) → Rises (suc (2 * length p.before)) (body_move p symbol line colon)
 body_rises p (Identifier bytes) line false = word_rises p bytes line (same_name (name_of bytes) (end_word p.unit.kind))
-body_rises p symbol line colon = begun_rises p (line_move InBody Start symbol line colon)
+body_rises p symbol line colon = started_rises p (line_move InBody Start symbol line colon)
 
-closing_rises : (p : Position) (o : Opening) (outer : List Opening) (line : ℕ) (b : Bool) → Rises (suc (2 * length p.before)) (if b then Some (Closed (behind_closing p o outer line)) else None)
+closing_rises : (p : Position) (o : Opening) (outer : List Opening) (line : ℕ) (b : Bool) → Rises (suc (2 * length p.before)) (if b then Some (Closed (after_closing p o outer line)) else None)
 closing_rises p o outer line true = omega arith
 closing_rises p o outer line false = tt
 
 start_rises : (p : Position) (openings : List Opening) (symbol : Symbol) (line : ℕ) (colon : Bool) → Rises (suc (2 * length p.before)) (start_move p openings symbol line colon)
 start_rises p [] symbol line colon = body_rises p symbol line colon
 start_rises p (o ∷ outer) ClosingBracket line colon = closing_rises p o outer line (has_content o.operand p.done)
-start_rises p (o ∷ outer) symbol line colon = begun_rises p (line_move InParentheses Start symbol line false)
+start_rises p (o ∷ outer) symbol line colon = started_rises p (line_move InParentheses Start symbol line false)
 
 -- one more token
 rises : (state : State) (symbol : Symbol) (line : ℕ) (colon : Bool) → Rises (rank state) (move state symbol line colon)
@@ -94,7 +94,7 @@ rises (Unnamed us kind first) (Identifier bytes) line colon = omega arith
 rises (Declaring us unit section place) symbol line colon = section_rises us unit section place symbol line
 rises (AtLine p) LineEnd line colon = omega arith
 rises (AtLine p) symbol line colon = start_rises p p.openings symbol line colon
-rises (OnLine p state) symbol line colon = begun_rises p (line_move (setting_in p.openings) state symbol line colon)
+rises (OnLine p state) symbol line colon = started_rises p (line_move (setting_in p.openings) state symbol line colon)
 rises (Closed p) LineEnd line colon = omega arith
 rises _ symbol line colon = tt
 

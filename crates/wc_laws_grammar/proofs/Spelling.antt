@@ -6,7 +6,7 @@ use Rattle.wc_model.specs.Text.Marks.{Mark, LineEnd, ClosingBracket, IsNamed, Is
 use Rattle.wc_model.specs.Language.Tree.{Word, Term, Step, Lines, Alone, Plain, Nested, Declaration, ProgramUnit}
 use Rattle.wc_model.specs.Text.Languages.{◌then◌, each, empty, one}
 use Rattle.wc_model.specs.Text.Keywords.{truth_word, unit_word, end_word}
-use Rattle.wc_model.specs.Text.Grammar.{Group, Setting, InBody, InParentheses, MayStand, HasContent, IsOn, IsNameOf, symbol, identifier, line_ends, label_in, instruction, opening, lines, sections, section_of, units}
+use Rattle.wc_model.specs.Text.Grammar.{Group, Setting, InBody, InParentheses, MayOccur, HasContent, IsOn, IsNameOf, symbol, identifier, line_ends, label_in, instruction, opening, lines, sections, section_of, units}
 use Rattle.wc_model.specs.declared.operator.Operator.{Operator}
 use Rattle.wc_laws_grammar.proofs.WordLaws.{is_same}
 use Rattle.wc_laws_grammar.proofs.Languages.{pass, given_first, regroup, ungroup, before, after, parts}
@@ -20,7 +20,7 @@ no_sections goes_on = pass ([], refl, refl) goes_on
 pub sections_by : {second : List Mark → Type 0} {tokens : List Mark} {declarations : List Declaration} (groups : List Group)
     → declarations ≡ flat_map (λ group. group.declarations) groups
     → (each (λ group. line_ends then section_of group) groups then second) tokens → (sections declarations then second) tokens
-sections_by groups same h = record { front = h.front; rest = h.rest; whole = h.whole; begins = (groups, same, h.begins); goes_on = h.goes_on }
+sections_by groups same h = record { prefix = h.prefix; rest = h.rest; whole = h.whole; begins = (groups, same, h.begins); goes_on = h.goes_on }
 
 -- two names that the test tells apart
 pub differ : {xs ys : List ℕ} → same_name xs ys ≡ false → xs ≢ ys
@@ -35,7 +35,7 @@ ordinary not_true not_false false = not_false
 
 -- a line with an instruction, and what follows
 pub plain : (setting : Setting) (label : Option Word) (line : ℕ) (step : Step) (rest : Lines) {second : List Mark → Type 0} {tokens : List Mark}
-    → MayStand setting step → ((line_ends then (label_in setting label then (instruction line step then symbol LineEnd))) then (lines setting rest then second)) tokens
+    → MayOccur setting step → ((line_ends then (label_in setting label then (instruction line step then symbol LineEnd))) then (lines setting rest then second)) tokens
     → (lines setting (Plain label line step rest) then second) tokens
 plain setting label line step rest fact h = given_first fact (before (λ ts k. after (λ ts k. after (λ ts k. ungroup k) (ungroup k)) (ungroup k)) (regroup h))
 

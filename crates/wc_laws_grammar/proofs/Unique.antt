@@ -2,7 +2,7 @@
 use Rattle.std.proofs.Common.{◌≡◌, ◌≤◌, ℕ, List, [], ◌∷◌, ◌++◌, refl, ap, sym, ◌∙◌, inl, inr, arith}
 use Rattle.std.specs.Prelude.{◌⊎◌, ◌==◌, cond}
 use Rattle.wc_model.specs.Text.Marks.{Mark}
-use Rattle.wc_model.specs.Text.ReadingFaults.{ReadingFault, UnexpectedToken, UnitNotClosed, NotOneProgramLast, EmptyParentheses, NotAllowedInParentheses, ParenthesisNotPaired, TooDeep, TooMany, rank_of, IsMet, IsFaultFree, IsFirstReadingFault}
+use Rattle.wc_model.specs.Text.ReadingFaults.{ReadingFault, UnexpectedToken, UnitNotClosed, NotOneProgramLast, EmptyParentheses, NotAllowedInParentheses, ParenthesisNotPaired, TooDeep, TooMany, rank_of, IsRaised, IsFaultFree, IsFirstReadingFault}
 
 -- the first list goes on with a token where the second ends
 abbrev pub GoesOn : (a b x y : List Mark) → Type 0
@@ -41,26 +41,26 @@ same_fault f g a b =
     sym (known f) ∙ ap fault_of e ∙ known g
 
 -- a fault that is found at an earlier token is not one if that token is passed without one
-passed_over : (f : ReadingFault) (a b x y : List Mark) (last_line line : ℕ) → GoesOn a b x y → IsMet f x y last_line line → IsFaultFree a b → ⊥
-passed_over f a b x y last_line line goes met free =
-    free x goes.0 goes.1 line goes.2 f (rw goes.3 at met)
+passed_over : (f : ReadingFault) (a b x y : List Mark) (last_line line : ℕ) → GoesOn a b x y → IsRaised f x y last_line line → IsFaultFree a b → ⊥
+passed_over f a b x y last_line line goes raised free =
+    free x goes.0 goes.1 line goes.2 f (rw goes.3 at raised)
 
 -- two first faults are found after the same tokens, and are the same
 pub record IsSame (last_line : ℕ) (before left : List Mark) (f g : ReadingFault) (place : ℕ) : Type 0 where
   pub fault : f ≡ g
-  pub met : IsMet g before left last_line place
+  pub raised : IsRaised g before left last_line place
 
 pub same_first : (tokens : List Mark) (last_line line place : ℕ) (f g : ReadingFault) → (h : IsFirstReadingFault tokens last_line f line) → IsFirstReadingFault tokens last_line g place → IsSame last_line h.before h.left f g place
 same_first tokens last_line line place f g h k =
     elim (cuts h.before h.left k.before k.left (sym h.whole ∙ k.whole)) [
       | inl same ↦ record {
         fault = same_fault f g
-            (h.lowest g place (rw (same.0, same.1) k.met))
-            (k.lowest f line (rw (← same.0, ← same.1) h.met));
-        met = rw (same.0, same.1) k.met;
+            (h.lowest g place (rw (same.0, same.1) k.raised))
+            (k.lowest f line (rw (← same.0, ← same.1) h.raised));
+        raised = rw (same.0, same.1) k.raised;
       }
       | inr r ↦ elim r [
-        | inl later ↦ absurd (passed_over f k.before k.left h.before h.left last_line line later h.met k.fault_free)
-        | inr earlier ↦ absurd (passed_over g h.before h.left k.before k.left last_line place earlier k.met h.fault_free)
+        | inl later ↦ absurd (passed_over f k.before k.left h.before h.left last_line line later h.raised k.fault_free)
+        | inr earlier ↦ absurd (passed_over g h.before h.left k.before k.left last_line place earlier k.raised h.fault_free)
       ]
     ]

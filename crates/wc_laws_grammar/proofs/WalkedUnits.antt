@@ -5,7 +5,7 @@ use Rattle.wc_laws_grammar.proofs.DeclarationRests.{declarations_of}
 use Rattle.wc_laws_grammar.proofs.LineComplete.{named}
 use Rattle.wc_laws_grammar.specs.LineMoves.{Opens}
 use Rattle.wc_laws_grammar.proofs.LineStart.{no_colon, no_colon_name}
-use Rattle.wc_laws_grammar.specs.Moves.{State, Outside, Unnamed, Declaring, AtLine, Undeclared, at_first, at_first_name, behind_unit, body_start, colon_next, declaration_move, is_colon, move, section_or_line, section_begun, start_move, walk}
+use Rattle.wc_laws_grammar.specs.Moves.{State, Outside, Unnamed, Declaring, AtLine, Undeclared, at_first, at_first_name, after_unit, body_start, colon_next, declaration_move, is_colon, move, section_or_line, section_started, start_move, walk}
 use Rattle.wc_laws_grammar.proofs.Skipping.{skip_next_is}
 use Rattle.wc_laws_grammar.proofs.WalkedDeclarations.{declared_led, declarations_walked, unit_and}
 use Rattle.wc_laws_grammar.proofs.WalkedLines.{line_walked, line_ends_walked, lines_walked, parts_walked, walk_on, walk_then, with_lines}
@@ -66,7 +66,7 @@ section_begins units unit section (mark ∷ []) colon h n =
     named mark.symbol (section_word section) h (λ bytes y e.
     ap (λ c. walk_on (move (AtLine (body_start units unit)) mark.symbol mark.line c) [] colon) n
     ∙ ap (λ y. walk_on (move (AtLine (body_start units unit)) y mark.line false) [] colon) y
-    ∙ ap (λ b. walk_on (if b then Some (behind_unit (body_start units unit)) else section_or_line (body_start units unit) bytes mark.line (found section_words (name_of bytes))) [] colon) (ap (λ m. same_name m (end_word unit.kind)) e ∙ (section_found unit.kind section).0)
+    ∙ ap (λ b. walk_on (if b then Some (after_unit (body_start units unit)) else section_or_line (body_start units unit) bytes mark.line (found section_words (name_of bytes))) [] colon) (ap (λ m. same_name m (end_word unit.kind)) e ∙ (section_found unit.kind section).0)
     ∙ ap (λ o. walk_on (section_or_line (body_start units unit) bytes mark.line o) [] colon) (ap (found section_words) e ∙ (section_found unit.kind section).1))
 
 -- END_VAR
@@ -84,10 +84,10 @@ section_walked : (units : List ProgramUnit) (unit : ProgramUnit) (group : Group)
     → walk (AtLine (body_start units unit)) tokens colon ≡ Some (AtLine (body_start units (unit_and unit group.declarations)))
 section_walked units unit group tokens colon h =
     subst (λ ts. walk (AtLine (body_start units unit)) ts colon ≡ Some (AtLine (body_start units (unit_and unit group.declarations)))) (sym h.whole)
-    (walk_then (AtLine (body_start units unit)) (Declaring units unit group.section Undeclared) h.front h.rest colon _
-    (section_begins units unit group.section h.front (colon_next h.rest colon) h.begins (section_no_colon group.section group.declarations h.rest colon h.goes_on))
+    (walk_then (AtLine (body_start units unit)) (Declaring units unit group.section Undeclared) h.prefix h.rest colon _
+    (section_begins units unit group.section h.prefix (colon_next h.rest colon) h.begins (section_no_colon group.section group.declarations h.rest colon h.goes_on))
     (parts_walked (skipping is_line_end (declarations_of group.section group.declarations)) (identifier end_var) (Declaring units unit group.section Undeclared) (Declaring units (unit_and unit group.declarations) group.section Undeclared) h.rest colon _ h.goes_on
-    (λ front c k. declarations_walked units unit group.section Undeclared group.declarations front c k)
+    (λ prefix c k. declarations_walked units unit group.section Undeclared group.declarations prefix c k)
     (λ rest k. section_ends units (unit_and unit group.declarations) group.section rest colon k)))
 
 unit_with_more : (unit : ProgramUnit) (a b : List Declaration) → unit_and (unit_and unit a) b ≡ unit_and unit (a ++ b)
@@ -100,7 +100,7 @@ groups_walked units unit [] tokens colon h =
     subst (λ ts. walk (AtLine (body_start units unit)) ts colon ≡ Some (AtLine (body_start units (unit_and unit [])))) (sym h) (λ i. Some (AtLine (body_start units (record unit { declarations = sym (append-nil unit.declarations) i }))))
 groups_walked units unit (group ∷ groups) tokens colon h =
     parts_walked (line_ends then section_of group) (each (λ group. line_ends then section_of group) groups) (AtLine (body_start units unit)) (AtLine (body_start units (unit_and unit group.declarations))) tokens colon _ h
-    (λ front c k. parts_walked line_ends (section_of group) (AtLine (body_start units unit)) (AtLine (body_start units unit)) front c _ k
+    (λ prefix c k. parts_walked line_ends (section_of group) (AtLine (body_start units unit)) (AtLine (body_start units unit)) prefix c _ k
     (λ ends c l. line_ends_walked (body_start units unit) ends c l)
     (λ rest l. section_walked units unit group rest c l))
     (λ rest k. groups_walked units (unit_and unit group.declarations) groups rest colon k ∙ ap (λ u. Some (AtLine (body_start units u))) (unit_with_more unit group.declarations (flat_map (λ group. group.declarations) groups)))
@@ -137,9 +137,9 @@ unit_named us unit (mark ∷ []) colon h =
 pub head_walked : (us : List ProgramUnit) (unit : ProgramUnit) (tokens : List Mark) (colon : Bool) → head unit tokens → walk (Outside us) tokens colon ≡ Some (AtLine (body_start us (headed unit)))
 head_walked us unit tokens colon h =
     parts_walked (one (IsOn unit.line (IsNamed (unit_word unit.kind)))) (one (IsNameOf unit) then sections unit.declarations) (Outside us) (Unnamed us unit.kind unit.line) tokens colon _ h
-    (λ front c k. unit_begins us unit.kind unit.line front c k)
+    (λ prefix c k. unit_begins us unit.kind unit.line prefix c k)
     (λ rest k. parts_walked (one (IsNameOf unit)) (sections unit.declarations) (Unnamed us unit.kind unit.line) (AtLine (body_start us bare)) rest colon _ k
-    (λ front c l. unit_named us unit front c l)
+    (λ prefix c l. unit_named us unit prefix c l)
     (λ last l. groups_walked us bare l.0 last colon l.2 ∙ (λ i. Some (AtLine (body_start us (record (headed unit) { declarations = sym l.1 i }))))))
   where
     bare : ProgramUnit
@@ -165,22 +165,22 @@ units_no_colon (unit ∷ us) second tokens colon f h =
     ends_no_colon _ tokens colon (λ rest k. one_no_colon unit.line (unit_word unit.kind) _ rest colon (ungroup (ungroup k))) (ungroup (ungroup h))
 
 -- the end of a unit
-unit_ends : (p : Position) (tokens : List Mark) → p.openings ≡ [] → identifier (end_word p.unit.kind) tokens → walk (AtLine p) tokens false ≡ Some (behind_unit p)
+unit_ends : (p : Position) (tokens : List Mark) → p.openings ≡ [] → identifier (end_word p.unit.kind) tokens → walk (AtLine p) tokens false ≡ Some (after_unit p)
 unit_ends p [] e h = absurd h
 unit_ends p (x ∷ y ∷ more) e h = absurd h
 unit_ends p (mark ∷ []) e h =
     named mark.symbol (end_word p.unit.kind) h (λ bytes y n.
     ap (λ y. walk_on (move (AtLine p) y mark.line false) [] false) y
     ∙ ap (λ os. walk_on (start_move p os (Identifier bytes) mark.line false) [] false) e
-    ∙ ap (λ b. walk_on (if b then Some (behind_unit p) else section_or_line p bytes mark.line (section_begun p.done (name_of bytes))) [] false) (ap (λ m. same_name m (end_word p.unit.kind)) n ∙ is_same (end_word p.unit.kind)))
+    ∙ ap (λ b. walk_on (if b then Some (after_unit p) else section_or_line p bytes mark.line (section_started p.done (name_of bytes))) [] false) (ap (λ m. same_name m (end_word p.unit.kind)) n ∙ is_same (end_word p.unit.kind)))
 
 -- a whole unit
 pub unit_walked : (us : List ProgramUnit) (unit : ProgramUnit) (tokens : List Mark) (colon : Bool) → colon ≡ false → unit_of unit tokens → walk (Outside us) tokens colon ≡ Some (Outside (us ++ unit ∷ []))
 unit_walked us unit tokens colon n h =
     parts_walked (head unit) (lines InBody unit.body then identifier (end_word unit.kind)) (Outside us) (AtLine (body_start us (headed unit))) tokens colon _ h
-    (λ front c k. head_walked us unit front c k)
+    (λ prefix c k. head_walked us unit prefix c k)
     (λ rest k. parts_walked (lines InBody unit.body) (identifier (end_word unit.kind)) (AtLine (body_start us (headed unit))) (AtLine (with_lines (body_start us (headed unit)) unit.body)) rest colon _ k
-    (λ front c l. lines_walked unit.body (body_start us (headed unit)) front c l)
+    (λ prefix c l. lines_walked unit.body (body_start us (headed unit)) prefix c l)
     (λ last l. subst (λ c. walk (AtLine (with_lines (body_start us (headed unit)) unit.body)) last c ≡ Some (Outside (us ++ unit ∷ []))) (sym n) (unit_ends (with_lines (body_start us (headed unit)) unit.body) last refl l)))
 
 outside_ends : (us : List ProgramUnit) (tokens : List Mark) (colon : Bool) → line_ends tokens → walk (Outside us) tokens colon ≡ Some (Outside us)
@@ -190,7 +190,7 @@ outside_ends us (mark ∷ marks) colon h = ap (λ s. walk_on (move (Outside us) 
 -- line ends and a whole unit
 spaced_unit_walked : (us : List ProgramUnit) (unit : ProgramUnit) (tokens : List Mark) (colon : Bool) → colon ≡ false → (line_ends then unit_of unit) tokens → walk (Outside us) tokens colon ≡ Some (Outside (us ++ unit ∷ []))
 spaced_unit_walked us unit tokens colon n h =
-    parts_walked line_ends (unit_of unit) (Outside us) (Outside us) tokens colon _ h (λ front c k. outside_ends us front c k) (λ rest k. unit_walked us unit rest colon n k)
+    parts_walked line_ends (unit_of unit) (Outside us) (Outside us) tokens colon _ h (λ prefix c k. outside_ends us prefix c k) (λ rest k. unit_walked us unit rest colon n k)
 
 -- whole units, and then something that no colon begins
 each_unit_walked : (before us : List ProgramUnit) (second : List Mark → Type 0) (tokens : List Mark) (colon : Bool) (end : Option State)
@@ -200,8 +200,8 @@ each_unit_walked before [] second tokens colon end f g h = subst (λ b. walk (Ou
 each_unit_walked before (unit ∷ us) second tokens colon end f g h =
     let k = ungroup h in
     subst (λ ts. walk (Outside before) ts colon ≡ end) (sym k.whole)
-    (walk_then (Outside before) (Outside (before ++ unit ∷ [])) k.front k.rest colon end
-    (spaced_unit_walked before unit k.front (colon_next k.rest colon) (units_no_colon us second k.rest colon f k.goes_on) k.begins)
+    (walk_then (Outside before) (Outside (before ++ unit ∷ [])) k.prefix k.rest colon end
+    (spaced_unit_walked before unit k.prefix (colon_next k.rest colon) (units_no_colon us second k.rest colon f k.goes_on) k.begins)
     (each_unit_walked (before ++ unit ∷ []) us second k.rest colon end f (λ rest l. subst (λ b. walk (Outside b) rest colon ≡ end) (sym (append_assoc before (unit ∷ []) us)) (g rest l)) k.goes_on))
 
 -- whole units
@@ -218,7 +218,7 @@ pub units_then : (us : List ProgramUnit) (second : List Mark → Type 0) (tokens
     → ((rest : List Mark) → second rest → colon_next rest colon ≡ false) → ((rest : List Mark) → second rest → walk (Outside us) rest colon ≡ end) → (units us then second) tokens → walk at_first tokens colon ≡ end
 units_then us second tokens colon end f g h =
     each_unit_walked [] us (line_ends then second) tokens colon end (λ rest k. ends_no_colon second rest colon f k)
-    (λ rest k. parts_walked line_ends second (Outside us) (Outside us) rest colon end k (λ front c l. outside_ends us front c l) g) (ungroup h)
+    (λ rest k. parts_walked line_ends second (Outside us) (Outside us) rest colon end k (λ prefix c l. outside_ends us prefix c l) g) (ungroup h)
 
 -- open parentheses
 openings_walked : (us : List ProgramUnit) (unit : ProgramUnit) (openings : List Opening) (tokens : List Mark) (colon : Bool) → openings_of openings tokens
@@ -226,9 +226,9 @@ openings_walked : (us : List ProgramUnit) (unit : ProgramUnit) (openings : List 
 openings_walked us unit [] tokens colon h = subst (λ ts. walk (AtLine (body_start us unit)) ts colon ≡ Some (AtLine (body_start us unit))) (sym h) refl
 openings_walked us unit (o ∷ outer) tokens colon h =
     parts_walked (openings_of outer) (lines (setting_in outer) o.before then label_in (setting_in outer) o.label then opening o.line o.operator o.operand) (AtLine (body_start us unit)) (AtLine p) tokens colon _ h
-    (λ front c k. openings_walked us unit outer front c k)
+    (λ prefix c k. openings_walked us unit outer prefix c k)
     (λ rest k. parts_walked (lines (setting_in outer) o.before) (label_in (setting_in outer) o.label then opening o.line o.operator o.operand) (AtLine p) (AtLine (with_lines p o.before)) rest colon _ k
-    (λ front c l. lines_walked o.before p front c l)
+    (λ prefix c l. lines_walked o.before p prefix c l)
     (λ last l. line_walked (with_lines p o.before) (Opens o.label o.line o.operator o.operand) last colon l))
   where
     p : Position
@@ -246,9 +246,9 @@ head_no_colon unit second tokens colon h = one_no_colon unit.line (unit_word uni
 pub line_position : (p : Position) (tokens : List Mark) (colon : Bool) → (head p.unit then openings_of p.openings then lines (setting_in p.openings) p.done) tokens → walk (Outside p.before) tokens colon ≡ Some (AtLine (plain p))
 line_position p tokens colon h =
     parts_walked (head p.unit) (openings_of p.openings then lines (setting_in p.openings) p.done) (Outside p.before) (AtLine (body_start p.before (headed p.unit))) tokens colon _ h
-    (λ front c k. head_walked p.before p.unit front c k)
+    (λ prefix c k. head_walked p.before p.unit prefix c k)
     (λ rest k. parts_walked (openings_of p.openings) (lines (setting_in p.openings) p.done) (AtLine (body_start p.before (headed p.unit))) (AtLine q) rest colon _ k
-    (λ front c l. openings_walked p.before (headed p.unit) p.openings front c l)
+    (λ prefix c l. openings_walked p.before (headed p.unit) p.openings prefix c l)
     (λ last l. lines_walked p.done q last colon l))
   where
     q : Position

@@ -33,8 +33,8 @@ is_same [] = refl
 is_same (x ∷ xs) = grind (arith, nat_tests, is_same xs)
 
 -- names that differ are told apart
-pub told_apart : (xs ys : List ℕ) → xs ≢ ys → same_name xs ys ≡ false
-told_apart xs ys n = elim (same_name xs ys) as (λ b. same_name xs ys ≡ b → b ≡ false) [ true ↦ λ e. absurd (n (same_is xs ys e)) | false ↦ λ e. refl ] refl
+pub distinguished : (xs ys : List ℕ) → xs ≢ ys → same_name xs ys ≡ false
+distinguished xs ys n = elim (same_name xs ys) as (λ b. same_name xs ys ≡ b → b ≡ false) [ true ↦ λ e. absurd (n (same_is xs ys e)) | false ↦ λ e. refl ] refl
 
 -- what is found is in the table under that name
 pub found_is : {A : Type 0} (Good : Name → A → Type 0) (table : List (Name × A)) → AllByRecursion (λ entry. Good entry.0 entry.1) table

@@ -12,13 +12,13 @@ use Rattle.wc_model.specs.declared.operator.Operator.{Operator}
 use Rattle.wc_model.specs.declared.value.Value.TheVariants.{Bool as BoolValue, Dint, Time}
 
 -- what a line was: a label alone, an instruction, or the opening of a parenthesis
-pub data LineForm : Type 0 where
-  LabelAlone : (label : Word) → LineForm
-  Instructs : (label : Option Word) (line : ℕ) (step : Step) → LineForm
-  Opens : (label : Option Word) (line : ℕ) (operator : Operator) (operand : Option Term) → LineForm
+pub data LineShape : Type 0 where
+  LabelAlone : (label : Word) → LineShape
+  Instructs : (label : Option Word) (line : ℕ) (step : Step) → LineShape
+  Opens : (label : Option Word) (line : ℕ) (operator : Operator) (operand : Option Term) → LineShape
 
 -- an instruction that has started: its label and its line
-pub record Begun : Type 0 where
+pub record StartedLine : Type 0 where
   pub label : Option Word
   pub line : ℕ
 
@@ -63,65 +63,65 @@ pub data LineState : Type 0 where
   -- after a label's colon
   Labelled : (label : Word) → LineState
   -- after an operator that takes an operand
-  Operated : (begun : Begun) (operating : Operating) → LineState
+  Operated : (started : StartedLine) (operating : Operating) → LineState
   -- after a jump's operator, and after a call's
-  Jumped Called : (begun : Begun) (condition : Condition) → LineState
+  Jumped Called : (started : StartedLine) (condition : Condition) → LineState
   -- after a call's instance
-  Instanced : (begun : Begun) (condition : Condition) (instance : Name) → LineState
+  Instanced : (started : StartedLine) (condition : Condition) (instance : Name) → LineState
   -- in a call's list
-  Listing : (begun : Begun) (call : Listed) (item : InList) → LineState
+  Listing : (started : StartedLine) (call : Listed) (item : InList) → LineState
   -- after an operator's bracket
-  Bracketed : (begun : Begun) (operator : Operator) → LineState
+  Bracketed : (started : StartedLine) (operator : Operator) → LineState
   -- after a name where an operand is, and after the point after it
-  Named Pointed : (begun : Begun) (place : OperandOf) (name : Name) → LineState
+  Named Pointed : (started : StartedLine) (place : OperandOf) (name : Name) → LineState
   -- after a whole instruction
-  Stepped : (begun : Begun) (step : Step) → LineState
+  Stepped : (started : StartedLine) (step : Step) → LineState
   -- after the operand of an opening line
-  BracketedWith : (begun : Begun) (operator : Operator) (operand : Term) → LineState
+  BracketedWith : (started : StartedLine) (operator : Operator) (operand : Term) → LineState
   -- after the line's end
-  Ended : (form : LineForm) → LineState
+  Ended : (line_shape : LineShape) → LineState
 
 -- the argument after others
 abbrev pub with_argument : Listed → Formal → Term → Listed
 with_argument call formal actual = record call { arguments = call.arguments ++ with_actual formal actual ∷ [] }
 
 -- after a whole operand
-abbrev pub behind_operand : Begun → OperandOf → Term → LineState
-behind_operand begun (OfStep operating) term = Stepped begun (step_of operating term)
-behind_operand begun (OfOpening operator) term = BracketedWith begun operator term
-behind_operand begun (OfArgument call formal) term = Listing begun (with_argument call formal term) AtEnd
+abbrev pub after_operand : StartedLine → OperandOf → Term → LineState
+after_operand started (OfStep operating) term = Stepped started (step_of operating term)
+after_operand started (OfOpening operator) term = BracketedWith started operator term
+after_operand started (OfArgument call formal) term = Listing started (with_argument call formal term) AtEnd
 
 -- after an identifier where an operand is
-abbrev pub name_or_literal : Begun → OperandOf → Name → Option Bool → LineState
-name_or_literal begun place name None = Named begun place name
-name_or_literal begun place name (Some value) = behind_operand begun place (Constant (BoolValue value))
+abbrev pub name_or_literal : StartedLine → OperandOf → Name → Option Bool → LineState
+name_or_literal started place name None = Named started place name
+name_or_literal started place name (Some value) = after_operand started place (Constant (BoolValue value))
 
 -- after the first token of an operand
-abbrev pub at_operand : Begun → OperandOf → Symbol → ℕ → Option LineState
-at_operand begun place (Identifier bytes) line = Some (name_or_literal begun place (name_of bytes) (found truths (name_of bytes)))
-at_operand begun place (Direct bytes) line = Some (behind_operand begun place (Address (record { line = line; name = name_of bytes })))
-at_operand begun place (Whole number) line = Some (behind_operand begun place (Constant (Dint number)))
-at_operand begun place (Duration milliseconds) line = Some (behind_operand begun place (Constant (Time milliseconds)))
-at_operand begun place (Truth value) line = Some (behind_operand begun place (Constant (BoolValue value)))
-at_operand begun place _ line = None
+abbrev pub at_operand : StartedLine → OperandOf → Symbol → ℕ → Option LineState
+at_operand started place (Identifier bytes) line = Some (name_or_literal started place (name_of bytes) (found truths (name_of bytes)))
+at_operand started place (Direct bytes) line = Some (after_operand started place (Address (record { line = line; name = name_of bytes })))
+at_operand started place (Whole number) line = Some (after_operand started place (Constant (Dint number)))
+at_operand started place (Duration milliseconds) line = Some (after_operand started place (Constant (Time milliseconds)))
+at_operand started place (Truth value) line = Some (after_operand started place (Constant (BoolValue value)))
+at_operand started place _ line = None
 
 -- after an operator
-abbrev pub behind_operator : Option Word → ℕ → Operation → LineState
-behind_operator label line (Operates operating) = Operated (record { label = label; line = line }) operating
-behind_operator label line Negates = Stepped (record { label = label; line = line }) Negate
-behind_operator label line (Jumps condition) = Jumped (record { label = label; line = line }) condition
-behind_operator label line (Calls condition) = Called (record { label = label; line = line }) condition
-behind_operator label line (Returns condition) = Stepped (record { label = label; line = line }) (Return condition)
+abbrev pub after_operator : Option Word → ℕ → Operation → LineState
+after_operator label line (Operates operating) = Operated (record { label = label; line = line }) operating
+after_operator label line Negates = Stepped (record { label = label; line = line }) Negate
+after_operator label line (Jumps condition) = Jumped (record { label = label; line = line }) condition
+after_operator label line (Calls condition) = Called (record { label = label; line = line }) condition
+after_operator label line (Returns condition) = Stepped (record { label = label; line = line }) (Return condition)
 
 -- after a symbol that has to be an operator
 abbrev pub at_operator : Option Word → ℕ → Option Operation → Option LineState
 at_operator label line None = None
-at_operator label line (Some operation) = Some (behind_operator label line operation)
+at_operator label line (Some operation) = Some (after_operator label line operation)
 
 -- after a line's first identifier that no colon follows: it is an operator, or a label without its colon
 abbrev pub operator_or_label : Word → Option Operation → LineState
 operator_or_label word None = Worded word
-operator_or_label word (Some operation) = behind_operator None word.line operation
+operator_or_label word (Some operation) = after_operator None word.line operation
 
 -- after the first token of a line in a body; `colon` says whether a colon follows it
 abbrev pub at_start : Symbol → ℕ → (colon : Bool) → Option LineState
@@ -132,7 +132,7 @@ at_start symbol line colon = at_operator None line (operation_of symbol)
 -- inside parentheses an operator has to be no jump, call or return
 abbrev pub simple_operator : ℕ → Option Operation → Option LineState
 simple_operator line None = None
-simple_operator line (Some operation) = if is_transfer operation then None else Some (behind_operator None line operation)
+simple_operator line (Some operation) = if is_transfer operation then None else Some (after_operator None line operation)
 
 -- after the first token of a line, where it is
 abbrev pub at_start_in : Setting → Symbol → ℕ → (colon : Bool) → Option LineState
@@ -145,60 +145,60 @@ at_labelled label LineEnd line = Some (Ended (LabelAlone label))
 at_labelled label symbol line = at_operator (Some label) line (operation_of symbol)
 
 -- after an operator that takes an operand; one of the deferrable ones may open a parenthesis
-abbrev pub at_operated : Begun → Operating → Symbol → ℕ → Option LineState
-at_operated begun (Applies operator) OpeningBracket line = Some (Bracketed begun operator)
-at_operated begun operating symbol line = at_operand begun (OfStep operating) symbol line
+abbrev pub at_operated : StartedLine → Operating → Symbol → ℕ → Option LineState
+at_operated started (Applies operator) OpeningBracket line = Some (Bracketed started operator)
+at_operated started operating symbol line = at_operand started (OfStep operating) symbol line
 
 -- after a call's list, or in it
-abbrev pub at_list : Begun → Listed → InList → Symbol → ℕ → Option LineState
-at_list begun call item LineEnd line = Some (Listing begun call item)
-at_list begun call AtFirst (Identifier bytes) line = Some (Listing begun call (AtAssign (name_of bytes)))
-at_list begun call AtFirst ClosingBracket line = Some (Stepped begun (Call call.condition call.instance call.arguments))
-at_list begun call AtNext (Identifier bytes) line = Some (Listing begun call (AtAssign (name_of bytes)))
-at_list begun call (AtAssign name) Assign line = Some (Listing begun call (AtValue (record { direction = Into; name = name })))
-at_list begun call (AtAssign name) Arrow line = Some (Listing begun call (AtValue (record { direction = OutOf; name = name })))
-at_list begun call (AtValue formal) symbol line = at_operand begun (OfArgument call formal) symbol line
-at_list begun call AtEnd Comma line = Some (Listing begun call AtNext)
-at_list begun call AtEnd ClosingBracket line = Some (Stepped begun (Call call.condition call.instance call.arguments))
-at_list begun call item _ line = None
+abbrev pub at_list : StartedLine → Listed → InList → Symbol → ℕ → Option LineState
+at_list started call item LineEnd line = Some (Listing started call item)
+at_list started call AtFirst (Identifier bytes) line = Some (Listing started call (AtAssign (name_of bytes)))
+at_list started call AtFirst ClosingBracket line = Some (Stepped started (Call call.condition call.instance call.arguments))
+at_list started call AtNext (Identifier bytes) line = Some (Listing started call (AtAssign (name_of bytes)))
+at_list started call (AtAssign name) Assign line = Some (Listing started call (AtValue (record { direction = Into; name = name })))
+at_list started call (AtAssign name) Arrow line = Some (Listing started call (AtValue (record { direction = OutOf; name = name })))
+at_list started call (AtValue formal) symbol line = at_operand started (OfArgument call formal) symbol line
+at_list started call AtEnd Comma line = Some (Listing started call AtNext)
+at_list started call AtEnd ClosingBracket line = Some (Stepped started (Call call.condition call.instance call.arguments))
+at_list started call item _ line = None
 
 -- after an operator's bracket
-abbrev pub at_bracketed : Begun → Operator → Symbol → ℕ → Option LineState
-at_bracketed begun operator LineEnd line = Some (Ended (Opens begun.label begun.line operator None))
-at_bracketed begun operator symbol line = at_operand begun (OfOpening operator) symbol line
+abbrev pub at_bracketed : StartedLine → Operator → Symbol → ℕ → Option LineState
+at_bracketed started operator LineEnd line = Some (Ended (Opens started.label started.line operator None))
+at_bracketed started operator symbol line = at_operand started (OfOpening operator) symbol line
 
 -- after a name that is the whole operand
-abbrev pub behind_name : Begun → OperandOf → Name → Symbol → Option LineState
-behind_name begun (OfStep operating) name LineEnd = Some (Ended (Instructs begun.label begun.line (step_of operating (Variable name))))
-behind_name begun (OfOpening operator) name LineEnd = Some (Ended (Opens begun.label begun.line operator (Some (Variable name))))
-behind_name begun (OfArgument call formal) name LineEnd = Some (Named begun (OfArgument call formal) name)
-behind_name begun (OfArgument call formal) name Comma = Some (Listing begun (with_argument call formal (Variable name)) AtNext)
-behind_name begun (OfArgument call formal) name ClosingBracket =
-    Some (Stepped begun (Call call.condition call.instance (with_argument call formal (Variable name)).arguments))
-behind_name begun place name _ = None
+abbrev pub after_name : StartedLine → OperandOf → Name → Symbol → Option LineState
+after_name started (OfStep operating) name LineEnd = Some (Ended (Instructs started.label started.line (step_of operating (Variable name))))
+after_name started (OfOpening operator) name LineEnd = Some (Ended (Opens started.label started.line operator (Some (Variable name))))
+after_name started (OfArgument call formal) name LineEnd = Some (Named started (OfArgument call formal) name)
+after_name started (OfArgument call formal) name Comma = Some (Listing started (with_argument call formal (Variable name)) AtNext)
+after_name started (OfArgument call formal) name ClosingBracket =
+    Some (Stepped started (Call call.condition call.instance (with_argument call formal (Variable name)).arguments))
+after_name started place name _ = None
 
 -- after the point of a field
-abbrev pub at_field : Begun → OperandOf → Name → Symbol → Option LineState
-at_field begun place name (Identifier bytes) = Some (behind_operand begun place (Field name (name_of bytes)))
-at_field begun (OfArgument call formal) name LineEnd = Some (Pointed begun (OfArgument call formal) name)
-at_field begun place name _ = None
+abbrev pub at_field : StartedLine → OperandOf → Name → Symbol → Option LineState
+at_field started place name (Identifier bytes) = Some (after_operand started place (Field name (name_of bytes)))
+at_field started (OfArgument call formal) name LineEnd = Some (Pointed started (OfArgument call formal) name)
+at_field started place name _ = None
 
 -- after one more token of a line; none if no line goes on so
 abbrev pub line_move : Setting → LineState → Symbol → ℕ → (colon : Bool) → Option LineState
 line_move setting Start symbol line colon = at_start_in setting symbol line colon
 line_move setting (Worded label) Colon line colon = Some (Labelled label)
 line_move setting (Labelled label) symbol line colon = at_labelled label symbol line
-line_move setting (Operated begun operating) symbol line colon = at_operated begun operating symbol line
-line_move setting (Jumped begun condition) (Identifier bytes) line colon = Some (Stepped begun (Jump condition (name_of bytes)))
-line_move setting (Called begun condition) (Identifier bytes) line colon = Some (Instanced begun condition (name_of bytes))
-line_move setting (Instanced begun condition instance) LineEnd line colon = Some (Ended (Instructs begun.label begun.line (Call condition instance [])))
-line_move setting (Instanced begun condition instance) OpeningBracket line colon =
-    Some (Listing begun (record { condition = condition; instance = instance; arguments = [] }) AtFirst)
-line_move setting (Listing begun call item) symbol line colon = at_list begun call item symbol line
-line_move setting (Bracketed begun operator) symbol line colon = at_bracketed begun operator symbol line
-line_move setting (Named begun place name) Point line colon = Some (Pointed begun place name)
-line_move setting (Named begun place name) symbol line colon = behind_name begun place name symbol
-line_move setting (Pointed begun place name) symbol line colon = at_field begun place name symbol
-line_move setting (Stepped begun step) LineEnd line colon = Some (Ended (Instructs begun.label begun.line step))
-line_move setting (BracketedWith begun operator operand) LineEnd line colon = Some (Ended (Opens begun.label begun.line operator (Some operand)))
+line_move setting (Operated started operating) symbol line colon = at_operated started operating symbol line
+line_move setting (Jumped started condition) (Identifier bytes) line colon = Some (Stepped started (Jump condition (name_of bytes)))
+line_move setting (Called started condition) (Identifier bytes) line colon = Some (Instanced started condition (name_of bytes))
+line_move setting (Instanced started condition instance) LineEnd line colon = Some (Ended (Instructs started.label started.line (Call condition instance [])))
+line_move setting (Instanced started condition instance) OpeningBracket line colon =
+    Some (Listing started (record { condition = condition; instance = instance; arguments = [] }) AtFirst)
+line_move setting (Listing started call item) symbol line colon = at_list started call item symbol line
+line_move setting (Bracketed started operator) symbol line colon = at_bracketed started operator symbol line
+line_move setting (Named started place name) Point line colon = Some (Pointed started place name)
+line_move setting (Named started place name) symbol line colon = after_name started place name symbol
+line_move setting (Pointed started place name) symbol line colon = at_field started place name symbol
+line_move setting (Stepped started step) LineEnd line colon = Some (Ended (Instructs started.label started.line step))
+line_move setting (BracketedWith started operator operand) LineEnd line colon = Some (Ended (Opens started.label started.line operator (Some operand)))
 line_move setting _ symbol line colon = None

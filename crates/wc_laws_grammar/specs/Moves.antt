@@ -1,7 +1,7 @@
 -- A walk over the tokens of a whole text, token by token: where they stop, the fault found at the next, and what they spell.
 use Rattle.std.specs.Prelude.{ℕ, nat_le, Bool, true, false, not, ◌&&◌, List, [], ◌∷◌, ◌++◌, length, Option, Some, None, option_map, is_some, Result, Ok, Err, if◌then◌else◌}
 use Rattle.std.specs.List.{list_any}
-use Rattle.wc_laws_grammar.specs.LineMoves.{LineForm, LabelAlone, Instructs, Opens, OfOpening, LineState, Start, Labelled, Operated, Bracketed, BracketedWith, Named, Pointed, Ended, line_move}
+use Rattle.wc_laws_grammar.specs.LineMoves.{LineShape, LabelAlone, Instructs, Opens, OfOpening, LineState, Start, Labelled, Operated, Bracketed, BracketedWith, Named, Pointed, Ended, line_move}
 use Rattle.wc_laws_grammar.specs.Words.{Applies, Operation, found, is_transfer, literal_of, operation_of, section_words, unit_kinds}
 use Rattle.wc_model.specs.Language.Declarations.{same_name}
 use Rattle.wc_model.specs.Text.Grammar.{InBody, InParentheses}
@@ -21,9 +21,9 @@ use Rattle.wc_model.specs.declared.value.Value.{Value}
 -- where a declaration is: before it, after a name, a comma, the colon, the type, `:=`, or the value
 pub data InDeclaration : Type 0 where
   Undeclared : InDeclaration
-  BehindNames BehindComma BehindColon : (names : List Word) → InDeclaration
-  BehindType BehindAssign : (names : List Word) (type_name : Word) → InDeclaration
-  BehindValue : (names : List Word) (type_name : Word) (initial : Initial) → InDeclaration
+  AfterNames AfterComma AfterColon : (names : List Word) → InDeclaration
+  AfterType AfterAssign : (names : List Word) (type_name : Word) → InDeclaration
+  AfterValue : (names : List Word) (type_name : Word) (initial : Initial) → InDeclaration
 
 -- How far the walk has come in a text. A unit's body does not count if the unit is not closed, and is kept empty.
 pub data State : Type 0 where
@@ -58,20 +58,20 @@ has_content None End = false
 has_content _ _ = true
 
 -- the position after a line
-abbrev pub behind_line : Position → LineForm → Position
-behind_line p (LabelAlone label) = record p { done = lines_and p.done (Alone label End) }
-behind_line p (Instructs label line step) = record p { done = lines_and p.done (Plain label line step End) }
-behind_line p (Opens label line operator operand) =
+abbrev pub after_line : Position → LineShape → Position
+after_line p (LabelAlone label) = record p { done = lines_and p.done (Alone label End) }
+after_line p (Instructs label line step) = record p { done = lines_and p.done (Plain label line step End) }
+after_line p (Opens label line operator operand) =
     record p { openings = record { before = p.done; label = label; line = line; operator = operator; operand = operand } ∷ p.openings; done = End }
 
 -- the position after the `)` of the innermost parenthesis
-abbrev pub behind_closing : Position → Opening → List Opening → ℕ → Position
-behind_closing p o outer close =
+abbrev pub after_closing : Position → Opening → List Opening → ℕ → Position
+after_closing p o outer close =
     record p { openings = outer; done = lines_and o.before (Nested o.label o.line o.operator o.operand p.done close End) }
 
 -- after a line's token: on the line, or after its end
 abbrev pub on_line : Position → LineState → State
-on_line p (Ended form) = AtLine (behind_line p form)
+on_line p (Ended line_shape) = AtLine (after_line p line_shape)
 on_line p line = OnLine p line
 
 -- the unit with its body
@@ -79,8 +79,8 @@ abbrev pub unit_with : ProgramUnit → Lines → ProgramUnit
 unit_with unit body = record unit { body = body }
 
 -- after a unit's last word
-abbrev pub behind_unit : Position → State
-behind_unit p = Outside (p.before ++ unit_with p.unit p.done ∷ [])
+abbrev pub after_unit : Position → State
+after_unit p = Outside (p.before ++ unit_with p.unit p.done ∷ [])
 
 -- the start of a unit's body
 abbrev pub body_start : List ProgramUnit → ProgramUnit → Position
@@ -99,67 +99,67 @@ with_declaration unit section names type_name initial =
 -- after the first identifier of a declaration, or after END_VAR
 abbrev pub at_first_name : List ProgramUnit → ProgramUnit → Section → Word → State
 at_first_name units unit section word =
-    if same_name word.name end_var then AtLine (body_start units unit) else Declaring units unit section (BehindNames (word ∷ []))
+    if same_name word.name end_var then AtLine (body_start units unit) else Declaring units unit section (AfterNames (word ∷ []))
 
 -- after the literal of a declaration
 abbrev pub at_value : List ProgramUnit → ProgramUnit → Section → List Word → Word → ℕ → Option Value → Option State
 at_value units unit section names type_name line None = None
 at_value units unit section names type_name line (Some value) =
-    Some (Declaring units unit section (BehindValue names type_name (record { value = value; line = line })))
+    Some (Declaring units unit section (AfterValue names type_name (record { value = value; line = line })))
 
 -- after one more token of a section
 abbrev pub declaration_move : List ProgramUnit → ProgramUnit → Section → InDeclaration → Symbol → ℕ → Option State
 declaration_move units unit section place LineEnd line = Some (Declaring units unit section place)
 declaration_move units unit section Undeclared (Identifier bytes) line =
     Some (at_first_name units unit section (record { line = line; name = name_of bytes }))
-declaration_move units unit section (BehindNames names) Comma line = Some (Declaring units unit section (BehindComma names))
-declaration_move units unit section (BehindNames names) Colon line = Some (Declaring units unit section (BehindColon names))
-declaration_move units unit section (BehindComma names) (Identifier bytes) line =
-    Some (Declaring units unit section (BehindNames (names ++ record { line = line; name = name_of bytes } ∷ [])))
-declaration_move units unit section (BehindColon names) (Identifier bytes) line =
-    Some (Declaring units unit section (BehindType names (record { line = line; name = name_of bytes })))
-declaration_move units unit section (BehindType names type_name) Assign line = Some (Declaring units unit section (BehindAssign names type_name))
-declaration_move units unit section (BehindType names type_name) Semicolon line =
+declaration_move units unit section (AfterNames names) Comma line = Some (Declaring units unit section (AfterComma names))
+declaration_move units unit section (AfterNames names) Colon line = Some (Declaring units unit section (AfterColon names))
+declaration_move units unit section (AfterComma names) (Identifier bytes) line =
+    Some (Declaring units unit section (AfterNames (names ++ record { line = line; name = name_of bytes } ∷ [])))
+declaration_move units unit section (AfterColon names) (Identifier bytes) line =
+    Some (Declaring units unit section (AfterType names (record { line = line; name = name_of bytes })))
+declaration_move units unit section (AfterType names type_name) Assign line = Some (Declaring units unit section (AfterAssign names type_name))
+declaration_move units unit section (AfterType names type_name) Semicolon line =
     Some (Declaring units (with_declaration unit section names type_name None) section Undeclared)
-declaration_move units unit section (BehindAssign names type_name) symbol line = at_value units unit section names type_name line (literal_of symbol)
-declaration_move units unit section (BehindValue names type_name initial) Semicolon line =
+declaration_move units unit section (AfterAssign names type_name) symbol line = at_value units unit section names type_name line (literal_of symbol)
+declaration_move units unit section (AfterValue names type_name initial) Semicolon line =
     Some (Declaring units (with_declaration unit section names type_name (Some initial)) section Undeclared)
 declaration_move units unit section place symbol line = None
 
 -- after the first token of a line
-abbrev pub begun_line : Position → Option LineState → Option State
-begun_line p None = None
-begun_line p (Some line) = Some (on_line p line)
+abbrev pub started_line : Position → Option LineState → Option State
+started_line p None = None
+started_line p (Some line) = Some (on_line p line)
 
 -- the section that an identifier begins, if no line of the body has come
-abbrev pub section_begun : Lines → Name → Option Section
-section_begun End name = found section_words name
-section_begun done name = None
+abbrev pub section_started : Lines → Name → Option Section
+section_started End name = found section_words name
+section_started done name = None
 
 -- after a section's first word, if the identifier is one, or else after a line's first identifier
 abbrev pub section_or_line : Position → List ℕ → ℕ → Option Section → Option State
-section_or_line p bytes line None = begun_line p (line_move InBody Start (Identifier bytes) line false)
+section_or_line p bytes line None = started_line p (line_move InBody Start (Identifier bytes) line false)
 section_or_line p bytes line (Some section) = Some (Declaring p.before p.unit section Undeclared)
 
 -- after an identifier at the start of a line of a body, which no colon follows
 abbrev pub word_move : Position → List ℕ → ℕ → Option State
 word_move p bytes line =
-    if same_name (name_of bytes) (end_word p.unit.kind) then Some (behind_unit p)
-    else section_or_line p bytes line (section_begun p.done (name_of bytes))
+    if same_name (name_of bytes) (end_word p.unit.kind) then Some (after_unit p)
+    else section_or_line p bytes line (section_started p.done (name_of bytes))
 
 -- after the first token of a line of a body that is not a line end
 abbrev pub body_move : Position → Symbol → ℕ → (colon : Bool) → Option State
 body_move p (Identifier bytes) line false = word_move p bytes line
-body_move p symbol line colon = begun_line p (line_move InBody Start symbol line colon)
+body_move p symbol line colon = started_line p (line_move InBody Start symbol line colon)
 
 -- after a `)`, if the parenthesis holds something
 abbrev pub closing_move : Position → Opening → List Opening → ℕ → Option State
-closing_move p o outer line = if has_content o.operand p.done then Some (Closed (behind_closing p o outer line)) else None
+closing_move p o outer line = if has_content o.operand p.done then Some (Closed (after_closing p o outer line)) else None
 
 -- after the first token of a line in parentheses that is not a line end
 abbrev pub inside_move : Position → Opening → List Opening → Symbol → ℕ → Option State
 inside_move p o outer ClosingBracket line = closing_move p o outer line
-inside_move p o outer symbol line = begun_line p (line_move InParentheses Start symbol line false)
+inside_move p o outer symbol line = started_line p (line_move InParentheses Start symbol line false)
 
 -- after the first token of a line that is not a line end
 abbrev pub start_move : Position → List Opening → Symbol → ℕ → (colon : Bool) → Option State
@@ -174,7 +174,7 @@ move (Unnamed units kind first) (Identifier bytes) line colon = Some (AtLine (bo
 move (Declaring units unit section place) symbol line colon = declaration_move units unit section place symbol line
 move (AtLine p) LineEnd line colon = Some (AtLine p)
 move (AtLine p) symbol line colon = start_move p p.openings symbol line colon
-move (OnLine p state) symbol line colon = begun_line p (line_move (setting_in p.openings) state symbol line colon)
+move (OnLine p state) symbol line colon = started_line p (line_move (setting_in p.openings) state symbol line colon)
 move (Closed p) LineEnd line colon = Some (AtLine p)
 move _ symbol line colon = None
 
@@ -198,18 +198,18 @@ walk state (mark ∷ marks) colon =
     ]
 
 -- a fault that is found, and the line that it names
-pub record Met : Type 0 where
+pub record Raised : Type 0 where
   pub fault : ReadingFault
   pub line : ℕ
 
 -- a fault if the test holds
-abbrev pub met_if : Bool → ReadingFault → ℕ → Option Met
-met_if test fault line = if test then Some (record { fault = fault; line = line }) else None
+abbrev pub raised_if : Bool → ReadingFault → ℕ → Option Raised
+raised_if test fault line = if test then Some (record { fault = fault; line = line }) else None
 
 -- the first of two that is found
-abbrev pub met_or : Option Met → Option Met → Option Met
-met_or None other = other
-met_or (Some met) other = Some met
+abbrev pub raised_or : Option Raised → Option Raised → Option Raised
+raised_or None other = other
+raised_or (Some raised) other = Some raised
 
 -- whether a unit is a program
 abbrev pub is_program : UnitKind → Bool
@@ -225,15 +225,15 @@ abbrev pub is_full : Position → Bool
 is_full p = nat_le most_lines (lines_before p)
 
 -- at a unit's first word: a program precedes it, or it is one too many
-abbrev pub judge_unit : List ProgramUnit → ℕ → Option UnitKind → Option Met
-judge_unit units line None = None
-judge_unit units line (Some kind) =
-    met_or (met_if (has_program units) NotOneProgramLast line) (met_if (nat_le most_units (length units)) TooMany line)
+abbrev pub validate_unit : List ProgramUnit → ℕ → Option UnitKind → Option Raised
+validate_unit units line None = None
+validate_unit units line (Some kind) =
+    raised_or (raised_if (has_program units) NotOneProgramLast line) (raised_if (nat_le most_units (length units)) TooMany line)
 
 -- at a `)`
-abbrev pub judge_closing : Position → List Opening → ℕ → Option Met
-judge_closing p [] line = met_if true ParenthesisNotPaired line
-judge_closing p (o ∷ outer) line = met_or (met_if (not (has_content o.operand p.done)) EmptyParentheses line) (met_if (is_full p) TooMany line)
+abbrev pub validate_closing : Position → List Opening → ℕ → Option Raised
+validate_closing p [] line = raised_if true ParenthesisNotPaired line
+validate_closing p (o ∷ outer) line = raised_or (raised_if (not (has_content o.operand p.done)) EmptyParentheses line) (raised_if (is_full p) TooMany line)
 
 -- whether it is a jump, a call or a return
 abbrev pub begins_transfer : Option Operation → Bool
@@ -251,47 +251,47 @@ is_identifier (Identifier bytes) = true
 is_identifier _ = false
 
 -- at an operator if a unit has as many lines as it may
-abbrev pub judge_operator : Position → Symbol → ℕ → (colon : Bool) → Option Met
-judge_operator p symbol line colon = met_if (is_some (operation_of symbol) && not colon && is_full p) TooMany line
+abbrev pub validate_operator : Position → Symbol → ℕ → (colon : Bool) → Option Raised
+validate_operator p symbol line colon = raised_if (is_some (operation_of symbol) && not colon && is_full p) TooMany line
 
 -- at the first token of a line, other than a `)`
-abbrev pub judge_line : Position → List Opening → Symbol → ℕ → (colon : Bool) → Option Met
-judge_line p [] symbol line colon = judge_operator p symbol line colon
-judge_line p (o ∷ outer) symbol line colon =
-    met_or (met_if (begins_transfer (operation_of symbol)) NotAllowedInParentheses line)
-    (met_or (met_if (is_identifier symbol && colon) NotAllowedInParentheses line)
-    (met_or (met_if (has_name symbol (end_word p.unit.kind)) ParenthesisNotPaired o.line)
-    (judge_operator p symbol line colon)))
+abbrev pub validate_line : Position → List Opening → Symbol → ℕ → (colon : Bool) → Option Raised
+validate_line p [] symbol line colon = validate_operator p symbol line colon
+validate_line p (o ∷ outer) symbol line colon =
+    raised_or (raised_if (begins_transfer (operation_of symbol)) NotAllowedInParentheses line)
+    (raised_or (raised_if (is_identifier symbol && colon) NotAllowedInParentheses line)
+    (raised_or (raised_if (has_name symbol (end_word p.unit.kind)) ParenthesisNotPaired o.line)
+    (validate_operator p symbol line colon)))
 
 -- on a line: an operator after a label, or a bracket after an operator
-abbrev pub judge_on_line : Position → LineState → Symbol → ℕ → Option Met
-judge_on_line p (Labelled label) symbol line = met_if (is_some (operation_of symbol) && is_full p) TooMany line
-judge_on_line p (Operated begun (Applies operator)) OpeningBracket line = met_if (nat_le most_depth (length p.openings)) TooDeep begun.line
-judge_on_line p state symbol line = None
+abbrev pub validate_on_line : Position → LineState → Symbol → ℕ → Option Raised
+validate_on_line p (Labelled label) symbol line = raised_if (is_some (operation_of symbol) && is_full p) TooMany line
+validate_on_line p (Operated started (Applies operator)) OpeningBracket line = raised_if (nat_le most_depth (length p.openings)) TooDeep started.line
+validate_on_line p state symbol line = None
 
 -- the fault that is found at a token, other than that it is unexpected
-abbrev pub judge : State → Symbol → ℕ → (colon : Bool) → Option Met
-judge (Outside units) (Identifier bytes) line colon = judge_unit units line (found unit_kinds (name_of bytes))
-judge (AtLine p) ClosingBracket line colon = judge_closing p p.openings line
-judge (AtLine p) symbol line colon = judge_line p p.openings symbol line colon
-judge (OnLine p state) symbol line colon = judge_on_line p state symbol line
-judge _ symbol line colon = None
+abbrev pub validate : State → Symbol → ℕ → (colon : Bool) → Option Raised
+validate (Outside units) (Identifier bytes) line colon = validate_unit units line (found unit_kinds (name_of bytes))
+validate (AtLine p) ClosingBracket line colon = validate_closing p p.openings line
+validate (AtLine p) symbol line colon = validate_line p p.openings symbol line colon
+validate (OnLine p state) symbol line colon = validate_on_line p state symbol line
+validate _ symbol line colon = None
 
 -- the line of the innermost parenthesis that is open, or the fault of a unit that is not closed
-abbrev pub open_in : ProgramUnit → List Opening → Met
+abbrev pub open_in : ProgramUnit → List Opening → Raised
 open_in unit [] = record { fault = UnitNotClosed; line = unit.line }
 open_in unit (o ∷ outer) = record { fault = ParenthesisNotPaired; line = o.line }
 
 -- whose opening line a line is, or where the line is
-abbrev pub open_on : Position → LineState → Met
-open_on p (Bracketed begun operator) = record { fault = ParenthesisNotPaired; line = begun.line }
-open_on p (BracketedWith begun operator operand) = record { fault = ParenthesisNotPaired; line = begun.line }
-open_on p (Named begun (OfOpening operator) name) = record { fault = ParenthesisNotPaired; line = begun.line }
-open_on p (Pointed begun (OfOpening operator) name) = record { fault = ParenthesisNotPaired; line = begun.line }
+abbrev pub open_on : Position → LineState → Raised
+open_on p (Bracketed started operator) = record { fault = ParenthesisNotPaired; line = started.line }
+open_on p (BracketedWith started operator operand) = record { fault = ParenthesisNotPaired; line = started.line }
+open_on p (Named started (OfOpening operator) name) = record { fault = ParenthesisNotPaired; line = started.line }
+open_on p (Pointed started (OfOpening operator) name) = record { fault = ParenthesisNotPaired; line = started.line }
 open_on p state = open_in p.unit p.openings
 
 -- the text, or the fault at its end
-abbrev pub at_end : State → (last_line : ℕ) → Result Text Met
+abbrev pub at_end : State → (last_line : ℕ) → Result Text Raised
 at_end (Outside units) last_line = if has_program units then Ok units else Err (record { fault = NotOneProgramLast; line = last_line })
 at_end (Unnamed units kind line) last_line = Err (record { fault = UnitNotClosed; line = line })
 at_end (Declaring units unit section place) last_line = Err (record { fault = UnitNotClosed; line = unit.line })
@@ -300,12 +300,12 @@ at_end (OnLine p state) last_line = Err (open_on p state)
 at_end (Closed p) last_line = Err (open_in p.unit p.openings)
 
 -- the text that the tokens left complete, or the first fault in them
-abbrev pub reading : State → List Mark → (last_line : ℕ) → Result Text Met
+abbrev pub reading : State → List Mark → (last_line : ℕ) → Result Text Raised
 reading state [] last_line = at_end state last_line
 reading state (mark ∷ marks) last_line =
-    elim (judge state mark.symbol mark.line (colon_next marks false)) as (λ _. Result Text Met) [
-      | Some met ↦ Err met
-      | None ↦ elim (move state mark.symbol mark.line (colon_next marks false)) as (λ _. Result Text Met) [
+    elim (validate state mark.symbol mark.line (colon_next marks false)) as (λ _. Result Text Raised) [
+      | Some raised ↦ Err raised
+      | None ↦ elim (move state mark.symbol mark.line (colon_next marks false)) as (λ _. Result Text Raised) [
         | Some next ↦ reading next marks last_line
         | None ↦ Err (record { fault = UnexpectedToken; line = mark.line })
       ]

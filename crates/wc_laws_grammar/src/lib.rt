@@ -2,12 +2,12 @@
 //! they rest are a walk over a text's tokens, one by one, which says what they spell or which fault in them is the first.
 #![tactic(auto)]
 
-mod fronts;
+mod prefixes;
 
 ghost use Rattle.wc_laws_grammar.specs.Laws.{FaultSpellsNothing, OneText, TextOrFault};
 
-pub use fronts::{
-    a_front_of_a_front_is_one, a_text_is_a_front, an_unexpected_token_spells_nothing,
+pub use prefixes::{
+    a_prefix_of_a_prefix_is_one, a_text_is_a_prefix, an_unexpected_token_spells_nothing,
     limits_hold_before_a_fault, one_first_fault,
 };
 

@@ -9,7 +9,7 @@ use Rattle.wc_model.specs.Run.Log.{LogOf, LogRefusal}
 use Rattle.wc_model.specs.Run.ProcessImage.{image_after}
 use Rattle.wc_model.specs.Run.Rows.{RowData, Counts, Bytes, Inputs, Scan, Change, LogRow, Past}
 use Rattle.wc_model.specs.Say.LogFor.{log_while, row_on}
-use Rattle.wc_model.specs.Say.ProgramReport.{Logic, change_logic, logic_behind, programs}
+use Rattle.wc_model.specs.Say.ProgramReport.{Logic, change_logic, logic_following, programs}
 use Rattle.wc_model.specs.Say.Report.{Program, ReportLine, lines_with, report_lines, state_after, state_with}
 
 module _ {State : Type 0} (plate : PlateData) (program : Program State) (start : State) where
@@ -45,27 +45,27 @@ store_with plate text store Scan ms past none =
 store_with plate text store Change ms past none = absurd none
 
 -- the lines of rows without a change precede those of the rows after them, whatever the next text
-up_to : (plate : PlateData) (text : Text) (store : Store) (next other : Option Text) (past : Past) (first behind : List LogRow) → HasNoChange first →
+up_to : (plate : PlateData) (text : Text) (store : Store) (next other : Option Text) (past : Past) (first following : List LogRow) → HasNoChange first →
     (rest : List ReportLine)
-    × (lines_from plate programs (record { text = text; store = store; next = next }) past (first ++ behind)
+    × (lines_from plate programs (record { text = text; store = store; next = next }) past (first ++ following)
     ≡ lines_from plate programs (record { text = text; store = store; next = other }) past first ++ rest)
-up_to plate text store next other past [] behind none = (lines_from plate programs (record { text = text; store = store; next = next }) past behind, refl)
-up_to plate text store next other past (row ∷ first) behind none =
+up_to plate text store next other past [] following none = (lines_from plate programs (record { text = text; store = store; next = next }) past following, refl)
+up_to plate text store next other past (row ∷ first) following none =
     let left = store_with plate text store row.brings row.ms past none.0 in
-    let rest = up_to plate text left.0 next other (row ∷ past) first behind none.1 in
+    let rest = up_to plate text left.0 next other (row ∷ past) first following none.1 in
     let here : List ReportLine = lines_at plate programs (record { text = text; store = store; next = other }) row.brings past row in (
       rest.0,
-      (λ i. alike_at plate text store next other row.brings past row none.0 i ++ lines_from plate programs (left.1 next i) (row ∷ past) (first ++ behind))
+      (λ i. alike_at plate text store next other row.brings past row none.0 i ++ lines_from plate programs (left.1 next i) (row ∷ past) (first ++ following))
           ∙ ap (λ lines. here ++ lines) (rest.1 ∙ ap (λ logic. lines_from plate programs logic (row ∷ past) first ++ rest.0) (sym (left.1 other)))
           ∙ sym (append_assoc here (lines_from plate programs (state_with plate programs row.brings row.ms past (record { text = text; store = store; next = other })) (row ∷ past) first) rest.0),
     )
 
 -- before the first change the report is that of the text alone
 pub reports_up_to_the_change : ReportsUpToTheChange
-reports_up_to_the_change plate text store next other first behind none =
-    let lines = up_to plate text store next other [] first behind none in (
+reports_up_to_the_change plate text store next other first following none =
+    let lines = up_to plate text store next other [] first following none in (
       lines.0,
-      from_state plate programs (record { text = text; store = store; next = next }) [] (first ++ behind) ∙ lines.1
+      from_state plate programs (record { text = text; store = store; next = next }) [] (first ++ following) ∙ lines.1
           ∙ ap (λ l. l ++ lines.0) (sym (from_state plate programs (record { text = text; store = store; next = other }) [] first)),
     )
 
@@ -82,7 +82,7 @@ at_change plate logic past Change row rows e = refl
 -- from a change on the report is that of the next text
 pub reports_from_the_change : ReportsFromTheChange
 reports_from_the_change plate start past text new store row rows changes left =
-    from_state plate programs start past (row ∷ rows) ∙ at_change plate (logic_behind plate start past) past row.brings row rows changes
+    from_state plate programs start past (row ∷ rows) ∙ at_change plate (logic_following plate start past) past row.brings row rows changes
     ∙ ap (λ logic. lines_from plate programs (change_logic logic) (row ∷ past) rows) left
 
 -- the rows that a run takes are run

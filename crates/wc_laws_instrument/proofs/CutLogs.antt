@@ -7,7 +7,7 @@ use Rattle.std.specs.Option.{option_or, option_to_list}
 use Rattle.std.specs.Ordering.{int_eq}
 use Rattle.std.specs.Prelude.{ℤ, ◌+ℤ◌, Option, Some, None, codes, option_map, replicate, if◌then◌else◌, ◌==◌}
 use Rattle.wc_laws_instrument.proofs.Preludes.{again, before_samples, state_brought, tare_history, with_samples, zero_history}
-use Rattle.wc_laws_instrument.proofs.Requests.{in_piece, open_behind_feed, open_request_after, text_completes_nothing}
+use Rattle.wc_laws_instrument.proofs.Requests.{in_chunk, open_after_feed, open_request_after, text_completes_nothing}
 use Rattle.wc_laws_instrument.proofs.SameLines.{AreAlike, ArePastsAlike, goes_on, kept}
 use Rattle.wc_laws_instrument.proofs.SameStates.{HaveSameState}
 use Rattle.wc_laws_instrument.specs.Preludes.{BringsBack, CanBeCut, at_load, brought_by, input_rows, load_rows, moved_zero, past_after, prelude_of, request_rows, scale_state, tare_load, text_kept}
@@ -104,11 +104,11 @@ module _ (letter : ℕ) (text : is_text letter ≡ true) where
 
   opened : (bytes : List ℕ) → open_request ((bytes ++ (line_feed ∷ [])) ++ (letter ∷ [])) ≡ Some (letter ∷ [])
   opened bytes = ap open_request (append_assoc bytes (line_feed ∷ []) (letter ∷ []))
-      ∙ open_behind_feed bytes (letter ∷ []) (ap (λ b. b && true) text)
+      ∙ open_after_feed bytes (letter ∷ []) (ap (λ b. b && true) text)
 
   one_request : (bytes : List ℕ) → (letter == carriage_return) ≡ false → requests_in bytes whole_request ≡ (letter ∷ []) ∷ []
   one_request bytes other =
-      in_piece bytes whole_request
+      in_chunk bytes whole_request
       ∙ ap (λ b. (if b then option_to_list (open_request (bytes ++ (line_feed ∷ []))) else []) ++ (option_to_list (open_request ((bytes ++ (line_feed ∷ [])) ++ (letter ∷ []))) ++ [])) other
       ∙ ap (λ o. option_to_list o ++ []) (opened bytes)
 
@@ -183,14 +183,14 @@ request_leaves : (o : Option (List ℕ)) → ((text : List ℕ) → o ≡ Some t
 request_leaves None known bytes history = refl
 request_leaves (Some text) known bytes history =
     ap (λ r. after_requests r history)
-    (in_piece bytes (line_feed ∷ text_kept text)
+    (in_chunk bytes (line_feed ∷ text_kept text)
     ∙ text_completes_nothing (bytes ++ (line_feed ∷ [])) (text_kept text) (kept_is_text text (known text refl)))
 
 request_opens : (o : Option (List ℕ)) → ((text : List ℕ) → o ≡ Some text → list_all is_text text ≡ true) → (bytes : List ℕ) → open_request bytes ≡ None →
     kept (bytes_on (request_rows (option_map text_kept o)) bytes) ≡ option_map text_kept o
 request_opens None known bytes none = ap (option_map text_kept) none
 request_opens (Some text) known bytes none =
-    ap (option_map text_kept) (open_behind_feed bytes (text_kept text) (kept_is_text text (known text refl))) ∙ ap Some (kept_twice text)
+    ap (option_map text_kept) (open_after_feed bytes (text_kept text) (kept_is_text text (known text refl))) ∙ ap Some (kept_twice text)
 
 -- the inputs of the rows
 same_inputs : (n inputs : ℕ) (counts : ℤ) → inputs_on (replicate n (Counts counts)) inputs ≡ inputs
@@ -278,10 +278,10 @@ module _ (p : PlateData) (some : 0 < p.window) (history : History) (bytes : List
   alike_there : AreAlike p some history bytes inputs
       (history_on (inputs_part ++ request_part) [] []) (bytes_on (inputs_part ++ request_part) []) (inputs_on (inputs_part ++ request_part) 0)
   alike_there =
-      let tells : (same_zero ≡ true → zero_point p history ≡ p.zero_counts) × (zero_point p history ≡ p.zero_counts → same_zero ≡ true) =
+      let reports : (same_zero ≡ true → zero_point p history ≡ p.zero_counts) × (zero_point p history ≡ p.zero_counts → same_zero ≡ true) =
       signed_Decides (zero_point p history) p.zero_counts in
       record {
-        states = subst (HaveSameState p history) (sym history_there) (state_brought p some history same_zero tells.0 tells.1);
+        states = subst (HaveSameState p history) (sym history_there) (state_brought p some history same_zero reports.0 reports.1);
         lines = request_there;
         same_inputs = input_there;
       }

@@ -11,7 +11,7 @@ use Rattle.std.specs.Str.{bytes_eq}
 use Rattle.wc_laws_instrument.specs.Logs.{IsDataInRange, AreInOrder, RowsAreInOrder}
 use Rattle.wc_model.specs.Instrument.Plates.{least_sample, greatest_sample}
 use Rattle.wc_model.specs.Run.Hex.{byte_of_digits, bytes_of_hex, with_byte}
-use Rattle.wc_model.specs.Run.Log.{Record, brings_or, counts_of, first_row, greatest_moment, has_fields, inputs_word_of, is_in_order, last_moment, line_piece_of, log_after, log_with, longest_piece, moment_of, most_rows, number_within, row_at, row_data_of, row_from, row_of, row_of_fields, scan_of_data, where_passes, whole_of, change_of_data}
+use Rattle.wc_model.specs.Run.Log.{Record, brings_or, counts_of, first_row, greatest_moment, has_fields, inputs_word_of, is_in_order, last_moment, line_chunk_of, log_after, log_with, longest_chunk, moment_of, most_rows, number_within, row_at, row_data_of, row_from, row_of, row_of_fields, scan_of_data, where_passes, whole_of, change_of_data}
 use Rattle.wc_model.specs.Run.Rows.{RowData, Counts, Bytes, Inputs, Scan, Change, LogRow}
 
 -- what passes a test
@@ -55,10 +55,10 @@ counts_in_range text counts e =
     (omega (arith, ints), omega (arith, ints))
 
 -- bytes on the line
-piece_in_range : (text bytes : List ℕ) → line_piece_of text ≡ Some bytes → IsDataInRange (Bytes bytes)
-piece_in_range text bytes e =
-    let test = passes (λ bytes. nat_le (length bytes) longest_piece) (bytes_of_hex text) bytes e in
-    (leb-true (length bytes) longest_piece test.1, bytes_below text bytes test.0)
+chunk_in_range : (text bytes : List ℕ) → line_chunk_of text ≡ Some bytes → IsDataInRange (Bytes bytes)
+chunk_in_range text bytes e =
+    let test = passes (λ bytes. nat_le (length bytes) longest_chunk) (bytes_of_hex text) bytes e in
+    (leb-true (length bytes) longest_chunk test.1, bytes_below text bytes test.0)
 
 -- inputs: two bytes
 word_in_range : (text : List ℕ) (inputs : ℕ) → inputs_word_of text ≡ Some inputs → IsDataInRange (Inputs inputs)
@@ -74,9 +74,9 @@ word_in_range text inputs e = by_bytes (where_passes (λ bytes. length bytes == 
         subst (λ n. n < 2 ^ 16) same (subst (λ n. number_from_digits 256 bytes < 256 ^ n) two below)
 
 -- a value with its form
-brought : {A : Type 0} (refusal : ℕ) (form : A → RowData) (o : Option A) (brings : RowData) → brings_or refusal form o ≡ Ok brings → ((value : A) → o ≡ Some value → IsDataInRange (form value)) → IsDataInRange brings
-brought refusal form None brings e known = absurd (cc)
-brought refusal form (Some value) brings e known = let same : form value ≡ brings = cc in subst IsDataInRange same (known value refl)
+brought : {A : Type 0} (refusal : ℕ) (format : A → RowData) (o : Option A) (brings : RowData) → brings_or refusal format o ≡ Ok brings → ((value : A) → o ≡ Some value → IsDataInRange (format value)) → IsDataInRange brings
+brought refusal format None brings e known = absurd (cc)
+brought refusal format (Some value) brings e known = let same : format value ≡ brings = cc in subst IsDataInRange same (known value refl)
 
 -- a scan
 scan_in_range : (text : List ℕ) (brings : RowData) → scan_of_data text ≡ Ok brings → IsDataInRange brings
@@ -97,7 +97,7 @@ either false first second brings e one other = other e
 data_in_range : (kind text : List ℕ) (brings : RowData) → row_data_of kind text ≡ Ok brings → IsDataInRange brings
 data_in_range kind text brings e =
     either (bytes_eq kind (codes "C")) _ _ brings e (λ f. brought 605 Counts (counts_of text) brings f (counts_in_range text)) (λ f.
-    either (bytes_eq kind (codes "L")) _ _ brings f (λ g. brought 606 Bytes (line_piece_of text) brings g (piece_in_range text)) (λ g.
+    either (bytes_eq kind (codes "L")) _ _ brings f (λ g. brought 606 Bytes (line_chunk_of text) brings g (chunk_in_range text)) (λ g.
     either (bytes_eq kind (codes "I")) _ _ brings g (λ h. brought 606 Inputs (inputs_word_of text) brings h (word_in_range text)) (λ h.
     either (bytes_eq kind (codes "S")) _ _ brings h (λ k. scan_in_range text brings k) (λ k.
     either (bytes_eq kind (codes "P")) _ _ brings k (λ m. change_in_range text brings m) (λ m. absurd (cc))))))

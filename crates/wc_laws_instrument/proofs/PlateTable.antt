@@ -8,7 +8,7 @@ use Rattle.std.specs.List.{list_any}
 use borrow.Author.Differences.{neg_is}
 use Rattle.std.specs.Str.{bytes_eq}
 use Rattle.wc_model.specs.Instrument.Plates.{PlateData, IsPlate, grams, kilograms, tonnes, grams_of, allowed_intervals, least_sample, greatest_sample}
-use Rattle.wc_model.specs.Instrument.PlateTable.{Table, Written, written_of, line_unit, is_between, is_interval, is_count, rules_after_unit, plate_from, unless_broken, judged, plate_of_written, plate_of}
+use Rattle.wc_model.specs.Instrument.PlateTable.{Table, Written, written_of, line_unit, is_between, is_interval, is_count, rules_after_unit, plate_from, unless_broken, validated, plate_of_written, plate_of}
 
 -- if no rule is broken, each holds
 each_holds : (a b c d e : Bool) →
@@ -110,17 +110,17 @@ in_ranges w unit known none =
     }
 
 -- a plate that is checked and accepted
-judged_is_plate : (w : Written) (unit : Option (List ℕ)) (p : PlateData) → ((u : List ℕ) → unit ≡ Some u → Contains (grams ∷ kilograms ∷ tonnes ∷ []) u) →
-    judged w unit ≡ Ok p → IsPlate p
-judged_is_plate w None p known e = absurd (cc)
-judged_is_plate w (Some unit) p known e =
+validated_is_plate : (w : Written) (unit : Option (List ℕ)) (p : PlateData) → ((u : List ℕ) → unit ≡ Some u → Contains (grams ∷ kilograms ∷ tonnes ∷ []) u) →
+    validated w unit ≡ Ok p → IsPlate p
+validated_is_plate w None p known e = absurd (cc)
+validated_is_plate w (Some unit) p known e =
     let fine = none_broken (find {X = ℕ × Bool} (λ rule. not rule.1) (rules_after_unit w unit)) (plate_from w unit) p e in
     subst (λ q. IsPlate q) fine.1 (in_ranges w unit (known unit refl) fine.0)
 
 -- likewise for what is written
 written_is_plate : (w : Option Written) (p : PlateData) → plate_of_written w ≡ Ok p → IsPlate p
 written_is_plate None p e = absurd (cc)
-written_is_plate (Some w) p e = judged_is_plate w (line_unit w.unit) p
+written_is_plate (Some w) p e = validated_is_plate w (line_unit w.unit) p
     (λ unit same. unit_known (bytes_eq w.unit (codes "g")) (bytes_eq w.unit (codes "kg")) (bytes_eq w.unit (codes "t")) unit same) e
 
 -- a table that is accepted gives a plate in its ranges

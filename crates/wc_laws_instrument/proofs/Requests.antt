@@ -7,7 +7,7 @@ use Rattle.std.specs.Prelude.{take_while, Option, Some, None, option_map, ◌==�
 use Rattle.std.proofs.Common.{inl, inr}
 use Rattle.std.specs.List.{cons_option, list_all, concat}
 use Rattle.std.specs.Option.{option_or, option_to_list}
-use Rattle.wc_model.specs.Instrument.Requests.{line_feed, carriage_return, escape, is_text, begins_with, request_at, requests, requests_in, open_at, open_request, completed_by, opened_by, requests_in_pieces, IsCutAnywhere}
+use Rattle.wc_model.specs.Instrument.Requests.{line_feed, carriage_return, escape, is_text, begins_with, request_at, requests, requests_in, open_at, open_request, completed_by, opened_by, requests_in_chunks, IsCutAnywhere}
 
 module _ (p : ℕ → Bool) where
   -- what starts at the first element that fails the test
@@ -164,7 +164,7 @@ one_more_at byte rest x = elim (cases_Bool (byte == line_feed)) [
         request_at_feed byte rest feed
         ∙ ap (λ r. cond (begins_with carriage_return r) (Some (take_while is_text rest)) None)
         (ap (beyond is_text) (sym (append-nil rest)) ∙ beyond_on is_text rest [] text) in
-        let begun : request_at byte (rest ++ (x ∷ [])) ≡ cond (x == carriage_return) (Some (rest ++ take_while is_text (x ∷ []))) None =
+        let started : request_at byte (rest ++ (x ∷ [])) ≡ cond (x == carriage_return) (Some (rest ++ take_while is_text (x ∷ []))) None =
         request_at_feed byte (rest ++ (x ∷ [])) feed
         ∙ ap (λ r. cond (begins_with carriage_return r) (Some (take_while is_text (rest ++ (x ∷ [])))) None) (beyond_on is_text rest (x ∷ []) text)
         ∙ ap (λ t. cond (begins_with carriage_return (beyond is_text (x ∷ []))) (Some t) None) (taken_on is_text rest (x ∷ []) text)
@@ -174,7 +174,7 @@ one_more_at byte rest x = elim (cases_Bool (byte == line_feed)) [
         let opened : open_at byte rest ≡ Some rest = open_at_feed byte rest feed ∙ cond-true (list_all is_text rest) (Some rest) None text in
         let l : cons_option (request_at byte (rest ++ (x ∷ []))) (requests rest ++ completed_by x (open_request rest))
         ≡ cons_option (cond (x == carriage_return) (Some (rest ++ take_while is_text (x ∷ []))) None) (completed_by x None) =
-        λ i. cons_option (begun i) (nothing i ++ completed_by x (shut i)) in
+        λ i. cons_option (started i) (nothing i ++ completed_by x (shut i)) in
         let r : cons_option (request_at byte rest) (requests rest) ++ completed_by x (option_or (open_request rest) (open_at byte rest))
         ≡ completed_by x (Some rest) =
         λ i. cons_option (ends i) (nothing i) ++ completed_by x (option_or (shut i) (opened i)) in
@@ -205,25 +205,25 @@ one_more (byte ∷ rest) x =
 -- the requests that the bytes of a chunk complete, one after another
 abbrev pub completed : List ℕ → List ℕ → List (List ℕ)
 completed before [] = []
-completed before (x ∷ piece) = completed_by x (open_request before) ++ completed (before ++ (x ∷ [])) piece
+completed before (x ∷ chunk) = completed_by x (open_request before) ++ completed (before ++ (x ∷ [])) chunk
 
 -- the requests of two chunks joined
-joined : (before piece : List ℕ) → requests (before ++ piece) ≡ requests before ++ completed before piece
+joined : (before chunk : List ℕ) → requests (before ++ chunk) ≡ requests before ++ completed before chunk
 joined before [] = ap requests (append-nil before) ∙ sym (append-nil (requests before))
-joined before (x ∷ piece) =
-    ap requests (sym (append_assoc before (x ∷ []) piece))
-    ∙ joined (before ++ (x ∷ [])) piece
-    ∙ ap (λ r. r ++ completed (before ++ (x ∷ [])) piece) (one_more before x)
-    ∙ append_assoc (requests before) (completed_by x (open_request before)) (completed (before ++ (x ∷ [])) piece)
+joined before (x ∷ chunk) =
+    ap requests (sym (append_assoc before (x ∷ []) chunk))
+    ∙ joined (before ++ (x ∷ [])) chunk
+    ∙ ap (λ r. r ++ completed (before ++ (x ∷ [])) chunk) (one_more before x)
+    ∙ append_assoc (requests before) (completed_by x (open_request before)) (completed (before ++ (x ∷ [])) chunk)
 
 -- what a chunk completes, byte by byte
-pub in_piece : (before piece : List ℕ) → requests_in before piece ≡ completed before piece
-in_piece before piece = ap (drop (length (requests before))) (joined before piece)
-    ∙ drop-append_seam (requests before) (completed before piece)
+pub in_chunk : (before chunk : List ℕ) → requests_in before chunk ≡ completed before chunk
+in_chunk before chunk = ap (drop (length (requests before))) (joined before chunk)
+    ∙ drop-append_seam (requests before) (completed before chunk)
 
 -- the requests of a stream are those of its first part and those that the second completes
-pub requests_join : (before piece : List ℕ) → requests (before ++ piece) ≡ requests before ++ requests_in before piece
-requests_join before piece = joined before piece ∙ ap (λ r. requests before ++ r) (sym (in_piece before piece))
+pub requests_join : (before chunk : List ℕ) → requests (before ++ chunk) ≡ requests before ++ requests_in before chunk
+requests_join before chunk = joined before chunk ∙ ap (λ r. requests before ++ r) (sym (in_chunk before chunk))
 
 -- what a chunk completes is what its two parts complete
 completed_again : (before first second : List ℕ) →
@@ -239,19 +239,19 @@ completed_again before (x ∷ first) second =
 pub requests_in_again : (before first second : List ℕ) →
     requests_in before (first ++ second) ≡ requests_in before first ++ requests_in (before ++ first) second
 requests_in_again before first second =
-    in_piece before (first ++ second) ∙ completed_again before first second
-    ∙ λ i. sym (in_piece before first) i ++ sym (in_piece (before ++ first) second) i
+    in_chunk before (first ++ second) ∙ completed_again before first second
+    ∙ λ i. sym (in_chunk before first) i ++ sym (in_chunk (before ++ first) second) i
 
 -- what one byte completes
 pub requests_in_byte : (before : List ℕ) (x : ℕ) → requests_in before (x ∷ []) ≡ completed_by x (open_request before)
-requests_in_byte before x = in_piece before (x ∷ []) ∙ append-nil (completed_by x (open_request before))
+requests_in_byte before x = in_chunk before (x ∷ []) ∙ append-nil (completed_by x (open_request before))
 
 -- the chunks of a stream complete the requests of the whole, after what came before
-pieces_after : (before : List ℕ) (pieces : List (List ℕ)) → requests_in_pieces before pieces ≡ requests_in before (concat pieces)
-pieces_after before [] = sym (in_piece before [])
-pieces_after before (piece ∷ pieces) =
-    ap (λ r. requests_in before piece ++ r) (pieces_after (before ++ piece) pieces)
-    ∙ sym (requests_in_again before piece (concat pieces))
+chunks_after : (before : List ℕ) (chunks : List (List ℕ)) → requests_in_chunks before chunks ≡ requests_in before (concat chunks)
+chunks_after before [] = sym (in_chunk before [])
+chunks_after before (chunk ∷ chunks) =
+    ap (λ r. requests_in before chunk ++ r) (chunks_after (before ++ chunk) chunks)
+    ∙ sym (requests_in_again before chunk (concat chunks))
 
 -- all of a list and one more
 all_and_one : (p : ℕ → Bool) (xs : List ℕ) (x : ℕ) → list_all p (xs ++ (x ∷ [])) ≡ (list_all p xs && p x)
@@ -339,12 +339,12 @@ open_request_after (byte ∷ rest) x =
     ]
 
 -- what a chunk completes depends on the open request alone
-same_completed : (before other piece : List ℕ) → open_request before ≡ open_request other → completed before piece ≡ completed other piece
+same_completed : (before other chunk : List ℕ) → open_request before ≡ open_request other → completed before chunk ≡ completed other chunk
 same_completed before other [] e = refl
-same_completed before other (x ∷ piece) e =
+same_completed before other (x ∷ chunk) e =
     let after : open_request (before ++ (x ∷ [])) ≡ open_request (other ++ (x ∷ [])) =
     open_request_after before x ∙ ap (opened_by x) e ∙ sym (open_request_after other x) in
-    λ i. completed_by x (e i) ++ same_completed (before ++ (x ∷ [])) (other ++ (x ∷ [])) piece after i
+    λ i. completed_by x (e i) ++ same_completed (before ++ (x ∷ [])) (other ++ (x ∷ [])) chunk after i
 
 -- text alone completes nothing
 pub text_completes_nothing : (before text : List ℕ) → list_all is_text text ≡ true → completed before text ≡ []
@@ -358,11 +358,11 @@ text_completes_nothing before (x ∷ text) h =
     λ i. none i ++ text_completes_nothing (before ++ (x ∷ [])) text parts.1 i
 
 -- an LF and text after it are open
-pub open_behind_feed : (before text : List ℕ) → list_all is_text text ≡ true → open_request (before ++ (line_feed ∷ text)) ≡ Some text
-open_behind_feed [] text h =
+pub open_after_feed : (before text : List ℕ) → list_all is_text text ≡ true → open_request (before ++ (line_feed ∷ text)) ≡ Some text
+open_after_feed [] text h =
     ap (λ o. option_or o (open_at line_feed text)) (nothing_open_in_text text h) ∙ cond-true (list_all is_text text) (Some text) None h
-open_behind_feed (byte ∷ before) text h =
-    ap (λ o. option_or o (open_at byte (before ++ (line_feed ∷ text)))) (open_behind_feed before text h)
+open_after_feed (byte ∷ before) text h =
+    ap (λ o. option_or o (open_at byte (before ++ (line_feed ∷ text)))) (open_after_feed before text h)
 
 -- every stretch is a request, after those before it and before those after it
 pub stretch_is_request : (before text after : List ℕ) → list_all is_text text ≡ true →
@@ -370,15 +370,15 @@ pub stretch_is_request : (before text after : List ℕ) → list_all is_text tex
 stretch_is_request before text after h =
     let fed : List ℕ = before ++ (line_feed ∷ []) in
     let opened : open_request (fed ++ text) ≡ Some text =
-    ap open_request (append_assoc before (line_feed ∷ []) text) ∙ open_behind_feed before text h in
+    ap open_request (append_assoc before (line_feed ∷ []) text) ∙ open_after_feed before text h in
     let shut : open_request ((fed ++ text) ++ (carriage_return ∷ [])) ≡ None = open_request_after (fed ++ text) carriage_return in
-    let behind : completed ((fed ++ text) ++ (carriage_return ∷ [])) after ≡ requests after =
-    same_completed ((fed ++ text) ++ (carriage_return ∷ [])) [] after shut ∙ sym (in_piece [] after) in
+    let following : completed ((fed ++ text) ++ (carriage_return ∷ [])) after ≡ requests after =
+    same_completed ((fed ++ text) ++ (carriage_return ∷ [])) [] after shut ∙ sym (in_chunk [] after) in
     joined before (line_feed ∷ text ++ (carriage_return ∷ after))
     ∙ ap (λ r. requests before ++ r)
     (completed_again fed text (carriage_return ∷ after)
-    ∙ λ i. text_completes_nothing fed text h i ++ (completed_by carriage_return (opened i) ++ behind i))
+    ∙ λ i. text_completes_nothing fed text h i ++ (completed_by carriage_return (opened i) ++ following i))
 
 -- where a stream is cut makes no difference
 pub is_cut_anywhere : IsCutAnywhere
-is_cut_anywhere = record { whole = pieces_after []; again = requests_in_again; byte = requests_in_byte; opens = open_request_after }
+is_cut_anywhere = record { whole = chunks_after []; again = requests_in_again; byte = requests_in_byte; opens = open_request_after }

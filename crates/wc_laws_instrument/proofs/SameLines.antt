@@ -3,10 +3,10 @@ use Rattle.std.proofs.Common.{◌≡◌, ℕ, ◌<◌, Bool, true, false, ◌&&�
 use Rattle.std.proofs.lemmas.List.{map-append}
 use Rattle.std.specs.Option.{option_to_list}
 use Rattle.std.specs.Prelude.{Option, Some, None, map, option_map, is_some, ◌==◌, if◌then◌else◌}
-use Rattle.wc_laws_instrument.proofs.Requests.{completed, in_piece, open_request_after}
+use Rattle.wc_laws_instrument.proofs.Requests.{completed, in_chunk, open_request_after}
 use Rattle.wc_laws_instrument.proofs.SameStates.{HaveSameState, same_after, same_answer, same_image, same_readings, same_tare_refusal, same_zero_refusal}
 use Rattle.wc_laws_instrument.specs.Preludes.{GoesOnAlike, past_after, text_kept, timed}
-use Rattle.wc_model.specs.Instrument.Answers as told
+use Rattle.wc_model.specs.Instrument.Answers as reported
 use Rattle.wc_model.specs.Instrument.Answers.{AskTare, AskWeight, Clear, Command, Plain, Shown, TakeTare, TareRefused, Unknown, Zero, ZeroRefused, after_command, after_requests, answer_to, answers_to, command_of}
 use Rattle.wc_model.specs.Instrument.Plates.{PlateData}
 use Rattle.wc_model.specs.Instrument.Requests.{carriage_return, completed_by, is_text, line_feed, open_request, opened_by, requests_in}
@@ -86,27 +86,27 @@ kept_after before other x e =
     ∙ ap (option_map text_kept) (sym (open_request_after before x))
 
 -- a chunk more of both
-pub kept_on : (before other piece : List ℕ) → kept other ≡ kept before → kept (other ++ piece) ≡ kept (before ++ piece)
+pub kept_on : (before other chunk : List ℕ) → kept other ≡ kept before → kept (other ++ chunk) ≡ kept (before ++ chunk)
 kept_on before other [] e = ap kept (append-nil other) ∙ e ∙ ap kept (sym (append-nil before))
-kept_on before other (x ∷ piece) e =
-    ap kept (sym (append_assoc other (x ∷ []) piece))
-    ∙ kept_on (before ++ (x ∷ [])) (other ++ (x ∷ [])) piece (kept_after before other x e)
-    ∙ ap kept (append_assoc before (x ∷ []) piece)
+kept_on before other (x ∷ chunk) e =
+    ap kept (sym (append_assoc other (x ∷ []) chunk))
+    ∙ kept_on (before ++ (x ∷ [])) (other ++ (x ∷ [])) chunk (kept_after before other x e)
+    ∙ ap kept (append_assoc before (x ∷ []) chunk)
 
 -- the commands that it completes
-commands_alike : (before other piece : List ℕ) → kept other ≡ kept before →
-    map command_of (completed other piece) ≡ map command_of (completed before piece)
+commands_alike : (before other chunk : List ℕ) → kept other ≡ kept before →
+    map command_of (completed other chunk) ≡ map command_of (completed before chunk)
 commands_alike before other [] e = refl
-commands_alike before other (x ∷ piece) e =
-    map-append command_of (completed_by x (open_request other)) (completed (other ++ (x ∷ [])) piece)
+commands_alike before other (x ∷ chunk) e =
+    map-append command_of (completed_by x (open_request other)) (completed (other ++ (x ∷ [])) chunk)
     ∙ (λ i. completed_alike x (open_request before) (open_request other) e i
-    ++ commands_alike (before ++ (x ∷ [])) (other ++ (x ∷ [])) piece (kept_after before other x e) i)
-    ∙ sym (map-append command_of (completed_by x (open_request before)) (completed (before ++ (x ∷ [])) piece))
+    ++ commands_alike (before ++ (x ∷ [])) (other ++ (x ∷ [])) chunk (kept_after before other x e) i)
+    ∙ sym (map-append command_of (completed_by x (open_request before)) (completed (before ++ (x ∷ [])) chunk))
 
-requests_alike : (before other piece : List ℕ) → kept other ≡ kept before →
-    map command_of (requests_in other piece) ≡ map command_of (requests_in before piece)
-requests_alike before other piece e =
-    ap (map command_of) (in_piece other piece) ∙ commands_alike before other piece e ∙ ap (map command_of) (sym (in_piece before piece))
+requests_alike : (before other chunk : List ℕ) → kept other ≡ kept before →
+    map command_of (requests_in other chunk) ≡ map command_of (requests_in before chunk)
+requests_alike before other chunk e =
+    ap (map command_of) (in_chunk other chunk) ∙ commands_alike before other chunk e ∙ ap (map command_of) (sym (in_chunk before chunk))
 
 -- what commands do
 abbrev after_all : List Command → History → History
@@ -152,12 +152,12 @@ module _ (p : PlateData) (some : 0 < p.window) where
       answer_to p command other ≡ answer_to p command history
   command_answer AskWeight history other same = same_answer p history other some same Shown Plain
   command_answer Zero history other same =
-      ap (λ r. told.answer p (SetZero ∷ other) Shown (if is_some r then ZeroRefused else Plain)) (same_zero_refusal p history other some same)
-      ∙ same_answer p (SetZero ∷ history) (SetZero ∷ other) some (same_after p history other some same SetZero) Shown (told.asked_zero p history)
+      ap (λ r. reported.answer p (SetZero ∷ other) Shown (if is_some r then ZeroRefused else Plain)) (same_zero_refusal p history other some same)
+      ∙ same_answer p (SetZero ∷ history) (SetZero ∷ other) some (same_after p history other some same SetZero) Shown (reported.asked_zero p history)
   command_answer TakeTare history other same =
-      ap (λ r. told.answer p (SetTare ∷ other) Shown (if is_some r then TareRefused else Plain)) (same_tare_refusal p history other some same)
-      ∙ same_answer p (SetTare ∷ history) (SetTare ∷ other) some (same_after p history other some same SetTare) Shown (told.asked_tare p history)
-  command_answer AskTare history other same = same_answer p history other some same told.Tare Plain
+      ap (λ r. reported.answer p (SetTare ∷ other) Shown (if is_some r then TareRefused else Plain)) (same_tare_refusal p history other some same)
+      ∙ same_answer p (SetTare ∷ history) (SetTare ∷ other) some (same_after p history other some same SetTare) Shown (reported.asked_tare p history)
+  command_answer AskTare history other same = same_answer p history other some same reported.Tare Plain
   command_answer Clear history other same =
       same_answer p (ClearTare ∷ history) (ClearTare ∷ other) some (same_after p history other some same ClearTare) Shown Plain
   command_answer Unknown history other same = refl
@@ -199,17 +199,17 @@ module _ (p : PlateData) (some : 0 < p.window) where
     lines = no_more bytes bytes' alike.lines;
     same_inputs = alike.same_inputs;
   }
-  alike_with (Bytes piece) history bytes inputs history' bytes' inputs' alike = record {
+  alike_with (Bytes chunk) history bytes inputs history' bytes' inputs' alike = record {
     states =
-        let same : HaveSameState p (after_all (map command_of (requests_in bytes piece)) history) (after_all (map command_of (requests_in bytes piece)) history') =
-        commands_leave (map command_of (requests_in bytes piece)) history history' alike.states in
-        let here : after_requests (requests_in bytes piece) history ≡ after_all (map command_of (requests_in bytes piece)) history =
-        by_commands (requests_in bytes piece) history in
-        let there : after_requests (requests_in bytes' piece) history' ≡ after_all (map command_of (requests_in bytes piece)) history' =
-        by_commands (requests_in bytes' piece) history' ∙ ap (λ c. after_all c history') (requests_alike bytes bytes' piece alike.lines) in
-        subst (λ h. HaveSameState p (after_requests (requests_in bytes piece) history) h) (sym there)
-        (subst (λ h. HaveSameState p h (after_all (map command_of (requests_in bytes piece)) history')) (sym here) same);
-    lines = kept_on bytes bytes' piece alike.lines;
+        let same : HaveSameState p (after_all (map command_of (requests_in bytes chunk)) history) (after_all (map command_of (requests_in bytes chunk)) history') =
+        commands_leave (map command_of (requests_in bytes chunk)) history history' alike.states in
+        let here : after_requests (requests_in bytes chunk) history ≡ after_all (map command_of (requests_in bytes chunk)) history =
+        by_commands (requests_in bytes chunk) history in
+        let there : after_requests (requests_in bytes' chunk) history' ≡ after_all (map command_of (requests_in bytes chunk)) history' =
+        by_commands (requests_in bytes' chunk) history' ∙ ap (λ c. after_all c history') (requests_alike bytes bytes' chunk alike.lines) in
+        subst (λ h. HaveSameState p (after_requests (requests_in bytes chunk) history) h) (sym there)
+        (subst (λ h. HaveSameState p h (after_all (map command_of (requests_in bytes chunk)) history')) (sym here) same);
+    lines = kept_on bytes bytes' chunk alike.lines;
     same_inputs = alike.same_inputs;
   }
   alike_with (Inputs new) history bytes inputs history' bytes' inputs' alike =
@@ -223,11 +223,11 @@ module _ (p : PlateData) (some : 0 < p.window) where
   pub answers_alike : (brings : RowData) (past past' : Past) → ArePastsAlike past past' →
       answer_with p brings (line_bytes past') (history_of past') ≡ answer_with p brings (line_bytes past) (history_of past)
   answers_alike (Counts counts) past past' alike = refl
-  answers_alike (Bytes piece) past past' alike =
-      answers_by_commands p (requests_in (line_bytes past') piece) (history_of past')
-      ∙ ap (λ c. answers_of p c (history_of past')) (requests_alike (line_bytes past) (line_bytes past') piece alike.lines)
-      ∙ commands_answer (map command_of (requests_in (line_bytes past) piece)) (history_of past) (history_of past') alike.states
-      ∙ sym (answers_by_commands p (requests_in (line_bytes past) piece) (history_of past))
+  answers_alike (Bytes chunk) past past' alike =
+      answers_by_commands p (requests_in (line_bytes past') chunk) (history_of past')
+      ∙ ap (λ c. answers_of p c (history_of past')) (requests_alike (line_bytes past) (line_bytes past') chunk alike.lines)
+      ∙ commands_answer (map command_of (requests_in (line_bytes past) chunk)) (history_of past) (history_of past') alike.states
+      ∙ sym (answers_by_commands p (requests_in (line_bytes past) chunk) (history_of past))
   answers_alike (Inputs new) past past' alike = refl
   answers_alike Scan past past' alike = refl
   answers_alike Change past past' alike = refl

@@ -63,10 +63,10 @@ no_answers zero (ScanLine ms steps outputs ∷ lines) = no_answers zero lines
 no_answers (suc from) (ScanLine ms steps outputs ∷ lines) = no_answers from lines
 
 -- answers with scans after them
-scans_behind : (lines : List ReportLine) (from : ℕ) →
+scans_after : (lines : List ReportLine) (from : ℕ) →
     without_scan_lines (report_text (filter is_answer_line lines) ++ report_text (drop from (filter is_scan_line lines)))
     ≡ report_text (filter is_answer_line lines)
-scans_behind lines from =
+scans_after lines from =
     let answers = filter is_answer_line lines in
     let scans = drop from (filter is_scan_line lines) in
     ap without_scan_lines (sym (flat_map-append line_text answers scans))
@@ -84,6 +84,6 @@ scan_lines_come_out p program start rows =
     let free = is_free_of_programs p program start rows in
     record {
       whole = left_of_text lines ∙ free.bytes;
-      last = λ n. scans_behind lines (length (filter is_scan_line lines) - n) ∙ free.bytes;
+      last = λ n. scans_after lines (length (filter is_scan_line lines) - n) ∙ free.bytes;
       line = line_stays p rows;
     }

@@ -9,7 +9,7 @@ use Rattle.wc_model.specs.Run.Log.{LogOf}
 use Rattle.wc_model.specs.Run.ProcessImage.{image_after}
 use Rattle.wc_model.specs.Run.Rows.{RowData, Counts, Bytes, Inputs, Scan, Change, LogRow, Past, answer_of_row}
 use Rattle.wc_model.specs.Say.LogFor.{AreRun, log_for}
-use Rattle.wc_model.specs.Say.ProgramReport.{Logic, logic_behind, programs}
+use Rattle.wc_model.specs.Say.ProgramReport.{Logic, logic_following, programs}
 use Rattle.wc_model.specs.Say.Report.{Program, ReportLine, answer_line, report_lines, scan_line, state_with}
 
 -- a row that changes no program
@@ -43,16 +43,16 @@ lines_from plate program state past (row ∷ rows) =
 -- Before the first change the report is that of the text alone, whatever the next one is.
 abbrev pub ReportsUpToTheChange : Type 0
 ReportsUpToTheChange =
-    (plate : PlateData) (text : Text) (store : Store) (next other : Option Text) (first behind : List LogRow) → HasNoChange first →
+    (plate : PlateData) (text : Text) (store : Store) (next other : Option Text) (first following : List LogRow) → HasNoChange first →
     (rest : List ReportLine)
-    × (report_lines plate programs (record { text = text; store = store; next = next }) [] (first ++ behind)
+    × (report_lines plate programs (record { text = text; store = store; next = next }) [] (first ++ following)
     ≡ report_lines plate programs (record { text = text; store = store; next = other }) [] first ++ rest)
 
 -- At a change the report goes on with the next text from the store that is carried over to it: no line is the change's.
 abbrev pub ReportsFromTheChange : Type 0
 ReportsFromTheChange =
     (plate : PlateData) (start : Logic) (past : Past) (text new : Text) (store : Store) (row : LogRow) (rows : List LogRow) → row.brings ≡ Change →
-    logic_behind plate start past ≡ record { text = text; store = store; next = Some new } →
+    logic_following plate start past ≡ record { text = text; store = store; next = Some new } →
     report_lines plate programs start past (row ∷ rows)
     ≡ lines_from plate programs (record { text = new; store = carried text store new; next = None }) (row ∷ past) rows
 

@@ -2,13 +2,13 @@
 use Rattle.std.specs.Prelude.{◌≡◌, ℕ, suc, ◌≤◌, ◌<◌, ◌^◌, ◌≤ℤ◌, List, [], ◌∷◌, length}
 use Rattle.std.specs.Int.Digits.{AllBelowBase}
 use Rattle.wc_model.specs.Instrument.Plates.{least_sample, greatest_sample}
-use Rattle.wc_model.specs.Run.Log.{Record, greatest_moment, log_of, longest_piece, most_rows}
+use Rattle.wc_model.specs.Run.Log.{Record, greatest_moment, log_of, longest_chunk, most_rows}
 use Rattle.wc_model.specs.Run.Rows.{RowData, Counts, Bytes, Inputs, Scan, Change, LogRow}
 
 -- what a row brings is in its range
 abbrev pub IsDataInRange : RowData → Type 0
 IsDataInRange (Counts counts) = (least_sample ≤ℤ counts) × (counts ≤ℤ greatest_sample)
-IsDataInRange (Bytes bytes) = (length bytes ≤ longest_piece) × AllBelowBase 256 bytes
+IsDataInRange (Bytes bytes) = (length bytes ≤ longest_chunk) × AllBelowBase 256 bytes
 IsDataInRange (Inputs inputs) = inputs < 2 ^ 16
 IsDataInRange Scan = Unit {0}
 IsDataInRange Change = Unit {0}

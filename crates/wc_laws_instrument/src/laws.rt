@@ -99,9 +99,9 @@ pub fn answers_have_twenty_bytes()
 
 /// The requests of a stream are those of its first part and then those that the second completes: a chunk never takes a
 /// request back.
-pub fn pieces_joined()
-    ensures { (before piece : List ℕ)
-        → requests (before ++ piece) ≡ requests before ++ requests_in before piece }
+pub fn chunks_joined()
+    ensures { (before chunk : List ℕ)
+        → requests (before ++ chunk) ≡ requests before ++ requests_in before chunk }
 {}
 
 /// Every stretch of LF, bytes of text and CR is a request, after those before it and before those after it.

@@ -21,8 +21,8 @@ ton_start now [] f h = rw h.run refl
 ton_start now (c ∷ earlier) f h = run_goes_on now f c.input c earlier h ∙ ap (oldest_moment now) (sym (take_while-cons (λ (d : TimerCall). d.input) c earlier))
 
 -- what a running timer shows, by its start
-pub ton_runs : (now : ℕ) (f : TonFields) (start told : ℕ) → start ≡ told → FitsTonRun (ton_call now f) told (ton_running f now start)
-ton_runs now f start told e = record { run = refl; start_is = e; q = ap (λ s. (ton_running f now s).q) e; et = ap (λ s. (ton_running f now s).et) e }
+pub ton_runs : (now : ℕ) (f : TonFields) (start reported : ℕ) → start ≡ reported → FitsTonRun (ton_call now f) reported (ton_running f now start)
+ton_runs now f start reported e = record { run = refl; start_is = e; q = ap (λ s. (ton_running f now s).q) e; et = ap (λ s. (ton_running f now s).et) e }
 
 pub ton_fits : (now : ℕ) (calls : List TimerCall) (f : TonFields) → FitsTon calls f → FitsTon (ton_call now f ∷ calls) (ton_step now f)
 ton_fits now calls f h =
@@ -36,8 +36,8 @@ abbrev pub released : List TimerCall → List TimerCall
 released calls = take_while (λ d. not d.input) calls
 
 -- what a falling TOF shows, by its start
-pub tof_falls : (now : ℕ) (f : TofFields) (start told : ℕ) → start ≡ told → FitsTofFalling (tof_call now f) told (tof_falling f now start)
-tof_falls now f start told e = record { phase = refl; start_is = e; q = ap (λ s. (tof_falling f now s).q) e; et = ap (λ s. (tof_falling f now s).et) e }
+pub tof_falls : (now : ℕ) (f : TofFields) (start reported : ℕ) → start ≡ reported → FitsTofFalling (tof_call now f) reported (tof_falling f now start)
+tof_falls now f start reported e = record { phase = refl; start_is = e; q = ap (λ s. (tof_falling f now s).q) e; et = ap (λ s. (tof_falling f now s).et) e }
 
 -- a TOF that never was TRUE stays so
 pub never_again : (now : ℕ) (f : TofFields) → FitsTofNever f → FitsTofNever (tof_released f.phase f now)

@@ -128,8 +128,8 @@ pub no_way : (executed : List Item → Way → Type 0) (any worst : Way → List
 no_way executed any worst none = λ q j. none j.0 j.1 j.3
 
 -- what goes on by one of two paths goes on by one of them
-pub split_ways : {acts passes : List Item → Way → Type 0} {any : Way → List Item → Type 0} (q : List Item) → Joined (λ i n. acts i n ⊎ passes i n) any q → Joined acts any q ⊎ Joined passes any q
-split_ways q j = ⊎_elim (λ h. inl (j.0, j.1, j.2, h, j.4, j.5)) (λ h. inr (j.0, j.1, j.2, h, j.4, j.5)) j.3
+pub split_paths : {acts passes : List Item → Way → Type 0} {any : Way → List Item → Type 0} (q : List Item) → Joined (λ i n. acts i n ⊎ passes i n) any q → Joined acts any q ⊎ Joined passes any q
+split_paths q j = ⊎_elim (λ h. inl (j.0, j.1, j.2, h, j.4, j.5)) (λ h. inr (j.0, j.1, j.2, h, j.4, j.5)) j.3
 
 pub split_onward : {acts passes : List Item → Way → Type 0} {any : Way → List Item → Type 0} (q : List Item) → Joined (StaysOnward (λ i n. acts i n ⊎ passes i n)) any q → Joined (StaysOnward acts) any q ⊎ Joined passes any q
 split_onward q j = ⊎_elim (λ h. inl (j.0, j.1, j.2, (h, j.3.1), j.4, j.5)) (λ h. inr (j.0, j.1, j.2, h, j.4, j.5)) j.3.0
@@ -143,7 +143,7 @@ by_acting acts passes any worst x c shorter = record {
   first = inl c.first;
   rest = c.rest;
   whole = c.whole;
-  longest = λ q j. ⊎_elim (λ h. c.longest q h) (λ h. let l = shorter q h in omega (arith, l)) (split_ways q j);
+  longest = λ q j. ⊎_elim (λ h. c.longest q h) (λ h. let l = shorter q h in omega (arith, l)) (split_paths q j);
   next_line_first = λ elsewhere q j. ⊎_elim (λ h. c.next_line_first elsewhere q h) (λ h. shorter q h) (split_onward q j);
 }
 
@@ -156,7 +156,7 @@ by_passing acts passes any worst y stays c no_longer = record {
   first = inr c.first;
   rest = c.rest;
   whole = c.whole;
-  longest = λ q j. ⊎_elim (λ h. no_longer q h) (λ h. c.longest q h) (split_ways q j);
+  longest = λ q j. ⊎_elim (λ h. no_longer q h) (λ h. c.longest q h) (split_paths q j);
   next_line_first = λ elsewhere q j. absurd (elsewhere (stays c.items c.next c.first));
 }
 
@@ -166,12 +166,12 @@ by_length acts passes any worst x y stays a p true e = by_acting acts passes any
 by_length acts passes any worst x y stays a p false e = by_passing acts passes any worst y stays p (λ q j. let l = a.longest q j in let m = ltb-false (length y) (length x) e in omega (arith, l, m))
 
 -- of two paths, if the second stays with the next line: the longer, and the second if they are equally long
-pub two_ways : (acts passes : List Item → Way → Type 0) (any worst : Way → List Item → Type 0) (acting passing : Found) →
+pub two_paths : (acts passes : List Item → Way → Type 0) (any worst : Way → List Item → Type 0) (acting passing : Found) →
     ((i : List Item) (n : Way) → passes i n → n ≡ Onward) → Worst acts any worst acting → Worst passes any worst passing → Worst (λ i n. acts i n ⊎ passes i n) any worst (longer passing acting)
-two_ways acts passes any worst None None stays a p = λ q j. ⊎_elim (λ h. a q h) (λ h. p q h) (split_ways q j)
-two_ways acts passes any worst (Some x) None stays a p = by_acting acts passes any worst x a (λ q j. absurd (p q j))
-two_ways acts passes any worst None (Some y) stays a p = by_passing acts passes any worst y stays p (λ q j. absurd (a q j))
-two_ways acts passes any worst (Some x) (Some y) stays a p = by_length acts passes any worst x y stays a p (ltb (length y) (length x)) refl
+two_paths acts passes any worst None None stays a p = λ q j. ⊎_elim (λ h. a q h) (λ h. p q h) (split_paths q j)
+two_paths acts passes any worst (Some x) None stays a p = by_acting acts passes any worst x a (λ q j. absurd (p q j))
+two_paths acts passes any worst None (Some y) stays a p = by_passing acts passes any worst y stays p (λ q j. absurd (a q j))
+two_paths acts passes any worst (Some x) (Some y) stays a p = by_length acts passes any worst x y stays a p (ltb (length y) (length x)) refl
 
 -- a conditional: it acts, or it goes on to the next line
 abbrev pub conditional : Condition → (List Item → Way → Type 0) → (List Item → Way → Type 0) → List Item → Way → Type 0
@@ -180,8 +180,8 @@ conditional condition acts passes items next = MayAct condition (acts items next
 pub by_condition : (condition : Condition) (acts passes : List Item → Way → Type 0) (any worst : Way → List Item → Type 0) (acting passing : Found) →
     ((i : List Item) (n : Way) → passes i n → n ≡ Onward) → Worst acts any worst acting → Worst passes any worst passing → Worst (conditional condition acts passes) any worst (chosen condition acting passing)
 by_condition Always acts passes any worst acting passing stays a p = a
-by_condition IfTrue acts passes any worst acting passing stays a p = two_ways acts passes any worst acting passing stays a p
-by_condition IfFalse acts passes any worst acting passing stays a p = two_ways acts passes any worst acting passing stays a p
+by_condition IfTrue acts passes any worst acting passing stays a p = two_paths acts passes any worst acting passing stays a p
+by_condition IfFalse acts passes any worst acting passing stays a p = two_paths acts passes any worst acting passing stays a p
 
 -- exactly these items and this path
 pub exactly : (any worst : Way → List Item → Type 0) (items : List Item) (next : Way) (found : Found) → WorstFrom any worst next found → Worst (GoesOn items next) any worst (prefixed items found)

@@ -3,7 +3,7 @@ use Rattle.std.proofs.Common.{◌≡◌, ℕ, suc, zero, ◌≤◌, List, [], �
 use Rattle.std.specs.Prelude.{IfSome, slice_get}
 use Rattle.std.proofs.lemmas.List.{append-nil}
 use Rattle.wc_laws_language.specs.Laws.{AUnitHasOneBound, ThePrintedBoundIsThePrograms}
-use Rattle.wc_model.specs.Language.Checks.{spots_behind}
+use Rattle.wc_model.specs.Language.Checks.{positions_after}
 use Rattle.wc_model.specs.Language.Paths.{IsLongest, IsBoundOfLast}
 use Rattle.wc_model.specs.Language.Scopes.{Scope}
 use Rattle.wc_model.specs.Language.Tree.{ProgramUnit}
@@ -28,7 +28,7 @@ one_last (program ∷ before) m n one other = one_bound (record { before = befor
 
 -- the bound at the last place, after units that come before
 pub last_bound : (before units : List ProgramUnit) (place n : ℕ) → length units ≡ suc place
-    → IfSome (slice_get (spots_behind before units) place) (λ spot. IsBoundOf spot n) → IsBoundOfLast (reverse units ++ before) n
+    → IfSome (slice_get (positions_after before units) place) (λ position. IsBoundOf position n) → IsBoundOfLast (reverse units ++ before) n
 last_bound before [] place n long bound = absurd (omega (arith, long))
 last_bound before (unit ∷ []) zero n long bound = bound
 last_bound before (unit ∷ []) (suc place) n long bound = absurd (omega (arith, long))

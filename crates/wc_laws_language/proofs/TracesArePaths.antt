@@ -1,7 +1,7 @@
 -- The trace of a meaning is a path: what a run executes, some path through the conditionals executes.
 use Rattle.std.proofs.Common.{◌≡◌, ℕ, Bool, true, false, List, [], ◌∷◌, ◌++◌, map, Option, Some, None, Result, Ok, Err, refl, sym, subst, ◌⊎◌, inl, inr}
 use Rattle.wc_model.specs.Language.Declarations.{VariableType, Elementary, Standard, Block, same_name, members_of}
-use Rattle.wc_model.specs.Language.Meaning.{Outcome, Done, Stuck, Mode, Running, Seeking, Returned, Effect, Goes, Fails, Context, means, at_end, arriving, carries, after, continued, given, from_value, from_store, acts, chosen, stored, set_where, store_effect, next, call_trace, given_out, made, body_outcome, called_type, call_effect, step_effect, line_effect, closed, opened, nested_effect, assigned, value_of, written_to, beside, called, body_means, program_means}
+use Rattle.wc_model.specs.Language.Meaning.{Outcome, Done, Stuck, Mode, Running, Seeking, Returned, Effect, Goes, Fails, Context, means, at_end, arriving, carries, after, continued, given, from_value, from_store, acts, chosen, stored, set_where, store_effect, next, call_trace, given_out, made, body_outcome, called_type, call_effect, step_effect, line_effect, closed, opened, nested_effect, assigned, value_of, written_to, alongside, called, body_means, program_means}
 use Rattle.wc_model.specs.Language.BlockCalls.{standard_called}
 use Rattle.wc_model.specs.Language.Names.{Name}
 use Rattle.wc_model.specs.Language.Operators.{apply, negated}
@@ -137,8 +137,8 @@ step_is block_path here known line (Load false operand) result store = from_valu
 step_is block_path here known line (Load true operand) result store = from_value_is (OneLine line) (value_of here store operand) (λ value. from_value (negated value) (next line store)) (λ value. from_value_is (OneLine line) (negated value) (next line store) (λ v. (refl, refl)))
 step_is block_path here known line (StoreStep storing target) result store = given_is (OneLine line) result (store_effect here line store storing target) (λ value. store_is here line store storing target value)
 step_is block_path here known line (Apply operator operand) result store =
-    given_is (OneLine line) result (λ a. from_value (value_of here store (beside operator a operand)) (λ b. from_value (apply operator a b) (next line store)))
-    (λ a. from_value_is (OneLine line) (value_of here store (beside operator a operand)) (λ b. from_value (apply operator a b) (next line store)) (λ b. from_value_is (OneLine line) (apply operator a b) (next line store) (λ v. (refl, refl))))
+    given_is (OneLine line) result (λ a. from_value (value_of here store (alongside operator a operand)) (λ b. from_value (apply operator a b) (next line store)))
+    (λ a. from_value_is (OneLine line) (value_of here store (alongside operator a operand)) (λ b. from_value (apply operator a b) (next line store)) (λ b. from_value_is (OneLine line) (apply operator a b) (next line store) (λ v. (refl, refl))))
 step_is block_path here known line Negate result store = given_is (OneLine line) result (λ value. from_value (negated value) (next line store)) (λ value. from_value_is (OneLine line) (negated value) (next line store) (λ v. (refl, refl)))
 step_is block_path here known line (Jump condition label) result store =
     chosen_is condition result (Goes (Seeking label result) store (At line ∷ [])) (Goes (Running result) store (At line ∷ [])) (GoesOn (At line ∷ []) (Toward label)) (OneLine line) (refl, refl) (refl, refl)

@@ -5,7 +5,7 @@ use Rattle.wc_laws_language.proofs.Longest.{Found, WorstFrom, best_path, best_pa
 use Rattle.wc_laws_language.proofs.TracesArePaths.{TraceIs, program_trace_is_path}
 use Rattle.wc_laws_language.specs.Laws.{HasABound, EachLoadedUnitHasABound}
 use Rattle.wc_model.specs.Language.BodyRules.{text_body_checks}
-use Rattle.wc_model.specs.Language.Checks.{Spot, spots_behind}
+use Rattle.wc_model.specs.Language.Checks.{Position, positions_after}
 use Rattle.wc_model.specs.Language.Faults.{MOST_STEPS, FirstTooLong, IsShortEnough}
 use Rattle.wc_model.specs.Language.Meaning.{Outcome, Done, Stuck, program_means}
 use Rattle.wc_model.specs.Language.Paths.{Onward, IsPath, IsLongest}
@@ -42,27 +42,27 @@ clean_is_bounded before unit clean =
     longest_there scope there.0 there.1 (best_path scope) (best_path_is_worst scope)
 
 -- a longest path is within the limit if each path is
-within_limit : (spot : Spot ProgramUnit) (n : ℕ) → IsLongest (record { before = spot.before; unit = spot.item }) n → IsShortEnough spot → n ≤ MOST_STEPS
-within_limit spot n longest short = subst (λ (m : ℕ). m ≤ MOST_STEPS) longest.reached (short longest.path longest.is_path)
+within_limit : (position : Position ProgramUnit) (n : ℕ) → IsLongest (record { before = position.before; unit = position.item }) n → IsShortEnough position → n ≤ MOST_STEPS
+within_limit position n longest short = subst (λ (m : ℕ). m ≤ MOST_STEPS) longest.reached (short longest.path longest.is_path)
 
 -- if no unit is too long, the first is not, and no other is
-none_too_long : (spot : Spot ProgramUnit) (spots : List (Spot ProgramUnit)) → FirstTooLong (spot ∷ spots) None → IsShortEnough spot × FirstTooLong spots None
-none_too_long spot spots (inl long) = absurd (let e = long.1 in cc)
-none_too_long spot spots (inr short) = short
+none_too_long : (position : Position ProgramUnit) (positions : List (Position ProgramUnit)) → FirstTooLong (position ∷ positions) None → IsShortEnough position × FirstTooLong positions None
+none_too_long position positions (inl long) = absurd (let e = long.1 in cc)
+none_too_long position positions (inr short) = short
 
 -- the units after clean ones
-bounds_behind : (before units : List ProgramUnit) → Clean (flat_map rules_at (spots_behind before units)) → UnitsNestSimply units → AreClean before
-    → FirstTooLong (spots_behind before units) None → AllByRecursion HasABound (spots_behind before units)
-bounds_behind before [] clean simple earlier short = tt
-bounds_behind before (unit ∷ units) clean simple earlier short =
-    let spot : Spot ProgramUnit = record { before = before; item = unit; behind = units } in
-    let rest = flat_map rules_at (spots_behind (unit ∷ before) units) in
-    let own : AreClean (unit ∷ before) = (clean_first (rules_at spot) rest clean, simple.0, earlier) in
+bounds_after : (before units : List ProgramUnit) → Clean (flat_map rules_at (positions_after before units)) → UnitsNestSimply units → AreClean before
+    → FirstTooLong (positions_after before units) None → AllByRecursion HasABound (positions_after before units)
+bounds_after before [] clean simple earlier short = tt
+bounds_after before (unit ∷ units) clean simple earlier short =
+    let position : Position ProgramUnit = record { before = before; item = unit; following = units } in
+    let rest = flat_map rules_at (positions_after (unit ∷ before) units) in
+    let own : AreClean (unit ∷ before) = (clean_first (rules_at position) rest clean, simple.0, earlier) in
     let bounded = clean_is_bounded before unit own in
-    let costs = none_too_long spot (spots_behind (unit ∷ before) units) short in
-    ((bounded.0, bounded.1, within_limit spot bounded.0 bounded.1 costs.0), bounds_behind (unit ∷ before) units (clean_second (rules_at spot) rest clean) simple.1 own costs.1)
+    let costs = none_too_long position (positions_after (unit ∷ before) units) short in
+    ((bounded.0, bounded.1, within_limit position bounded.0 bounded.1 costs.0), bounds_after (unit ∷ before) units (clean_second (rules_at position) rest clean) simple.1 own costs.1)
 
 -- each unit of a loaded text has a bound
 pub bounds_of_loaded : EachLoadedUnitHasABound
 bounds_of_loaded bytes text loaded =
-    bounds_behind [] text (none_broken (text_body_checks text) loaded.bodies) (spelled_text_nests _ text loaded.read.spelled) tt loaded.costs
+    bounds_after [] text (none_broken (text_body_checks text) loaded.bodies) (spelled_text_nests _ text loaded.read.spelled) tt loaded.costs

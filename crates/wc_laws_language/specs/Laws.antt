@@ -1,7 +1,7 @@
 -- Statements about the definitions of the language.
 use Rattle.std.specs.Prelude.{◌≡◌, ℕ, suc, ◌≤◌, true, List, [], ◌∷◌, ◌↔◌, ◌⊎◌, length, Option, Some, None, ℤ}
 use Rattle.wc_model.specs.Language.Blocks.{RTrigFields, SrFields, RsFields, CtuFields, TonFields, TofFields, TpFields, r_trig_step, sr_step, rs_step, ctu_step, ton_step, tof_step, tp_step}
-use Rattle.wc_model.specs.Language.Checks.{Check, Refusal, Spot, IsFirstBroken, first_broken, spots_of}
+use Rattle.wc_model.specs.Language.Checks.{Check, Refusal, Position, IsFirstBroken, first_broken, positions_of}
 use Rattle.wc_model.specs.Language.Faults.{MOST_STEPS}
 use Rattle.wc_model.specs.Language.Histories.{SrCall, RsCall, CtuCall, TimerCall, FitsRTrig, FitsSr, FitsRs, FitsCtu, FitsTon, FitsTof, FitsTp}
 use Rattle.wc_model.specs.Language.Loading.{IsLoaded}
@@ -99,12 +99,12 @@ abbrev pub EachUnitHasAWorstPath : Type 0
 EachUnitHasAWorstPath = (scope : Scope) → ((path : List Item) × IsWorstPath scope path) ⊎ ((path : List Item) → IsPath scope path → ⊥)
 
 -- a unit has a longest path, which is within the limit
-abbrev pub HasABound : Spot ProgramUnit → Type 0
-HasABound spot = (bound : ℕ) × IsBoundOf spot bound × (bound ≤ MOST_STEPS)
+abbrev pub HasABound : Position ProgramUnit → Type 0
+HasABound position = (bound : ℕ) × IsBoundOf position bound × (bound ≤ MOST_STEPS)
 
 -- each unit of a text that is loaded has a bound, whether another calls it or none
 abbrev pub EachLoadedUnitHasABound : Type 0
-EachLoadedUnitHasABound = (bytes : List ℕ) (text : Text) → IsLoaded bytes text → AllByRecursion HasABound (spots_of text)
+EachLoadedUnitHasABound = (bytes : List ℕ) (text : Text) → IsLoaded bytes text → AllByRecursion HasABound (positions_of text)
 
 -- a unit has one bound at most
 abbrev pub AUnitHasOneBound : Type 0

@@ -21,20 +21,20 @@ pub read_has_no_token_fault : (bytes : List ℕ) (text : Text) (number line : �
 read_has_no_token_fault bytes text number line read fault = cut_has_no_fault bytes read.tokens number line read.short read.cut fault
 
 -- nor have those that are misread
-pub misread_has_no_token_fault : (bytes : List ℕ) (met : ReadingFault) (at number line : ℕ) → IsMisread bytes met at → IsFirstTokenFault bytes number line → ⊥
-misread_has_no_token_fault bytes met at number line misread fault =
+pub misread_has_no_token_fault : (bytes : List ℕ) (raised : ReadingFault) (at number line : ℕ) → IsMisread bytes raised at → IsFirstTokenFault bytes number line → ⊥
+misread_has_no_token_fault bytes raised at number line misread fault =
     cut_has_no_fault bytes misread.tokens number line misread.short misread.cut fault
 
 -- bytes that are read are not misread
-pub read_is_not_misread : (bytes : List ℕ) (text : Text) (met : ReadingFault) (line : ℕ) → IsRead bytes text → IsMisread bytes met line → ⊥
-read_is_not_misread bytes text met line read misread =
+pub read_is_not_misread : (bytes : List ℕ) (text : Text) (raised : ReadingFault) (line : ℕ) → IsRead bytes text → IsMisread bytes raised line → ⊥
+read_is_not_misread bytes text raised line read misread =
     let same = cut_is_unique bytes read.tokens misread.tokens read.cut misread.cut in
-    fault_spells_nothing (map mark_of_token misread.tokens) (last_line bytes) line met text misread.first
+    fault_spells_nothing (map mark_of_token misread.tokens) (last_line bytes) line raised text misread.first
     (subst (λ (tokens : List Token). Spells (map mark_of_token tokens) text) same read.spelled) read.within_limits
 
 -- bytes are misread by one fault, on one line
-pub one_misread : (bytes : List ℕ) (met other : ReadingFault) (line place : ℕ) → IsMisread bytes met line → IsMisread bytes other place → (met ≡ other) × (line ≡ place)
-one_misread bytes met other line place a b =
+pub one_misread : (bytes : List ℕ) (raised other : ReadingFault) (line place : ℕ) → IsMisread bytes raised line → IsMisread bytes other place → (raised ≡ other) × (line ≡ place)
+one_misread bytes raised other line place a b =
     let same = cut_is_unique bytes b.tokens a.tokens b.cut a.cut in
-    one_first_fault (map mark_of_token a.tokens) (last_line bytes) line place met other a.first
+    one_first_fault (map mark_of_token a.tokens) (last_line bytes) line place raised other a.first
     (subst (λ (tokens : List Token). IsFirstReadingFault (map mark_of_token tokens) (last_line bytes) other place) same b.first)

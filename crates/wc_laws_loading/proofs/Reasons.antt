@@ -2,7 +2,7 @@
 use Rattle.std.proofs.Common.{◌≡◌, ℕ, List, Option, Some, None, ◌⊎◌, inl, inr, ap, subst, sym, ◌∙◌}
 use Rattle.wc_laws_loading.proofs.Costs.{one_cost}
 use Rattle.wc_laws_loading.proofs.ReadOnce.{misread_has_no_token_fault, one_misread, one_read, read_has_no_token_fault, read_is_not_misread}
-use Rattle.wc_model.specs.Language.Checks.{Refusal, spots_of}
+use Rattle.wc_model.specs.Language.Checks.{Refusal, positions_of}
 use Rattle.wc_model.specs.Language.Faults.{IsCostFault, body_fault, declaration_fault}
 use Rattle.wc_model.specs.Language.Loading.{IsRefused, at_bodies, at_costs, at_declarations, at_reading, at_tokens}
 use Rattle.wc_model.specs.Language.Tree.{Text}
@@ -28,7 +28,7 @@ one_body_or_cost : (text : Text) (refusal other : Refusal) → IsBodyOrCost text
 one_body_or_cost text refusal other (inl a) (inl b) = sym a ∙ b
 one_body_or_cost text refusal other (inl a) (inr b) = absurd (some_or_none (body_fault text) refusal a b.0)
 one_body_or_cost text refusal other (inr a) (inl b) = absurd (some_or_none (body_fault text) other b a.0)
-one_body_or_cost text refusal other (inr a) (inr b) = one_cost (spots_of text) (Some refusal) (Some other) a.1 b.1
+one_body_or_cost text refusal other (inr a) (inr b) = one_cost (positions_of text) (Some refusal) (Some other) a.1 b.1
 
 -- so have the passes after reading
 pub one_later : (text : Text) (refusal other : Refusal) → IsLater text refusal → IsLater text other → Some refusal ≡ Some other
@@ -38,25 +38,25 @@ one_later text refusal other (inr a) (inl b) = absurd (some_or_none (declaration
 one_later text refusal other (inr a) (inr b) = one_body_or_cost text refusal other a.1 b.1
 
 -- a text that no later pass refuses has no fault of the last two
-none_behind : (text : Text) (refusal : Refusal) → body_fault text ≡ None → IsCostFault text None → IsBodyOrCost text refusal → ⊥
-none_behind text refusal bodies costs (inl found) = some_or_none (body_fault text) refusal found bodies
-none_behind text refusal bodies costs (inr found) = let e = one_cost (spots_of text) (Some refusal) None found.1 costs in cc
+none_after : (text : Text) (refusal : Refusal) → body_fault text ≡ None → IsCostFault text None → IsBodyOrCost text refusal → ⊥
+none_after text refusal bodies costs (inl found) = some_or_none (body_fault text) refusal found bodies
+none_after text refusal bodies costs (inr found) = let e = one_cost (positions_of text) (Some refusal) None found.1 costs in cc
 
 -- nor of any after reading
 pub none_later : (text : Text) (refusal : Refusal) → declaration_fault text ≡ None → body_fault text ≡ None → IsCostFault text None → IsLater text refusal → ⊥
 none_later text refusal declarations bodies costs (inl found) = some_or_none (declaration_fault text) refusal found declarations
-none_later text refusal declarations bodies costs (inr found) = none_behind text refusal bodies costs found.1
+none_later text refusal declarations bodies costs (inr found) = none_after text refusal bodies costs found.1
 
 -- why bytes are refused, in three cases
 pub data Reason (bytes : List ℕ) (number line : ℕ) : Type 0 where
   ByTokens : IsFirstTokenFault bytes number line → Reason bytes number line
-  ByReading : (met : ReadingFault) → number ≡ number_of met → IsMisread bytes met line → Reason bytes number line
+  ByReading : (raised : ReadingFault) → number ≡ number_of raised → IsMisread bytes raised line → Reason bytes number line
   ByText : (text : Text) → IsRead bytes text → IsLater text (record { number = number; line = line }) → Reason bytes number line
 
 -- each refusal is one of them
 pub reason_of : (bytes : List ℕ) (number line : ℕ) → IsRefused bytes number line → Reason bytes number line
 reason_of bytes number line (at_tokens fault) = ByTokens fault
-reason_of bytes number line (at_reading met is misread) = ByReading met is misread
+reason_of bytes number line (at_reading raised is misread) = ByReading raised is misread
 reason_of bytes number line (at_declarations text read found) = ByText text read (inl found)
 reason_of bytes number line (at_bodies text read none found) = ByText text read (inr (none, inl found))
 reason_of bytes number line (at_costs text read none no_body found) = ByText text read (inr (none, inr (no_body, found)))
@@ -81,15 +81,15 @@ parts_of number line other place e = (ap number_in e, ap line_in e)
 -- two reasons have one number and one line
 pub one_reason : (bytes : List ℕ) (number line other place : ℕ) → Reason bytes number line → Reason bytes other place → (number ≡ other) × (line ≡ place)
 one_reason bytes number line other place (ByTokens a) (ByTokens b) = first_fault_is_unique bytes number line other place a b
-one_reason bytes number line other place (ByTokens a) (ByReading met is b) = absurd (misread_has_no_token_fault bytes met place number line b a)
+one_reason bytes number line other place (ByTokens a) (ByReading raised is b) = absurd (misread_has_no_token_fault bytes raised place number line b a)
 one_reason bytes number line other place (ByTokens a) (ByText text read b) = absurd (read_has_no_token_fault bytes text number line read a)
-one_reason bytes number line other place (ByReading met is a) (ByTokens b) = absurd (misread_has_no_token_fault bytes met line other place a b)
-one_reason bytes number line other place (ByReading met is a) (ByReading met_there is_there b) =
-    let same = one_misread bytes met met_there line place a b in
+one_reason bytes number line other place (ByReading raised is a) (ByTokens b) = absurd (misread_has_no_token_fault bytes raised line other place a b)
+one_reason bytes number line other place (ByReading raised is a) (ByReading raised_there is_there b) =
+    let same = one_misread bytes raised raised_there line place a b in
     (is ∙ ap number_of same.0 ∙ sym is_there, same.1)
-one_reason bytes number line other place (ByReading met is a) (ByText text read b) = absurd (read_is_not_misread bytes text met line read a)
+one_reason bytes number line other place (ByReading raised is a) (ByText text read b) = absurd (read_is_not_misread bytes text raised line read a)
 one_reason bytes number line other place (ByText text read a) (ByTokens b) = absurd (read_has_no_token_fault bytes text other place read b)
-one_reason bytes number line other place (ByText text read a) (ByReading met is b) = absurd (read_is_not_misread bytes text met place read b)
+one_reason bytes number line other place (ByText text read a) (ByReading raised is b) = absurd (read_is_not_misread bytes text raised place read b)
 one_reason bytes number line other place (ByText text read a) (ByText text_there read_there b) =
     parts_of number line other place (one_later text (record { number = number; line = line }) (record { number = other; line = place }) a
     (subst (λ (t : Text). IsLater t (record { number = other; line = place })) (one_read bytes text_there text read_there read) b))

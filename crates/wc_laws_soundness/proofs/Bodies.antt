@@ -4,7 +4,7 @@ use Rattle.std.specs.List.{list_all}
 use Rattle.std.specs.Prelude.{if◌then◌else◌}
 use Rattle.wc_model.specs.Language.BodyRules.{takes, divides, is_ahead, step_rules, opening_operand_checks, is_no_instance, opening_checks, closing_checks, inside_rules, result_checks}
 use Rattle.wc_model.specs.Language.Checks.{Check, asks}
-use Rattle.wc_model.specs.Language.Kinds.{same_result, term_kind, kind_after_operator, kind_after_step, BodyLine, PlainLine, label_of, kind_after, leaves, jumps_to, Known, kinds_from_jumps, kinds_from_label, kinds_from_above, ways_in, agreed, known_kinds, kind_at, opening_kind, kind_behind}
+use Rattle.wc_model.specs.Language.Kinds.{same_result, term_kind, kind_after_operator, kind_after_step, BodyLine, PlainLine, label_of, kind_after, leaves, jumps_to, Known, kinds_from_jumps, kinds_from_label, kinds_from_above, edges_in, agreed, known_kinds, kind_at, opening_kind, kind_following}
 use Rattle.wc_model.specs.Language.Meaning.{Outcome, Done, Stuck, Mode, Running, Seeking, Returned, Effect, Goes, Fails, Context, arriving, carries, after, continued, step_effect, closed, opened, nested_effect, means}
 use Rattle.wc_model.specs.Language.Names.{Name}
 use Rattle.wc_model.specs.Language.Operators.{apply}
@@ -27,17 +27,17 @@ use Rattle.wc_laws_soundness.specs.Sound.{Clean, Agrees, GoesWell, EndsWell, ste
 use Rattle.wc_laws_soundness.specs.Typing.{SameSlots, FitsScope}
 
 -- each step
-pub step_goes : (here : Context) (store : Store) → FitsScope store here.instance here.scope → CallsEndWell here.scope.before here.calls → (line : ℕ) (step : Step) (behind : List BodyLine) (kind : Option Kind) (result : Option Value) → Agrees kind result → Clean (step_rules here.scope line step behind kind) → GoesWell (LeadsTo here.scope step behind kind) store (step_effect here line step result store)
-step_goes here store fits calls line (Load negation operand) behind kind result a c = load_goes here store fits line negation operand behind kind result c
-step_goes here store fits calls line (StoreStep StoreResult target) behind kind result a c = store_result_goes here store fits line target behind kind result a c
-step_goes here store fits calls line (StoreStep Negation target) behind kind result a c = store_truth_goes here store fits line Negation target behind kind result c.1.1.1.0 a c
-step_goes here store fits calls line (StoreStep Set target) behind kind result a c = store_truth_goes here store fits line Set target behind kind result c.1.1.1.0 a c
-step_goes here store fits calls line (StoreStep Reset target) behind kind result a c = store_truth_goes here store fits line Reset target behind kind result c.1.1.1.0 a c
-step_goes here store fits calls line (Apply operator operand) behind kind result a c = apply_goes here store fits line operator operand behind kind result a c
-step_goes here store fits calls line Negate behind kind result a c = not_goes here store line behind kind result a c
-step_goes here store fits calls line (Jump condition label) behind kind result a c = jump_goes here store line condition label behind kind result a c.0 c.1
-step_goes here store fits calls line (Call condition instance arguments) behind kind result a c = call_goes here store fits calls line condition instance arguments behind kind result a c
-step_goes here store fits calls line (Return condition) behind kind result a c = return_goes here store line condition behind kind result a c
+pub step_goes : (here : Context) (store : Store) → FitsScope store here.instance here.scope → CallsEndWell here.scope.before here.calls → (line : ℕ) (step : Step) (following : List BodyLine) (kind : Option Kind) (result : Option Value) → Agrees kind result → Clean (step_rules here.scope line step following kind) → GoesWell (LeadsTo here.scope step following kind) store (step_effect here line step result store)
+step_goes here store fits calls line (Load negation operand) following kind result a c = load_goes here store fits line negation operand following kind result c
+step_goes here store fits calls line (StoreStep StoreResult target) following kind result a c = store_result_goes here store fits line target following kind result a c
+step_goes here store fits calls line (StoreStep Negation target) following kind result a c = store_truth_goes here store fits line Negation target following kind result c.1.1.1.0 a c
+step_goes here store fits calls line (StoreStep Set target) following kind result a c = store_truth_goes here store fits line Set target following kind result c.1.1.1.0 a c
+step_goes here store fits calls line (StoreStep Reset target) following kind result a c = store_truth_goes here store fits line Reset target following kind result c.1.1.1.0 a c
+step_goes here store fits calls line (Apply operator operand) following kind result a c = apply_goes here store fits line operator operand following kind result a c
+step_goes here store fits calls line Negate following kind result a c = not_goes here store line following kind result a c
+step_goes here store fits calls line (Jump condition label) following kind result a c = jump_goes here store line condition label following kind result a c.0 c.1
+step_goes here store fits calls line (Call condition instance arguments) following kind result a c = call_goes here store fits calls line condition instance arguments following kind result a c
+step_goes here store fits calls line (Return condition) following kind result a c = return_goes here store line condition following kind result a c
 
 -- a simple step is neither a jump nor a return
 pub simple_no_jump : (step : Step) (label : Name) → is_simple step ≡ true → step_jumps_to step label ≡ true → ⊥
@@ -49,11 +49,11 @@ simple_no_return (Load negated operand) s j = cc
 simple_no_return other s j = cc
 
 -- a simple step goes to the next line
-pub simple_stays : (scope : Scope) (step : Step) (behind : List BodyLine) (kind : Option Kind) (store : Store) (e : Effect) → is_simple step ≡ true → GoesWell (LeadsTo scope step behind kind) store e → GoesWell (InsideMode (kind_after_step scope step kind)) store e
-simple_stays scope step behind kind store (Fails reason) s h = h
-simple_stays scope step behind kind store (Goes (Running result) new items) s h = (h.0.0, h.1)
-simple_stays scope step behind kind store (Goes (Seeking label result) new items) s h = absurd (simple_no_jump step label s h.0.0)
-simple_stays scope step behind kind store (Goes (Returned result) new items) s h = absurd (simple_no_return step s h.0)
+pub simple_stays : (scope : Scope) (step : Step) (following : List BodyLine) (kind : Option Kind) (store : Store) (e : Effect) → is_simple step ≡ true → GoesWell (LeadsTo scope step following kind) store e → GoesWell (InsideMode (kind_after_step scope step kind)) store e
+simple_stays scope step following kind store (Fails reason) s h = h
+simple_stays scope step following kind store (Goes (Running result) new items) s h = (h.0.0, h.1)
+simple_stays scope step following kind store (Goes (Seeking label result) new items) s h = absurd (simple_no_jump step label s h.0.0)
+simple_stays scope step following kind store (Goes (Returned result) new items) s h = absurd (simple_no_return step s h.0)
 
 -- an effect that goes well, and then what ends well
 pub continued_ends : (P : Mode → Type 0) (Q : Option Value → Type 0) (store : Store) (e : Effect) (go : Mode → Store → Outcome) → GoesWell P store e → ((mode : Mode) (new : Store) → P mode → SameSlots store new → EndsWell Q new (go mode new)) → EndsWell Q store (continued e go)
@@ -89,7 +89,7 @@ opened_ends here store fits line (Some operand) inside Q c n h =
 
 -- a parenthesis, if the lines inside end well
 pub nested_goes : (here : Context) (store : Store) → FitsScope store here.instance here.scope → (line close : ℕ) (operator : Operator) (operand : Option Term) (inside : Mode → Store → Outcome) (inner_kind : Option Kind) (kind : Option Kind) (result : Option Value) → Agrees kind result → Clean (opening_checks here.scope line operator operand kind) → Clean (closing_checks close kind inner_kind) → ((start : Option Value) → Agrees (opening_kind here.scope operand) start → EndsWell (Agrees inner_kind) store (inside (Running start) store)) → GoesWell (InsideMode (kind_after_operator operator kind)) store (nested_effect here line operator operand close inside (Running result) store)
-nested_goes here store fits line close operator operand inside inner_kind kind result a c d h = by_kind kind result a reads judged d
+nested_goes here store fits line close operator operand inside inner_kind kind result a c d h = by_kind kind result a reads validated d
   where
     reads : Clean (opening_operand_checks here.scope line operand)
     reads = clean_first (opening_operand_checks here.scope line operand) (result_checks operator line kind) (clean_first (opening_operand_checks here.scope line operand ++ result_checks operator line kind) (asks 408 line (not (divides operator)) ∷ asks 402 line (is_no_instance here.scope operand) ∷ []) (regroup c))
@@ -97,19 +97,19 @@ nested_goes here store fits line close operator operand inside inner_kind kind r
         regroup : Clean (opening_checks here.scope line operator operand kind) → Clean ((opening_operand_checks here.scope line operand ++ result_checks operator line kind) ++ (asks 408 line (not (divides operator)) ∷ asks 402 line (is_no_instance here.scope operand) ∷ []))
         regroup x = x
 
-    judged : Clean (result_checks operator line kind) × Clean (asks 408 line (not (divides operator)) ∷ asks 402 line (is_no_instance here.scope operand) ∷ [])
-    judged = (clean_second (opening_operand_checks here.scope line operand) (result_checks operator line kind) (clean_first (opening_operand_checks here.scope line operand ++ result_checks operator line kind) (asks 408 line (not (divides operator)) ∷ asks 402 line (is_no_instance here.scope operand) ∷ []) c), clean_second (opening_operand_checks here.scope line operand ++ result_checks operator line kind) (asks 408 line (not (divides operator)) ∷ asks 402 line (is_no_instance here.scope operand) ∷ []) c)
+    validated : Clean (result_checks operator line kind) × Clean (asks 408 line (not (divides operator)) ∷ asks 402 line (is_no_instance here.scope operand) ∷ [])
+    validated = (clean_second (opening_operand_checks here.scope line operand) (result_checks operator line kind) (clean_first (opening_operand_checks here.scope line operand ++ result_checks operator line kind) (asks 408 line (not (divides operator)) ∷ asks 402 line (is_no_instance here.scope operand) ∷ []) c), clean_second (opening_operand_checks here.scope line operand ++ result_checks operator line kind) (asks 408 line (not (divides operator)) ∷ asks 402 line (is_no_instance here.scope operand) ∷ []) c)
 
     not-true : (b : Bool) → not b ≡ true → b ≡ false
     not-true true e = cc
     not-true false e = refl
 
     by_kind : (k : Option Kind) (r : Option Value) → Agrees k r → Clean (opening_operand_checks here.scope line operand) → Clean (result_checks operator line k) × Clean (asks 408 line (not (divides operator)) ∷ asks 402 line (is_no_instance here.scope operand) ∷ []) → Clean (closing_checks close k inner_kind) → GoesWell (InsideMode (kind_after_operator operator k)) store (nested_effect here line operator operand close inside (Running r) store)
-    by_kind None r a reads judged d = cc
-    by_kind (Some k) None a reads judged d = absurd a
-    by_kind (Some k) (Some value) a reads judged d =
-        closed_goes line close operator k value inner_kind store (opened here operand store inside) judged.0.1.0 (not-true (divides operator) judged.1.0) a (sym (same_result-sound (Some k) inner_kind d.1.0))
-        (opened_ends here store fits line operand inside (Agrees inner_kind) reads judged.1.1.0 h)
+    by_kind None r a reads validated d = cc
+    by_kind (Some k) None a reads validated d = absurd a
+    by_kind (Some k) (Some value) a reads validated d =
+        closed_goes line close operator k value inner_kind store (opened here operand store inside) validated.0.1.0 (not-true (divides operator) validated.1.0) a (sym (same_result-sound (Some k) inner_kind d.1.0))
+        (opened_ends here store fits line operand inside (Agrees inner_kind) reads validated.1.1.0 h)
 
 -- inside a parenthesis it goes on with the next line
 pub inside_onward : (k : Option Kind) (Q : Option Value → Type 0) (store : Store) (go : Mode → Store → Outcome) → ((result : Option Value) (new : Store) → Agrees k result → SameSlots store new → EndsWell Q new (go (Running result) new)) → (mode : Mode) (new : Store) → InsideMode k mode → SameSlots store new → EndsWell Q new (go mode new)
@@ -125,12 +125,12 @@ nested_parts a b c d h =
     (clean_first a b ab, clean_second a b ab, clean_second (a ++ b) c abc, clean_second ((a ++ b) ++ c) d h)
 
 -- the lines inside a parenthesis end well
-pub inside_ends : (here : Context) → CallsEndWell here.scope.before here.calls → (lines : Lines) (kind : Option Kind) (result : Option Value) (store : Store) → FitsScope store here.instance here.scope → IsSimple lines → Clean (inside_rules here.scope lines kind) → Agrees kind result → EndsWell (Agrees (kind_behind here.scope lines kind)) store (means here lines (Running result) store)
+pub inside_ends : (here : Context) → CallsEndWell here.scope.before here.calls → (lines : Lines) (kind : Option Kind) (result : Option Value) (store : Store) → FitsScope store here.instance here.scope → IsSimple lines → Clean (inside_rules here.scope lines kind) → Agrees kind result → EndsWell (Agrees (kind_following here.scope lines kind)) store (means here lines (Running result) store)
 inside_ends here calls End kind result store fits simple c a = (a, SameSlots-refl store)
 inside_ends here calls (Alone word rest) kind result store fits simple c a = inside_ends here calls rest kind result store fits simple c a
 inside_ends here calls (Plain label line step rest) kind result store fits simple c a =
     let k = kind_after_step here.scope step kind in
-    let Q = Agrees (kind_behind here.scope rest k) in
+    let Q = Agrees (kind_following here.scope rest k) in
     let rules = clean_second (step_rules here.scope line step [] kind) (inside_rules here.scope rest k) c in
     continued_ends (InsideMode k) Q store (step_effect here line step result store) (means here rest)
     (simple_stays here.scope step [] kind store (step_effect here line step result store) simple.0
@@ -138,30 +138,30 @@ inside_ends here calls (Plain label line step rest) kind result store fits simpl
     (inside_onward k Q store (means here rest) (λ r new ag same. inside_ends here calls rest k r new (FitsScope-same store new here.instance here.scope same fits) simple.1 rules ag))
 inside_ends here calls (Nested label line operator operand inside close rest) kind result store fits simple c a =
     let k = kind_after_operator operator kind in
-    let Q = Agrees (kind_behind here.scope rest k) in
-    let inner = kind_behind here.scope inside (opening_kind here.scope operand) in
+    let Q = Agrees (kind_following here.scope rest k) in
+    let inner = kind_following here.scope inside (opening_kind here.scope operand) in
     let parts = nested_parts (opening_checks here.scope line operator operand kind) (inside_rules here.scope inside (opening_kind here.scope operand)) (closing_checks close kind inner) (inside_rules here.scope rest k) c in
     continued_ends (InsideMode k) Q store (nested_effect here line operator operand close (means here inside) (Running result) store) (means here rest)
     (nested_goes here store fits line close operator operand (means here inside) inner kind result a parts.0 parts.2 (λ start ag. inside_ends here calls inside (opening_kind here.scope operand) start store fits simple.0 parts.1 ag))
     (inside_onward k Q store (means here rest) (λ r new ag same. inside_ends here calls rest k r new (FitsScope-same store new here.instance here.scope same fits) simple.1 parts.3 ag))
 
 -- the kind on which all incoming paths agree is that of each
-pub all-same : (k : Option Kind) (ways : List (Option Kind)) (way : Option Kind) → list_all (same_result k) ways ≡ true → IsAmong way ways → k ≡ way
+pub all-same : (k : Option Kind) (edges : List (Option Kind)) (way : Option Kind) → list_all (same_result k) edges ≡ true → IsAmong way edges → k ≡ way
 all-same k [] way e m = absurd m
-all-same k (w ∷ ways) way e m =
-    let both = both-true (same_result k w) (list_all (same_result k) ways) e in
-    ⊎_elim (λ h. same_result-sound k w both.0 ∙ h) (λ h. all-same k ways way both.1 h) m
+all-same k (w ∷ edges) way e m =
+    let both = both-true (same_result k w) (list_all (same_result k) edges) e in
+    ⊎_elim (λ h. same_result-sound k w both.0 ∙ h) (λ h. all-same k edges way both.1 h) m
 
-pub agreed-agrees : (ways : List (Option Kind)) (way : Option Kind) (result : Option Value) → IsAmong way ways → Agrees way result → Agrees (agreed ways) result
+pub agreed-agrees : (edges : List (Option Kind)) (way : Option Kind) (result : Option Value) → IsAmong way edges → Agrees way result → Agrees (agreed edges) result
 agreed-agrees [] way result m a = absurd m
-agreed-agrees (w ∷ ways) way result m a =
-    let step : (b : Bool) → list_all (same_result w) ways ≡ b → Agrees (if b then w else None) result =
+agreed-agrees (w ∷ edges) way result m a =
+    let step : (b : Bool) → list_all (same_result w) edges ≡ b → Agrees (if b then w else None) result =
     elim [
-      | true ↦ λ e. ⊎_elim (λ h. subst (λ (k : Option Kind). Agrees k result) (sym h) a) (λ h. subst (λ (k : Option Kind). Agrees k result) (sym (all-same w ways way e h)) a) m
+      | true ↦ λ e. ⊎_elim (λ h. subst (λ (k : Option Kind). Agrees k result) (sym h) a) (λ h. subst (λ (k : Option Kind). Agrees k result) (sym (all-same w edges way e h)) a) m
       | false ↦ λ e. tt
     ]
     in
-    step (list_all (same_result w) ways) refl
+    step (list_all (same_result w) edges) refl
 
 pub among_first : (k : Option Kind) (xs ys : List (Option Kind)) → IsAmong k xs → IsAmong k (xs ++ ys)
 among_first k [] ys m = absurd m
@@ -177,23 +177,23 @@ from_label None label earlier k c m = cc
 from_label (Some word) label earlier k c m = subst (λ (n : Name). IsAmong k (kinds_from_jumps n earlier)) (sym (same_name-sound word.name label c)) m
 
 -- a run arrives at a line
-pub arrives : (scope : Scope) (before : List BodyLine) (line : BodyLine) (behind : List BodyLine) (mode : Mode) → ModeFits scope (known_kinds scope before) (line ∷ behind) mode → ArrivedFits scope (known_kinds scope before) line behind (kind_at scope before line) (arriving (label_of line) mode)
-arrives scope before line behind (Running result) m = agreed-agrees (ways_in scope (known_kinds scope before) line) m.0 result (among_first m.0 (kinds_from_above scope (known_kinds scope before)) (kinds_from_label (label_of line) (known_kinds scope before)) (subst (λ (ks : List (Option Kind)). IsAmong m.0 ks) (sym m.1) (inl refl))) m.2
-arrives scope before line behind (Returned result) m = tt
-arrives scope before line behind (Seeking label result) m = go (carries (label_of line) label) refl m.3
+pub arrives : (scope : Scope) (before : List BodyLine) (line : BodyLine) (following : List BodyLine) (mode : Mode) → ModeFits scope (known_kinds scope before) (line ∷ following) mode → ArrivedFits scope (known_kinds scope before) line following (kind_at scope before line) (arriving (label_of line) mode)
+arrives scope before line following (Running result) m = agreed-agrees (edges_in scope (known_kinds scope before) line) m.0 result (among_first m.0 (kinds_from_above scope (known_kinds scope before)) (kinds_from_label (label_of line) (known_kinds scope before)) (subst (λ (ks : List (Option Kind)). IsAmong m.0 ks) (sym m.1) (inl refl))) m.2
+arrives scope before line following (Returned result) m = tt
+arrives scope before line following (Seeking label result) m = go (carries (label_of line) label) refl m.3
   where
-    go : (b : Bool) → carries (label_of line) label ≡ b → (b || is_ahead behind label) ≡ true → ArrivedFits scope (known_kinds scope before) line behind (kind_at scope before line) (if b then Running result else Seeking label result)
-    go true c e = agreed-agrees (ways_in scope (known_kinds scope before) line) m.0 result (among_second m.0 (kinds_from_above scope (known_kinds scope before)) (kinds_from_label (label_of line) (known_kinds scope before)) (from_label (label_of line) label (known_kinds scope before) m.0 c m.1)) m.2
+    go : (b : Bool) → carries (label_of line) label ≡ b → (b || is_ahead following label) ≡ true → ArrivedFits scope (known_kinds scope before) line following (kind_at scope before line) (if b then Running result else Seeking label result)
+    go true c e = agreed-agrees (edges_in scope (known_kinds scope before) line) m.0 result (among_second m.0 (kinds_from_above scope (known_kinds scope before)) (kinds_from_label (label_of line) (known_kinds scope before)) (from_label (label_of line) label (known_kinds scope before) m.0 c m.1)) m.2
     go false c e = (m.0, m.1, m.2, e, c)
 
 -- a run that looks for a label passes over a line that does not carry it
-pub passes_over : (scope : Scope) (earlier : List Known) (line : BodyLine) (behind : List BodyLine) (kind : Option Kind) (label : Name) (result : Option Value) → ArrivedFits scope earlier line behind kind (Seeking label result) → ModeFits scope (record { line = line; before = kind } ∷ earlier) behind (Seeking label result)
-passes_over scope earlier line behind kind label result m =
+pub passes_over : (scope : Scope) (earlier : List Known) (line : BodyLine) (following : List BodyLine) (kind : Option Kind) (label : Name) (result : Option Value) → ArrivedFits scope earlier line following kind (Seeking label result) → ModeFits scope (record { line = line; before = kind } ∷ earlier) following (Seeking label result)
+passes_over scope earlier line following kind label result m =
     (m.0, among_second m.0 (if jumps_to line label then kind ∷ [] else []) (if carries (label_of line) label then [] else kinds_from_jumps label earlier) (subst (λ b. IsAmong m.0 (if b then [] else kinds_from_jumps label earlier)) (sym m.4) m.1), m.2, m.3)
 
 -- a line that does not leave hands its result on
-pub hands_on : (scope : Scope) (earlier : List Known) (line : BodyLine) (behind : List BodyLine) (kind : Option Kind) (result : Option Value) → leaves line ≡ false → Agrees (kind_after scope line kind) result → ModeFits scope (record { line = line; before = kind } ∷ earlier) behind (Running result)
-hands_on scope earlier line behind kind result l a = (kind_after scope line kind, ap (λ b. if b then [] else kind_after scope line kind ∷ []) l, a)
+pub hands_on : (scope : Scope) (earlier : List Known) (line : BodyLine) (following : List BodyLine) (kind : Option Kind) (result : Option Value) → leaves line ≡ false → Agrees (kind_after scope line kind) result → ModeFits scope (record { line = line; before = kind } ∷ earlier) following (Running result)
+hands_on scope earlier line following kind result l a = (kind_after scope line kind, ap (λ b. if b then [] else kind_after scope line kind ∷ []) l, a)
 
 -- a jump brings its kind
 pub jump_line : (label : Option Word) (line : ℕ) (step : Step) (name : Name) → step_jumps_to step name ≡ true → jumps_to (PlainLine label line step) name ≡ true
@@ -206,8 +206,8 @@ jump_line label line (Call condition instance arguments) name j = cc
 jump_line label line (Return condition) name j = cc
 
 -- where a step leads fits the next line
-pub led_fits : (scope : Scope) (earlier : List Known) (label : Option Word) (line : ℕ) (step : Step) (behind : List BodyLine) (kind : Option Kind) (mode : Mode) → LeadsTo scope step behind kind mode → ModeFits scope (record { line = PlainLine label line step; before = kind } ∷ earlier) behind mode
-led_fits scope earlier label line step behind kind (Running result) h = hands_on scope earlier (PlainLine label line step) behind kind result h.1 h.0
-led_fits scope earlier label line step behind kind (Returned result) h = tt
-led_fits scope earlier label line step behind kind (Seeking name result) h =
+pub led_fits : (scope : Scope) (earlier : List Known) (label : Option Word) (line : ℕ) (step : Step) (following : List BodyLine) (kind : Option Kind) (mode : Mode) → LeadsTo scope step following kind mode → ModeFits scope (record { line = PlainLine label line step; before = kind } ∷ earlier) following mode
+led_fits scope earlier label line step following kind (Running result) h = hands_on scope earlier (PlainLine label line step) following kind result h.1 h.0
+led_fits scope earlier label line step following kind (Returned result) h = tt
+led_fits scope earlier label line step following kind (Seeking name result) h =
     (kind, among_first kind (if jumps_to (PlainLine label line step) name then kind ∷ [] else []) (if carries label name then [] else kinds_from_jumps name earlier) (subst (λ b. IsAmong kind (if b then kind ∷ [] else [])) (sym (jump_line label line step name h.0)) (inl refl)), h.1, h.2)

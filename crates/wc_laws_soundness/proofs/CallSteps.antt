@@ -3,7 +3,7 @@ use Rattle.std.proofs.Common.{◌≡◌, ℕ, Bool, true, false, not, ◌&&◌, 
 use Rattle.std.specs.List.{flat_map}
 use Rattle.std.specs.Prelude.{if◌then◌else◌, is_some}
 use Rattle.wc_model.specs.Language.BodyRules.{is_readable, is_writable, is_of, is_bit_literal, input_named, output_named, formal_named, suits_input, suits_output, actual_checks, argument_checks, members_called, call_checks, condition_checks, is_instance}
-use Rattle.wc_model.specs.Language.Checks.{Spot, spots_behind, spots_of}
+use Rattle.wc_model.specs.Language.Checks.{Position, positions_after, positions_of}
 use Rattle.wc_model.specs.Language.Declarations.{Variable, VariableType, Elementary, Standard, Block, Member, type_named, variable_named, members_of, member_named, block_named, named_in, elementary_types, standard_blocks, standard_type, block_type}
 use Rattle.wc_model.specs.Language.Kinds.{BodyLine, is_kind, elementary_kind, term_kind}
 use Rattle.wc_model.specs.Language.Meaning.{Outcome, Done, Stuck, Mode, Running, Goes, Fails, Context, value_of, input_kind, argument_term, assigned_input, assigned_one, assigned, given_one, given_out, written_to, call_trace, body_outcome, made, called_type, call_effect, step_effect}
@@ -23,7 +23,7 @@ use Rattle.wc_model.specs.declared.value.Value.{Value}
 use Rattle.wc_laws_soundness.proofs.Entities.{GivesKind, Writes, term_read, term_written, writable_is_stored, field_typed, found_member_name, elementary-is}
 use Rattle.wc_laws_soundness.proofs.Places.{SameSlots-refl, SameSlots-trans, FitsScope-same, Some-same, written-there, places_of, own_content, block_places-found}
 use Rattle.wc_laws_soundness.proofs.StandardCalls.{standard-safe, block_held}
-use Rattle.wc_laws_soundness.proofs.Steps.{clean_first, clean_second, some_of, is_of-sound, or-true, store_goes, beside_truth, chosen_goes}
+use Rattle.wc_laws_soundness.proofs.Steps.{clean_first, clean_second, some_of, is_of-sound, or-true, store_goes, alongside_truth, chosen_goes}
 use Rattle.wc_laws_soundness.specs.Sound.{Clean, Agrees, GoesWell, EndsWell, LeadsTo, CallsEndWell}
 use Rattle.wc_laws_soundness.specs.Typing.{slot_of_kind, slot_at, SameSlots, content_at, FitsScope}
 
@@ -57,7 +57,7 @@ pub argument_value : (here : Context) (store : Store) → FitsScope store here.i
 argument_value here store fits m term r s = go (elementary_kind m.type) refl s
   where
     plain : (kind : Kind) → (is_of (is_kind kind) (term_kind here.scope term) || (is_kind KindBool kind && is_bit_literal term)) ≡ true → GivesKind kind (value_of here store (argument_term (Elementary kind) term))
-    plain KindBool t = beside_truth here store fits term true r (⊎_elim (λ h. inl (is_of-sound KindBool (term_kind here.scope term) h)) (λ h. inr (refl, h)) (or-true (is_of (is_kind KindBool) (term_kind here.scope term)) (is_bit_literal term) t))
+    plain KindBool t = alongside_truth here store fits term true r (⊎_elim (λ h. inl (is_of-sound KindBool (term_kind here.scope term) h)) (λ h. inr (refl, h)) (or-true (is_of (is_kind KindBool) (term_kind here.scope term)) (is_bit_literal term) t))
     plain KindDint t = ⊎_elim (λ h. term_read here store fits term KindDint (is_of-sound KindDint (term_kind here.scope term) h) r) (λ h. absurd (cc)) (or-true (is_of (is_kind KindDint) (term_kind here.scope term)) false t)
     plain KindTime t = ⊎_elim (λ h. term_read here store fits term KindTime (is_of-sound KindTime (term_kind here.scope term) h) r) (λ h. absurd (cc)) (or-true (is_of (is_kind KindTime) (term_kind here.scope term)) false t)
 
@@ -127,13 +127,13 @@ written_more here store one others w go =
     )
 
 -- all inputs of a call's list are assigned, in order
-pub inputs_assigned : (here : Context) (instance : Name) (type : VariableType) → IsInstance here.scope instance type → (line : ℕ) (before arguments : List Assignment) (store : Store) → FitsScope store here.instance here.scope → Clean (flat_map (argument_checks here.scope line (members_of here.scope.before type)) (spots_behind before arguments)) → Writes store (assigned here (members_of here.scope.before type) instance (inputs_of arguments) store)
+pub inputs_assigned : (here : Context) (instance : Name) (type : VariableType) → IsInstance here.scope instance type → (line : ℕ) (before arguments : List Assignment) (store : Store) → FitsScope store here.instance here.scope → Clean (flat_map (argument_checks here.scope line (members_of here.scope.before type)) (positions_after before arguments)) → Writes store (assigned here (members_of here.scope.before type) instance (inputs_of arguments) store)
 inputs_assigned here instance type is line before [] store fits c = (store, refl, SameSlots-refl store)
 inputs_assigned here instance type is line before (argument ∷ arguments) store fits c =
     let members = members_of here.scope.before type in
-    let this : Spot Assignment = record { before = before; item = argument; behind = arguments } in
-    let first = clean_first (argument_checks here.scope line members this) (flat_map (argument_checks here.scope line members) (spots_behind (argument ∷ before) arguments)) c in
-    let rest = clean_second (argument_checks here.scope line members this) (flat_map (argument_checks here.scope line members) (spots_behind (argument ∷ before) arguments)) c in
+    let this : Position Assignment = record { before = before; item = argument; following = arguments } in
+    let first = clean_first (argument_checks here.scope line members this) (flat_map (argument_checks here.scope line members) (positions_after (argument ∷ before) arguments)) c in
+    let rest = clean_second (argument_checks here.scope line members this) (flat_map (argument_checks here.scope line members) (positions_after (argument ∷ before) arguments)) c in
     step argument.direction first.0 first.1.1
     (λ new same. inputs_assigned here instance type is line (argument ∷ before) arguments new (FitsScope-same store new here.instance here.scope same fits) rest)
   where
@@ -147,13 +147,13 @@ inputs_assigned here instance type is line before (argument ∷ arguments) store
     step OutOf named actual others = others store (SameSlots-refl store)
 
 -- all outputs of a call's list are given out, in order
-pub outputs_given : (here : Context) (instance : Name) (type : VariableType) → type_of here.scope instance ≡ Some type → (line : ℕ) (before arguments : List Assignment) (store : Store) → FitsScope store here.instance here.scope → Clean (flat_map (argument_checks here.scope line (members_of here.scope.before type)) (spots_behind before arguments)) → Writes store (given_out here instance (outputs_of arguments) store)
+pub outputs_given : (here : Context) (instance : Name) (type : VariableType) → type_of here.scope instance ≡ Some type → (line : ℕ) (before arguments : List Assignment) (store : Store) → FitsScope store here.instance here.scope → Clean (flat_map (argument_checks here.scope line (members_of here.scope.before type)) (positions_after before arguments)) → Writes store (given_out here instance (outputs_of arguments) store)
 outputs_given here instance type t line before [] store fits c = (store, refl, SameSlots-refl store)
 outputs_given here instance type t line before (argument ∷ arguments) store fits c =
     let members = members_of here.scope.before type in
-    let this : Spot Assignment = record { before = before; item = argument; behind = arguments } in
-    let first = clean_first (argument_checks here.scope line members this) (flat_map (argument_checks here.scope line members) (spots_behind (argument ∷ before) arguments)) c in
-    let rest = clean_second (argument_checks here.scope line members this) (flat_map (argument_checks here.scope line members) (spots_behind (argument ∷ before) arguments)) c in
+    let this : Position Assignment = record { before = before; item = argument; following = arguments } in
+    let first = clean_first (argument_checks here.scope line members this) (flat_map (argument_checks here.scope line members) (positions_after (argument ∷ before) arguments)) c in
+    let rest = clean_second (argument_checks here.scope line members this) (flat_map (argument_checks here.scope line members) (positions_after (argument ∷ before) arguments)) c in
     step argument.direction first.0 first.1.1
     (λ new same. outputs_given here instance type t line (argument ∷ before) arguments new (FitsScope-same store new here.instance here.scope same fits) rest)
   where
@@ -218,25 +218,25 @@ made_goes here instance P old store same (Done inner new trace) h line arguments
 made_goes here instance P old store same (Stuck reason) h line arguments result p outputs = h
 
 -- a call
-pub call_goes : (here : Context) (store : Store) → FitsScope store here.instance here.scope → CallsEndWell here.scope.before here.calls → (line : ℕ) (condition : Condition) (instance : Name) (arguments : List Assignment) (behind : List BodyLine) (kind : Option Kind) (result : Option Value) → Agrees kind result → Clean (call_checks here.scope line condition instance arguments kind) → GoesWell (LeadsTo here.scope (Call condition instance arguments) behind kind) store (step_effect here line (Call condition instance arguments) result store)
-call_goes here store fits calls line condition instance arguments behind kind result a c =
-    chosen_goes (LeadsTo here.scope (Call condition instance arguments) behind kind) store condition line kind result (call_effect here line instance arguments result store) (Goes (Running result) store (At line ∷ [])) a conditions called (λ n. ((a, refl), SameSlots-refl store))
+pub call_goes : (here : Context) (store : Store) → FitsScope store here.instance here.scope → CallsEndWell here.scope.before here.calls → (line : ℕ) (condition : Condition) (instance : Name) (arguments : List Assignment) (following : List BodyLine) (kind : Option Kind) (result : Option Value) → Agrees kind result → Clean (call_checks here.scope line condition instance arguments kind) → GoesWell (LeadsTo here.scope (Call condition instance arguments) following kind) store (step_effect here line (Call condition instance arguments) result store)
+call_goes here store fits calls line condition instance arguments following kind result a c =
+    chosen_goes (LeadsTo here.scope (Call condition instance arguments) following kind) store condition line kind result (call_effect here line instance arguments result store) (Goes (Running result) store (At line ∷ [])) a conditions called (λ n. ((a, refl), SameSlots-refl store))
   where
     conditions : Clean (condition_checks condition line kind)
-    conditions = clean_first (condition_checks condition line kind) (flat_map (argument_checks here.scope line (members_called here.scope (type_of here.scope instance))) (spots_of arguments)) c.1.1
+    conditions = clean_first (condition_checks condition line kind) (flat_map (argument_checks here.scope line (members_called here.scope (type_of here.scope instance))) (positions_of arguments)) c.1.1
 
-    checks : Clean (flat_map (argument_checks here.scope line (members_called here.scope (type_of here.scope instance))) (spots_of arguments))
-    checks = clean_second (condition_checks condition line kind) (flat_map (argument_checks here.scope line (members_called here.scope (type_of here.scope instance))) (spots_of arguments)) c.1.1
+    checks : Clean (flat_map (argument_checks here.scope line (members_called here.scope (type_of here.scope instance))) (positions_of arguments))
+    checks = clean_second (condition_checks condition line kind) (flat_map (argument_checks here.scope line (members_called here.scope (type_of here.scope instance))) (positions_of arguments)) c.1.1
 
-    typed : (t : Option VariableType) → type_of here.scope instance ≡ t → is_some t ≡ true → is_instance t ≡ true → Clean (flat_map (argument_checks here.scope line (members_called here.scope t)) (spots_of arguments)) → GoesWell (LeadsTo here.scope (Call condition instance arguments) behind kind) store (elim t [ Some type ↦ called_type here type line instance arguments result store | None ↦ Fails NoSuchPlace ])
+    typed : (t : Option VariableType) → type_of here.scope instance ≡ t → is_some t ≡ true → is_instance t ≡ true → Clean (flat_map (argument_checks here.scope line (members_called here.scope t)) (positions_of arguments)) → GoesWell (LeadsTo here.scope (Call condition instance arguments) following kind) store (elim t [ Some type ↦ called_type here type line instance arguments result store | None ↦ Fails NoSuchPlace ])
     typed None e s i r = cc
     typed (Some type) e s i r =
         let is = type_of-found here.scope instance type e in
         let w = inputs_assigned here instance type is line [] arguments store fits r in
         let outputs : (new : Store) → SameSlots w.0 new → Writes new (given_out here instance (outputs_of arguments) new)
         = λ new same. outputs_given here instance type e line [] arguments new (FitsScope-same store new here.instance here.scope (SameSlots-trans store w.0 new w.2 same) fits) r in
-        store_goes (LeadsTo here.scope (Call condition instance arguments) behind kind) store (assigned here (members_of here.scope.before type) instance (inputs_of arguments) store) (λ new. made here instance (body_outcome here type instance new) line arguments result) w.0 w.1
-        (made_goes here instance (LeadsTo here.scope (Call condition instance arguments) behind kind) store w.0 w.2 (body_outcome here type instance w.0) (body_ends here w.0 (FitsScope-same store w.0 here.instance here.scope w.2 fits) calls type instance i is) line arguments result (a, refl) outputs)
+        store_goes (LeadsTo here.scope (Call condition instance arguments) following kind) store (assigned here (members_of here.scope.before type) instance (inputs_of arguments) store) (λ new. made here instance (body_outcome here type instance new) line arguments result) w.0 w.1
+        (made_goes here instance (LeadsTo here.scope (Call condition instance arguments) following kind) store w.0 w.2 (body_outcome here type instance w.0) (body_ends here w.0 (FitsScope-same store w.0 here.instance here.scope w.2 fits) calls type instance i is) line arguments result (a, refl) outputs)
 
-    called : GoesWell (LeadsTo here.scope (Call condition instance arguments) behind kind) store (call_effect here line instance arguments result store)
+    called : GoesWell (LeadsTo here.scope (Call condition instance arguments) following kind) store (call_effect here line instance arguments result store)
     called = typed (type_of here.scope instance) refl c.0 c.1.0 checks

@@ -88,9 +88,9 @@ led_field before unit name (field ∷ []) v block lead found typed e = step (is_
         })
 
 -- what is led to from a block, after the name of its instance
-led_behind : (before : List ProgramUnit) (unit : ProgramUnit) (name : Name) (names : List Name) (v : Variable) (block : Name) (inner : ProgramUnit) (earlier : List ProgramUnit) (lead : Lead) → variable_named unit name ≡ Some v → type_named before v.type_name ≡ Some (Block block) → block_named before block ≡ Some (inner, earlier) → Led earlier inner names lead → lead_from names earlier inner ≡ Some lead → Led before unit (name ∷ names) lead
-led_behind before unit name [] v block inner earlier lead found typed named led e = cc
-led_behind before unit name (next ∷ names) v block inner earlier lead found typed named led e = record {
+led_after : (before : List ProgramUnit) (unit : ProgramUnit) (name : Name) (names : List Name) (v : Variable) (block : Name) (inner : ProgramUnit) (earlier : List ProgramUnit) (lead : Lead) → variable_named unit name ≡ Some v → type_named before v.type_name ≡ Some (Block block) → block_named before block ≡ Some (inner, earlier) → Led earlier inner names lead → lead_from names earlier inner ≡ Some lead → Led before unit (name ∷ names) lead
+led_after before unit name [] v block inner earlier lead found typed named led e = cc
+led_after before unit name (next ∷ names) v block inner earlier lead found typed named led e = record {
   content = led.content;
   there = own_content before unit name v (next ∷ names) led.content found
       (ap (λ t. content_at (variable_places (block_places before) t v.initial) (next ∷ names)) typed ∙ ap (λ places. content_at places (next ∷ names)) (block_places-found before block inner earlier named) ∙ led.there);
@@ -109,7 +109,7 @@ led_to (name ∷ names) before unit lead e = at_variable (variable_named unit na
     at_block : (v : Variable) (block : Name) (o : Option (ProgramUnit × List ProgramUnit)) → variable_named unit name ≡ Some v → type_named before v.type_name ≡ Some (Block block) → block_named before block ≡ o →
         (elim o [ Some found ↦ lead_from names found.1 found.0 | None ↦ None ]) ≡ Some lead → ((b : List ProgramUnit) (u : ProgramUnit) (l : Lead) → lead_from names b u ≡ Some l → Led b u names l) → Led before unit (name ∷ names) lead
     at_block v block None found typed named f onward = cc
-    at_block v block (Some (inner, earlier)) found typed named f onward = led_behind before unit name names v block inner earlier lead found typed named (onward earlier inner lead f) f
+    at_block v block (Some (inner, earlier)) found typed named f onward = led_after before unit name names v block inner earlier lead found typed named (onward earlier inner lead f) f
 
     at_type : (v : Variable) (t : Option VariableType) → variable_named unit name ≡ Some v → type_named before v.type_name ≡ t → lead_by (lead_from names) before t names ≡ Some lead → ((b : List ProgramUnit) (u : ProgramUnit) (l : Lead) → lead_from names b u ≡ Some l → Led b u names l) → Led before unit (name ∷ names) lead
     at_type v None found typed f onward = cc
@@ -145,11 +145,11 @@ record Ending (units : List ProgramUnit) : Type 0 where
 
 ends : (text : Text) → IsProgramLast text → Ending (reverse text)
 ends [] last = absurd last
-ends (unit ∷ units) last = subst Ending (turned unit units [] ∙ append-nil (reverse (unit ∷ units))) (front (reverse units))
+ends (unit ∷ units) last = subst Ending (turned unit units [] ∙ append-nil (reverse (unit ∷ units))) (prefix (reverse units))
   where
-    front : (us : List ProgramUnit) → Ending (us ++ unit ∷ [])
-    front [] = record { program = unit; before = []; are = refl }
-    front (u ∷ us) = record { program = u; before = us ++ unit ∷ []; are = refl }
+    prefix : (us : List ProgramUnit) → Ending (us ++ unit ∷ [])
+    prefix [] = record { program = unit; before = []; are = refl }
+    prefix (u ∷ us) = record { program = u; before = us ++ unit ∷ []; are = refl }
 
 -- what a place is, if the program and the units before it are known
 abbrev lead_at : List ProgramUnit → Location → Option Lead
@@ -310,8 +310,8 @@ one_of_text text instance block field = at (reverse text)
     at (program ∷ before) e = one_of instance before program block field e
 
 -- a field that keeps its value, and one next to it
-kept_beside : (old new : Text) (instance : List Name) (block : StandardBlock) (field other : Name) → lead_of new (Path (instance ++ field ∷ [])) ≡ Some (ToField block) → is_field block other ≡ true → keeps old new (Path (instance ++ field ∷ [])) ≡ true → keeps old new (Path (instance ++ other ∷ [])) ≡ true
-kept_beside old new instance block field other e is kept =
+kept_alongside : (old new : Text) (instance : List Name) (block : StandardBlock) (field other : Name) → lead_of new (Path (instance ++ field ∷ [])) ≡ Some (ToField block) → is_field block other ≡ true → keeps old new (Path (instance ++ field ∷ [])) ≡ true → keeps old new (Path (instance ++ other ∷ [])) ≡ true
+kept_alongside old new instance block field other e is kept =
     let k = kept_leads old new (Path (instance ++ field ∷ [])) kept in
     let same : Some k.lead ≡ Some (ToField block) = sym k.new_lead ∙ e in
     let from = (one_of_text old instance block field (k.old_lead ∙ same)).1 other is in
@@ -329,9 +329,9 @@ kept_whole old new store instance block field e = by (keeps old new (Path (insta
     never other false is there kept = refl
     never other true is there kept =
         let to = (one_of_text new instance block field e).1 other there in
-        let back = kept_beside old new instance block other field to (one_of_text new instance block field e).0 kept in
+        let back = kept_alongside old new instance block other field to (one_of_text new instance block field e).0 kept in
         sym back ∙ is
 
     by : (b : Bool) → keeps old new (Path (instance ++ field ∷ [])) ≡ b → HoldsTheSameFields (carried old store new) store instance block ⊎ HoldsTheSameFields (carried old store new) (initial_of new) instance block
-    by true is = inl (λ other there. carried_there old new store (Path (instance ++ other ∷ [])) true (kept_beside old new instance block field other e there is))
+    by true is = inl (λ other there. carried_there old new store (Path (instance ++ other ∷ [])) true (kept_alongside old new instance block field other e there is))
     by false is = inr (λ other there. carried_there old new store (Path (instance ++ other ∷ [])) false (never other (keeps old new (Path (instance ++ other ∷ []))) is there refl))

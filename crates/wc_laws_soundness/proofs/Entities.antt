@@ -20,7 +20,7 @@ use Rattle.wc_model.specs.declared.kind.Kind.TheVariants.{Bool as KindBool, Dint
 use Rattle.wc_model.specs.declared.kind.SlotKind.{SlotKind}
 use Rattle.wc_model.specs.declared.kind.SlotKind.TheVariants.{Bool as SlotBool, Dint as SlotDint, Time as SlotTime}
 use Rattle.wc_model.specs.declared.value.Value.{Value}
-use Rattle.wc_laws_soundness.proofs.Places.{value_there, written-there, content_at-below, content_at-beside, Some-same, places_of, own_content, first_content-slot, plain_slot, block_places-found}
+use Rattle.wc_laws_soundness.proofs.Places.{value_there, written-there, content_at-below, content_at-alongside, Some-same, places_of, own_content, first_content-slot, plain_slot, block_places-found}
 use Rattle.wc_laws_soundness.proofs.Tests.{same_name-sound, same_direct-refl}
 use Rattle.wc_laws_soundness.specs.Typing.{slot_of_kind, slot_of, slot_at, SameSlots, content_at, FitsScope}
 
@@ -75,7 +75,7 @@ member_step before u vs name m kind later e (Some type) t g =
       | false ↦ λ differs h.
           let rest = later h in
           let elsewhere : same_name u.name m.name ≡ false = ap (same_name u.name) (found_member_name (flat_map (as_member before) vs) name m h) ∙ differs in
-          (rest.0, content_at-beside u.name (places_of before u) (all_places before vs) m.name [] elsewhere ∙ rest.1, rest.2)
+          (rest.0, content_at-alongside u.name (places_of before u) (all_places before vs) m.name [] elsewhere ∙ rest.1, rest.2)
     ]
     in
     step (same_name u.name name) refl g

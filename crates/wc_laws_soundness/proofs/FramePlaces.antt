@@ -12,7 +12,7 @@ pub record Found {X : Type 0} (test : X → Bool) (start k : ℕ) (xs : List X) 
   pub index : ℕ
   pub item : X
   pub counted : k ≡ start + index
-  pub stands : slice_get xs index ≡ Some item
+  pub represents : slice_get xs index ≡ Some item
   pub passes : test item ≡ true
 
 pub position_found : {X : Type 0} (test : X → Bool) (start k : ℕ) (xs : List X) → position_from test start xs ≡ Some k → Found test start k xs
@@ -20,10 +20,10 @@ position_found test start k [] e = cc
 position_found test start k (x ∷ xs) e = step (test x) refl e (λ f. position_found test (start + 1) k xs f)
   where
     later : Found test (start + 1) k xs → Found test start k (x ∷ xs)
-    later f = record { index = suc f.index; item = f.item; counted = omega (arith, f.counted); stands = f.stands; passes = f.passes }
+    later f = record { index = suc f.index; item = f.item; counted = omega (arith, f.counted); represents = f.represents; passes = f.passes }
 
     step : (b : Bool) → test x ≡ b → cond b (Some start) (position_from test (start + 1) xs) ≡ Some k → (position_from test (start + 1) xs ≡ Some k → Found test (start + 1) k xs) → Found test start k (x ∷ xs)
-    step true passes f onward = record { index = 0; item = x; counted = let same : start ≡ k = cc in omega (arith, same); stands = refl; passes = passes }
+    step true passes f onward = record { index = 0; item = x; counted = let same : start ≡ k = cc in omega (arith, same); represents = refl; passes = passes }
     step false fails f onward = later (onward f)
 
 -- a place is the same as itself
@@ -36,7 +36,7 @@ pub place_found : (frame : List (Location × Content)) (place : Location) (k : �
 place_found frame place k e =
     let f = position_found (λ (entry : Location × Content). same_place entry.0 place) 0 k frame e in
     let same : k ≡ f.index = omega (arith, f.counted) in
-    (f.item, ap (slice_get frame) same ∙ f.stands, same_place-sound f.item.0 place f.passes)
+    (f.item, ap (slice_get frame) same ∙ f.represents, same_place-sound f.item.0 place f.passes)
 
 -- no two places have one number
 pub one_place : (frame : List (Location × Content)) (a b : Location) (k : ℕ) → place_number frame a ≡ Some k → place_number frame b ≡ Some k → a ≡ b

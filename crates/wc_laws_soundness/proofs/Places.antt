@@ -87,9 +87,9 @@ content_at-below name (p ∷ places) rest path content e =
     in
     rw (same_name-refl name) (step (same_path p.0 path) e)
 
-pub content_at-beside : (other : Name) (places : List (List Name × Content)) (rest : List (List Name × Content)) (name : Name) (path : List Name) → same_name other name ≡ false → content_at (below other places ++ rest) (name ∷ path) ≡ content_at rest (name ∷ path)
-content_at-beside other [] rest name path e = refl
-content_at-beside other (p ∷ places) rest name path e = rw e (content_at-beside other places rest name path e)
+pub content_at-alongside : (other : Name) (places : List (List Name × Content)) (rest : List (List Name × Content)) (name : Name) (path : List Name) → same_name other name ≡ false → content_at (below other places ++ rest) (name ∷ path) ≡ content_at rest (name ∷ path)
+content_at-alongside other [] rest name path e = refl
+content_at-alongside other (p ∷ places) rest name path e = rw e (content_at-alongside other places rest name path e)
 
 pub Some-same : {X : Type 0} (a b : X) → Some a ≡ Some b → b ≡ a
 Some-same a b e = cc
@@ -105,7 +105,7 @@ found_variable before (u ∷ vs) name v path content f e =
     elim [
       | true ↦ λ same g. subst (λ (n : Name). content_at (below u.name (places_of before u) ++ flat_map (λ (w : Variable). below w.name (places_of before w)) vs) (n ∷ path) ≡ Some content) (same_name-sound u.name name same)
           (content_at-below u.name (places_of before u) (flat_map (λ (w : Variable). below w.name (places_of before w)) vs) path content (subst (λ (w : Variable). content_at (places_of before w) path ≡ Some content) (Some-same u v g) e))
-      | false ↦ λ differs g. content_at-beside u.name (places_of before u) (flat_map (λ (w : Variable). below w.name (places_of before w)) vs) name path differs ∙ found_variable before vs name v path content g e
+      | false ↦ λ differs g. content_at-alongside u.name (places_of before u) (flat_map (λ (w : Variable). below w.name (places_of before w)) vs) name path differs ∙ found_variable before vs name v path content g e
     ]
     in
     step (same_name u.name name) refl f

@@ -3,11 +3,11 @@ use Rattle.std.proofs.Common.{◌≡◌, ℕ, Bool, true, false, ◌||◌, List,
 use Rattle.std.specs.List.{flat_map, list_any, list_all}
 use Rattle.std.specs.Option.{option_map}
 use Rattle.std.specs.Prelude.{MatchOption, if◌then◌else◌, slice_index_or, pos}
-use Rattle.wc_model.specs.Language.BodyRules.{step_rules, label_rules, spot_rules, body_rules, opening_checks, closing_checks, inside_rules}
-use Rattle.wc_model.specs.Language.Checks.{Check, Spot, spots_behind}
+use Rattle.wc_model.specs.Language.BodyRules.{step_rules, label_rules, rules_at_position, body_rules, opening_checks, closing_checks, inside_rules}
+use Rattle.wc_model.specs.Language.Checks.{Check, Position, positions_after}
 use Rattle.wc_model.specs.Language.Declarations.{same_name, block_named, is_block}
 use Rattle.wc_model.specs.Language.DirectVariables.{DirectVariable, InputBit, StatusBit, Weight, direct_variables, numbers_below, kind_of_direct}
-use Rattle.wc_model.specs.Language.Kinds.{BodyLine, AloneLine, PlainLine, NestedLine, lines_of, Known, known_kinds, kind_at, kind_after_operator, opening_kind, kind_behind}
+use Rattle.wc_model.specs.Language.Kinds.{BodyLine, AloneLine, PlainLine, NestedLine, lines_of, Known, known_kinds, kind_at, kind_after_operator, opening_kind, kind_following}
 use Rattle.wc_model.specs.Language.Meaning.{Outcome, Done, Stuck, Mode, Running, Seeking, Returned, Effect, Goes, Fails, Context, Calls, arriving, line_effect, nested_effect, means, body_means, called, program_means}
 use Rattle.wc_model.specs.Language.Names.{Name}
 use Rattle.wc_model.specs.Language.Scans.{is_bit_set, image_contents, overlaid, with_image}
@@ -37,65 +37,65 @@ abbrev pub Any : Option Value → Type 0
 Any result = Unit {0}
 
 -- a plain line goes well, executed or passed over
-pub line_goes : (here : Context) (store : Store) → FitsScope store here.instance here.scope → CallsEndWell here.scope.before here.calls → (earlier : List Known) (label : Option Word) (line : ℕ) (step : Step) (behind : List BodyLine) (kind : Option Kind) (mode : Mode) → ArrivedFits here.scope earlier (PlainLine label line step) behind kind mode → Clean (step_rules here.scope line step behind kind) → GoesWell (ModeFits here.scope (record { line = PlainLine label line step; before = kind } ∷ earlier) behind) store (line_effect here line step mode store)
-line_goes here store fits calls earlier label line step behind kind (Running result) a c =
-    goes_weaker (LeadsTo here.scope step behind kind) (ModeFits here.scope (record { line = PlainLine label line step; before = kind } ∷ earlier) behind) store (line_effect here line step (Running result) store)
-    (λ mode h. led_fits here.scope earlier label line step behind kind mode h) (step_goes here store fits calls line step behind kind result a c)
-line_goes here store fits calls earlier label line step behind kind (Seeking name result) a c = (passes_over here.scope earlier (PlainLine label line step) behind kind name result a, SameSlots-refl store)
-line_goes here store fits calls earlier label line step behind kind (Returned result) a c = (tt, SameSlots-refl store)
+pub line_goes : (here : Context) (store : Store) → FitsScope store here.instance here.scope → CallsEndWell here.scope.before here.calls → (earlier : List Known) (label : Option Word) (line : ℕ) (step : Step) (following : List BodyLine) (kind : Option Kind) (mode : Mode) → ArrivedFits here.scope earlier (PlainLine label line step) following kind mode → Clean (step_rules here.scope line step following kind) → GoesWell (ModeFits here.scope (record { line = PlainLine label line step; before = kind } ∷ earlier) following) store (line_effect here line step mode store)
+line_goes here store fits calls earlier label line step following kind (Running result) a c =
+    goes_weaker (LeadsTo here.scope step following kind) (ModeFits here.scope (record { line = PlainLine label line step; before = kind } ∷ earlier) following) store (line_effect here line step (Running result) store)
+    (λ mode h. led_fits here.scope earlier label line step following kind mode h) (step_goes here store fits calls line step following kind result a c)
+line_goes here store fits calls earlier label line step following kind (Seeking name result) a c = (passes_over here.scope earlier (PlainLine label line step) following kind name result a, SameSlots-refl store)
+line_goes here store fits calls earlier label line step following kind (Returned result) a c = (tt, SameSlots-refl store)
 
 -- a line with a parenthesis
 abbrev pub ParenthesisRules : Scope → ℕ → Operator → Option Term → Lines → ℕ → Option Kind → List Check
-ParenthesisRules scope line operator operand inside close kind = opening_checks scope line operator operand kind ++ inside_rules scope inside (opening_kind scope operand) ++ closing_checks close kind (kind_behind scope inside (opening_kind scope operand))
+ParenthesisRules scope line operator operand inside close kind = opening_checks scope line operator operand kind ++ inside_rules scope inside (opening_kind scope operand) ++ closing_checks close kind (kind_following scope inside (opening_kind scope operand))
 
 pub three_parts : (a b c : List Check) → Clean ((a ++ b) ++ c) → Clean a × Clean b × Clean c
 three_parts a b c h = (clean_first a b (clean_first (a ++ b) c h), clean_second a b (clean_first (a ++ b) c h), clean_second (a ++ b) c h)
 
-pub parenthesis_goes : (here : Context) (store : Store) → FitsScope store here.instance here.scope → CallsEndWell here.scope.before here.calls → (earlier : List Known) (label : Option Word) (line : ℕ) (operator : Operator) (operand : Option Term) (inside : Lines) (close : ℕ) (behind : List BodyLine) (kind : Option Kind) (mode : Mode) → IsSimple inside → ArrivedFits here.scope earlier (NestedLine label line operator operand inside close) behind kind mode → Clean (ParenthesisRules here.scope line operator operand inside close kind) → GoesWell (ModeFits here.scope (record { line = NestedLine label line operator operand inside close; before = kind } ∷ earlier) behind) store (nested_effect here line operator operand close (means here inside) mode store)
-parenthesis_goes here store fits calls earlier label line operator operand inside close behind kind (Running result) simple a c =
-    let inner = kind_behind here.scope inside (opening_kind here.scope operand) in
+pub parenthesis_goes : (here : Context) (store : Store) → FitsScope store here.instance here.scope → CallsEndWell here.scope.before here.calls → (earlier : List Known) (label : Option Word) (line : ℕ) (operator : Operator) (operand : Option Term) (inside : Lines) (close : ℕ) (following : List BodyLine) (kind : Option Kind) (mode : Mode) → IsSimple inside → ArrivedFits here.scope earlier (NestedLine label line operator operand inside close) following kind mode → Clean (ParenthesisRules here.scope line operator operand inside close kind) → GoesWell (ModeFits here.scope (record { line = NestedLine label line operator operand inside close; before = kind } ∷ earlier) following) store (nested_effect here line operator operand close (means here inside) mode store)
+parenthesis_goes here store fits calls earlier label line operator operand inside close following kind (Running result) simple a c =
+    let inner = kind_following here.scope inside (opening_kind here.scope operand) in
     let parts = three_parts (opening_checks here.scope line operator operand kind) (inside_rules here.scope inside (opening_kind here.scope operand)) (closing_checks close kind inner) c in
-    goes_weaker (InsideMode (kind_after_operator operator kind)) (ModeFits here.scope (record { line = NestedLine label line operator operand inside close; before = kind } ∷ earlier) behind) store (nested_effect here line operator operand close (means here inside) (Running result) store)
+    goes_weaker (InsideMode (kind_after_operator operator kind)) (ModeFits here.scope (record { line = NestedLine label line operator operand inside close; before = kind } ∷ earlier) following) store (nested_effect here line operator operand close (means here inside) (Running result) store)
     (onward) (nested_goes here store fits line close operator operand (means here inside) inner kind result a parts.0 parts.2 (λ start ag. inside_ends here calls inside (opening_kind here.scope operand) start store fits simple parts.1 ag))
   where
-    onward : (mode : Mode) → InsideMode (kind_after_operator operator kind) mode → ModeFits here.scope (record { line = NestedLine label line operator operand inside close; before = kind } ∷ earlier) behind mode
-    onward (Running r) m = hands_on here.scope earlier (NestedLine label line operator operand inside close) behind kind r refl m
+    onward : (mode : Mode) → InsideMode (kind_after_operator operator kind) mode → ModeFits here.scope (record { line = NestedLine label line operator operand inside close; before = kind } ∷ earlier) following mode
+    onward (Running r) m = hands_on here.scope earlier (NestedLine label line operator operand inside close) following kind r refl m
     onward (Seeking name r) m = absurd m
     onward (Returned r) m = absurd m
-parenthesis_goes here store fits calls earlier label line operator operand inside close behind kind (Seeking name result) simple a c = (passes_over here.scope earlier (NestedLine label line operator operand inside close) behind kind name result a, SameSlots-refl store)
-parenthesis_goes here store fits calls earlier label line operator operand inside close behind kind (Returned result) simple a c = (tt, SameSlots-refl store)
+parenthesis_goes here store fits calls earlier label line operator operand inside close following kind (Seeking name result) simple a c = (passes_over here.scope earlier (NestedLine label line operator operand inside close) following kind name result a, SameSlots-refl store)
+parenthesis_goes here store fits calls earlier label line operator operand inside close following kind (Returned result) simple a c = (tt, SameSlots-refl store)
 
 -- past a label alone
-pub label_passed : (scope : Scope) (earlier : List Known) (word : Word) (behind : List BodyLine) (kind : Option Kind) (mode : Mode) → ArrivedFits scope earlier (AloneLine word) behind kind mode → ModeFits scope (record { line = AloneLine word; before = kind } ∷ earlier) behind mode
-label_passed scope earlier word behind kind (Running result) a = hands_on scope earlier (AloneLine word) behind kind result refl a
-label_passed scope earlier word behind kind (Seeking name result) a = passes_over scope earlier (AloneLine word) behind kind name result a
-label_passed scope earlier word behind kind (Returned result) a = tt
+pub label_passed : (scope : Scope) (earlier : List Known) (word : Word) (following : List BodyLine) (kind : Option Kind) (mode : Mode) → ArrivedFits scope earlier (AloneLine word) following kind mode → ModeFits scope (record { line = AloneLine word; before = kind } ∷ earlier) following mode
+label_passed scope earlier word following kind (Running result) a = hands_on scope earlier (AloneLine word) following kind result refl a
+label_passed scope earlier word following kind (Seeking name result) a = passes_over scope earlier (AloneLine word) following kind name result a
+label_passed scope earlier word following kind (Returned result) a = tt
 
 -- the lines left end well
-pub lines_end : (here : Context) → CallsEndWell here.scope.before here.calls → (lines : Lines) (before : List BodyLine) (mode : Mode) (store : Store) → FitsScope store here.instance here.scope → NestsSimply lines → Clean (flat_map (spot_rules here.scope) (spots_behind before (lines_of lines))) → ModeFits here.scope (known_kinds here.scope before) (lines_of lines) mode → EndsWell Any store (means here lines mode store)
+pub lines_end : (here : Context) → CallsEndWell here.scope.before here.calls → (lines : Lines) (before : List BodyLine) (mode : Mode) (store : Store) → FitsScope store here.instance here.scope → NestsSimply lines → Clean (flat_map (rules_at_position here.scope) (positions_after before (lines_of lines))) → ModeFits here.scope (known_kinds here.scope before) (lines_of lines) mode → EndsWell Any store (means here lines mode store)
 lines_end here calls End before (Running result) store fits simple c m = (tt, SameSlots-refl store)
 lines_end here calls End before (Returned result) store fits simple c m = (tt, SameSlots-refl store)
 lines_end here calls End before (Seeking label result) store fits simple c m = absurd (let e = m.3 in cc)
 lines_end here calls (Alone word rest) before mode store fits simple c m =
     let line : BodyLine = AloneLine word in
-    let spot : Spot BodyLine = record { before = before; item = line; behind = lines_of rest } in
+    let position : Position BodyLine = record { before = before; item = line; following = lines_of rest } in
     lines_end here calls rest (line ∷ before) (arriving (Some word) mode) store fits simple
-    (clean_second (spot_rules here.scope spot) (flat_map (spot_rules here.scope) (spots_behind (line ∷ before) (lines_of rest))) c)
+    (clean_second (rules_at_position here.scope position) (flat_map (rules_at_position here.scope) (positions_after (line ∷ before) (lines_of rest))) c)
     (label_passed here.scope (known_kinds here.scope before) word (lines_of rest) (kind_at here.scope before line) (arriving (Some word) mode) (arrives here.scope before line (lines_of rest) mode m))
 lines_end here calls (PlainLines label number step rest) before mode store fits simple c m =
     let line : BodyLine = PlainLine label number step in
-    let spot : Spot BodyLine = record { before = before; item = line; behind = lines_of rest } in
-    let rules = clean_second (label_rules before label) (step_rules here.scope number step (lines_of rest) (kind_at here.scope before line)) (clean_first (spot_rules here.scope spot) (flat_map (spot_rules here.scope) (spots_behind (line ∷ before) (lines_of rest))) c) in
+    let position : Position BodyLine = record { before = before; item = line; following = lines_of rest } in
+    let rules = clean_second (label_rules before label) (step_rules here.scope number step (lines_of rest) (kind_at here.scope before line)) (clean_first (rules_at_position here.scope position) (flat_map (rules_at_position here.scope) (positions_after (line ∷ before) (lines_of rest))) c) in
     continued_ends (ModeFits here.scope (known_kinds here.scope (line ∷ before)) (lines_of rest)) Any store (line_effect here number step (arriving label mode) store) (means here rest)
     (line_goes here store fits calls (known_kinds here.scope before) label number step (lines_of rest) (kind_at here.scope before line) (arriving label mode) (arrives here.scope before line (lines_of rest) mode m) rules)
-    (λ next new fitting same. lines_end here calls rest (line ∷ before) next new (FitsScope-same store new here.instance here.scope same fits) simple (clean_second (spot_rules here.scope spot) (flat_map (spot_rules here.scope) (spots_behind (line ∷ before) (lines_of rest))) c) fitting)
+    (λ next new fitting same. lines_end here calls rest (line ∷ before) next new (FitsScope-same store new here.instance here.scope same fits) simple (clean_second (rules_at_position here.scope position) (flat_map (rules_at_position here.scope) (positions_after (line ∷ before) (lines_of rest))) c) fitting)
 lines_end here calls (Nested label number operator operand inside close rest) before mode store fits simple c m =
     let line : BodyLine = NestedLine label number operator operand inside close in
-    let spot : Spot BodyLine = record { before = before; item = line; behind = lines_of rest } in
-    let rules = clean_second (label_rules before label) (ParenthesisRules here.scope number operator operand inside close (kind_at here.scope before line)) (clean_first (spot_rules here.scope spot) (flat_map (spot_rules here.scope) (spots_behind (line ∷ before) (lines_of rest))) c) in
+    let position : Position BodyLine = record { before = before; item = line; following = lines_of rest } in
+    let rules = clean_second (label_rules before label) (ParenthesisRules here.scope number operator operand inside close (kind_at here.scope before line)) (clean_first (rules_at_position here.scope position) (flat_map (rules_at_position here.scope) (positions_after (line ∷ before) (lines_of rest))) c) in
     continued_ends (ModeFits here.scope (known_kinds here.scope (line ∷ before)) (lines_of rest)) Any store (nested_effect here number operator operand close (means here inside) (arriving label mode) store) (means here rest)
     (parenthesis_goes here store fits calls (known_kinds here.scope before) label number operator operand inside close (lines_of rest) (kind_at here.scope before line) (arriving label mode) simple.0 (arrives here.scope before line (lines_of rest) mode m) rules)
-    (λ next new fitting same. lines_end here calls rest (line ∷ before) next new (FitsScope-same store new here.instance here.scope same fits) simple.1 (clean_second (spot_rules here.scope spot) (flat_map (spot_rules here.scope) (spots_behind (line ∷ before) (lines_of rest))) c) fitting)
+    (λ next new fitting same. lines_end here calls rest (line ∷ before) next new (FitsScope-same store new here.instance here.scope same fits) simple.1 (clean_second (rules_at_position here.scope position) (flat_map (rules_at_position here.scope) (positions_after (line ∷ before) (lines_of rest))) c) fitting)
 
 -- a whole body ends well
 pub whole_body_ends : (scope : Scope) (names : List Name) (now : ℕ) (calls : Calls) (store : Store) → FitsScope store names scope → CallsEndWell scope.before calls → NestsSimply scope.unit.body → Clean (body_rules scope) → EndsWell Any store (body_means scope names now calls store)
@@ -129,9 +129,9 @@ pub program_ends : (before : List ProgramUnit) (program : ProgramUnit) (now : �
 program_ends before program now store clean fits = whole_body_ends (record { before = before; unit = program }) [] now (called before now) store fits (called_ends before now clean.2) clean.1 clean.0
 
 -- the first store fits the frame: the names' places follow the direct variables
-pub behind_direct : (vs : List DirectVariable) (rest : List (Location × Content)) (path : List Name) → store_of (map (λ v. (Direct v, zero_of (kind_of_direct v))) vs ++ rest) (Path path) ≡ store_of rest (Path path)
-behind_direct [] rest path = refl
-behind_direct (v ∷ vs) rest path = behind_direct vs rest path
+pub after_direct : (vs : List DirectVariable) (rest : List (Location × Content)) (path : List Name) → store_of (map (λ v. (Direct v, zero_of (kind_of_direct v))) vs ++ rest) (Path path) ≡ store_of rest (Path path)
+after_direct [] rest path = refl
+after_direct (v ∷ vs) rest path = after_direct vs rest path
 
 pub named_content : (places : List (List Name × Content)) (path : List Name) → store_of (map (λ p. (Path p.0, p.1)) places) (Path path) ≡ content_at places path
 named_content [] path = refl
@@ -162,7 +162,7 @@ direct_content (v ∷ vs) rest variable e =
 
 pub first_store_fits : (before : List ProgramUnit) (program : ProgramUnit) → FitsScope (initial_store before program) [] (record { before = before; unit = program })
 first_store_fits before program = record {
-  own = λ path content e. ap (λ (c : Option Content). option_map slot_of c) (behind_direct direct_variables (map (λ p. (Path p.0, p.1)) (unit_places before program)) path ∙ (named_content (unit_places before program) path ∙ e));
+  own = λ path content e. ap (λ (c : Option Content). option_map slot_of c) (after_direct direct_variables (map (λ p. (Path p.0, p.1)) (unit_places before program)) path ∙ (named_content (unit_places before program) path ∙ e));
   direct = λ variable e. direct_content direct_variables (map (λ p. (Path p.0, p.1)) (unit_places before program)) variable e;
 }
 

@@ -4,7 +4,7 @@ use Rattle.wc_model.specs.Language.Loading.{IsLoaded, IsNextLoaded}
 use Rattle.wc_model.specs.Language.Meaning.{Outcome, Done, Stuck}
 use Rattle.wc_model.specs.Instrument.Plates.{PlateData}
 use Rattle.wc_model.specs.Run.ProcessImage.{image_after}
-use Rattle.wc_model.specs.Say.ProgramReport.{Logic, change_to, first_logic, logic_behind, programs, result_of}
+use Rattle.wc_model.specs.Say.ProgramReport.{Logic, change_to, first_logic, logic_following, programs, result_of}
 use Rattle.wc_model.specs.Say.Report.{state_with}
 use Rattle.wc_model.specs.Run.Rows.{RowData, Counts, Bytes, Inputs, Scan, Change, Past}
 use Rattle.wc_model.specs.Language.Scans.{scan_of, initial_of}
@@ -65,10 +65,10 @@ sound_with plate Scan ms past logic sound = record {
 sound_with plate Change ms past logic sound = changed_sound logic.text logic.store logic.next sound
 
 -- after whatever rows it is sound
-pub sound_behind : (plate : PlateData) (logic : Logic) → IsSoundLogic logic → (past : Past) → IsSoundLogic (logic_behind plate logic past)
-sound_behind plate logic sound [] = sound
-sound_behind plate logic sound (row ∷ past) = sound_with plate row.brings row.ms past (logic_behind plate logic past) (sound_behind plate logic sound past)
+pub sound_after : (plate : PlateData) (logic : Logic) → IsSoundLogic logic → (past : Past) → IsSoundLogic (logic_following plate logic past)
+sound_after plate logic sound [] = sound
+sound_after plate logic sound (row ∷ past) = sound_with plate row.brings row.ms past (logic_following plate logic past) (sound_after plate logic sound past)
 
 pub no_run_is_ever_stuck : NoRunIsEverStuck
 no_run_is_ever_stuck bytes text loaded next other plate past run now =
-    sound_scan (logic_behind plate (first_logic text next) past) (sound_behind plate (first_logic text next) (first_sound bytes text loaded next other) past) (image_after plate past) now
+    sound_scan (logic_following plate (first_logic text next) past) (sound_after plate (first_logic text next) (first_sound bytes text loaded next other) past) (image_after plate past) now

@@ -30,7 +30,7 @@ inside_simple End tokens l = tt
 inside_simple (Alone label rest) tokens l = absurd (l.goes_on.begins)
 inside_simple (Plain label line step rest) tokens l = (step_simple step l.0, inside_simple rest l.1.goes_on.goes_on.goes_on.rest l.1.goes_on.goes_on.goes_on.goes_on)
 inside_simple (Nested label line operator operand inside close rest) tokens l =
-    (inside_simple inside l.1.goes_on.goes_on.goes_on.front l.1.goes_on.goes_on.goes_on.begins, inside_simple rest l.1.goes_on.goes_on.goes_on.goes_on.goes_on.rest l.1.goes_on.goes_on.goes_on.goes_on.goes_on.goes_on)
+    (inside_simple inside l.1.goes_on.goes_on.goes_on.prefix l.1.goes_on.goes_on.goes_on.begins, inside_simple rest l.1.goes_on.goes_on.goes_on.goes_on.goes_on.rest l.1.goes_on.goes_on.goes_on.goes_on.goes_on.goes_on)
 
 -- a body that is spelled nests only simple instructions
 pub body_nests : (body : Lines) (tokens : List Mark) → lines InBody body tokens → NestsSimply body
@@ -38,15 +38,15 @@ body_nests End tokens l = tt
 body_nests (Alone label rest) tokens l = body_nests rest l.goes_on.goes_on.rest l.goes_on.goes_on.goes_on
 body_nests (Plain label line step rest) tokens l = body_nests rest l.1.goes_on.goes_on.goes_on.rest l.1.goes_on.goes_on.goes_on.goes_on
 body_nests (Nested label line operator operand inside close rest) tokens l =
-    (inside_simple inside l.1.goes_on.goes_on.goes_on.front l.1.goes_on.goes_on.goes_on.begins, body_nests rest l.1.goes_on.goes_on.goes_on.goes_on.goes_on.rest l.1.goes_on.goes_on.goes_on.goes_on.goes_on.goes_on)
+    (inside_simple inside l.1.goes_on.goes_on.goes_on.prefix l.1.goes_on.goes_on.goes_on.begins, body_nests rest l.1.goes_on.goes_on.goes_on.goes_on.goes_on.rest l.1.goes_on.goes_on.goes_on.goes_on.goes_on.goes_on)
 
 -- and so do units that are spelled
 pub units_nest : (text : Text) (tokens : List Mark) → each (λ unit. line_ends then unit_of unit) text tokens → UnitsNestSimply text
 units_nest [] tokens e = tt
-units_nest (unit ∷ text) tokens e = (body_nests unit.body e.begins.goes_on.goes_on.front e.begins.goes_on.goes_on.begins, units_nest text e.rest e.goes_on)
+units_nest (unit ∷ text) tokens e = (body_nests unit.body e.begins.goes_on.goes_on.prefix e.begins.goes_on.goes_on.begins, units_nest text e.rest e.goes_on)
 
 pub spelled_text_nests : SpelledTextNestsSimply
-spelled_text_nests tokens text spells = units_nest text spells.spelled.front spells.spelled.begins
+spelled_text_nests tokens text spells = units_nest text spells.spelled.prefix spells.spelled.begins
 
 -- some units with a program last
 pub some_text_ends : (text : Text) → IsProgramLast text → UnitsNestSimply text → body_fault text ≡ None → (store : Store) → SameSlots (initial_of text) store → (image : Image) (now : ℕ) → EndsWell Any (initial_of text) (scan_of text store image now)

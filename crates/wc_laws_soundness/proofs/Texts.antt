@@ -5,7 +5,7 @@ use Rattle.std.proofs.lemmas.List.{length-reverse, append-nil}
 use Rattle.std.specs.List.{flat_map}
 use Rattle.std.specs.Prelude.{reverse, if◌then◌else◌, length}
 use Rattle.wc_model.specs.Language.BodyRules.{body_rules, text_body_checks}
-use Rattle.wc_model.specs.Language.Checks.{Check, Spot, spots_behind, first_broken}
+use Rattle.wc_model.specs.Language.Checks.{Check, Position, positions_after, first_broken}
 use Rattle.wc_model.specs.Language.Meaning.{program_means}
 use Rattle.wc_model.specs.Language.Scans.{first_of_reversed, initial_of_reversed, with_image}
 use Rattle.wc_model.specs.Language.Store.{Store}
@@ -27,20 +27,20 @@ none_broken (check ∷ checks) e =
     step check.holds refl e
 
 -- the rules of a unit after those before it
-abbrev pub rules_at : Spot ProgramUnit → List Check
-rules_at spot = body_rules (record { before = spot.before; unit = spot.item })
+abbrev pub rules_at : Position ProgramUnit → List Check
+rules_at position = body_rules (record { before = position.before; unit = position.item })
 
 -- the units in turn, newest first, before those that precede them
 pub turned : (unit : ProgramUnit) (units before : List ProgramUnit) → reverse units ++ (unit ∷ before) ≡ reverse (unit ∷ units) ++ before
 turned unit units before = sym (append_assoc (reverse units) (unit ∷ []) before) ∙ ap (λ (us : List ProgramUnit). us ++ before) (sym (reverse_onto units unit []))
 
 -- the units that are after some are clean with them
-pub units_clean : (before : List ProgramUnit) (units : List ProgramUnit) → Clean (flat_map rules_at (spots_behind before units)) → UnitsNestSimply units → AreClean before → AreClean (reverse units ++ before)
+pub units_clean : (before : List ProgramUnit) (units : List ProgramUnit) → Clean (flat_map rules_at (positions_after before units)) → UnitsNestSimply units → AreClean before → AreClean (reverse units ++ before)
 units_clean before [] clean simple earlier = earlier
 units_clean before (unit ∷ units) clean simple earlier =
-    let spot : Spot ProgramUnit = record { before = before; item = unit; behind = units } in
-    let rest = flat_map rules_at (spots_behind (unit ∷ before) units) in
-    subst AreClean (turned unit units before) (units_clean (unit ∷ before) units (clean_second (rules_at spot) rest clean) simple.1 (clean_first (rules_at spot) rest clean, simple.0, earlier))
+    let position : Position ProgramUnit = record { before = before; item = unit; following = units } in
+    let rest = flat_map rules_at (positions_after (unit ∷ before) units) in
+    subst AreClean (turned unit units before) (units_clean (unit ∷ before) units (clean_second (rules_at position) rest clean) simple.1 (clean_first (rules_at position) rest clean, simple.0, earlier))
 
 -- a scan of units, newest first, ends well
 pub reversed_ends : (units : List ProgramUnit) → AreClean units → (units ≡ [] → ⊥) → (store : Store) → SameSlots (initial_of_reversed units) store → (image : Image) (now : ℕ) →

@@ -7,7 +7,7 @@ use Rattle.wc_model.specs.Text.Marks.{Mark}
 use Rattle.wc_model.specs.Instrument.Plates.{PlateData}
 use Rattle.wc_model.specs.Run.ProcessImage.{image_after}
 use Rattle.wc_model.specs.Say.LogFor.{AreRun}
-use Rattle.wc_model.specs.Say.ProgramReport.{first_logic, logic_behind}
+use Rattle.wc_model.specs.Say.ProgramReport.{first_logic, logic_following}
 use Rattle.wc_model.specs.Run.Rows.{Past}
 use Rattle.wc_model.specs.Language.Scans.{scan_of, initial_of}
 use Rattle.wc_model.specs.Language.Store.{Store}
@@ -45,5 +45,5 @@ LoadedTextIsNeverStuck = (bytes : List ℕ) (text : Text) → IsLoaded bytes tex
 abbrev pub NoRunIsEverStuck : Type 0
 NoRunIsEverStuck = (bytes : List ℕ) (text : Text) → IsLoaded bytes text → (next : Option Text) → IsNextLoaded next →
     (plate : PlateData) (past : Past) → AreRun next (reverse past) → (now : ℕ) →
-    let logic = logic_behind plate (first_logic text next) past in
+    let logic = logic_following plate (first_logic text next) past in
     EndsWell (λ (result : Option Value). Unit {0}) (initial_of logic.text) (scan_of logic.text logic.store (image_after plate past) now)

@@ -47,9 +47,9 @@ step_returns step = false
 -- where a step may lead: to the next line with a result of the kind after it, unless it always leaves; to a later line that
 -- carries its label; or back
 abbrev pub LeadsTo : Scope → Step → List BodyLine → Option Kind → Mode → Type 0
-LeadsTo scope step behind kind (Running result) = Agrees (kind_after_step scope step kind) result × (step_leaves step ≡ false)
-LeadsTo scope step behind kind (Seeking label result) = (step_jumps_to step label ≡ true) × Agrees kind result × (is_ahead behind label ≡ true)
-LeadsTo scope step behind kind (Returned result) = step_returns step ≡ true
+LeadsTo scope step following kind (Running result) = Agrees (kind_after_step scope step kind) result × (step_leaves step ≡ false)
+LeadsTo scope step following kind (Seeking label result) = (step_jumps_to step label ≡ true) × Agrees kind result × (is_ahead following label ≡ true)
+LeadsTo scope step following kind (Returned result) = step_returns step ≡ true
 
 -- calls of blocks end well, from each store that fits the block
 abbrev pub CallsEndWell : List ProgramUnit → Calls → Type 0
@@ -92,15 +92,15 @@ IsAmong kind (k ∷ kinds) = (k ≡ kind) ⊎ IsAmong kind kinds
 -- where a run may be before a line, after lines whose kinds are known: the result is of the kind that the line above passes
 -- on, or of one that a jump to the label brings
 abbrev pub ModeFits : Scope → List Known → List BodyLine → Mode → Type 0
-ModeFits scope earlier behind (Running result) = (kind : Option Kind) × (kinds_from_above scope earlier ≡ kind ∷ []) × Agrees kind result
-ModeFits scope earlier behind (Seeking label result) = (kind : Option Kind) × IsAmong kind (kinds_from_jumps label earlier) × Agrees kind result × (is_ahead behind label ≡ true)
-ModeFits scope earlier behind (Returned result) = Unit {0}
+ModeFits scope earlier following (Running result) = (kind : Option Kind) × (kinds_from_above scope earlier ≡ kind ∷ []) × Agrees kind result
+ModeFits scope earlier following (Seeking label result) = (kind : Option Kind) × IsAmong kind (kinds_from_jumps label earlier) × Agrees kind result × (is_ahead following label ≡ true)
+ModeFits scope earlier following (Returned result) = Unit {0}
 
 -- the same at a line that was arrived at
 abbrev pub ArrivedFits : Scope → List Known → BodyLine → List BodyLine → Option Kind → Mode → Type 0
-ArrivedFits scope earlier line behind kind (Running result) = Agrees kind result
-ArrivedFits scope earlier line behind kind (Seeking label result) = (k : Option Kind) × IsAmong k (kinds_from_jumps label earlier) × Agrees k result × (is_ahead behind label ≡ true) × (carries (label_of line) label ≡ false)
-ArrivedFits scope earlier line behind kind (Returned result) = Unit {0}
+ArrivedFits scope earlier line following kind (Running result) = Agrees kind result
+ArrivedFits scope earlier line following kind (Seeking label result) = (k : Option Kind) × IsAmong k (kinds_from_jumps label earlier) × Agrees k result × (is_ahead following label ≡ true) × (carries (label_of line) label ≡ false)
+ArrivedFits scope earlier line following kind (Returned result) = Unit {0}
 
 -- inside a parenthesis a run executes each line
 abbrev pub InsideMode : Option Kind → Mode → Type 0

@@ -51,11 +51,11 @@ all_small : (p : ℕ → Bool) → ((b : ℕ) → p b ≡ true → b < 128) → 
 all_small p small [] h = IsAscii-nil
 all_small p small (b ∷ bs) h = let both = and_parts (p b) (list_all p bs) h in one_more b bs (small b both.0) (all_small p small bs both.1)
 
-run_ascii : (piece : List ℕ) → IsTrue (is_run piece) → IsAscii piece
-run_ascii piece h = all_small is_identifier_character identifier_small piece (and_parts (begins starts_identifier piece) _ h).1
+run_ascii : (chunk : List ℕ) → IsTrue (is_run chunk) → IsAscii chunk
+run_ascii chunk h = all_small is_identifier_character identifier_small chunk (and_parts (begins starts_identifier chunk) _ h).1
 
-unsigned_ascii : (piece : List ℕ) → IsTrue (is_unsigned_run piece) → IsAscii piece
-unsigned_ascii piece h = all_small is_number_character number_small piece (and_parts _ (list_all is_number_character piece) h).1
+unsigned_ascii : (chunk : List ℕ) → IsTrue (is_unsigned_run chunk) → IsAscii chunk
+unsigned_ascii chunk h = all_small is_number_character number_small chunk (and_parts _ (list_all is_number_character chunk) h).1
 
 value_ascii : (value : List ℕ) → IsTrue (is_literal_value value) → IsAscii value
 value_ascii [] h = IsAscii-nil
@@ -66,16 +66,16 @@ value_ascii (b ∷ value) h = go (is_minus b) Rattle.std.proofs.Common.refl h
     go false other all = all_small is_number_character number_small (b ∷ value) all
 
 -- each lexeme
-lexeme_ascii : (piece after : List ℕ) → Lexeme piece after → IsAscii piece
-lexeme_ascii piece after (Run h) = run_ascii piece h
-lexeme_ascii piece after (Typed type value e t v) =
+lexeme_ascii : (chunk after : List ℕ) → Lexeme chunk after → IsAscii chunk
+lexeme_ascii chunk after (Run h) = run_ascii chunk h
+lexeme_ascii chunk after (Typed type value e t v) =
     subst IsAscii (sym e) (IsAscii-append type (35 ∷ value) (run_ascii type t) (one_more 35 value (omega arith) (value_ascii value v)))
-lexeme_ascii piece after (Unsigned h) = unsigned_ascii piece h
-lexeme_ascii piece after (Signed sign number e s n) = subst IsAscii (sym e) (one_more sign number (sign_small sign s) (unsigned_ascii number n))
-lexeme_ascii piece after (Sign sign e s) = subst IsAscii (sym e) (one_more sign [] (sign_small sign s) IsAscii-nil)
-lexeme_ascii piece after (Addressed address e a) = subst IsAscii (sym e) (one_more 37 address (omega arith) (all_small is_address_character address_small address a))
-lexeme_ascii piece after (Marked shape found may) =
-    all_small (λ b. nat_le b 127) (λ b h. omega (arith, leb-true b 127 h)) piece (mark_passes (λ p s. list_all (λ b. nat_le b 127) p) piece shape Rattle.std.proofs.Common.refl found)
+lexeme_ascii chunk after (Unsigned h) = unsigned_ascii chunk h
+lexeme_ascii chunk after (Signed sign number e s n) = subst IsAscii (sym e) (one_more sign number (sign_small sign s) (unsigned_ascii number n))
+lexeme_ascii chunk after (Sign sign e s) = subst IsAscii (sym e) (one_more sign [] (sign_small sign s) IsAscii-nil)
+lexeme_ascii chunk after (Addressed address e a) = subst IsAscii (sym e) (one_more 37 address (omega arith) (all_small is_address_character address_small address a))
+lexeme_ascii chunk after (Marked shape found may) =
+    all_small (λ b. nat_le b 127) (λ b h. omega (arith, leb-true b 127 h)) chunk (mark_passes (λ p s. list_all (λ b. nat_le b 127) p) chunk shape Rattle.std.proofs.Common.refl found)
 
 -- ---- tokens
 
@@ -96,11 +96,11 @@ symbol_ascii another bytes h = tt
 -- the tokens of a text as the grammar sees them
 pub tokens_ascii : {Ends : List ℕ → List ℕ → Type 0} (before rest : List ℕ) (tokens : List Token) → Cuts Ends before rest tokens → AreAscii (map mark_of_token tokens)
 tokens_ascii before rest [] (Nothing e) = tt
-tokens_ascii before rest tokens (Skipped piece after whole blank more) = tokens_ascii (before ++ piece) after tokens more
-tokens_ascii before rest (token ∷ tokens) (Taken shape piece after whole longest shaped more) =
-    (symbol_ascii shape piece (lexeme_ascii piece after longest.lexeme), tokens_ascii (before ++ piece) after tokens more)
+tokens_ascii before rest tokens (Skipped chunk after whole blank more) = tokens_ascii (before ++ chunk) after tokens more
+tokens_ascii before rest (token ∷ tokens) (Taken shape chunk after whole longest shaped more) =
+    (symbol_ascii shape chunk (lexeme_ascii chunk after longest.lexeme), tokens_ascii (before ++ chunk) after tokens more)
 
 -- a prefix of such tokens, and the rest
-pub ascii_parts : (front rest : List marks.Mark) → AreAscii (front ++ rest) → AreAscii front × AreAscii rest
+pub ascii_parts : (prefix rest : List marks.Mark) → AreAscii (prefix ++ rest) → AreAscii prefix × AreAscii rest
 ascii_parts [] rest h = (tt, h)
-ascii_parts (mark ∷ front) rest h = let both = ascii_parts front rest h.1 in ((h.0, both.0), both.1)
+ascii_parts (mark ∷ prefix) rest h = let both = ascii_parts prefix rest h.1 in ((h.0, both.0), both.1)

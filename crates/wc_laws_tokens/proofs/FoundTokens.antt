@@ -11,7 +11,7 @@ use Rattle.wc_model.specs.Text.Characters.{begins, is_line_feed, is_star}
 use Rattle.wc_model.specs.Text.Lexemes.{IsLongestLexeme}
 use Rattle.wc_model.specs.Text.Shapes.{Shape, shape_of}
 use Rattle.wc_model.specs.Text.TokenLaws.{CutOrFault}
-use Rattle.wc_model.specs.Text.Tokens.{AtEnd, Cuts, Nothing, Skipped, Taken, Faulty, FaultAt, Foreign, Unclosed, Nested, Malformed, IsCut, IsFirstTokenFault, TooLong, Stands, Token, line_after, most_bytes, token_behind}
+use Rattle.wc_model.specs.Text.Tokens.{AtEnd, Cuts, Nothing, Skipped, Taken, Faulty, FaultAt, Foreign, Unclosed, Nested, Malformed, IsCut, IsFirstTokenFault, TooLong, Represents, Token, line_after, most_bytes, token_after}
 use Rattle.wc_laws_tokens.specs.Sights.{Sight, Pass, Take, Refuse, sight_in_comment, sight_of_lexeme, sight_by_reach, opens_comment, starts_space, sight_outside, sight}
 
 -- a token before the tokens that are found after it
@@ -22,7 +22,7 @@ with_token token (Err fault) = Err fault
 -- what is found from here on, by what is here and what is found after it
 abbrev pub go_on : (List ℕ → List ℕ → Result (List Token) (ℕ × ℕ)) → (before rest : List ℕ) → Sight → Result (List Token) (ℕ × ℕ)
 go_on more before rest (Pass count) = more (before ++ take count rest) (drop count rest)
-go_on more before rest (Take count shape) = with_token (token_behind before shape (take count rest)) (more (before ++ take count rest) (drop count rest))
+go_on more before rest (Take count shape) = with_token (token_after before shape (take count rest)) (more (before ++ take count rest) (drop count rest))
 go_on more before rest (Refuse number) = Err (number, line_after before)
 
 -- the tokens from here on, or the first fault's number and line
@@ -46,38 +46,38 @@ Holds text (Refuse number) = FaultAt text number
 -- a text that starts with another
 starts_so : (needle text : List ℕ) → starts_with nat_eq text needle ≡ true → text ≡ needle ++ drop (length needle) text
 starts_so needle text h =
-    let front : needle ≡ take (length needle) text = (bytes_decides needle (take (length needle) text)).0 h in
-    sym (take-append-drop (length needle) text) ∙ ap (λ l. l ++ drop (length needle) text) (sym front)
+    let prefix : needle ≡ take (length needle) text = (bytes_decides needle (take (length needle) text)).0 h in
+    sym (take-append-drop (length needle) text) ∙ ap (λ l. l ++ drop (length needle) text) (sym prefix)
 
 -- what is left from the first bracket on is an end of the text, and starts with a bracket
 record FromBracket (text : List ℕ) : Type 0 where
-  front : List ℕ
-  whole : front ++ from_bracket text ≡ text
+  prefix : List ℕ
+  whole : prefix ++ from_bracket text ≡ text
   bracket : (from_bracket text ≡ []) ⊎ (starts_with_bracket (from_bracket text) ≡ true)
 
 -- it is so for every text
 from_bracket_is : (text : List ℕ) → FromBracket text
-from_bracket_is [] = record { front = []; whole = refl; bracket = inl refl }
+from_bracket_is [] = record { prefix = []; whole = refl; bracket = inl refl }
 from_bracket_is (b ∷ rest) =
     let later = from_bracket_is rest in
     elim (starts_with_bracket (b ∷ rest)) as (λ v. starts_with_bracket (b ∷ rest) ≡ v → FromBracket (b ∷ rest)) [
       | true ↦ λ e.
           let here : from_bracket (b ∷ rest) ≡ b ∷ rest = cond-true (starts_with_bracket (b ∷ rest)) _ _ e in
-          record { front = []; whole = here; bracket = inr (subst (λ t. starts_with_bracket t ≡ true) (sym here) e) }
+          record { prefix = []; whole = here; bracket = inr (subst (λ t. starts_with_bracket t ≡ true) (sym here) e) }
       | false ↦ λ e.
           let on : from_bracket (b ∷ rest) ≡ from_bracket rest = cond-false (starts_with_bracket (b ∷ rest)) _ _ e in
-          record { front = b ∷ later.front; whole = ap (λ l. b ∷ later.front ++ l) on ∙ ap (λ l. b ∷ l) later.whole; bracket = subst (λ l. (l ≡ []) ⊎ (starts_with_bracket l ≡ true)) (sym on) later.bracket }
+          record { prefix = b ∷ later.prefix; whole = ap (λ l. b ∷ later.prefix ++ l) on ∙ ap (λ l. b ∷ l) later.whole; bracket = subst (λ l. (l ≡ []) ⊎ (starts_with_bracket l ≡ true)) (sym on) later.bracket }
     ] refl
 
 -- a comment that closes
 closed_holds : (inside after : List ℕ) → from_bracket inside ≡ comment_closing ++ after → Holds (40 ∷ 42 ∷ inside) (sight_in_comment inside (42 ∷ 41 ∷ after))
 closed_holds inside after e =
     let is = from_bracket_is inside in
-    let piece : List ℕ = 40 ∷ 42 ∷ is.front ++ comment_closing in
-    let split : piece ++ after ≡ 40 ∷ 42 ∷ inside = ap (λ l. 40 ∷ 42 ∷ l) (append_assoc is.front comment_closing after ∙ ap (λ l. is.front ++ l) (sym e) ∙ is.whole) in
+    let chunk : List ℕ = 40 ∷ 42 ∷ is.prefix ++ comment_closing in
+    let split : chunk ++ after ≡ 40 ∷ 42 ∷ inside = ap (λ l. 40 ∷ 42 ∷ l) (append_assoc is.prefix comment_closing after ∙ ap (λ l. is.prefix ++ l) (sym e) ∙ is.whole) in
     let count : ℕ = 2 + (length inside - length (41 ∷ after)) + 1 in
-    let long : length piece ≡ count = omega (arith, length-append is.front comment_closing, length-append piece after, ap length split) in
-    let left : drop count (40 ∷ 42 ∷ inside) ≡ after = ap (drop count) (sym split) ∙ drop_at piece after count long in
+    let long : length chunk ≡ count = omega (arith, length-append is.prefix comment_closing, length-append chunk after, ap length split) in
+    let left : drop count (40 ∷ 42 ∷ inside) ≡ after = ap (drop count) (sym split) ∙ drop_at chunk after count long in
     Comment (record { inside = inside; opens = take-append-drop count (40 ∷ 42 ∷ inside); closes = e ∙ ap (λ l. comment_closing ++ l) (sym left) })
 
 -- what is where a comment opens
@@ -100,17 +100,17 @@ space_holds [] h = absurd (cc)
 space_holds (b ∷ rest) h = ⊎_elim (λ one. ⊎_elim (λ space. Space (ap (λ x. x ∷ []) (eqb-true b 32 space))) (λ tab. Tab (ap (λ x. x ∷ []) (eqb-true b 9 tab))) (or_cases _ _ one)) (λ back. let both = and_parts (b == 13) (begins is_line_feed rest) back in Return (ap (λ x. x ∷ []) (eqb-true b 13 both.0)) both.1) (or_cases _ _ h)
 
 -- if no comment opens and there is no space, there is no blank
-no_blank_here : (text : List ℕ) → opens_comment text ≡ false → starts_space text ≡ false → (piece after : List ℕ) → piece ++ after ≡ text → ¬ (Blank piece after)
-no_blank_here text no_comment no_space piece after e (Space s) = true≢false (subst (λ t. starts_space t ≡ false) (sym e ∙ ap (λ p. p ++ after) s) no_space)
-no_blank_here text no_comment no_space piece after e (Tab s) = true≢false (subst (λ t. starts_space t ≡ false) (sym e ∙ ap (λ p. p ++ after) s) no_space)
-no_blank_here text no_comment no_space piece after e (Return s lf) = true≢false (sym lf ∙ subst (λ t. starts_space t ≡ false) (sym e ∙ ap (λ p. p ++ after) s) no_space)
-no_blank_here text no_comment no_space piece after e (Comment c) = true≢false (subst (λ t. opens_comment t ≡ false) (sym e ∙ c.opens) no_comment)
+no_blank_here : (text : List ℕ) → opens_comment text ≡ false → starts_space text ≡ false → (chunk after : List ℕ) → chunk ++ after ≡ text → ¬ (Blank chunk after)
+no_blank_here text no_comment no_space chunk after e (Space s) = true≢false (subst (λ t. starts_space t ≡ false) (sym e ∙ ap (λ p. p ++ after) s) no_space)
+no_blank_here text no_comment no_space chunk after e (Tab s) = true≢false (subst (λ t. starts_space t ≡ false) (sym e ∙ ap (λ p. p ++ after) s) no_space)
+no_blank_here text no_comment no_space chunk after e (Return s lf) = true≢false (sym lf ∙ subst (λ t. starts_space t ≡ false) (sym e ∙ ap (λ p. p ++ after) s) no_space)
+no_blank_here text no_comment no_space chunk after e (Comment c) = true≢false (subst (λ t. opens_comment t ≡ false) (sym e ∙ c.opens) no_comment)
 
 -- a lexeme as long as the look ahead, by its shape
 shape_holds : (text : List ℕ) (count : ℕ) → IsLongestLexeme (take count text) (drop count text) → Holds text (sight_of_lexeme count (shape_of (take count text)))
 shape_holds text count longest = go (shape_of (take count text)) refl
   where
-    go : (judged : Result Shape ℕ) → shape_of (take count text) ≡ judged → Holds text (sight_of_lexeme count judged)
+    go : (validated : Result Shape ℕ) → shape_of (take count text) ≡ validated → Holds text (sight_of_lexeme count validated)
     go (Ok shape) e = (longest, e)
     go (Err number) e = Malformed (take count text) (drop count text) (take-append-drop count text) longest e
 
@@ -125,14 +125,14 @@ outside_holds b rest no_comment =
       more = λ e. absurd (cc);
       no_blank = no_blank_here (b ∷ rest) no_comment no_space;
       no_comment = λ inside e. true≢false (subst (λ t. opens_comment t ≡ false) e no_comment);
-      no_lexeme = λ piece after e. none_in_reach piece after (b ∷ rest) e none;
+      no_lexeme = λ chunk after e. none_in_reach chunk after (b ∷ rest) e none;
     })
     go no_space (suc n) some =
         let here = attained b rest (omega (arith, some)) in
-        let long : length here.piece ≡ suc n = sym here.full ∙ some in
+        let long : length here.chunk ≡ suc n = sym here.full ∙ some in
         let longest = attained_longest (b ∷ rest) here in
-        let same : here.piece ≡ take (suc n) (b ∷ rest) = sym (take_at here.piece here.after (suc n) long) ∙ ap (take (suc n)) here.whole in
-        let left : here.after ≡ drop (suc n) (b ∷ rest) = sym (drop_at here.piece here.after (suc n) long) ∙ ap (drop (suc n)) here.whole in
+        let same : here.chunk ≡ take (suc n) (b ∷ rest) = sym (take_at here.chunk here.after (suc n) long) ∙ ap (take (suc n)) here.whole in
+        let left : here.after ≡ drop (suc n) (b ∷ rest) = sym (drop_at here.chunk here.after (suc n) long) ∙ ap (drop (suc n)) here.whole in
         shape_holds (b ∷ rest) (suc n) (subst₂ IsLongestLexeme same left longest)
 
 -- what is here is what the definitions say
@@ -160,14 +160,14 @@ Claim before rest (Ok tokens) = Cuts AtEnd before rest tokens
 Claim before rest (Err fault) = (tokens : List Token) × Cuts (Faulty fault.0 fault.1) before rest tokens
 
 -- a token before what is found after it
-token_claims : (before rest : List ℕ) (shape : Shape) (piece after : List ℕ) → piece ++ after ≡ rest → IsLongestLexeme piece after → shape_of piece ≡ Ok shape → (behind : Result (List Token) (ℕ × ℕ)) → Claim (before ++ piece) after behind → Claim before rest (with_token (token_behind before shape piece) behind)
-token_claims before rest shape piece after e longest h (Ok tokens) more = Taken shape piece after e longest h more
-token_claims before rest shape piece after e longest h (Err fault) more = (token_behind before shape piece ∷ more.0, Taken shape piece after e longest h more.1)
+token_claims : (before rest : List ℕ) (shape : Shape) (chunk after : List ℕ) → chunk ++ after ≡ rest → IsLongestLexeme chunk after → shape_of chunk ≡ Ok shape → (following : Result (List Token) (ℕ × ℕ)) → Claim (before ++ chunk) after following → Claim before rest (with_token (token_after before shape chunk) following)
+token_claims before rest shape chunk after e longest h (Ok tokens) more = Taken shape chunk after e longest h more
+token_claims before rest shape chunk after e longest h (Err fault) more = (token_after before shape chunk ∷ more.0, Taken shape chunk after e longest h more.1)
 
 -- a blank before what is found after it
-blank_claims : (before rest piece after : List ℕ) → piece ++ after ≡ rest → Blank piece after → (behind : Result (List Token) (ℕ × ℕ)) → Claim (before ++ piece) after behind → Claim before rest behind
-blank_claims before rest piece after e blank (Ok tokens) more = Skipped piece after e blank more
-blank_claims before rest piece after e blank (Err fault) more = (more.0, Skipped piece after e blank more.1)
+blank_claims : (before rest chunk after : List ℕ) → chunk ++ after ≡ rest → Blank chunk after → (following : Result (List Token) (ℕ × ℕ)) → Claim (before ++ chunk) after following → Claim before rest following
+blank_claims before rest chunk after e blank (Ok tokens) more = Skipped chunk after e blank more
+blank_claims before rest chunk after e blank (Err fault) more = (more.0, Skipped chunk after e blank more.1)
 
 -- one step more is what the definitions say, if what is found after it is
 step_claims : (n b : ℕ) (before rest : List ℕ) → length rest ≤ n → ((next left : List ℕ) → length left ≤ n → Claim next left (found_from n next left)) → (seen : Sight) → Holds (b ∷ rest) seen → Claim before (b ∷ rest) (go_on (found_from n) before (b ∷ rest) seen)
@@ -194,7 +194,7 @@ found_cut text tokens e = subst (Claim [] text) e (found_claims (length text) []
 pub found_fault : (text : List ℕ) (number line : ℕ) → length text ≤ most_bytes → found text ≡ Err (number, line) → IsFirstTokenFault text number line
 found_fault text number line short e =
     let claim = subst (Claim [] text) e (found_claims (length text) [] text (omega arith)) in
-    Stands claim.0 short claim.1
+    Represents claim.0 short claim.1
 
 -- a text has tokens or a first fault
 pub cut_or_fault : CutOrFault
@@ -202,4 +202,4 @@ cut_or_fault text = ⊎_elim (λ long. inr (107, 0, TooLong long)) (λ short. go
   where
     go : length text ≤ most_bytes → (answer : Result (List Token) (ℕ × ℕ)) → Claim [] text answer → ((tokens : List Token) × IsCut text tokens) ⊎ ((number : ℕ) × (line : ℕ) × IsFirstTokenFault text number line)
     go short (Ok tokens) claim = inl (tokens, claim)
-    go short (Err fault) claim = inr (fault.0, fault.1, Stands claim.0 short claim.1)
+    go short (Err fault) claim = inr (fault.0, fault.1, Represents claim.0 short claim.1)

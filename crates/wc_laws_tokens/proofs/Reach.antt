@@ -6,7 +6,7 @@ use Rattle.std.specs.Option.{option_map_or}
 use Rattle.std.proofs.lemmas.Bool.{and_parts, or_cases, or_parts, or_from, and_left, eqb-true, leb-true, lt-leb, ne_eqb, not-true, cond-true, cond-false}
 use Rattle.std.specs.Cmp.Lexicographic.{bytes_decides}
 use Rattle.wc_model.specs.Text.Characters.{begins, is_address_character, is_identifier_character, is_minus, is_number_character, is_percent, is_sign, starts_identifier}
-use Rattle.wc_model.specs.Text.Lexemes.{Lexeme, Run, Typed, Unsigned, Signed, Sign, Addressed, Marked, is_run, is_literal_value, is_unsigned_run, may_stand_before, IsLongestLexeme}
+use Rattle.wc_model.specs.Text.Lexemes.{Lexeme, Run, Typed, Unsigned, Signed, Sign, Addressed, Marked, is_run, is_literal_value, is_unsigned_run, may_occur_before, IsLongestLexeme}
 use Rattle.wc_model.specs.Text.Shapes.{Shape, Mark, marks, mark_of}
 use Rattle.wc_laws_tokens.specs.Reaches.{value_reach, hash_reach, word_reach, signed_reach, is_mark_before, is_pair_mark, mark_reach, reach}
 
@@ -67,21 +67,21 @@ reach_mark b rest h =
 -- ---- marks
 
 -- what every mark of a table passes, the mark that is found passes
-pub found_passes : (test : List ℕ → Shape → Bool) (table : List Mark) (piece : List ℕ) (shape : Shape) → list_all (λ mark. test mark.spelling mark.shape) table ≡ true → option_map (λ mark. mark.shape) (find (λ mark. bytes_eq piece mark.spelling) table) ≡ Some shape → test piece shape ≡ true
-found_passes test [] piece shape all found = cc
-found_passes test (mark ∷ table) piece shape all found =
+pub found_passes : (test : List ℕ → Shape → Bool) (table : List Mark) (chunk : List ℕ) (shape : Shape) → list_all (λ mark. test mark.spelling mark.shape) table ≡ true → option_map (λ mark. mark.shape) (find (λ mark. bytes_eq chunk mark.spelling) table) ≡ Some shape → test chunk shape ≡ true
+found_passes test [] chunk shape all found = cc
+found_passes test (mark ∷ table) chunk shape all found =
     let both = and_parts (test mark.spelling mark.shape) _ all in
-    elim (bytes_eq piece mark.spelling) as (λ v. bytes_eq piece mark.spelling ≡ v → option_map (λ m. m.shape) (cond v (Some mark) (find (λ m. bytes_eq piece m.spelling) table)) ≡ Some shape → test piece shape ≡ true) [
+    elim (bytes_eq chunk mark.spelling) as (λ v. bytes_eq chunk mark.spelling ≡ v → option_map (λ m. m.shape) (cond v (Some mark) (find (λ m. bytes_eq chunk m.spelling) table)) ≡ Some shape → test chunk shape ≡ true) [
       | true ↦ λ same here.
-          let spelled : piece ≡ mark.spelling = (bytes_decides piece mark.spelling).0 same in
+          let spelled : chunk ≡ mark.spelling = (bytes_decides chunk mark.spelling).0 same in
           let shaped : mark.shape ≡ shape = cc in
-          subst (λ s. test piece s ≡ true) shaped (subst (λ p. test p mark.shape ≡ true) (sym spelled) both.0)
-      | false ↦ λ other later. found_passes test table piece shape both.1 later
+          subst (λ s. test chunk s ≡ true) shaped (subst (λ p. test p mark.shape ≡ true) (sym spelled) both.0)
+      | false ↦ λ other later. found_passes test table chunk shape both.1 later
     ] refl found
 
 -- every mark passes what the table's marks pass
-pub mark_passes : (test : List ℕ → Shape → Bool) (piece : List ℕ) (shape : Shape) → list_all (λ mark. test mark.spelling mark.shape) marks ≡ true → mark_of piece ≡ Some shape → test piece shape ≡ true
-mark_passes test piece shape all found = found_passes test marks piece shape all found
+pub mark_passes : (test : List ℕ → Shape → Bool) (chunk : List ℕ) (shape : Shape) → list_all (λ mark. test mark.spelling mark.shape) marks ≡ true → mark_of chunk ≡ Some shape → test chunk shape ≡ true
+mark_passes test chunk shape all found = found_passes test marks chunk shape all found
 
 -- a mark has one or two bytes, and its first one starts nothing else
 abbrev pub is_short_mark : List ℕ → Bool
@@ -91,12 +91,12 @@ is_short_mark (b ∷ c ∷ []) = starts_mark b
 is_short_mark (b ∷ c ∷ d ∷ rest) = false
 
 -- every mark is so short
-pub mark_is_short : (piece : List ℕ) (shape : Shape) → mark_of piece ≡ Some shape → is_short_mark piece ≡ true
-mark_is_short piece shape found = mark_passes (λ p s. is_short_mark p) piece shape refl found
+pub mark_is_short : (chunk : List ℕ) (shape : Shape) → mark_of chunk ≡ Some shape → is_short_mark chunk ≡ true
+mark_is_short chunk shape found = mark_passes (λ p s. is_short_mark p) chunk shape refl found
 
 -- a mark and what it may precede
-pub marked : (piece rest : List ℕ) (shape : Shape) → mark_of piece ≡ Some shape → may_stand_before shape rest ≡ true → is_mark_before piece rest ≡ true
-marked piece rest shape found may = subst (λ o. option_map_or (λ s. may_stand_before s rest) o false ≡ true) (sym found) may
+pub marked : (chunk rest : List ℕ) (shape : Shape) → mark_of chunk ≡ Some shape → may_occur_before shape rest ≡ true → is_mark_before chunk rest ≡ true
+marked chunk rest shape found may = subst (λ o. option_map_or (λ s. may_occur_before s rest) o false ≡ true) (sym found) may
 
 -- ---- no lexeme is longer
 
@@ -108,7 +108,7 @@ value_within (b ∷ value) after h =
     [ true ↦ λ all. omega (arith, prefix_all is_number_character value after all) | false ↦ λ all. prefix_all is_number_character (b ∷ value) after all ] h
 
 -- an identifier
-run_within : (piece after : List ℕ) → IsTrue (is_run piece) → length piece ≤ reach (piece ++ after)
+run_within : (chunk after : List ℕ) → IsTrue (is_run chunk) → length chunk ≤ reach (chunk ++ after)
 run_within [] after h = omega arith
 run_within (b ∷ run) after h =
     let both = and_parts (starts_identifier b) _ h in
@@ -132,7 +132,7 @@ typed_within (b ∷ run) value after h k =
     (subst (λ n. length (b ∷ run ++ 35 ∷ value) ≤ n) (sym full) (omega (arith, length-append run (35 ∷ value), value_within value after k)))
 
 -- a number without a sign
-unsigned_within : (piece after : List ℕ) → IsTrue (is_unsigned_run piece) → length piece ≤ reach (piece ++ after)
+unsigned_within : (chunk after : List ℕ) → IsTrue (is_unsigned_run chunk) → length chunk ≤ reach (chunk ++ after)
 unsigned_within [] after h = omega arith
 unsigned_within (b ∷ run) after h =
     let both = and_parts (is_ascii_digit b) _ h in
@@ -152,7 +152,7 @@ sign_within sign after h =
     subst (λ n. 1 ≤ n) (sym (reach_sign sign after h)) (elim (begins is_ascii_digit after) as (λ v. 1 ≤ cond v (1 + prefix_len is_number_character after) 1) [ true ↦ omega arith | false ↦ omega arith ])
 
 -- a mark
-mark_within : (piece after : List ℕ) (shape : Shape) → mark_of piece ≡ Some shape → IsTrue (may_stand_before shape after) → IsTrue (is_short_mark piece) → length piece ≤ reach (piece ++ after)
+mark_within : (chunk after : List ℕ) (shape : Shape) → mark_of chunk ≡ Some shape → IsTrue (may_occur_before shape after) → IsTrue (is_short_mark chunk) → length chunk ≤ reach (chunk ++ after)
 mark_within [] after shape found may short = omega arith
 mark_within (b ∷ []) after shape found may short =
     let here = marked (b ∷ []) after shape found may in
@@ -164,19 +164,19 @@ mark_within (b ∷ c ∷ []) after shape found may short =
 mark_within (b ∷ c ∷ d ∷ more) after shape found may short = absurd (cc)
 
 -- a lexeme is at most so long
-pub within_reach : (piece after : List ℕ) → Lexeme piece after → length piece ≤ reach (piece ++ after)
-within_reach piece after (Run h) = run_within piece after h
-within_reach piece after (Typed type value e h k) = subst (λ p. length p ≤ reach (p ++ after)) (sym e) (typed_within type value after h k)
-within_reach piece after (Unsigned h) = unsigned_within piece after h
-within_reach piece after (Signed sign number e h k) = subst (λ p. length p ≤ reach (p ++ after)) (sym e) (signed_within sign number after h k)
-within_reach piece after (Sign sign e h) = subst (λ p. length p ≤ reach (p ++ after)) (sym e) (sign_within sign after h)
-within_reach piece after (Addressed address e h) =
+pub within_reach : (chunk after : List ℕ) → Lexeme chunk after → length chunk ≤ reach (chunk ++ after)
+within_reach chunk after (Run h) = run_within chunk after h
+within_reach chunk after (Typed type value e h k) = subst (λ p. length p ≤ reach (p ++ after)) (sym e) (typed_within type value after h k)
+within_reach chunk after (Unsigned h) = unsigned_within chunk after h
+within_reach chunk after (Signed sign number e h k) = subst (λ p. length p ≤ reach (p ++ after)) (sym e) (signed_within sign number after h k)
+within_reach chunk after (Sign sign e h) = subst (λ p. length p ≤ reach (p ++ after)) (sym e) (sign_within sign after h)
+within_reach chunk after (Addressed address e h) =
     subst (λ p. length p ≤ reach (p ++ after)) (sym e) (omega (arith, prefix_all is_address_character address after h))
-within_reach piece after (Marked shape found may) = mark_within piece after shape found may (mark_is_short piece shape found)
+within_reach chunk after (Marked shape found may) = mark_within chunk after shape found may (mark_is_short chunk shape found)
 
 -- a lexeme that is so long is the longest
-pub longest_at : (piece after : List ℕ) → Lexeme piece after → reach (piece ++ after) ≡ length piece → IsLongestLexeme piece after
-longest_at piece after lexeme full = record {
+pub longest_at : (chunk after : List ℕ) → Lexeme chunk after → reach (chunk ++ after) ≡ length chunk → IsLongestLexeme chunk after
+longest_at chunk after lexeme full = record {
   lexeme = lexeme;
   longest = λ other left e l. subst (λ n. length other ≤ n) (ap reach e ∙ full) (within_reach other left l);
 }

@@ -5,7 +5,7 @@ use Rattle.std.specs.Char.{is_ascii_digit}
 use Rattle.std.specs.List.{prefix_len}
 use Rattle.std.specs.Option.{option_map_or}
 use Rattle.wc_model.specs.Text.Characters.{begins, is_address_character, is_hash, is_identifier_character, is_minus, is_number_character, is_percent, is_sign, starts_identifier}
-use Rattle.wc_model.specs.Text.Lexemes.{may_stand_before}
+use Rattle.wc_model.specs.Text.Lexemes.{may_occur_before}
 use Rattle.wc_model.specs.Text.Shapes.{mark_of}
 
 -- the characters of a number, with a `-` before them or none
@@ -27,7 +27,7 @@ signed_reach rest = cond (begins is_ascii_digit rest) (1 + prefix_len is_number_
 
 -- the bytes are a mark that may precede the rest
 abbrev pub is_mark_before : List ℕ → List ℕ → Bool
-is_mark_before spelling rest = option_map_or (λ shape. may_stand_before shape rest) (mark_of spelling) false
+is_mark_before spelling rest = option_map_or (λ shape. may_occur_before shape rest) (mark_of spelling) false
 
 -- the byte and the next one are a mark
 abbrev pub is_pair_mark : ℕ → List ℕ → Bool

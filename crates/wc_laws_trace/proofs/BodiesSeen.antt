@@ -2,15 +2,15 @@
 use Rattle.std.proofs.Common.{◌≡◌, ℕ, ◌+◌, ◌≤◌, ◌<◌, Bool, true, false, List, [], ◌∷◌, ◌++◌, length, Option, Some, None, Result, Ok, Err, ℤ, append_assoc, refl, sym, ap, subst, ◌∙◌, arith}
 use Rattle.std.proofs.lemmas.List.{length-append}
 use Rattle.std.specs.Option.{option_map}
-use Rattle.wc_text_flat.proofs.Bodies.{stays, opened_by, simple_stays, deeper as depths, regrouped, step_laid_length, laid_length, IsBehind, arrives, arrives_alone, result_arriving}
+use Rattle.wc_text_flat.proofs.Bodies.{stays, opened_by, simple_stays, deeper as depths, regrouped, step_lowered_length, lowered_length, IsAfter, arrives, arrives_alone, result_arriving}
 use Rattle.wc_text_flat.proofs.CallLines.{answer_given}
 use Rattle.wc_text_flat.proofs.Lines.{operand_number, operand_read, load_follows, load_negated_follows, store_follows, apply_follows, not_follows}
 use Rattle.wc_text_flat.proofs.Sides.{Sides, flat, state_of, IsCourse, result_in, by_choice}
 use Rattle.wc_text_flat.proofs.Values.{value_number, ReadsAs, combined_follows, acts_follow}
 use Rattle.wc_text_flat.specs.Contents.{AreContents}
-use Rattle.wc_text_flat.specs.FlatMeaning.{State, Course, Skips, Ended, goes_on, opens, turns, line_runs}
+use Rattle.wc_text_flat.specs.FlatMeaning.{State, Flow, Skips, Ended, goes_on, opens, turns, line_runs}
 use Rattle.wc_text_flat.specs.FlatPaths.{step_sources, sources_of}
-use Rattle.wc_text_flat.specs.Laid.{Operand, Number, At as AtPlace, load_line, apply_line, short_line, IsStepLaid, IsOpening, step_length, flat_length, IsLaid}
+use Rattle.wc_text_flat.specs.Lowered.{Operand, Number, At as AtPlace, load_line, apply_line, short_line, IsStepLowered, IsOpening, step_length, flat_length, IsLowered}
 use Rattle.wc_text_flat.specs.NumberOperators.{given, combined, acts}
 use Rattle.wc_model.specs.Text.Limits.{depth}
 use Rattle.wc_model.specs.Language.Meaning.{Outcome, Done, Stuck, Mode, Running, Seeking, Returned, Effect, Goes, Fails, arriving, after, continued, from_value, value_of, step_effect, line_effect, closed, nested_effect, means}
@@ -27,7 +27,7 @@ use Rattle.wc_model.specs.declared.operator.Condition.{Condition}
 use Rattle.wc_model.specs.declared.operator.Operator.{Operator}
 use Rattle.wc_model.specs.declared.value.Value.{Value}
 use Rattle.wc_laws_soundness.specs.Sound.{IsSimple, NestsSimply}
-use Rattle.wc_laws_trace.proofs.CallsSeen.{call_seen, call_sources_behind}
+use Rattle.wc_laws_trace.proofs.CallsSeen.{call_seen, call_sources_after}
 use Rattle.wc_laws_trace.proofs.SeenSides.{OutcomeSeen, AreSeenAlike, OnwardSeen, EffectSeen, onward_effect_seen, seen_append, entry, line_then, line_seen, passed_unseen, ended_unseen, body_line_runs_none}
 use Rattle.wc_laws_trace.specs.FlatSeen.{FlatSeen, FlatSeenCalls, flat_seen, is_body_line, AreSeenAs}
 use Rattle.wc_laws_trace.specs.Seen.{Seen, SeenCalls, seen_at, seen_effect, seen_from, seen_step, seen_line, seen_inside, seen_nested, seen_lines}
@@ -47,27 +47,27 @@ short_is_own (Number n) = refl
 short_is_own (AtPlace place) = refl
 
 -- a step that is executed and is neither a jump nor a return
-pub staying_seen : (w : Sides) (calls : SeenCalls) (flats : FlatSeenCalls) → AreSeenAlike w calls flats → (put_by : List ℤ) (number : ℕ) (store : Store) (numbers : List ℤ) → AreContents w.frame store numbers → (result : Option Value) (rest : Lines) (step : Step) → stays step ≡ true → (own : List Code) → IsStepLaid w.here.scope rest step own → OnwardSeen w flats (step_sources number step) own put_by (state_of result put_by numbers) (step_effect w.here number step result store) (seen_step w.here calls number step result store)
-staying_seen w calls flats alike put_by number store numbers contents result rest (Load false term) s own laid =
-    subst (λ (c : List Code). OnwardSeen w flats (number ∷ []) c put_by (state_of result put_by numbers) (step_effect w.here number (Load false term) result store) (seen_effect number (step_effect w.here number (Load false term) result store))) (sym laid.2)
-    (line_seen w flats number (load_line false laid.0) put_by (state_of result put_by numbers) (step_effect w.here number (Load false term) result store) (load_is_own false laid.0) (load_follows w alike.alike put_by number store numbers contents result term laid.0 laid.1))
-staying_seen w calls flats alike put_by number store numbers contents result rest (Load true term) s own laid =
-    subst (λ (c : List Code). OnwardSeen w flats (number ∷ []) c put_by (state_of result put_by numbers) (step_effect w.here number (Load true term) result store) (seen_effect number (step_effect w.here number (Load true term) result store))) (sym laid.2)
-    (line_seen w flats number (load_line true laid.0) put_by (state_of result put_by numbers) (step_effect w.here number (Load true term) result store) (load_is_own true laid.0) (load_negated_follows w alike.alike put_by number store numbers contents result term laid.0 laid.1))
-staying_seen w calls flats alike put_by number store numbers contents result rest (StoreStep storing target) s own laid =
-    subst (λ (c : List Code). OnwardSeen w flats (number ∷ []) c put_by (state_of result put_by numbers) (step_effect w.here number (StoreStep storing target) result store) (seen_effect number (step_effect w.here number (StoreStep storing target) result store))) (sym laid.2)
-    (line_seen w flats number (StoreLine storing laid.0) put_by (state_of result put_by numbers) (step_effect w.here number (StoreStep storing target) result store) refl (store_follows w alike.alike put_by number store numbers contents result storing target laid.0 laid.1))
-staying_seen w calls flats alike put_by number store numbers contents result rest (Apply operator term) s own laid =
-    subst (λ (c : List Code). OnwardSeen w flats (number ∷ []) c put_by (state_of result put_by numbers) (step_effect w.here number (Apply operator term) result store) (seen_effect number (step_effect w.here number (Apply operator term) result store))) (sym laid.2)
-    (line_seen w flats number (apply_line operator laid.0) put_by (state_of result put_by numbers) (step_effect w.here number (Apply operator term) result store) (apply_is_own operator laid.0) (apply_follows w alike.alike put_by number store numbers contents result operator term laid.0 laid.1))
-staying_seen w calls flats alike put_by number store numbers contents result rest Negate s own laid =
-    subst (λ (c : List Code). OnwardSeen w flats (number ∷ []) c put_by (state_of result put_by numbers) (step_effect w.here number Negate result store) (seen_effect number (step_effect w.here number Negate result store))) (sym laid)
+pub staying_seen : (w : Sides) (calls : SeenCalls) (flats : FlatSeenCalls) → AreSeenAlike w calls flats → (put_by : List ℤ) (number : ℕ) (store : Store) (numbers : List ℤ) → AreContents w.frame store numbers → (result : Option Value) (rest : Lines) (step : Step) → stays step ≡ true → (own : List Code) → IsStepLowered w.here.scope rest step own → OnwardSeen w flats (step_sources number step) own put_by (state_of result put_by numbers) (step_effect w.here number step result store) (seen_step w.here calls number step result store)
+staying_seen w calls flats alike put_by number store numbers contents result rest (Load false term) s own lowered =
+    subst (λ (c : List Code). OnwardSeen w flats (number ∷ []) c put_by (state_of result put_by numbers) (step_effect w.here number (Load false term) result store) (seen_effect number (step_effect w.here number (Load false term) result store))) (sym lowered.2)
+    (line_seen w flats number (load_line false lowered.0) put_by (state_of result put_by numbers) (step_effect w.here number (Load false term) result store) (load_is_own false lowered.0) (load_follows w alike.alike put_by number store numbers contents result term lowered.0 lowered.1))
+staying_seen w calls flats alike put_by number store numbers contents result rest (Load true term) s own lowered =
+    subst (λ (c : List Code). OnwardSeen w flats (number ∷ []) c put_by (state_of result put_by numbers) (step_effect w.here number (Load true term) result store) (seen_effect number (step_effect w.here number (Load true term) result store))) (sym lowered.2)
+    (line_seen w flats number (load_line true lowered.0) put_by (state_of result put_by numbers) (step_effect w.here number (Load true term) result store) (load_is_own true lowered.0) (load_negated_follows w alike.alike put_by number store numbers contents result term lowered.0 lowered.1))
+staying_seen w calls flats alike put_by number store numbers contents result rest (StoreStep storing target) s own lowered =
+    subst (λ (c : List Code). OnwardSeen w flats (number ∷ []) c put_by (state_of result put_by numbers) (step_effect w.here number (StoreStep storing target) result store) (seen_effect number (step_effect w.here number (StoreStep storing target) result store))) (sym lowered.2)
+    (line_seen w flats number (StoreLine storing lowered.0) put_by (state_of result put_by numbers) (step_effect w.here number (StoreStep storing target) result store) refl (store_follows w alike.alike put_by number store numbers contents result storing target lowered.0 lowered.1))
+staying_seen w calls flats alike put_by number store numbers contents result rest (Apply operator term) s own lowered =
+    subst (λ (c : List Code). OnwardSeen w flats (number ∷ []) c put_by (state_of result put_by numbers) (step_effect w.here number (Apply operator term) result store) (seen_effect number (step_effect w.here number (Apply operator term) result store))) (sym lowered.2)
+    (line_seen w flats number (apply_line operator lowered.0) put_by (state_of result put_by numbers) (step_effect w.here number (Apply operator term) result store) (apply_is_own operator lowered.0) (apply_follows w alike.alike put_by number store numbers contents result operator term lowered.0 lowered.1))
+staying_seen w calls flats alike put_by number store numbers contents result rest Negate s own lowered =
+    subst (λ (c : List Code). OnwardSeen w flats (number ∷ []) c put_by (state_of result put_by numbers) (step_effect w.here number Negate result store) (seen_effect number (step_effect w.here number Negate result store))) (sym lowered)
     (line_seen w flats number Not put_by (state_of result put_by numbers) (step_effect w.here number Negate result store) refl (not_follows w put_by number store numbers contents result))
-staying_seen w calls flats alike put_by number store numbers contents result rest (Jump condition label) s own laid = cc
-staying_seen w calls flats alike put_by number store numbers contents result rest (Call condition instance arguments) s own laid =
-    subst (λ (c : List Code). OnwardSeen w flats (step_sources number (Call condition instance arguments)) c put_by (state_of result put_by numbers) (step_effect w.here number (Call condition instance arguments) result store) (seen_step w.here calls number (Call condition instance arguments) result store)) (sym laid.is)
-    (call_seen w calls flats alike number result put_by store numbers contents condition instance arguments own laid)
-staying_seen w calls flats alike put_by number store numbers contents result rest (Return condition) s own laid = cc
+staying_seen w calls flats alike put_by number store numbers contents result rest (Jump condition label) s own lowered = cc
+staying_seen w calls flats alike put_by number store numbers contents result rest (Call condition instance arguments) s own lowered =
+    subst (λ (c : List Code). OnwardSeen w flats (step_sources number (Call condition instance arguments)) c put_by (state_of result put_by numbers) (step_effect w.here number (Call condition instance arguments) result store) (seen_step w.here calls number (Call condition instance arguments) result store)) (sym lowered.is)
+    (call_seen w calls flats alike number result put_by store numbers contents condition instance arguments own lowered)
+staying_seen w calls flats alike put_by number store numbers contents result rest (Return condition) s own lowered = cc
 
 -- what is seen of flat lines is what is seen of lines inside a parenthesis, which are executed one after another
 abbrev pub InsideSeen : Sides → FlatSeenCalls → List ℕ → List Code → Option Value → List ℤ → List ℤ → Outcome → List Seen → Type 0
@@ -128,13 +128,13 @@ nested_seen w calls flats alike opening sources inner number close operator (Som
         (inside (Running (Some value)) store) (seen (Running (Some value)) store) (h (Some value) (value_number outer))
 
 -- on from an effect that stays
-pub onward_then_seen : (w : Sides) (flats : FlatSeenCalls) (sources behind : List ℕ) (own rest : List Code) (start : Option Value) (put_by numbers : List ℤ) (effect : Effect) (seen : List Seen) (go : Mode → Store → Outcome) (seen_go : Mode → Store → List Seen) → OnwardSeen w flats sources own put_by (state_of start put_by numbers) effect seen → ((result : Option Value) (store : Store) (after : List ℤ) → AreContents w.frame store after → InsideSeen w flats behind rest result put_by after (go (Running result) store) (seen_go (Running result) store)) → InsideSeen w flats (sources ++ behind) (own ++ rest) start put_by numbers (continued effect go) (seen ++ seen_from effect seen_go)
-onward_then_seen w flats sources behind own rest start put_by numbers (Fails reason) seen go seen_go h onward = tt
-onward_then_seen w flats sources behind own rest start put_by numbers (Goes (Seeking label result) store items) seen go seen_go h onward = absurd h
-onward_then_seen w flats sources behind own rest start put_by numbers (Goes (Returned result) store items) seen go seen_go h onward = absurd h
-onward_then_seen w flats sources behind own rest start put_by numbers (Goes (Running result) store items) seen go seen_go h onward = step (go (Running result) store) (seen_go (Running result) store) (onward result store h.0 h.1)
+pub onward_then_seen : (w : Sides) (flats : FlatSeenCalls) (sources following : List ℕ) (own rest : List Code) (start : Option Value) (put_by numbers : List ℤ) (effect : Effect) (seen : List Seen) (go : Mode → Store → Outcome) (seen_go : Mode → Store → List Seen) → OnwardSeen w flats sources own put_by (state_of start put_by numbers) effect seen → ((result : Option Value) (store : Store) (after : List ℤ) → AreContents w.frame store after → InsideSeen w flats following rest result put_by after (go (Running result) store) (seen_go (Running result) store)) → InsideSeen w flats (sources ++ following) (own ++ rest) start put_by numbers (continued effect go) (seen ++ seen_from effect seen_go)
+onward_then_seen w flats sources following own rest start put_by numbers (Fails reason) seen go seen_go h onward = tt
+onward_then_seen w flats sources following own rest start put_by numbers (Goes (Seeking label result) store items) seen go seen_go h onward = absurd h
+onward_then_seen w flats sources following own rest start put_by numbers (Goes (Returned result) store items) seen go seen_go h onward = absurd h
+onward_then_seen w flats sources following own rest start put_by numbers (Goes (Running result) store items) seen go seen_go h onward = step (go (Running result) store) (seen_go (Running result) store) (onward result store h.0 h.1)
   where
-    step : (o : Outcome) (others_seen : List Seen) → InsideSeen w flats behind rest result put_by h.0 o others_seen → InsideSeen w flats (sources ++ behind) (own ++ rest) start put_by numbers (after items o) (seen ++ others_seen)
+    step : (o : Outcome) (others_seen : List Seen) → InsideSeen w flats following rest result put_by h.0 o others_seen → InsideSeen w flats (sources ++ following) (own ++ rest) start put_by numbers (after items o) (seen ++ others_seen)
     step (Stuck reason) others_seen f = tt
     step (Done last new trace) others_seen f = (
       f.0,
@@ -142,9 +142,9 @@ onward_then_seen w flats sources behind own rest start put_by numbers (Goes (Run
       (
         h.2.0 ++ f.2.0,
         seen_append w.frame seen others_seen h.2.0 f.2.0 h.2.1 f.2.1,
-        λ more others. ap (λ (s : List ℕ). flat_seen (flat w) flats s ((own ++ rest) ++ others) (Skips 0) (state_of start put_by numbers)) (append_assoc sources behind more)
-            ∙ (ap (λ (c : List Code). flat_seen (flat w) flats (sources ++ (behind ++ more)) c (Skips 0) (state_of start put_by numbers)) (append_assoc own rest others)
-            ∙ (h.2.2 (behind ++ more) (rest ++ others)
+        λ more others. ap (λ (s : List ℕ). flat_seen (flat w) flats s ((own ++ rest) ++ others) (Skips 0) (state_of start put_by numbers)) (append_assoc sources following more)
+            ∙ (ap (λ (c : List Code). flat_seen (flat w) flats (sources ++ (following ++ more)) c (Skips 0) (state_of start put_by numbers)) (append_assoc own rest others)
+            ∙ (h.2.2 (following ++ more) (rest ++ others)
             ∙ (ap (λ (l : List FlatSeen). h.2.0 ++ l) (f.2.2 more others)
             ∙ sym (append_assoc h.2.0 f.2.0 (flat_seen (flat w) flats more others (Skips 0) (state_of last put_by f.0)))))),
       ),
@@ -155,23 +155,23 @@ pub regrouped_sources : (number close : ℕ) (inner others : List ℕ) → numbe
 regrouped_sources number close inner others = ap (λ (s : List ℕ). number ∷ s) (sym (append_assoc inner (close ∷ []) others))
 
 -- the lines inside a parenthesis
-pub inside_seen : (w : Sides) (calls : SeenCalls) (flats : FlatSeenCalls) → AreSeenAlike w calls flats → (lines : Lines) → IsSimple lines → (code : List Code) → IsLaid w.here.scope lines code → (put_by : List ℤ) → depth lines + length put_by ≤ 8 → (start : Option Value) (store : Store) (numbers : List ℤ) → AreContents w.frame store numbers → InsideSeen w flats (sources_of lines) code start put_by numbers (means w.here lines (Running start) store) (seen_lines w.here calls lines (Running start) store)
-inside_seen w calls flats alike End simple code laid put_by l start store numbers contents =
-    (numbers, contents, ([], tt, λ more others. ap (λ (c : List Code). flat_seen (flat w) flats more (c ++ others) (Skips 0) (state_of start put_by numbers)) laid))
-inside_seen w calls flats alike (Alone label rest) simple code laid put_by l start store numbers contents = inside_seen w calls flats alike rest simple code laid put_by l start store numbers contents
-inside_seen w calls flats alike (Plain label number step rest) simple code laid put_by l start store numbers contents =
-    subst (λ (c : List Code). InsideSeen w flats (step_sources number step ++ sources_of rest) c start put_by numbers (means w.here (Plain label number step rest) (Running start) store) (seen_lines w.here calls (Plain label number step rest) (Running start) store)) (sym laid.whole)
-    (onward_then_seen w flats (step_sources number step) (sources_of rest) laid.own laid.others start put_by numbers (step_effect w.here number step start store) (seen_step w.here calls number step start store) (means w.here rest) (seen_lines w.here calls rest)
-    (staying_seen w calls flats alike put_by number store numbers contents start rest step (simple_stays step simple.0) laid.own laid.step)
-    (λ result new left held. inside_seen w calls flats alike rest simple.1 laid.others laid.rest put_by l result new left held))
-inside_seen w calls flats alike (Nested label number operator operand inside close rest) simple code laid put_by l start store numbers contents =
+pub inside_seen : (w : Sides) (calls : SeenCalls) (flats : FlatSeenCalls) → AreSeenAlike w calls flats → (lines : Lines) → IsSimple lines → (code : List Code) → IsLowered w.here.scope lines code → (put_by : List ℤ) → depth lines + length put_by ≤ 8 → (start : Option Value) (store : Store) (numbers : List ℤ) → AreContents w.frame store numbers → InsideSeen w flats (sources_of lines) code start put_by numbers (means w.here lines (Running start) store) (seen_lines w.here calls lines (Running start) store)
+inside_seen w calls flats alike End simple code lowered put_by l start store numbers contents =
+    (numbers, contents, ([], tt, λ more others. ap (λ (c : List Code). flat_seen (flat w) flats more (c ++ others) (Skips 0) (state_of start put_by numbers)) lowered))
+inside_seen w calls flats alike (Alone label rest) simple code lowered put_by l start store numbers contents = inside_seen w calls flats alike rest simple code lowered put_by l start store numbers contents
+inside_seen w calls flats alike (Plain label number step rest) simple code lowered put_by l start store numbers contents =
+    subst (λ (c : List Code). InsideSeen w flats (step_sources number step ++ sources_of rest) c start put_by numbers (means w.here (Plain label number step rest) (Running start) store) (seen_lines w.here calls (Plain label number step rest) (Running start) store)) (sym lowered.whole)
+    (onward_then_seen w flats (step_sources number step) (sources_of rest) lowered.own lowered.others start put_by numbers (step_effect w.here number step start store) (seen_step w.here calls number step start store) (means w.here rest) (seen_lines w.here calls rest)
+    (staying_seen w calls flats alike put_by number store numbers contents start rest step (simple_stays step simple.0) lowered.own lowered.step)
+    (λ result new left held. inside_seen w calls flats alike rest simple.1 lowered.others lowered.rest put_by l result new left held))
+inside_seen w calls flats alike (Nested label number operator operand inside close rest) simple code lowered put_by l start store numbers contents =
     let d = depths (depth inside) (depth rest) (length put_by) l in
     subst (λ (s : List ℕ). InsideSeen w flats s code start put_by numbers (means w.here (Nested label number operator operand inside close rest) (Running start) store) (seen_lines w.here calls (Nested label number operator operand inside close rest) (Running start) store)) (sym (regrouped_sources number close (sources_of inside) (sources_of rest)))
-    (subst (λ (c : List Code). InsideSeen w flats ((number ∷ sources_of inside ++ close ∷ []) ++ sources_of rest) c start put_by numbers (means w.here (Nested label number operator operand inside close rest) (Running start) store) (seen_lines w.here calls (Nested label number operator operand inside close rest) (Running start) store)) (sym (laid.whole ∙ regrouped laid.opening laid.inner operator laid.others))
-    (onward_then_seen w flats (number ∷ sources_of inside ++ close ∷ []) (sources_of rest) (laid.opening ∷ laid.inner ++ Close operator ∷ []) laid.others start put_by numbers (nested_effect w.here number operator operand close (means w.here inside) (Running start) store) (seen_nested w.here number operator operand close (seen_lines w.here calls inside) (means w.here inside) (Running start) store) (means w.here rest) (seen_lines w.here calls rest)
-    (nested_seen w calls flats alike laid.opening (sources_of inside) laid.inner number close operator operand laid.opens start put_by d.2 store numbers contents (means w.here inside) (seen_lines w.here calls inside)
-    (λ first more. inside_seen w calls flats alike inside simple.0 laid.inner laid.inside (more ∷ put_by) d.0 first store numbers contents))
-    (λ result new left held. inside_seen w calls flats alike rest simple.1 laid.others laid.rest put_by d.1 result new left held)))
+    (subst (λ (c : List Code). InsideSeen w flats ((number ∷ sources_of inside ++ close ∷ []) ++ sources_of rest) c start put_by numbers (means w.here (Nested label number operator operand inside close rest) (Running start) store) (seen_lines w.here calls (Nested label number operator operand inside close rest) (Running start) store)) (sym (lowered.whole ∙ regrouped lowered.opening lowered.inner operator lowered.others))
+    (onward_then_seen w flats (number ∷ sources_of inside ++ close ∷ []) (sources_of rest) (lowered.opening ∷ lowered.inner ++ Close operator ∷ []) lowered.others start put_by numbers (nested_effect w.here number operator operand close (means w.here inside) (Running start) store) (seen_nested w.here number operator operand close (seen_lines w.here calls inside) (means w.here inside) (Running start) store) (means w.here rest) (seen_lines w.here calls rest)
+    (nested_seen w calls flats alike lowered.opening (sources_of inside) lowered.inner number close operator operand lowered.opens start put_by d.2 store numbers contents (means w.here inside) (seen_lines w.here calls inside)
+    (λ first more. inside_seen w calls flats alike inside simple.0 lowered.inner lowered.inside (more ∷ put_by) d.0 first store numbers contents))
+    (λ result new left held. inside_seen w calls flats alike rest simple.1 lowered.others lowered.rest put_by d.1 result new left held)))
 
 -- as many lines of the text as flat lines
 pub step_sources_length : (number : ℕ) (step : Step) → length (step_sources number step) ≡ step_length step
@@ -181,7 +181,7 @@ step_sources_length number (Apply operator operand) = refl
 step_sources_length number Negate = refl
 step_sources_length number (Jump condition label) = refl
 step_sources_length number (Return condition) = refl
-step_sources_length number (Call condition instance arguments) = let a = call_sources_behind number arguments in omega (arith, a)
+step_sources_length number (Call condition instance arguments) = let a = call_sources_after number arguments in omega (arith, a)
 
 pub sources_length : (lines : Lines) → length (sources_of lines) ≡ flat_length lines
 sources_length End = refl
@@ -198,7 +198,7 @@ sources_length (Nested label number operator operand inside close rest) =
     omega (arith, a, b, c)
 
 -- lines that are not executed
-pub passing_seen : (w : Sides) (flats : FlatSeenCalls) (rest : Lines) (sources : List ℕ) (own : List Code) (n : ℕ) → length own ≡ n → length sources ≡ n → (put_by : List ℤ) (store : Store) (numbers : List ℤ) → AreContents w.frame store numbers → (label : Name) (result : Option Value) (course : Course) → IsBehind n rest (Seeking label result) course → EffectSeen w flats rest sources own put_by course (state_of result put_by numbers) (Goes (Seeking label result) store []) []
+pub passing_seen : (w : Sides) (flats : FlatSeenCalls) (rest : Lines) (sources : List ℕ) (own : List Code) (n : ℕ) → length own ≡ n → length sources ≡ n → (put_by : List ℤ) (store : Store) (numbers : List ℤ) → AreContents w.frame store numbers → (label : Name) (result : Option Value) (course : Flow) → IsAfter n rest (Seeking label result) course → EffectSeen w flats rest sources own put_by course (state_of result put_by numbers) (Goes (Seeking label result) store []) []
 passing_seen w flats rest sources own n so_many as_many put_by store numbers contents label result course is = (
   Skips is.0,
   numbers,
@@ -207,12 +207,12 @@ passing_seen w flats rest sources own n so_many as_many put_by store numbers con
   (
     [],
     tt,
-    λ more others. ap (λ (c : Course). flat_seen (flat w) flats (sources ++ more) (own ++ others) c (state_of result put_by numbers)) (is.2 ∙ ap (λ k. Skips (k + is.0)) (sym so_many))
+    λ more others. ap (λ (c : Flow). flat_seen (flat w) flats (sources ++ more) (own ++ others) c (state_of result put_by numbers)) (is.2 ∙ ap (λ k. Skips (k + is.0)) (sym so_many))
         ∙ passed_unseen (flat w) flats sources more own others (as_many ∙ sym so_many) is.0 (state_of result put_by numbers),
   ),
 )
 
-pub over_seen : (w : Sides) (flats : FlatSeenCalls) (rest : Lines) (sources : List ℕ) (own : List Code) (put_by : List ℤ) (store : Store) (numbers : List ℤ) → AreContents w.frame store numbers → (result : Option Value) (course : Course) → course ≡ Ended → EffectSeen w flats rest sources own put_by course (state_of result put_by numbers) (Goes (Returned result) store []) []
+pub over_seen : (w : Sides) (flats : FlatSeenCalls) (rest : Lines) (sources : List ℕ) (own : List Code) (put_by : List ℤ) (store : Store) (numbers : List ℤ) → AreContents w.frame store numbers → (result : Option Value) (course : Flow) → course ≡ Ended → EffectSeen w flats rest sources own put_by course (state_of result put_by numbers) (Goes (Returned result) store []) []
 over_seen w flats rest sources own put_by store numbers contents result course is = (
   Ended,
   numbers,
@@ -221,13 +221,13 @@ over_seen w flats rest sources own put_by store numbers contents result course i
   (
     [],
     tt,
-    λ more others. ap (λ (c : Course). flat_seen (flat w) flats (sources ++ more) (own ++ others) c (state_of result put_by numbers)) is
+    λ more others. ap (λ (c : Flow). flat_seen (flat w) flats (sources ++ more) (own ++ others) c (state_of result put_by numbers)) is
         ∙ (ended_unseen (flat w) flats (sources ++ more) (own ++ others) (state_of result put_by numbers) ∙ sym (ended_unseen (flat w) flats more others (state_of result put_by numbers))),
   ),
 )
 
 -- a conditional line that leads elsewhere, or on
-pub turning_seen : (w : Sides) (flats : FlatSeenCalls) (rest : Lines) (line : Code) → is_body_line line ≡ true → (number : ℕ) (put_by : List ℤ) (store : Store) (numbers : List ℤ) → AreContents w.frame store numbers → (result : Option Value) (condition : Condition) (mode : Mode) → result_in mode ≡ result → seeing.result_in mode ≡ result → (there : Course) → IsCourse rest mode there → line_runs (flat w) (state_of result put_by numbers) line ≡ turns (state_of result put_by numbers) (acts condition (option_map value_number result)) there (Skips 0) → EffectSeen w flats rest (number ∷ []) (line ∷ []) put_by (Skips 0) (state_of result put_by numbers) (meaning.chosen (meaning.acts condition result) (Goes mode store (AtLine number ∷ [])) (Goes (Running result) store (AtLine number ∷ []))) (seen_effect number (meaning.chosen (meaning.acts condition result) (Goes mode store (AtLine number ∷ [])) (Goes (Running result) store (AtLine number ∷ []))))
+pub turning_seen : (w : Sides) (flats : FlatSeenCalls) (rest : Lines) (line : Code) → is_body_line line ≡ true → (number : ℕ) (put_by : List ℤ) (store : Store) (numbers : List ℤ) → AreContents w.frame store numbers → (result : Option Value) (condition : Condition) (mode : Mode) → result_in mode ≡ result → seeing.result_in mode ≡ result → (there : Flow) → IsCourse rest mode there → line_runs (flat w) (state_of result put_by numbers) line ≡ turns (state_of result put_by numbers) (acts condition (option_map value_number result)) there (Skips 0) → EffectSeen w flats rest (number ∷ []) (line ∷ []) put_by (Skips 0) (state_of result put_by numbers) (meaning.chosen (meaning.acts condition result) (Goes mode store (AtLine number ∷ [])) (Goes (Running result) store (AtLine number ∷ []))) (seen_effect number (meaning.chosen (meaning.acts condition result) (Goes mode store (AtLine number ∷ [])) (Goes (Running result) store (AtLine number ∷ []))))
 turning_seen w flats rest line own number put_by store numbers contents result condition mode same same_seen there is runs_so =
     by_choice (λ effect. EffectSeen w flats rest (number ∷ []) (line ∷ []) put_by (Skips 0) state effect (seen_effect number effect)) (λ reason. tt)
     (meaning.acts condition result) (Goes mode store (AtLine number ∷ [])) (Goes (Running result) store (AtLine number ∷ []))
@@ -247,82 +247,82 @@ turning_seen w flats rest line own number put_by store numbers contents result c
     state : State
     state = state_of result put_by numbers
 
-    turned : (b : Bool) → meaning.acts condition result ≡ Ok b → (more : List ℕ) (others : List Code) → flat_seen (flat w) flats (number ∷ more) (line ∷ others) (Skips 0) state ≡ entry w number line state state ∷ flat_seen (flat w) flats more others (elim b as (λ x. Course) [ true ↦ there | false ↦ Skips 0 ]) state
+    turned : (b : Bool) → meaning.acts condition result ≡ Ok b → (more : List ℕ) (others : List Code) → flat_seen (flat w) flats (number ∷ more) (line ∷ others) (Skips 0) state ≡ entry w number line state state ∷ flat_seen (flat w) flats more others (elim b as (λ x. Flow) [ true ↦ there | false ↦ Skips 0 ]) state
     turned b e more others =
         line_then w flats number line state _ (body_line_runs_none line own)
         (runs_so ∙ ap (λ (x : Option Bool). turns state x there (Skips 0)) (answer_given (meaning.acts condition result) (acts condition (option_map value_number result)) b (acts_follow condition result) e)) more others
 
 -- each step that is executed
-pub step_seen : (w : Sides) (calls : SeenCalls) (flats : FlatSeenCalls) → AreSeenAlike w calls flats → (put_by : List ℤ) (number : ℕ) (store : Store) (numbers : List ℤ) → AreContents w.frame store numbers → (result : Option Value) (rest : Lines) (step : Step) (own : List Code) → IsStepLaid w.here.scope rest step own → EffectSeen w flats rest (step_sources number step) own put_by (Skips 0) (state_of result put_by numbers) (step_effect w.here number step result store) (seen_step w.here calls number step result store)
-step_seen w calls flats alike put_by number store numbers contents result rest (Jump condition label) own laid =
-    subst (λ (c : List Code). EffectSeen w flats rest (number ∷ []) c put_by (Skips 0) (state_of result put_by numbers) (step_effect w.here number (Jump condition label) result store) (seen_step w.here calls number (Jump condition label) result store)) (sym laid.2)
-    (turning_seen w flats rest (JumpLine condition laid.0) refl number put_by store numbers contents result condition (Seeking label result) refl refl (Skips laid.0) (laid.0, laid.1, refl) refl)
-step_seen w calls flats alike put_by number store numbers contents result rest (Return condition) own laid =
-    subst (λ (c : List Code). EffectSeen w flats rest (number ∷ []) c put_by (Skips 0) (state_of result put_by numbers) (step_effect w.here number (Return condition) result store) (seen_step w.here calls number (Return condition) result store)) (sym laid)
+pub step_seen : (w : Sides) (calls : SeenCalls) (flats : FlatSeenCalls) → AreSeenAlike w calls flats → (put_by : List ℤ) (number : ℕ) (store : Store) (numbers : List ℤ) → AreContents w.frame store numbers → (result : Option Value) (rest : Lines) (step : Step) (own : List Code) → IsStepLowered w.here.scope rest step own → EffectSeen w flats rest (step_sources number step) own put_by (Skips 0) (state_of result put_by numbers) (step_effect w.here number step result store) (seen_step w.here calls number step result store)
+step_seen w calls flats alike put_by number store numbers contents result rest (Jump condition label) own lowered =
+    subst (λ (c : List Code). EffectSeen w flats rest (number ∷ []) c put_by (Skips 0) (state_of result put_by numbers) (step_effect w.here number (Jump condition label) result store) (seen_step w.here calls number (Jump condition label) result store)) (sym lowered.2)
+    (turning_seen w flats rest (JumpLine condition lowered.0) refl number put_by store numbers contents result condition (Seeking label result) refl refl (Skips lowered.0) (lowered.0, lowered.1, refl) refl)
+step_seen w calls flats alike put_by number store numbers contents result rest (Return condition) own lowered =
+    subst (λ (c : List Code). EffectSeen w flats rest (number ∷ []) c put_by (Skips 0) (state_of result put_by numbers) (step_effect w.here number (Return condition) result store) (seen_step w.here calls number (Return condition) result store)) (sym lowered)
     (turning_seen w flats rest (ReturnLine condition) refl number put_by store numbers contents result condition (Returned result) refl refl Ended refl refl)
-step_seen w calls flats alike put_by number store numbers contents result rest (Load negated term) own laid = onward_effect_seen w flats rest (number ∷ []) own put_by (state_of result put_by numbers) (step_effect w.here number (Load negated term) result store) (seen_step w.here calls number (Load negated term) result store) (staying_seen w calls flats alike put_by number store numbers contents result rest (Load negated term) refl own laid)
-step_seen w calls flats alike put_by number store numbers contents result rest (StoreStep storing target) own laid = onward_effect_seen w flats rest (number ∷ []) own put_by (state_of result put_by numbers) (step_effect w.here number (StoreStep storing target) result store) (seen_step w.here calls number (StoreStep storing target) result store) (staying_seen w calls flats alike put_by number store numbers contents result rest (StoreStep storing target) refl own laid)
-step_seen w calls flats alike put_by number store numbers contents result rest (Apply operator term) own laid = onward_effect_seen w flats rest (number ∷ []) own put_by (state_of result put_by numbers) (step_effect w.here number (Apply operator term) result store) (seen_step w.here calls number (Apply operator term) result store) (staying_seen w calls flats alike put_by number store numbers contents result rest (Apply operator term) refl own laid)
-step_seen w calls flats alike put_by number store numbers contents result rest Negate own laid = onward_effect_seen w flats rest (number ∷ []) own put_by (state_of result put_by numbers) (step_effect w.here number Negate result store) (seen_step w.here calls number Negate result store) (staying_seen w calls flats alike put_by number store numbers contents result rest Negate refl own laid)
-step_seen w calls flats alike put_by number store numbers contents result rest (Call condition instance arguments) own laid = onward_effect_seen w flats rest (step_sources number (Call condition instance arguments)) own put_by (state_of result put_by numbers) (step_effect w.here number (Call condition instance arguments) result store) (seen_step w.here calls number (Call condition instance arguments) result store) (staying_seen w calls flats alike put_by number store numbers contents result rest (Call condition instance arguments) refl own laid)
+step_seen w calls flats alike put_by number store numbers contents result rest (Load negated term) own lowered = onward_effect_seen w flats rest (number ∷ []) own put_by (state_of result put_by numbers) (step_effect w.here number (Load negated term) result store) (seen_step w.here calls number (Load negated term) result store) (staying_seen w calls flats alike put_by number store numbers contents result rest (Load negated term) refl own lowered)
+step_seen w calls flats alike put_by number store numbers contents result rest (StoreStep storing target) own lowered = onward_effect_seen w flats rest (number ∷ []) own put_by (state_of result put_by numbers) (step_effect w.here number (StoreStep storing target) result store) (seen_step w.here calls number (StoreStep storing target) result store) (staying_seen w calls flats alike put_by number store numbers contents result rest (StoreStep storing target) refl own lowered)
+step_seen w calls flats alike put_by number store numbers contents result rest (Apply operator term) own lowered = onward_effect_seen w flats rest (number ∷ []) own put_by (state_of result put_by numbers) (step_effect w.here number (Apply operator term) result store) (seen_step w.here calls number (Apply operator term) result store) (staying_seen w calls flats alike put_by number store numbers contents result rest (Apply operator term) refl own lowered)
+step_seen w calls flats alike put_by number store numbers contents result rest Negate own lowered = onward_effect_seen w flats rest (number ∷ []) own put_by (state_of result put_by numbers) (step_effect w.here number Negate result store) (seen_step w.here calls number Negate result store) (staying_seen w calls flats alike put_by number store numbers contents result rest Negate refl own lowered)
+step_seen w calls flats alike put_by number store numbers contents result rest (Call condition instance arguments) own lowered = onward_effect_seen w flats rest (step_sources number (Call condition instance arguments)) own put_by (state_of result put_by numbers) (step_effect w.here number (Call condition instance arguments) result store) (seen_step w.here calls number (Call condition instance arguments) result store) (staying_seen w calls flats alike put_by number store numbers contents result rest (Call condition instance arguments) refl own lowered)
 
 -- a line, executed or not
-pub plain_seen : (w : Sides) (calls : SeenCalls) (flats : FlatSeenCalls) → AreSeenAlike w calls flats → (put_by : List ℤ) (number : ℕ) (store : Store) (numbers : List ℤ) → AreContents w.frame store numbers → (rest : Lines) (step : Step) (own : List Code) → IsStepLaid w.here.scope rest step own → (mode : Mode) (course : Course) → IsBehind (step_length step) rest mode course → EffectSeen w flats rest (step_sources number step) own put_by course (state_of (result_in mode) put_by numbers) (line_effect w.here number step mode store) (seen_line w.here calls number step mode store)
-plain_seen w calls flats alike put_by number store numbers contents rest step own laid (Running result) course is =
-    subst (λ (c : Course). EffectSeen w flats rest (step_sources number step) own put_by c (state_of result put_by numbers) (step_effect w.here number step result store) (seen_step w.here calls number step result store)) (sym is) (step_seen w calls flats alike put_by number store numbers contents result rest step own laid)
-plain_seen w calls flats alike put_by number store numbers contents rest step own laid (Seeking label result) course is =
-    passing_seen w flats rest (step_sources number step) own (step_length step) (step_laid_length w.here.scope rest step own laid) (step_sources_length number step) put_by store numbers contents label result course is
-plain_seen w calls flats alike put_by number store numbers contents rest step own laid (Returned result) course is = over_seen w flats rest (step_sources number step) own put_by store numbers contents result course is
+pub plain_seen : (w : Sides) (calls : SeenCalls) (flats : FlatSeenCalls) → AreSeenAlike w calls flats → (put_by : List ℤ) (number : ℕ) (store : Store) (numbers : List ℤ) → AreContents w.frame store numbers → (rest : Lines) (step : Step) (own : List Code) → IsStepLowered w.here.scope rest step own → (mode : Mode) (course : Flow) → IsAfter (step_length step) rest mode course → EffectSeen w flats rest (step_sources number step) own put_by course (state_of (result_in mode) put_by numbers) (line_effect w.here number step mode store) (seen_line w.here calls number step mode store)
+plain_seen w calls flats alike put_by number store numbers contents rest step own lowered (Running result) course is =
+    subst (λ (c : Flow). EffectSeen w flats rest (step_sources number step) own put_by c (state_of result put_by numbers) (step_effect w.here number step result store) (seen_step w.here calls number step result store)) (sym is) (step_seen w calls flats alike put_by number store numbers contents result rest step own lowered)
+plain_seen w calls flats alike put_by number store numbers contents rest step own lowered (Seeking label result) course is =
+    passing_seen w flats rest (step_sources number step) own (step_length step) (step_lowered_length w.here.scope rest step own lowered) (step_sources_length number step) put_by store numbers contents label result course is
+plain_seen w calls flats alike put_by number store numbers contents rest step own lowered (Returned result) course is = over_seen w flats rest (step_sources number step) own put_by store numbers contents result course is
 
 -- a parenthesis, executed or not
-pub parenthesis_seen : (w : Sides) (calls : SeenCalls) (flats : FlatSeenCalls) → AreSeenAlike w calls flats → (opening : Code) (inner : List Code) (number close : ℕ) (operator : Operator) (operand : Option Term) → IsOpening w.here.scope operand opening → (inside : Lines) → IsSimple inside → depth inside + 1 ≤ 8 → IsLaid w.here.scope inside inner → (store : Store) (numbers : List ℤ) → AreContents w.frame store numbers → (rest : Lines) (mode : Mode) (course : Course) → IsBehind (2 + flat_length inside) rest mode course → EffectSeen w flats rest (number ∷ sources_of inside ++ close ∷ []) (opening ∷ inner ++ Close operator ∷ []) [] course (state_of (result_in mode) [] numbers) (nested_effect w.here number operator operand close (means w.here inside) mode store) (seen_nested w.here number operator operand close (seen_lines w.here calls inside) (means w.here inside) mode store)
-parenthesis_seen w calls flats alike opening inner number close operator operand is inside simple l laid store numbers contents rest (Running result) course so =
-    subst (λ (c : Course). EffectSeen w flats rest (number ∷ sources_of inside ++ close ∷ []) (opening ∷ inner ++ Close operator ∷ []) [] c (state_of result [] numbers) (nested_effect w.here number operator operand close (means w.here inside) (Running result) store) (seen_nested w.here number operator operand close (seen_lines w.here calls inside) (means w.here inside) (Running result) store)) (sym so)
+pub parenthesis_seen : (w : Sides) (calls : SeenCalls) (flats : FlatSeenCalls) → AreSeenAlike w calls flats → (opening : Code) (inner : List Code) (number close : ℕ) (operator : Operator) (operand : Option Term) → IsOpening w.here.scope operand opening → (inside : Lines) → IsSimple inside → depth inside + 1 ≤ 8 → IsLowered w.here.scope inside inner → (store : Store) (numbers : List ℤ) → AreContents w.frame store numbers → (rest : Lines) (mode : Mode) (course : Flow) → IsAfter (2 + flat_length inside) rest mode course → EffectSeen w flats rest (number ∷ sources_of inside ++ close ∷ []) (opening ∷ inner ++ Close operator ∷ []) [] course (state_of (result_in mode) [] numbers) (nested_effect w.here number operator operand close (means w.here inside) mode store) (seen_nested w.here number operator operand close (seen_lines w.here calls inside) (means w.here inside) mode store)
+parenthesis_seen w calls flats alike opening inner number close operator operand is inside simple l lowered store numbers contents rest (Running result) course so =
+    subst (λ (c : Flow). EffectSeen w flats rest (number ∷ sources_of inside ++ close ∷ []) (opening ∷ inner ++ Close operator ∷ []) [] c (state_of result [] numbers) (nested_effect w.here number operator operand close (means w.here inside) (Running result) store) (seen_nested w.here number operator operand close (seen_lines w.here calls inside) (means w.here inside) (Running result) store)) (sym so)
     (onward_effect_seen w flats rest (number ∷ sources_of inside ++ close ∷ []) (opening ∷ inner ++ Close operator ∷ []) [] (state_of result [] numbers) (nested_effect w.here number operator operand close (means w.here inside) (Running result) store) (seen_nested w.here number operator operand close (seen_lines w.here calls inside) (means w.here inside) (Running result) store)
     (nested_seen w calls flats alike opening (sources_of inside) inner number close operator operand is result [] (omega arith) store numbers contents (means w.here inside) (seen_lines w.here calls inside)
-    (λ start more. inside_seen w calls flats alike inside simple inner laid (more ∷ []) l start store numbers contents)))
-parenthesis_seen w calls flats alike opening inner number close operator operand is inside simple l laid store numbers contents rest (Seeking label result) course so =
+    (λ start more. inside_seen w calls flats alike inside simple inner lowered (more ∷ []) l start store numbers contents)))
+parenthesis_seen w calls flats alike opening inner number close operator operand is inside simple l lowered store numbers contents rest (Seeking label result) course so =
     passing_seen w flats rest (number ∷ sources_of inside ++ close ∷ []) (opening ∷ inner ++ Close operator ∷ []) (2 + flat_length inside) so_many as_many [] store numbers contents label result course so
   where
     so_many : length (opening ∷ inner ++ Close operator ∷ []) ≡ 2 + flat_length inside
-    so_many = let a = length-append inner (Close operator ∷ []) in let b = laid_length w.here.scope inside inner laid in omega (arith, a, b)
+    so_many = let a = length-append inner (Close operator ∷ []) in let b = lowered_length w.here.scope inside inner lowered in omega (arith, a, b)
 
     as_many : length (number ∷ sources_of inside ++ close ∷ []) ≡ 2 + flat_length inside
     as_many = let a = length-append (sources_of inside) (close ∷ []) in let b = sources_length inside in omega (arith, a, b)
-parenthesis_seen w calls flats alike opening inner number close operator operand is inside simple l laid store numbers contents rest (Returned result) course so =
+parenthesis_seen w calls flats alike opening inner number close operator operand is inside simple l lowered store numbers contents rest (Returned result) course so =
     over_seen w flats rest (number ∷ sources_of inside ++ close ∷ []) (opening ∷ inner ++ Close operator ∷ []) [] store numbers contents result course so
 
 -- on from what a line does
-pub effect_then_seen : (w : Sides) (flats : FlatSeenCalls) (rest : Lines) (sources behind : List ℕ) (own others : List Code) (course : Course) (state : State) (effect : Effect) (seen : List Seen) (go : Mode → Store → Outcome) (seen_go : Mode → Store → List Seen) → EffectSeen w flats rest sources own [] course state effect seen → ((mode : Mode) (next : Course) → IsCourse rest mode next → (store : Store) (numbers : List ℤ) → AreContents w.frame store numbers → OutcomeSeen w.frame (go mode store) (seen_go mode store) (flat_seen (flat w) flats behind others next (state_of (result_in mode) [] numbers))) → OutcomeSeen w.frame (continued effect go) (seen ++ seen_from effect seen_go) (flat_seen (flat w) flats (sources ++ behind) (own ++ others) course state)
-effect_then_seen w flats rest sources behind own others course state (Fails reason) seen go seen_go h onward = tt
-effect_then_seen w flats rest sources behind own others course state (Goes mode store items) seen go seen_go h onward = step (go mode store) (seen_go mode store) (onward mode h.0 h.3 store h.1 h.2)
+pub effect_then_seen : (w : Sides) (flats : FlatSeenCalls) (rest : Lines) (sources following : List ℕ) (own others : List Code) (course : Flow) (state : State) (effect : Effect) (seen : List Seen) (go : Mode → Store → Outcome) (seen_go : Mode → Store → List Seen) → EffectSeen w flats rest sources own [] course state effect seen → ((mode : Mode) (next : Flow) → IsCourse rest mode next → (store : Store) (numbers : List ℤ) → AreContents w.frame store numbers → OutcomeSeen w.frame (go mode store) (seen_go mode store) (flat_seen (flat w) flats following others next (state_of (result_in mode) [] numbers))) → OutcomeSeen w.frame (continued effect go) (seen ++ seen_from effect seen_go) (flat_seen (flat w) flats (sources ++ following) (own ++ others) course state)
+effect_then_seen w flats rest sources following own others course state (Fails reason) seen go seen_go h onward = tt
+effect_then_seen w flats rest sources following own others course state (Goes mode store items) seen go seen_go h onward = step (go mode store) (seen_go mode store) (onward mode h.0 h.3 store h.1 h.2)
   where
-    step : (o : Outcome) (others_seen : List Seen) → OutcomeSeen w.frame o others_seen (flat_seen (flat w) flats behind others h.0 (state_of (result_in mode) [] h.1)) → OutcomeSeen w.frame (after items o) (seen ++ others_seen) (flat_seen (flat w) flats (sources ++ behind) (own ++ others) course state)
+    step : (o : Outcome) (others_seen : List Seen) → OutcomeSeen w.frame o others_seen (flat_seen (flat w) flats following others h.0 (state_of (result_in mode) [] h.1)) → OutcomeSeen w.frame (after items o) (seen ++ others_seen) (flat_seen (flat w) flats (sources ++ following) (own ++ others) course state)
     step (Stuck reason) others_seen f = tt
     step (Done last new trace) others_seen f =
-        subst (AreSeenAs w.frame (seen ++ others_seen)) (sym (h.4.2 behind others))
-        (seen_append w.frame seen others_seen h.4.0 (flat_seen (flat w) flats behind others h.0 (state_of (result_in mode) [] h.1)) h.4.1 f)
+        subst (AreSeenAs w.frame (seen ++ others_seen)) (sym (h.4.2 following others))
+        (seen_append w.frame seen others_seen h.4.0 (flat_seen (flat w) flats following others h.0 (state_of (result_in mode) [] h.1)) h.4.1 f)
 
 -- the lines left
-pub lines_seen : (w : Sides) (calls : SeenCalls) (flats : FlatSeenCalls) → AreSeenAlike w calls flats → (lines : Lines) → NestsSimply lines → depth lines ≤ 8 → (code : List Code) → IsLaid w.here.scope lines code → (mode : Mode) (course : Course) → IsCourse lines mode course → (store : Store) (numbers : List ℤ) → AreContents w.frame store numbers → OutcomeSeen w.frame (means w.here lines mode store) (seen_lines w.here calls lines mode store) (flat_seen (flat w) flats (sources_of lines) code course (state_of (result_in mode) [] numbers))
-lines_seen w calls flats alike End simple l code laid (Running result) course is store numbers contents =
-    subst (λ (c : List Code). AreSeenAs w.frame [] (flat_seen (flat w) flats [] c course (state_of result [] numbers))) (sym laid) tt
-lines_seen w calls flats alike End simple l code laid (Returned result) course is store numbers contents =
-    subst (λ (c : List Code). AreSeenAs w.frame [] (flat_seen (flat w) flats [] c course (state_of result [] numbers))) (sym laid) tt
-lines_seen w calls flats alike End simple l code laid (Seeking label result) course is store numbers contents = tt
-lines_seen w calls flats alike (Alone word rest) simple l code laid mode course is store numbers contents =
+pub lines_seen : (w : Sides) (calls : SeenCalls) (flats : FlatSeenCalls) → AreSeenAlike w calls flats → (lines : Lines) → NestsSimply lines → depth lines ≤ 8 → (code : List Code) → IsLowered w.here.scope lines code → (mode : Mode) (course : Flow) → IsCourse lines mode course → (store : Store) (numbers : List ℤ) → AreContents w.frame store numbers → OutcomeSeen w.frame (means w.here lines mode store) (seen_lines w.here calls lines mode store) (flat_seen (flat w) flats (sources_of lines) code course (state_of (result_in mode) [] numbers))
+lines_seen w calls flats alike End simple l code lowered (Running result) course is store numbers contents =
+    subst (λ (c : List Code). AreSeenAs w.frame [] (flat_seen (flat w) flats [] c course (state_of result [] numbers))) (sym lowered) tt
+lines_seen w calls flats alike End simple l code lowered (Returned result) course is store numbers contents =
+    subst (λ (c : List Code). AreSeenAs w.frame [] (flat_seen (flat w) flats [] c course (state_of result [] numbers))) (sym lowered) tt
+lines_seen w calls flats alike End simple l code lowered (Seeking label result) course is store numbers contents = tt
+lines_seen w calls flats alike (Alone word rest) simple l code lowered mode course is store numbers contents =
     subst (λ (r : Option Value). OutcomeSeen w.frame (means w.here rest (arriving (Some word) mode) store) (seen_lines w.here calls rest (arriving (Some word) mode) store) (flat_seen (flat w) flats (sources_of rest) code course (state_of r [] numbers))) (result_arriving (Some word) mode)
-    (lines_seen w calls flats alike rest simple l code laid (arriving (Some word) mode) course (arrives_alone word rest mode course is) store numbers contents)
-lines_seen w calls flats alike (Plain word number step rest) simple l code laid mode course is store numbers contents =
-    subst (λ (c : List Code). OutcomeSeen w.frame (means w.here (Plain word number step rest) mode store) (seen_lines w.here calls (Plain word number step rest) mode store) (flat_seen (flat w) flats (step_sources number step ++ sources_of rest) c course (state_of (result_in mode) [] numbers))) (sym laid.whole)
-    (subst (λ (r : Option Value). OutcomeSeen w.frame (means w.here (Plain word number step rest) mode store) (seen_lines w.here calls (Plain word number step rest) mode store) (flat_seen (flat w) flats (step_sources number step ++ sources_of rest) (laid.own ++ laid.others) course (state_of r [] numbers))) (result_arriving word mode)
-    (effect_then_seen w flats rest (step_sources number step) (sources_of rest) laid.own laid.others course (state_of (result_in (arriving word mode)) [] numbers) (line_effect w.here number step (arriving word mode) store) (seen_line w.here calls number step (arriving word mode) store) (means w.here rest) (seen_lines w.here calls rest)
-    (plain_seen w calls flats alike [] number store numbers contents rest step laid.own laid.step (arriving word mode) course (arrives (Plain word number step rest) rest word (step_length step) (λ label. refl) mode course is))
-    (λ onward next so new left held. lines_seen w calls flats alike rest simple l laid.others laid.rest onward next so new left held)))
-lines_seen w calls flats alike (Nested word number operator operand inside close rest) simple l code laid mode course is store numbers contents =
+    (lines_seen w calls flats alike rest simple l code lowered (arriving (Some word) mode) course (arrives_alone word rest mode course is) store numbers contents)
+lines_seen w calls flats alike (Plain word number step rest) simple l code lowered mode course is store numbers contents =
+    subst (λ (c : List Code). OutcomeSeen w.frame (means w.here (Plain word number step rest) mode store) (seen_lines w.here calls (Plain word number step rest) mode store) (flat_seen (flat w) flats (step_sources number step ++ sources_of rest) c course (state_of (result_in mode) [] numbers))) (sym lowered.whole)
+    (subst (λ (r : Option Value). OutcomeSeen w.frame (means w.here (Plain word number step rest) mode store) (seen_lines w.here calls (Plain word number step rest) mode store) (flat_seen (flat w) flats (step_sources number step ++ sources_of rest) (lowered.own ++ lowered.others) course (state_of r [] numbers))) (result_arriving word mode)
+    (effect_then_seen w flats rest (step_sources number step) (sources_of rest) lowered.own lowered.others course (state_of (result_in (arriving word mode)) [] numbers) (line_effect w.here number step (arriving word mode) store) (seen_line w.here calls number step (arriving word mode) store) (means w.here rest) (seen_lines w.here calls rest)
+    (plain_seen w calls flats alike [] number store numbers contents rest step lowered.own lowered.step (arriving word mode) course (arrives (Plain word number step rest) rest word (step_length step) (λ label. refl) mode course is))
+    (λ onward next so new left held. lines_seen w calls flats alike rest simple l lowered.others lowered.rest onward next so new left held)))
+lines_seen w calls flats alike (Nested word number operator operand inside close rest) simple l code lowered mode course is store numbers contents =
     subst (λ (s : List ℕ). OutcomeSeen w.frame (means w.here (Nested word number operator operand inside close rest) mode store) (seen_lines w.here calls (Nested word number operator operand inside close rest) mode store) (flat_seen (flat w) flats s code course (state_of (result_in mode) [] numbers))) (sym (regrouped_sources number close (sources_of inside) (sources_of rest)))
-    (subst (λ (c : List Code). OutcomeSeen w.frame (means w.here (Nested word number operator operand inside close rest) mode store) (seen_lines w.here calls (Nested word number operator operand inside close rest) mode store) (flat_seen (flat w) flats ((number ∷ sources_of inside ++ close ∷ []) ++ sources_of rest) c course (state_of (result_in mode) [] numbers))) (sym (laid.whole ∙ regrouped laid.opening laid.inner operator laid.others))
-    (subst (λ (r : Option Value). OutcomeSeen w.frame (means w.here (Nested word number operator operand inside close rest) mode store) (seen_lines w.here calls (Nested word number operator operand inside close rest) mode store) (flat_seen (flat w) flats ((number ∷ sources_of inside ++ close ∷ []) ++ sources_of rest) ((laid.opening ∷ laid.inner ++ Close operator ∷ []) ++ laid.others) course (state_of r [] numbers))) (result_arriving word mode)
-    (effect_then_seen w flats rest (number ∷ sources_of inside ++ close ∷ []) (sources_of rest) (laid.opening ∷ laid.inner ++ Close operator ∷ []) laid.others course (state_of (result_in (arriving word mode)) [] numbers) (nested_effect w.here number operator operand close (means w.here inside) (arriving word mode) store) (seen_nested w.here number operator operand close (seen_lines w.here calls inside) (means w.here inside) (arriving word mode) store) (means w.here rest) (seen_lines w.here calls rest)
-    (parenthesis_seen w calls flats alike laid.opening laid.inner number close operator operand laid.opens inside simple.0 (omega (arith, l)) laid.inside store numbers contents rest (arriving word mode) course (arrives (Nested word number operator operand inside close rest) rest word (2 + flat_length inside) (λ label. refl) mode course is))
-    (λ onward next so new left held. lines_seen w calls flats alike rest simple.1 (omega (arith, l)) laid.others laid.rest onward next so new left held))))
+    (subst (λ (c : List Code). OutcomeSeen w.frame (means w.here (Nested word number operator operand inside close rest) mode store) (seen_lines w.here calls (Nested word number operator operand inside close rest) mode store) (flat_seen (flat w) flats ((number ∷ sources_of inside ++ close ∷ []) ++ sources_of rest) c course (state_of (result_in mode) [] numbers))) (sym (lowered.whole ∙ regrouped lowered.opening lowered.inner operator lowered.others))
+    (subst (λ (r : Option Value). OutcomeSeen w.frame (means w.here (Nested word number operator operand inside close rest) mode store) (seen_lines w.here calls (Nested word number operator operand inside close rest) mode store) (flat_seen (flat w) flats ((number ∷ sources_of inside ++ close ∷ []) ++ sources_of rest) ((lowered.opening ∷ lowered.inner ++ Close operator ∷ []) ++ lowered.others) course (state_of r [] numbers))) (result_arriving word mode)
+    (effect_then_seen w flats rest (number ∷ sources_of inside ++ close ∷ []) (sources_of rest) (lowered.opening ∷ lowered.inner ++ Close operator ∷ []) lowered.others course (state_of (result_in (arriving word mode)) [] numbers) (nested_effect w.here number operator operand close (means w.here inside) (arriving word mode) store) (seen_nested w.here number operator operand close (seen_lines w.here calls inside) (means w.here inside) (arriving word mode) store) (means w.here rest) (seen_lines w.here calls rest)
+    (parenthesis_seen w calls flats alike lowered.opening lowered.inner number close operator operand lowered.opens inside simple.0 (omega (arith, l)) lowered.inside store numbers contents rest (arriving word mode) course (arrives (Nested word number operator operand inside close rest) rest word (2 + flat_length inside) (λ label. refl) mode course is))
+    (λ onward next so new left held. lines_seen w calls flats alike rest simple.1 (omega (arith, l)) lowered.others lowered.rest onward next so new left held))))

@@ -3,13 +3,13 @@ use Rattle.std.proofs.Common.{◌≡◌, ℕ, ◌+◌, Bool, true, false, List, 
 use Rattle.std.proofs.lemmas.List.{length-append, length-map}
 use Rattle.std.specs.Option.{option_map}
 use Rattle.wc_text_flat.proofs.BlockLines.{CalledAs, block_follows, fields_at}
-use Rattle.wc_text_flat.proofs.CallLines.{argument_follows, output_follows, instance_based, answer_given, all_parts, laid_behind}
+use Rattle.wc_text_flat.proofs.CallLines.{argument_follows, output_follows, instance_based, answer_given, all_parts, lowered_after}
 use Rattle.wc_text_flat.proofs.Lines.{WritesAs}
 use Rattle.wc_text_flat.proofs.Sides.{Sides, flat, BodyFollows, AreAlike, state_of}
 use Rattle.wc_text_flat.proofs.Values.{value_number, acts_follow}
 use Rattle.wc_text_flat.specs.Contents.{AreContents}
 use Rattle.wc_text_flat.specs.FlatMeaning.{State, Skips, Ran, goes_on, with_all, turns, returns, line_runs}
-use Rattle.wc_text_flat.specs.Laid.{Operand, Number, At as AtPlace, argument_line, AreArguments, AreOutputs, IsCallLaid, IsUnitBody, IsBodyOf}
+use Rattle.wc_text_flat.specs.Lowered.{Operand, Number, At as AtPlace, argument_line, AreArguments, AreOutputs, IsCallLowered, IsUnitBody, IsBodyOf}
 use Rattle.wc_text_flat.specs.NumberBlocks.{block_called}
 use Rattle.wc_text_flat.specs.NumberOperators.{given, acts}
 use Rattle.wc_model.specs.Language.BlockCalls.{standard_called}
@@ -32,7 +32,7 @@ use Rattle.wc_model.specs.declared.value.Value.{Value}
 use Rattle.wc_laws_soundness.proofs.CallSteps.{IsInstance, type_of-found}
 use Rattle.wc_laws_trace.proofs.SeenSides.{OutcomeSeen, AreSeenAlike, OnwardSeen, seen_append, seen_deeper, IsNoBody, entry, line_then, passed_unseen}
 use Rattle.wc_laws_trace.specs.FlatSeen.{FlatSeen, FlatSeenCalls, deeper, flat_seen_from, flat_seen, is_body_line, IsItem, AreSeenAs}
-use Rattle.wc_laws_trace.specs.Seen.{Seen, SeenCalls, seen_at, seen_called, seen_store, seen_inputs, seen_outputs, seen_block, seen_behind, seen_with, seen_made, seen_call, seen_step}
+use Rattle.wc_laws_trace.specs.Seen.{Seen, SeenCalls, seen_at, seen_called, seen_store, seen_inputs, seen_outputs, seen_block, seen_after, seen_with, seen_made, seen_call, seen_step}
 
 -- what is seen of lines after which the result is the same is what is seen of a store that is written
 abbrev pub AssignsSeen : Sides → FlatSeenCalls → List ℕ → List Code → Option Value → List ℤ → List ℤ → Result Store Reason → List Seen → Type 0
@@ -109,29 +109,29 @@ BlockSeen w flats source line result put_by numbers (Stuck reason) seen = Unit {
 
 -- the body of a standard block
 pub standard_seen : (w : Sides) → AreAlike w → (flats : FlatSeenCalls) (source : ℕ) (result : Option Value) (put_by : List ℤ) (store : Store) (numbers : List ℤ) → AreContents w.frame store numbers → (instance : Name) (block : StandardBlock) → IsInstance w.here.scope instance (Standard block) → (line : Code) → IsBodyOf w.here.scope instance (Some (Standard block)) line → (calls : SeenCalls) → BlockSeen w flats source line result put_by numbers (body_outcome w.here (Standard block) instance store) (seen_block w.here calls result (Standard block) instance store)
-standard_seen w alike flats source result put_by store numbers contents instance block is line laid calls =
+standard_seen w alike flats source result put_by store numbers contents instance block is line lowered calls =
     step (standard_called block w.here.now store (w.here.instance ++ instance ∷ []))
-    (block_follows w.frame block w.here.now store numbers contents (w.here.instance ++ instance ∷ []) (w.base + laid.0.0) (fields_at w.frame w.here.scope w.here.instance w.base alike.based instance is.variable is.found block is.typed laid.0.0 laid.1))
+    (block_follows w.frame block w.here.now store numbers contents (w.here.instance ++ instance ∷ []) (w.base + lowered.0.0) (fields_at w.frame w.here.scope w.here.instance w.base alike.based instance is.variable is.found block is.typed lowered.0.0 lowered.1))
   where
     state : State
     state = state_of result put_by numbers
 
-    step : (r : Result Store Reason) → CalledAs w.frame r (block_called block w.here.now (slot_kinds w.frame) numbers (w.base + laid.0.0)) → BlockSeen w flats source line result put_by numbers (elim r as (λ x. Outcome) [ Ok new ↦ Done None new (StandardBody ∷ []) | Err reason ↦ Stuck reason ]) (seen_store StandardBody result r (λ new. []))
+    step : (r : Result Store Reason) → CalledAs w.frame r (block_called block w.here.now (slot_kinds w.frame) numbers (w.base + lowered.0.0)) → BlockSeen w flats source line result put_by numbers (elim r as (λ x. Outcome) [ Ok new ↦ Done None new (StandardBody ∷ []) | Err reason ↦ Stuck reason ]) (seen_store StandardBody result r (λ new. []))
     step (Err reason) h = tt
     step (Ok new) h = (
       h.0,
       h.1,
       (
         entry w source line state (state_of result put_by h.0) ∷ [],
-        (record { item = (refl, subst (λ (l : Code). is_body_line l ≡ false) (sym laid.2) refl); result = refl; contents = h.1 }, tt),
-        λ more others. line_then w flats source line state _ (subst IsNoBody (sym laid.2) tt)
-            (ap (line_runs (flat w) state) laid.2 ∙ ap (λ (o : Option (List ℤ)). given o (λ ns. goes_on (with_all state ns))) h.2) more others,
+        (record { item = (refl, subst (λ (l : Code). is_body_line l ≡ false) (sym lowered.2) refl); result = refl; contents = h.1 }, tt),
+        λ more others. line_then w flats source line state _ (subst IsNoBody (sym lowered.2) tt)
+            (ap (line_runs (flat w) state) lowered.2 ∙ ap (λ (o : Option (List ℤ)). given o (λ ns. goes_on (with_all state ns))) h.2) more others,
       ),
     )
 
 -- the body of a block of the text
 pub unit_seen : (w : Sides) (calls : SeenCalls) (flats : FlatSeenCalls) → AreSeenAlike w calls flats → (source : ℕ) (result : Option Value) (put_by : List ℤ) (store : Store) (numbers : List ℤ) → AreContents w.frame store numbers → (instance name : Name) → IsInstance w.here.scope instance (Block name) → (line : Code) → IsBodyOf w.here.scope instance (Some (Block name)) line → BlockSeen w flats source line result put_by numbers (body_outcome w.here (Block name) instance store) (seen_block w.here calls result (Block name) instance store)
-unit_seen w calls flats alike source result put_by store numbers contents instance name is line laid = by_block (block_named w.here.scope.before name) refl laid
+unit_seen w calls flats alike source result put_by store numbers contents instance name is line lowered = by_block (block_named w.here.scope.before name) refl lowered
   where
     names : List Name
     names = w.here.instance ++ instance ∷ []
@@ -161,9 +161,9 @@ unit_seen w calls flats alike source result put_by store numbers contents instan
 
 -- the body of whatever is called
 pub block_seen : (w : Sides) (calls : SeenCalls) (flats : FlatSeenCalls) → AreSeenAlike w calls flats → (source : ℕ) (result : Option Value) (put_by : List ℤ) (store : Store) (numbers : List ℤ) → AreContents w.frame store numbers → (instance : Name) (type : VariableType) → type_of w.here.scope instance ≡ Some type → (line : Code) → IsBodyOf w.here.scope instance (Some type) line → BlockSeen w flats source line result put_by numbers (body_outcome w.here type instance store) (seen_block w.here calls result type instance store)
-block_seen w calls flats alike source result put_by store numbers contents instance (Elementary kind) e line laid = absurd laid
-block_seen w calls flats alike source result put_by store numbers contents instance (Standard block) e line laid = standard_seen w alike.alike flats source result put_by store numbers contents instance block (type_of-found w.here.scope instance (Standard block) e) line laid calls
-block_seen w calls flats alike source result put_by store numbers contents instance (Block name) e line laid = unit_seen w calls flats alike source result put_by store numbers contents instance name (type_of-found w.here.scope instance (Block name) e) line laid
+block_seen w calls flats alike source result put_by store numbers contents instance (Elementary kind) e line lowered = absurd lowered
+block_seen w calls flats alike source result put_by store numbers contents instance (Standard block) e line lowered = standard_seen w alike.alike flats source result put_by store numbers contents instance block (type_of-found w.here.scope instance (Standard block) e) line lowered calls
+block_seen w calls flats alike source result put_by store numbers contents instance (Block name) e line lowered = unit_seen w calls flats alike source result put_by store numbers contents instance name (type_of-found w.here.scope instance (Block name) e) line lowered
 
 -- the lines of the text at which a call's flat lines are
 abbrev pub call_sources : ℕ → List Assignment → List ℕ
@@ -175,7 +175,7 @@ pub made_seen : (w : Sides) (flats : FlatSeenCalls) (own_line body : Code) (line
     ((more : List ℕ) (others : List Code) → flat_seen (flat w) flats (map (λ input. number) (inputs_of arguments) ++ more) (lines ++ others) (Skips 0) (state_of result put_by numbers) ≡ fs ++ flat_seen (flat w) flats more others (Skips 0) (state_of result put_by after)) →
     (o : Outcome) (block : List Seen) → BlockSeen w flats number body result put_by after o block →
     ((new : Store) (last : List ℤ) → AreContents w.frame new last → AssignsSeen w flats (map (λ output. number) (outputs_of arguments)) given result put_by last (given_out w.here instance (outputs_of arguments) new) (seen_outputs w.here instance result (outputs_of arguments) new)) →
-    OnwardSeen w flats (call_sources number arguments) (own_line ∷ lines ++ body ∷ given) put_by (state_of result put_by numbers) (made w.here instance o number arguments result) (seen_at (At number) result store ∷ inputs ++ (block ++ seen_behind o (seen_outputs w.here instance result (outputs_of arguments))))
+    OnwardSeen w flats (call_sources number arguments) (own_line ∷ lines ++ body ∷ given) put_by (state_of result put_by numbers) (made w.here instance o number arguments result) (seen_at (At number) result store ∷ inputs ++ (block ++ seen_after o (seen_outputs w.here instance result (outputs_of arguments))))
 made_seen w flats own_line body lines given number instance arguments result put_by store numbers contents is no_body acting inputs after fs are inputs_so (Stuck reason) block h outputs = tt
 made_seen w flats own_line body lines given number instance arguments result put_by store numbers contents is no_body acting inputs after fs are inputs_so (Done inner new trace) block h outputs =
     by_store (given_out w.here instance (outputs_of arguments) new) (seen_outputs w.here instance result (outputs_of arguments) new) (outputs new h.0 h.1)
@@ -207,8 +207,8 @@ made_seen w flats own_line body lines given number instance arguments result put
         left more others = flat_seen (flat w) flats more others (Skips 0) (state_of result put_by k.0)
 
 -- a call that is made
-pub acting_seen : (w : Sides) (calls : SeenCalls) (flats : FlatSeenCalls) → AreSeenAlike w calls flats → (number : ℕ) (result : Option Value) (put_by : List ℤ) (store : Store) (numbers : List ℤ) → AreContents w.frame store numbers → (condition : Condition) (instance : Name) (arguments : List Assignment) (own : List Code) (laid : IsCallLaid w.here.scope condition instance arguments own) → acts condition (option_map value_number result) ≡ Some true → OnwardSeen w flats (call_sources number arguments) (CallLine condition (1 + length arguments) ∷ laid.assigned ++ laid.body ∷ laid.given) put_by (state_of result put_by numbers) (call_effect w.here number instance arguments result store) (seen_call w.here calls number instance arguments result store)
-acting_seen w calls flats alike number result put_by store numbers contents condition instance arguments own laid acting = by_type (type_of w.here.scope instance) refl laid.called
+pub acting_seen : (w : Sides) (calls : SeenCalls) (flats : FlatSeenCalls) → AreSeenAlike w calls flats → (number : ℕ) (result : Option Value) (put_by : List ℤ) (store : Store) (numbers : List ℤ) → AreContents w.frame store numbers → (condition : Condition) (instance : Name) (arguments : List Assignment) (own : List Code) (lowered : IsCallLowered w.here.scope condition instance arguments own) → acts condition (option_map value_number result) ≡ Some true → OnwardSeen w flats (call_sources number arguments) (CallLine condition (1 + length arguments) ∷ lowered.assigned ++ lowered.body ∷ lowered.given) put_by (state_of result put_by numbers) (call_effect w.here number instance arguments result store) (seen_call w.here calls number instance arguments result store)
+acting_seen w calls flats alike number result put_by store numbers contents condition instance arguments own lowered acting = by_type (type_of w.here.scope instance) refl lowered.called
   where
     own_line : Code
     own_line = CallLine condition (1 + length arguments)
@@ -216,16 +216,16 @@ acting_seen w calls flats alike number result put_by store numbers contents cond
     onward : line_runs (flat w) (state_of result put_by numbers) own_line ≡ goes_on (state_of result put_by numbers)
     onward = ap (λ (b : Option Bool). turns (state_of result put_by numbers) b (Skips 0) (Skips (1 + length arguments))) acting
 
-    by_store : (type : VariableType) → type_of w.here.scope instance ≡ Some type → IsBodyOf w.here.scope instance (Some type) laid.body → (r : Result Store Reason) (inputs : List Seen) → AssignsSeen w flats (map (λ input. number) (inputs_of arguments)) laid.assigned result put_by numbers r inputs → OnwardSeen w flats (call_sources number arguments) (own_line ∷ laid.assigned ++ laid.body ∷ laid.given) put_by (state_of result put_by numbers) (from_store r (λ new. made w.here instance (body_outcome w.here type instance new) number arguments result)) (seen_at (At number) result store ∷ inputs ++ seen_with r (λ new. seen_block w.here calls result type instance new ++ seen_behind (body_outcome w.here type instance new) (seen_outputs w.here instance result (outputs_of arguments))))
+    by_store : (type : VariableType) → type_of w.here.scope instance ≡ Some type → IsBodyOf w.here.scope instance (Some type) lowered.body → (r : Result Store Reason) (inputs : List Seen) → AssignsSeen w flats (map (λ input. number) (inputs_of arguments)) lowered.assigned result put_by numbers r inputs → OnwardSeen w flats (call_sources number arguments) (own_line ∷ lowered.assigned ++ lowered.body ∷ lowered.given) put_by (state_of result put_by numbers) (from_store r (λ new. made w.here instance (body_outcome w.here type instance new) number arguments result)) (seen_at (At number) result store ∷ inputs ++ seen_with r (λ new. seen_block w.here calls result type instance new ++ seen_after (body_outcome w.here type instance new) (seen_outputs w.here instance result (outputs_of arguments))))
     by_store type e is (Err reason) inputs h = tt
     by_store type e is (Ok new) inputs h =
-        made_seen w flats own_line laid.body laid.assigned laid.given number instance arguments result put_by store numbers contents refl tt onward inputs h.0 h.2.0 h.2.1 h.2.2 (body_outcome w.here type instance new) (seen_block w.here calls result type instance new)
-        (block_seen w calls flats alike number result put_by new h.0 h.1 instance type e laid.body is)
-        (λ last after held. outputs_seen w alike.alike flats number result put_by instance (outputs_of arguments) laid.given laid.outputs last after held)
+        made_seen w flats own_line lowered.body lowered.assigned lowered.given number instance arguments result put_by store numbers contents refl tt onward inputs h.0 h.2.0 h.2.1 h.2.2 (body_outcome w.here type instance new) (seen_block w.here calls result type instance new)
+        (block_seen w calls flats alike number result put_by new h.0 h.1 instance type e lowered.body is)
+        (λ last after held. outputs_seen w alike.alike flats number result put_by instance (outputs_of arguments) lowered.given lowered.outputs last after held)
 
-    by_type : (t : Option VariableType) → type_of w.here.scope instance ≡ t → IsBodyOf w.here.scope instance t laid.body → OnwardSeen w flats (call_sources number arguments) (own_line ∷ laid.assigned ++ laid.body ∷ laid.given) put_by (state_of result put_by numbers) (elim t as (λ x. Effect) [ Some type ↦ called_type w.here type number instance arguments result store | None ↦ Fails NoSuchPlace ]) (elim t as (λ x. List Seen) [ Some type ↦ seen_made w.here calls type number instance arguments result store | None ↦ [] ])
+    by_type : (t : Option VariableType) → type_of w.here.scope instance ≡ t → IsBodyOf w.here.scope instance t lowered.body → OnwardSeen w flats (call_sources number arguments) (own_line ∷ lowered.assigned ++ lowered.body ∷ lowered.given) put_by (state_of result put_by numbers) (elim t as (λ x. Effect) [ Some type ↦ called_type w.here type number instance arguments result store | None ↦ Fails NoSuchPlace ]) (elim t as (λ x. List Seen) [ Some type ↦ seen_made w.here calls type number instance arguments result store | None ↦ [] ])
     by_type None e is = absurd is
-    by_type (Some type) e is = by_store type e is (assigned w.here (members_of w.here.scope.before type) instance (inputs_of arguments) store) (seen_inputs w.here (members_of w.here.scope.before type) instance result (inputs_of arguments) store) (inputs_seen w alike.alike flats number result put_by (members_of w.here.scope.before type) instance (inputs_of arguments) laid.assigned laid.inputs store numbers contents)
+    by_type (Some type) e is = by_store type e is (assigned w.here (members_of w.here.scope.before type) instance (inputs_of arguments) store) (seen_inputs w.here (members_of w.here.scope.before type) instance result (inputs_of arguments) store) (inputs_seen w alike.alike flats number result put_by (members_of w.here.scope.before type) instance (inputs_of arguments) lowered.assigned lowered.inputs store numbers contents)
 
 -- what follows of either choice, and of what is seen of it
 pub by_seen_choice : (P : Effect → List Seen → Type 0) → ((reason : Reason) → P (Fails reason) []) → (r : Result Bool Reason) (acting passing : Effect) (seen_acting seen_passing : List Seen) → (r ≡ Ok true → P acting seen_acting) → (r ≡ Ok false → P passing seen_passing) → P (chosen r acting passing) (elim r as (λ x. List Seen) [ Ok b ↦ elim b as (λ x. List Seen) [ true ↦ seen_acting | false ↦ seen_passing ] | Err reason ↦ [] ])
@@ -234,8 +234,8 @@ by_seen_choice P fails (Ok false) acting passing seen_acting seen_passing act pa
 by_seen_choice P fails (Err reason) acting passing seen_acting seen_passing act pass = fails reason
 
 -- as many lines of the text as flat lines after a call's own
-pub call_sources_behind : (number : ℕ) (arguments : List Assignment) → length (map (λ input. number) (inputs_of arguments) ++ number ∷ map (λ output. number) (outputs_of arguments)) ≡ 1 + length arguments
-call_sources_behind number arguments =
+pub call_sources_after : (number : ℕ) (arguments : List Assignment) → length (map (λ input. number) (inputs_of arguments) ++ number ∷ map (λ output. number) (outputs_of arguments)) ≡ 1 + length arguments
+call_sources_after number arguments =
     let a = length-append (map (λ input. number) (inputs_of arguments)) (number ∷ map (λ output. number) (outputs_of arguments)) in
     let b = length-map (inputs_of arguments) (λ input. number) in
     let c = length-map (outputs_of arguments) (λ output. number) in
@@ -244,11 +244,11 @@ call_sources_behind number arguments =
     omega (arith, a, b, c, d, e)
 
 -- a call, made or not
-pub call_seen : (w : Sides) (calls : SeenCalls) (flats : FlatSeenCalls) → AreSeenAlike w calls flats → (number : ℕ) (result : Option Value) (put_by : List ℤ) (store : Store) (numbers : List ℤ) → AreContents w.frame store numbers → (condition : Condition) (instance : Name) (arguments : List Assignment) (own : List Code) (laid : IsCallLaid w.here.scope condition instance arguments own) → OnwardSeen w flats (call_sources number arguments) (CallLine condition (1 + length arguments) ∷ laid.assigned ++ laid.body ∷ laid.given) put_by (state_of result put_by numbers) (step_effect w.here number (Call condition instance arguments) result store) (seen_step w.here calls number (Call condition instance arguments) result store)
-call_seen w calls flats alike number result put_by store numbers contents condition instance arguments own laid =
-    by_seen_choice (OnwardSeen w flats (call_sources number arguments) (CallLine condition (1 + length arguments) ∷ behind) put_by state) (λ reason. tt)
+pub call_seen : (w : Sides) (calls : SeenCalls) (flats : FlatSeenCalls) → AreSeenAlike w calls flats → (number : ℕ) (result : Option Value) (put_by : List ℤ) (store : Store) (numbers : List ℤ) → AreContents w.frame store numbers → (condition : Condition) (instance : Name) (arguments : List Assignment) (own : List Code) (lowered : IsCallLowered w.here.scope condition instance arguments own) → OnwardSeen w flats (call_sources number arguments) (CallLine condition (1 + length arguments) ∷ lowered.assigned ++ lowered.body ∷ lowered.given) put_by (state_of result put_by numbers) (step_effect w.here number (Call condition instance arguments) result store) (seen_step w.here calls number (Call condition instance arguments) result store)
+call_seen w calls flats alike number result put_by store numbers contents condition instance arguments own lowered =
+    by_seen_choice (OnwardSeen w flats (call_sources number arguments) (CallLine condition (1 + length arguments) ∷ following) put_by state) (λ reason. tt)
     (meaning.acts condition result) (call_effect w.here number instance arguments result store) (Goes (Running result) store (At number ∷ [])) (seen_call w.here calls number instance arguments result store) (seen_at (At number) result store ∷ [])
-    (λ e. acting_seen w calls flats alike number result put_by store numbers contents condition instance arguments own laid (answer_given (meaning.acts condition result) (acts condition (option_map value_number result)) true (acts_follow condition result) e))
+    (λ e. acting_seen w calls flats alike number result put_by store numbers contents condition instance arguments own lowered (answer_given (meaning.acts condition result) (acts condition (option_map value_number result)) true (acts_follow condition result) e))
     (λ e. (
       numbers,
       contents,
@@ -259,11 +259,11 @@ call_seen w calls flats alike number result put_by store numbers contents condit
       ),
     ))
   where
-    behind : List Code
-    behind = laid.assigned ++ laid.body ∷ laid.given
+    following : List Code
+    following = lowered.assigned ++ lowered.body ∷ lowered.given
 
-    behind_sources : List ℕ
-    behind_sources = map (λ input. number) (inputs_of arguments) ++ number ∷ map (λ output. number) (outputs_of arguments)
+    after_sources : List ℕ
+    after_sources = map (λ input. number) (inputs_of arguments) ++ number ∷ map (λ output. number) (outputs_of arguments)
 
     own_line : Code
     own_line = CallLine condition (1 + length arguments)
@@ -271,14 +271,14 @@ call_seen w calls flats alike number result put_by store numbers contents condit
     state : State
     state = state_of result put_by numbers
 
-    passing : acts condition (option_map value_number result) ≡ Some false → (more : List ℕ) (others : List Code) → flat_seen (flat w) flats (call_sources number arguments ++ more) ((own_line ∷ behind) ++ others) (Skips 0) state ≡ (entry w number own_line state state ∷ []) ++ flat_seen (flat w) flats more others (Skips 0) state
+    passing : acts condition (option_map value_number result) ≡ Some false → (more : List ℕ) (others : List Code) → flat_seen (flat w) flats (call_sources number arguments ++ more) ((own_line ∷ following) ++ others) (Skips 0) state ≡ (entry w number own_line state state ∷ []) ++ flat_seen (flat w) flats more others (Skips 0) state
     passing e more others =
-        line_then w flats number own_line state _ tt (ap (λ (b : Option Bool). turns state b (Skips 0) (Skips (1 + length arguments))) e) (behind_sources ++ more) (behind ++ others)
+        line_then w flats number own_line state _ tt (ap (λ (b : Option Bool). turns state b (Skips 0) (Skips (1 + length arguments))) e) (after_sources ++ more) (following ++ others)
         ∙ ap (λ (l : List FlatSeen). entry w number own_line state state ∷ l)
-        (ap (λ n. flat_seen (flat w) flats (behind_sources ++ more) (behind ++ others) (Skips n) state) so_many ∙ passed_unseen (flat w) flats behind_sources more behind others same 0 state)
+        (ap (λ n. flat_seen (flat w) flats (after_sources ++ more) (following ++ others) (Skips n) state) so_many ∙ passed_unseen (flat w) flats after_sources more following others same 0 state)
       where
-        so_many : 1 + length arguments ≡ length behind + 0
-        so_many = let a = laid_behind w.here.scope condition instance arguments own laid in omega (arith, a)
+        so_many : 1 + length arguments ≡ length following + 0
+        so_many = let a = lowered_after w.here.scope condition instance arguments own lowered in omega (arith, a)
 
-        same : length behind_sources ≡ length behind
-        same = call_sources_behind number arguments ∙ sym (laid_behind w.here.scope condition instance arguments own laid)
+        same : length after_sources ≡ length following
+        same = call_sources_after number arguments ∙ sym (lowered_after w.here.scope condition instance arguments own lowered)

@@ -4,7 +4,7 @@ use Rattle.std.proofs.lemmas.List.{map-append}
 use Rattle.std.specs.Prelude.{reverse}
 use Rattle.wc_model.specs.Language.BlockCalls.{standard_called}
 use Rattle.wc_model.specs.Language.Declarations.{VariableType, Elementary, Standard, Block, Member, same_name, members_of}
-use Rattle.wc_model.specs.Language.Meaning.{Outcome, Done, Stuck, Mode, Running, Seeking, Returned, Effect, Goes, Fails, Context, Calls, arriving, after, continued, beside, given, from_value, from_store, chosen, acts, value_of, written_to, stored, set_where, store_effect, next, assigned_one, assigned, given_one, given_out, call_trace, body_outcome, made, called_type, call_effect, step_effect, line_effect, closed, nested_effect, means, called}
+use Rattle.wc_model.specs.Language.Meaning.{Outcome, Done, Stuck, Mode, Running, Seeking, Returned, Effect, Goes, Fails, Context, Calls, arriving, after, continued, alongside, given, from_value, from_store, chosen, acts, value_of, written_to, stored, set_where, store_effect, next, assigned_one, assigned, given_one, given_out, call_trace, body_outcome, made, called_type, call_effect, step_effect, line_effect, closed, nested_effect, means, called}
 use Rattle.wc_model.specs.Language.Names.{Name}
 use Rattle.wc_model.specs.Language.Operators.{apply, negated}
 use Rattle.wc_model.specs.Language.Reasons.{Reason, NoSuchPlace}
@@ -21,7 +21,7 @@ use Rattle.wc_model.specs.declared.operator.Storing.TheVariants.{Result as Store
 use Rattle.wc_model.specs.declared.value.Value.{Value}
 use Rattle.wc_model.specs.declared.value.Value.TheVariants.{Bool as Truth, Dint, Time}
 use Rattle.wc_laws_trace.specs.Laws.{HasItems}
-use Rattle.wc_laws_trace.specs.Seen.{Seen, SeenCalls, seen_at, seen_called, seen_effect, seen_from, seen_store, seen_inputs, seen_outputs, seen_block, seen_behind, seen_with, seen_made, seen_call, seen_step, seen_line, seen_inside, seen_nested, seen_lines, context_of, seen_of_calls, seen_of_reversed, seen_of_scan}
+use Rattle.wc_laws_trace.specs.Seen.{Seen, SeenCalls, seen_at, seen_called, seen_effect, seen_from, seen_store, seen_inputs, seen_outputs, seen_block, seen_after, seen_with, seen_made, seen_call, seen_step, seen_line, seen_inside, seen_nested, seen_lines, context_of, seen_of_calls, seen_of_reversed, seen_of_scan}
 
 -- the items of what is seen
 abbrev pub items_of : List Seen → List Item
@@ -146,7 +146,7 @@ block_items here calls h result (Block name) instance store = step (here.calls n
     step (Stuck reason) seen e = tt
 
 -- a call that is made
-made_items : (here : Context) (line : ℕ) (instance : Name) (arguments : List Assignment) (result : Option Value) (store : Store) (inputs block : List Seen) (o : Outcome) → items_of inputs ≡ map (λ input. Argument) (inputs_of arguments) → HasItems o block → EffectItems (made here instance o line arguments result) (seen_at (At line) result store ∷ inputs ++ (block ++ seen_behind o (seen_outputs here instance result (outputs_of arguments))))
+made_items : (here : Context) (line : ℕ) (instance : Name) (arguments : List Assignment) (result : Option Value) (store : Store) (inputs block : List Seen) (o : Outcome) → items_of inputs ≡ map (λ input. Argument) (inputs_of arguments) → HasItems o block → EffectItems (made here instance o line arguments result) (seen_at (At line) result store ∷ inputs ++ (block ++ seen_after o (seen_outputs here instance result (outputs_of arguments))))
 made_items here line instance arguments result store inputs block (Stuck reason) e h = tt
 made_items here line instance arguments result store inputs block (Done inner new trace) e h = step (given_out here instance (outputs_of arguments) new) (seen_outputs here instance result (outputs_of arguments) new) (output_items here instance result (outputs_of arguments) new)
   where
@@ -169,7 +169,7 @@ typed_items here calls h type line instance arguments result store =
     step (assigned here (members_of here.scope.before type) instance (inputs_of arguments) store) (seen_inputs here (members_of here.scope.before type) instance result (inputs_of arguments) store)
     (input_items here (members_of here.scope.before type) instance result (inputs_of arguments) store)
   where
-    step : (r : Result Store Reason) (inputs : List Seen) → InputItems (inputs_of arguments) r inputs → EffectItems (from_store r (λ new. made here instance (body_outcome here type instance new) line arguments result)) (seen_at (At line) result store ∷ inputs ++ seen_with r (λ new. seen_block here calls result type instance new ++ seen_behind (body_outcome here type instance new) (seen_outputs here instance result (outputs_of arguments))))
+    step : (r : Result Store Reason) (inputs : List Seen) → InputItems (inputs_of arguments) r inputs → EffectItems (from_store r (λ new. made here instance (body_outcome here type instance new) line arguments result)) (seen_at (At line) result store ∷ inputs ++ seen_with r (λ new. seen_block here calls result type instance new ++ seen_after (body_outcome here type instance new) (seen_outputs here instance result (outputs_of arguments))))
     step (Err reason) inputs e = tt
     step (Ok new) inputs e = made_items here line instance arguments result store inputs (seen_block here calls result type instance new) (body_outcome here type instance new) e (block_items here calls h result type instance new)
 
@@ -195,7 +195,7 @@ step_items here calls h line (StoreStep storing target) result store =
     one_item line (step_effect here line (StoreStep storing target) result store) (one_given line result (store_effect here line store storing target) (λ value. one_store here line store storing target value))
 step_items here calls h line (Apply operator operand) result store =
     one_item line (step_effect here line (Apply operator operand) result store)
-    (one_given line result _ (λ a. one_from_value line (value_of here store (beside operator a operand)) _ (λ b. one_from_value line (apply operator a b) (next line store) (λ other. refl))))
+    (one_given line result _ (λ a. one_from_value line (value_of here store (alongside operator a operand)) _ (λ b. one_from_value line (apply operator a b) (next line store) (λ other. refl))))
 step_items here calls h line Negate result store =
     one_item line (step_effect here line Negate result store) (one_given line result _ (λ value. one_from_value line (negated value) (next line store) (λ other. refl)))
 step_items here calls h line (Jump condition label) result store =

@@ -2,7 +2,7 @@
 use Rattle.std.proofs.Common.{◌≡◌, ℕ, suc, ◌+◌, true, List, [], ◌∷◌, ◌++◌, map, length, Option, Some, ℤ, refl, ap, ◌∙◌, arith}
 use Rattle.wc_text_flat.proofs.Sides.{Sides, flat, IsBased, AreAlike, state_of, LineFollows, IsCourse, result_in}
 use Rattle.wc_text_flat.specs.Contents.{AreContents}
-use Rattle.wc_text_flat.specs.FlatMeaning.{State, Course, Skips, Ended, Moved, Here, line_runs}
+use Rattle.wc_text_flat.specs.FlatMeaning.{State, Flow, Skips, Ended, Moved, Here, line_runs}
 use Rattle.wc_model.specs.Language.Declarations.{block_named}
 use Rattle.wc_model.specs.Language.Meaning.{Outcome, Done, Stuck, Running, Seeking, Returned, Effect, Goes, Fails}
 use Rattle.wc_model.specs.Language.Names.{Name}
@@ -35,9 +35,9 @@ OnwardSeen w flats sources own put_by state (Goes (Returned result) store items)
 OnwardSeen w flats sources own put_by state (Fails reason) seen = Unit {0}
 
 -- likewise for an effect that may lead elsewhere, from a course on, if these lines follow
-abbrev pub EffectSeen : Sides → FlatSeenCalls → Lines → List ℕ → List Code → List ℤ → Course → State → Effect → List Seen → Type 0
+abbrev pub EffectSeen : Sides → FlatSeenCalls → Lines → List ℕ → List Code → List ℤ → Flow → State → Effect → List Seen → Type 0
 EffectSeen w flats rest sources own put_by course state (Goes mode store items) seen =
-    (next : Course) × (numbers : List ℤ) × AreContents w.frame store numbers × IsCourse rest mode next × ((fs : List FlatSeen) × AreSeenAs w.frame seen fs
+    (next : Flow) × (numbers : List ℤ) × AreContents w.frame store numbers × IsCourse rest mode next × ((fs : List FlatSeen) × AreSeenAs w.frame seen fs
     × ((more : List ℕ) (others : List Code) → flat_seen (flat w) flats (sources ++ more) (own ++ others) course state ≡ fs ++ flat_seen (flat w) flats more others next (state_of (result_in mode) put_by numbers)))
 EffectSeen w flats rest sources own put_by course state (Fails reason) seen = Unit {0}
 
@@ -107,7 +107,7 @@ body_line_runs_none (Body unit at) e = cc
 
 -- what is seen of a line that does this
 abbrev pub entry : Sides → ℕ → Code → State → State → FlatSeen
-entry w source line before behind = record { depth = 0; source = source; line = line; base = w.base; written = number_written (flat w) before line; result = behind.result; numbers = behind.numbers }
+entry w source line before following = record { depth = 0; source = source; line = line; base = w.base; written = number_written (flat w) before line; result = following.result; numbers = following.numbers }
 
 pub line_then : (w : Sides) (flats : FlatSeenCalls) (source : ℕ) (line : Code) (state : State) (moved : Moved) → IsNoBody line → line_runs (flat w) state line ≡ Some moved → (more : List ℕ) (others : List Code) → flat_seen (flat w) flats (source ∷ more) (line ∷ others) (Skips 0) state ≡ entry w source line state moved.state ∷ flat_seen (flat w) flats more others moved.course moved.state
 line_then w flats source line state moved is e more others =

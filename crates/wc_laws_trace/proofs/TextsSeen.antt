@@ -55,7 +55,7 @@ reversed_seen units new well clean codes are so_many sources lines =
 
 -- the image is written first
 pub flat_code_is_seen_as_the_text : FlatCodeIsSeenAsTheText
-flat_code_is_seen_as_the_text bytes text read sound codes laid store same numbers contents image now =
+flat_code_is_seen_as_the_text bytes text read sound codes lowered store same numbers contents image now =
     let simple = spelled_text_nests _ text read.spelled in
     let whole : reverse text ++ [] ≡ reverse text = append-nil (reverse text) in
     let new : Newest (reverse text) = subst Newest whole (newest text [] read.spelled.order) in
@@ -65,8 +65,8 @@ flat_code_is_seen_as_the_text bytes text read sound codes laid store same number
     (subst NestWell whole (all_nest_well text [] simple read.within_limits.bodies tt))
     (subst AreClean whole (units_clean [] text (none_broken (text_body_checks text) sound) simple tt))
     codes
-    (subst (AreCodesOf codes) whole (codes_of text [] [] codes refl laid tt))
-    (codes_length [] text codes laid ∙ sym (length-reverse text))
+    (subst (AreCodesOf codes) whole (codes_of text [] [] codes refl lowered tt))
+    (codes_length [] text codes lowered ∙ sym (length-reverse text))
     (sources_of_text text)
     (subst (AreSourcesOf (sources_of_text text)) whole (sources_are text [] [] refl tt))
     (with_image image store) both.0 (with_image_numbers image numbers) both.1 now

@@ -2,7 +2,7 @@
 use Rattle.std.specs.Prelude.{◌≡◌, ℕ, List, map, None, ℤ}
 use Rattle.wc_text_flat.specs.Contents.{frame_of_text, AreContents, with_image_numbers}
 use Rattle.wc_text_flat.specs.FlatPaths.{sources_of}
-use Rattle.wc_text_flat.specs.Laid.{AreLaid}
+use Rattle.wc_text_flat.specs.Lowered.{AreLowered}
 use Rattle.wc_model.specs.Language.Faults.{body_fault}
 use Rattle.wc_model.specs.Language.Frames.{slot_kinds}
 use Rattle.wc_model.specs.Language.Meaning.{Outcome, Done, Stuck}
@@ -33,6 +33,6 @@ sources_of_text text = map (λ unit. sources_of unit.body) text
 -- declarations say, and the numbers of that store: what is seen of the flat code is what is seen of the text.
 abbrev pub FlatCodeIsSeenAsTheText : Type 0
 FlatCodeIsSeenAsTheText = (bytes : List ℕ) (text : Text) → IsRead bytes text → body_fault text ≡ None →
-    (codes : List (List Code)) → AreLaid text codes →
+    (codes : List (List Code)) → AreLowered text codes →
     (store : Store) → SameSlots (initial_of text) store → (numbers : List ℤ) → AreContents (frame_of_text text) store numbers → (image : Image) (now : ℕ) →
     AreSeenAs (frame_of_text text) (seen_of_scan text store image now) (flat_seen_of_program (slot_kinds (frame_of_text text)) codes (sources_of_text text) now (with_image_numbers image numbers))

@@ -73,9 +73,9 @@ seen_block here calls result (Standard block) instance store =
 seen_block here calls result (Block name) instance store = map seen_called (calls name (here.instance ++ instance ∷ []) store)
 
 -- what follows an outcome's store
-abbrev pub seen_behind : Outcome → (Store → List Seen) → List Seen
-seen_behind (Done result store trace) go = go store
-seen_behind (Stuck reason) go = []
+abbrev pub seen_after : Outcome → (Store → List Seen) → List Seen
+seen_after (Done result store trace) go = go store
+seen_after (Stuck reason) go = []
 
 -- what follows the store that is left, if there is one
 abbrev pub seen_with : Result Store Reason → (Store → List Seen) → List Seen
@@ -88,7 +88,7 @@ seen_made here calls type line instance arguments result store =
     seen_at (At line) result store ∷ seen_inputs here (members_of here.scope.before type) instance result (inputs_of arguments) store
     ++ seen_with (assigned here (members_of here.scope.before type) instance (inputs_of arguments) store) (λ new.
     seen_block here calls result type instance new
-    ++ seen_behind (body_outcome here type instance new) (seen_outputs here instance result (outputs_of arguments)))
+    ++ seen_after (body_outcome here type instance new) (seen_outputs here instance result (outputs_of arguments)))
 
 abbrev pub seen_call : Context → SeenCalls → ℕ → Name → List Assignment → Option Value → Store → List Seen
 seen_call here calls line instance arguments result store =

@@ -2,8 +2,8 @@
 use Rattle.std.proofs.Common.{◌≡◌, Bool, true, false, not, ◌||◌, ◌&&◌, List, [], ◌∷◌, ◌++◌, map, length, Option, Some, None, is_some, refl, ap}
 use Rattle.std.specs.List.{flat_map}
 use Rattle.std.specs.Prelude.{if◌then◌else◌}
-use Rattle.wc_model.specs.Language.Checks.{Check, asks, spots_of}
-use Rattle.wc_model.specs.Language.DeclarationRules.{Taken, and_more, declaration_checks, is_among, is_new, may_stand, names_are_new, names_block_of, names_declared, not_reserved, places_of_type, room_checks, suits_type, taken_at_first, taken_by, type_words, unit_declaration_checks}
+use Rattle.wc_model.specs.Language.Checks.{Check, asks, positions_of}
+use Rattle.wc_model.specs.Language.DeclarationRules.{Taken, and_more, declaration_checks, is_among, is_new, may_occur, names_are_new, names_block_of, names_declared, not_reserved, places_of_type, capacity_checks, suits_type, taken_at_first, taken_by, type_words, unit_declaration_checks}
 use Rattle.wc_model.specs.Language.Declarations.{Block, Elementary, Standard, VariableType, block_named, block_type, elementary_types, is_block, named_in, same_name, standard_blocks, standard_type, type_named, variables_of}
 use Rattle.wc_model.specs.Language.Names.{Name}
 use Rattle.wc_model.specs.Language.Store.{Content, below, block_places, variable_places}
@@ -80,14 +80,14 @@ same_declaration : (change : ListChange) (text : Text) (before : List ProgramUni
 same_declaration change text before names taken d = λ i.
     names_are_new names d.names
     ++ (asks 308 d.type_name.line (is_among type_words d.type_name.name || same_found change before d.type_name.name i || not (same_blocks_of change text d.type_name.name i))
-    ∷ asks 302 d.type_name.line (elim (same_types change before i d.type_name.name) as (λ o. Bool) [ Some type ↦ may_stand d.section type | None ↦ false ]) ∷ [])
+    ∷ asks 302 d.type_name.line (elim (same_types change before i d.type_name.name) as (λ o. Bool) [ Some type ↦ may_occur d.section type | None ↦ false ]) ∷ [])
     ++ (elim d.initial as (λ o. List Check) [ Some initial ↦ asks 303 initial.line (suits_type (same_types change before i d.type_name.name) initial.value) ∷ [] | None ↦ [] ])
-    ++ room_checks taken (same_size change before d.type_name.name i) d.names
+    ++ capacity_checks taken (same_size change before d.type_name.name i) d.names
 
 same_declarations : (change : ListChange) (text : Text) (before : List ProgramUnit) (unit : ProgramUnit)
     → unit_declaration_checks (text_with change text) (text_with change before) (unit_with change unit) ≡ unit_declaration_checks text before unit
 same_declarations change text before unit =
-    λ i. flat_map (λ spot. same_declaration change text before (names_declared spot.before) (same_taken change before spot.before (taken_at_first unit) i) spot.item i) (spots_of unit.declarations)
+    λ i. flat_map (λ position. same_declaration change text before (names_declared position.before) (same_taken change before position.before (taken_at_first unit) i) position.item i) (positions_of unit.declarations)
 
 -- the names of the units before
 same_names : (change : ListChange) (before : List ProgramUnit) → map (λ (u : ProgramUnit). u.name.name) (text_with change before) ≡ map (λ (u : ProgramUnit). u.name.name) before

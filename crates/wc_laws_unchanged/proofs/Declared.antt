@@ -4,7 +4,7 @@ use Rattle.std.proofs.lemmas.List.Folds.{list_all-append}
 use Rattle.std.specs.Cmp.Derive.{both_true}
 use Rattle.std.specs.List.{flat_map, list_all}
 use Rattle.std.specs.Prelude.{◌==◌, ◌||◌, if◌then◌else◌, is_some}
-use Rattle.wc_model.specs.Language.Checks.{Check, Spot, asks, first_broken, spots_behind}
+use Rattle.wc_model.specs.Language.Checks.{Check, Position, asks, first_broken, positions_after}
 use Rattle.wc_model.specs.Language.DeclarationRules.{body_name_checks, label_checks, not_reserved, operand_checks, step_checks, term_checks, text_declaration_checks, unit_checks}
 use Rattle.wc_model.specs.Language.Declarations.{is_block}
 use Rattle.wc_model.specs.Language.DirectVariables.{variable_at}
@@ -92,8 +92,8 @@ same_unit : (text : Text) (before : List ProgramUnit) (unit : ProgramUnit) →
 same_unit text before unit = λ i. sym (same_head (map as_input) text before unit) i ++ same_body unit (body_with (map as_input) unit.body) unit.body i
 
 same_units : (text : Text) (before units : List ProgramUnit) →
-    flat_map (λ (spot : Spot ProgramUnit). unit_checks text spot.before spot.item) (spots_behind before units)
-    ≡ flat_map (λ (spot : Spot ProgramUnit). unit_checks (outputs_as_inputs text) spot.before spot.item) (spots_behind (outputs_as_inputs before) (outputs_as_inputs units))
+    flat_map (λ (position : Position ProgramUnit). unit_checks text position.before position.item) (positions_after before units)
+    ≡ flat_map (λ (position : Position ProgramUnit). unit_checks (outputs_as_inputs text) position.before position.item) (positions_after (outputs_as_inputs before) (outputs_as_inputs units))
 same_units text before [] = refl
 same_units text before (unit ∷ units) = λ i. same_unit text before unit i ++ same_units text (unit ∷ before) units i
 
@@ -162,7 +162,7 @@ merged_unit text before unit =
     (merged_body unit (body_with inputs_of unit.body) unit.body)
 
 abbrev rules_of : Text → List ProgramUnit → List ProgramUnit → List Check
-rules_of text before units = flat_map (λ (spot : Spot ProgramUnit). unit_checks text spot.before spot.item) (spots_behind before units)
+rules_of text before units = flat_map (λ (position : Position ProgramUnit). unit_checks text position.before position.item) (positions_after before units)
 
 merged_units : (text : Text) (before units : List ProgramUnit) → AreMerged (text_output_checks units) (rules_of (without_outputs text) (without_outputs before) (without_outputs units)) (rules_of text before units)
 merged_units text before [] = (refl, refl)

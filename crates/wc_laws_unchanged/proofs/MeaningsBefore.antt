@@ -76,16 +76,16 @@ same_blocks [] now g = λ i name instance store. Stuck NoSuchPlace
 same_blocks (unit ∷ before) now g = one_block unit before now g.0 (same_blocks before now g.1)
 
 -- units after others
-behind_units : (units more : List ProgramUnit) → UnitsGiveNothingOut units → UnitsGiveNothingOut more → UnitsGiveNothingOut (units ++ more)
-behind_units [] more g h = h
-behind_units (unit ∷ units) more g h = (g.0, behind_units units more g.1 h)
+after_units : (units more : List ProgramUnit) → UnitsGiveNothingOut units → UnitsGiveNothingOut more → UnitsGiveNothingOut (units ++ more)
+after_units [] more g h = h
+after_units (unit ∷ units) more g h = (g.0, after_units units more g.1 h)
 
 -- units in the other order
 pub turned_units : (units : List ProgramUnit) → UnitsGiveNothingOut units → UnitsGiveNothingOut (reverse units)
 turned_units [] g = tt
 turned_units (unit ∷ units) g =
     subst UnitsGiveNothingOut (sym (reverse_onto units unit []))
-    (behind_units (reverse units) (unit ∷ []) (turned_units units g.1) (g.0, tt))
+    (after_units (reverse units) (unit ∷ []) (turned_units units g.1) (g.0, tt))
 
 -- a scan
 from_last : (units : List ProgramUnit) (store : Store) (image : Image) (now : ℕ) → UnitsGiveNothingOut units

@@ -1,7 +1,7 @@
 -- Units that give no output out have the paths that they had.
 use Rattle.std.proofs.Common.{◌≡◌, ℕ, true, false, List, [], ◌∷◌, Option, Some, refl, sym, ap, subst, ◌∙◌, inl, inr, ⊎_elim}
 use Rattle.std.specs.Prelude.{◌↔◌}
-use Rattle.wc_model.specs.Language.Checks.{Refusal, spots_behind}
+use Rattle.wc_model.specs.Language.Checks.{Refusal, positions_after}
 use Rattle.wc_model.specs.Language.Declarations.{same_name}
 use Rattle.wc_model.specs.Language.Faults.{FirstTooLong, IsCostFault}
 use Rattle.wc_model.specs.Language.Names.{Name}
@@ -91,15 +91,15 @@ same_longest scope g n = (
 )
 
 -- the first unit with a path that is too long
-same_spots_too_long : (before units : List ProgramUnit) → UnitsGiveNothingOut before → UnitsGiveNothingOut units → (refusal : Option Refusal)
-    → FirstTooLong (spots_behind before units) refusal ↔ FirstTooLongBefore (spots_behind before units) refusal
-same_spots_too_long before [] b g refusal = (λ h. h, λ h. h)
-same_spots_too_long before (unit ∷ units) b g refusal =
+same_positions_too_long : (before units : List ProgramUnit) → UnitsGiveNothingOut before → UnitsGiveNothingOut units → (refusal : Option Refusal)
+    → FirstTooLong (positions_after before units) refusal ↔ FirstTooLongBefore (positions_after before units) refusal
+same_positions_too_long before [] b g refusal = (λ h. h, λ h. h)
+same_positions_too_long before (unit ∷ units) b g refusal =
     let same = path_for_path (record { before = before; unit = unit }) (g.0, b) in
-    let others = same_spots_too_long (unit ∷ before) units (g.0, b) g.1 refusal in (
+    let others = same_positions_too_long (unit ∷ before) units (g.0, b) g.1 refusal in (
       λ h. ⊎_elim (λ l. inl ((l.0.0, (same l.0.0).0 l.0.1, l.0.2), l.1)) (λ r. inr (λ path is. r.0 path ((same path).1 is), others.0 r.1)) h,
       λ h. ⊎_elim (λ l. inl ((l.0.0, (same l.0.0).1 l.0.1, l.0.2), l.1)) (λ r. inr (λ path is. r.0 path ((same path).0 is), others.1 r.1)) h,
     )
 
 pub same_too_long : (text : Text) → UnitsGiveNothingOut text → (refusal : Option Refusal) → IsCostFault text refusal ↔ IsCostFaultBefore text refusal
-same_too_long text g refusal = same_spots_too_long [] text tt g refusal
+same_too_long text g refusal = same_positions_too_long [] text tt g refusal

@@ -2,7 +2,7 @@
 use Rattle.std.proofs.Common.{◌≡◌, Bool, true, false, List, [], ◌∷◌, Some, refl, sym, ap, subst}
 use Rattle.std.specs.Prelude.{◌↔◌}
 use Rattle.wc_model.specs.Language.Tree.{Alone, Apply, Assignment, Call, End, Jump, Lines, Load, Negate, Nested, Plain, ProgramUnit, Return, Step, Store, Text, goes_in, outputs_of}
-use Rattle.wc_model.specs.Text.Grammar.{HasContent, InBody, InParentheses, IsOn, IsOperatorOf, MayStand, Setting, Spells, argument, call_list, head, identifier, label_in, line_ends, lines, opening, operand, operands_of, sign_of, symbol, unit_of, units}
+use Rattle.wc_model.specs.Text.Grammar.{HasContent, InBody, InParentheses, IsOn, IsOperatorOf, MayOccur, Setting, Spells, argument, call_list, head, identifier, label_in, line_ends, lines, opening, operand, operands_of, sign_of, symbol, unit_of, units}
 use Rattle.wc_model.specs.Text.Keywords.{end_word}
 use Rattle.wc_model.specs.Text.Languages.{each, one, skipping, ◌given◌, ◌then◌}
 use Rattle.wc_model.specs.Text.Marks.{ClosingBracket, Comma, IsSymbol, LineEnd, Mark, OpeningBracket, is_line_end}
@@ -50,7 +50,7 @@ same_lines setting End g = refl
 same_lines setting (Alone label rest) g = λ i. line_ends then label_in setting (Some label) then symbol LineEnd then same_lines setting rest g i
 same_lines setting (Plain label line step rest) g =
     λ i. line_ends then label_in setting label then (one (IsOn line (IsOperatorOf step)) then same_operands step g.0 i) then symbol LineEnd then same_lines setting rest g.1 i
-    given MayStand setting step
+    given MayOccur setting step
 same_lines setting (Nested label line operator x inside close rest) g =
     λ i. line_ends then label_in setting label then opening line operator x then same_lines InParentheses inside g.0 i
     then one (IsOn close (IsSymbol ClosingBracket)) then symbol LineEnd then same_lines setting rest g.1 i

@@ -3,7 +3,7 @@ use Rattle.std.proofs.Common.{◌≡◌, ℕ, Bool, true, false, not, List, [], 
 use Rattle.std.specs.List.{flat_map}
 use Rattle.std.specs.Prelude.{◌↔◌, if◌then◌else◌}
 use Rattle.wc_model.specs.Language.BodyRules.{actual_checks, argument_checks, formal_named}
-use Rattle.wc_model.specs.Language.Checks.{Check, Spot, asks, spots_behind}
+use Rattle.wc_model.specs.Language.Checks.{Check, Position, asks, positions_after}
 use Rattle.wc_model.specs.Language.Declarations.{Member, VariableType, members_of}
 use Rattle.wc_model.specs.Language.Meaning.{Context, Effect, Goes, Outcome, Done, Stuck, Running, assigned, body_outcome, call_trace, called_type, from_store, given_out, made}
 use Rattle.wc_model.specs.Language.Names.{Name}
@@ -45,15 +45,15 @@ same_made here instance (Done inner store trace) line arguments result e =
     ∙ ap (λ (items : List Item). Goes (Running result) store items) (same_trace line arguments trace e)
 
 -- what follows from the same store is the same
-same_behind : (r : Result Store Reason) (f g : Store → Effect) → ((new : Store) → f new ≡ g new) → from_store r f ≡ from_store r g
-same_behind (Ok store) f g same = same store
-same_behind (Err reason) f g same = refl
+same_after : (r : Result Store Reason) (f g : Store → Effect) → ((new : Store) → f new ≡ g new) → from_store r f ≡ from_store r g
+same_after (Ok store) f g same = same store
+same_after (Err reason) f g same = refl
 
 pub same_call : (here : Context) (type : VariableType) (line : ℕ) (instance : Name) (arguments : List Assignment) (result : Option Value) (store : Store) → outputs_of arguments ≡ []
     → called_type here type line instance arguments result store ≡ called_before here type line instance arguments result store
 same_call here type line instance arguments result store e =
     ap (λ (inputs : List Assignment). from_store (assigned here (members_of here.scope.before type) instance inputs store) (λ new. made here instance (body_outcome here type instance new) line arguments result)) (all_go_in arguments e)
-    ∙ same_behind (assigned here (members_of here.scope.before type) instance arguments store) (λ new. made here instance (body_outcome here type instance new) line arguments result)
+    ∙ same_after (assigned here (members_of here.scope.before type) instance arguments store) (λ new. made here instance (body_outcome here type instance new) line arguments result)
     (λ new. made_before (body_outcome here type instance new) line arguments result) (λ new. same_made here instance (body_outcome here type instance new) line arguments result e)
 
 -- its paths
@@ -65,24 +65,24 @@ same_paths block_path scope line instance arguments items e = (
 )
 
 -- the rules of one that goes in
-same_checks : (scope : Scope) (line : ℕ) (members : List Member) (spot : Spot Assignment) → goes_in spot.item ≡ true → argument_checks scope line members spot ≡ argument_checks_before scope line members spot
-same_checks scope line members spot e = ap (λ (way : Direction). checks_of way) (into spot.item.direction e)
+same_checks : (scope : Scope) (line : ℕ) (members : List Member) (position : Position Assignment) → goes_in position.item ≡ true → argument_checks scope line members position ≡ argument_checks_before scope line members position
+same_checks scope line members position e = ap (λ (way : Direction). checks_of way) (into position.item.direction e)
   where
     checks_of : Direction → List Check
     checks_of way =
-        asks 409 line (Rattle.std.specs.Prelude.is_some (formal_named way members spot.item.formal))
-        ∷ asks 410 line (not (Rattle.std.specs.List.list_any (λ a. Rattle.wc_model.specs.Language.Declarations.same_name a.formal spot.item.formal) spot.before))
-        ∷ actual_checks scope line way (formal_named way members spot.item.formal) spot.item.actual
+        asks 409 line (Rattle.std.specs.Prelude.is_some (formal_named way members position.item.formal))
+        ∷ asks 410 line (not (Rattle.std.specs.List.list_any (λ a. Rattle.wc_model.specs.Language.Declarations.same_name a.formal position.item.formal) position.before))
+        ∷ actual_checks scope line way (formal_named way members position.item.formal) position.item.actual
 
     into : (way : Direction) → (elim way as (λ x. Bool) [ Into ↦ true | OutOf ↦ false ]) ≡ true → way ≡ Into
     into Into f = refl
     into OutOf f = cc
 
 pub same_rules : (scope : Scope) (line : ℕ) (members : List Member) (before arguments : List Assignment) → outputs_of arguments ≡ []
-    → flat_map (argument_checks scope line members) (spots_behind before arguments) ≡ flat_map (argument_checks_before scope line members) (spots_behind before arguments)
+    → flat_map (argument_checks scope line members) (positions_after before arguments) ≡ flat_map (argument_checks_before scope line members) (positions_after before arguments)
 same_rules scope line members before [] e = refl
 same_rules scope line members before (a ∷ arguments) e =
     let both = first_goes_in (goes_in a) a (outputs_of arguments) e in
-    let spot : Spot Assignment = record { before = before; item = a; behind = arguments } in
-    ap (λ (checks : List Check). checks ++ flat_map (argument_checks scope line members) (spots_behind (a ∷ before) arguments)) (same_checks scope line members spot both.0)
-    ∙ ap (λ (checks : List Check). argument_checks_before scope line members spot ++ checks) (same_rules scope line members (a ∷ before) arguments both.1)
+    let position : Position Assignment = record { before = before; item = a; following = arguments } in
+    ap (λ (checks : List Check). checks ++ flat_map (argument_checks scope line members) (positions_after (a ∷ before) arguments)) (same_checks scope line members position both.0)
+    ∙ ap (λ (checks : List Check). argument_checks_before scope line members position ++ checks) (same_rules scope line members (a ∷ before) arguments both.1)

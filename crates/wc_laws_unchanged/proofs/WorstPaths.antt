@@ -1,7 +1,7 @@
 -- Units that give no output out have the worst paths that they had, and a check prints of them what it printed.
 use Rattle.std.proofs.Common.{◌≡◌, ℕ, Bool, true, false, List, [], ◌∷◌, Some, refl, sym, ap, subst, ◌∙◌}
 use Rattle.std.specs.Prelude.{◌↔◌}
-use Rattle.wc_model.specs.Language.Checks.{Spot, spots_behind}
+use Rattle.wc_model.specs.Language.Checks.{Position, positions_after}
 use Rattle.wc_model.specs.Language.Paths.{IsNestedPath, MayPass, Onward, Way, arriving_way}
 use Rattle.wc_model.specs.Language.Scopes.{Scope}
 use Rattle.wc_model.specs.Language.Traces.{Item}
@@ -48,21 +48,21 @@ pub same_worst_path : (scope : Scope) → UnitsGiveNothingOut (scope.unit ∷ sc
 same_worst_path scope g = (worst_for_worst scope g, lines_for_lines scope g)
 
 -- the printed line of a worst path
-same_part : (paths : Bool) (spot : Spot ProgramUnit) → UnitsGiveNothingOut (spot.item ∷ spot.before) → (part : List ℕ) → IsPathPart paths spot part ↔ IsPathPartBefore paths spot part
-same_part false spot g part = (λ h. h, λ h. h)
-same_part true spot g part =
-    let same = lines_for_lines (record { before = spot.before; unit = spot.item }) g in (
+same_part : (paths : Bool) (position : Position ProgramUnit) → UnitsGiveNothingOut (position.item ∷ position.before) → (part : List ℕ) → IsPathPart paths position part ↔ IsPathPartBefore paths position part
+same_part false position g part = (λ h. h, λ h. h)
+same_part true position g part =
+    let same = lines_for_lines (record { before = position.before; unit = position.item }) g in (
       λ h. (h.0, (same h.0).0 h.1, h.2),
       λ h. (h.0, (same h.0).1 h.1, h.2),
     )
 
 -- the printed lines of units
 same_unit_lines : (paths : Bool) (before units : List ProgramUnit) → UnitsGiveNothingOut before → UnitsGiveNothingOut units → (lines : List ℕ)
-    → AreUnitLines paths (spots_behind before units) lines ↔ AreUnitLinesBefore paths (spots_behind before units) lines
+    → AreUnitLines paths (positions_after before units) lines ↔ AreUnitLinesBefore paths (positions_after before units) lines
 same_unit_lines paths before [] b g lines = (λ h. h, λ h. h)
 same_unit_lines paths before (unit ∷ units) b g lines =
     let longest = same_longest (record { before = before; unit = unit }) (g.0, b) in
-    let part = same_part paths (record { before = before; item = unit; behind = units }) (g.0, b) in
+    let part = same_part paths (record { before = before; item = unit; following = units }) (g.0, b) in
     let others = same_unit_lines paths (unit ∷ before) units (g.0, b) g.1 in (
       λ h. (h.0, h.1, h.2, (longest h.0).0 h.3, (part h.1).0 h.4, (others h.2).0 h.5, h.6),
       λ h. (h.0, h.1, h.2, (longest h.0).1 h.3, (part h.1).1 h.4, (others h.2).1 h.5, h.6),

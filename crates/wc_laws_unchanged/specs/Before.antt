@@ -2,7 +2,7 @@
 use Rattle.std.specs.Prelude.{◌≡◌, ℕ, not, List, [], ◌∷◌, ◌++◌, map, Option, is_some}
 use Rattle.std.specs.List.{list_any}
 use Rattle.wc_model.specs.Language.BodyRules.{input_named, reading_checks, suits_input}
-use Rattle.wc_model.specs.Language.Checks.{Check, Spot, asks}
+use Rattle.wc_model.specs.Language.Checks.{Check, Position, asks}
 use Rattle.wc_model.specs.Language.Declarations.{Member, VariableType, members_of, same_name}
 use Rattle.wc_model.specs.Language.Meaning.{Context, Effect, Fails, Goes, Outcome, Done, Stuck, Running, assigned, body_outcome, from_store}
 use Rattle.wc_model.specs.Language.Names.{Name}
@@ -36,10 +36,10 @@ IsCallPathBefore block_path scope line instance arguments items =
     (body : List Item) × IsBodyPath block_path (type_of scope instance) body × (items ≡ trace_before line arguments body)
 
 -- the rules of an argument
-abbrev pub argument_checks_before : Scope → ℕ → List Member → Spot Assignment → List Check
-argument_checks_before scope line members spot =
-    asks 409 line (is_some (input_named members spot.item.formal)) ∷ asks 410 line (not (list_any (λ a. same_name a.formal spot.item.formal) spot.before)) ∷ reading_checks scope line spot.item.actual
-    ++ asks 402 line (suits_input scope (input_named members spot.item.formal) spot.item.actual) ∷ []
+abbrev pub argument_checks_before : Scope → ℕ → List Member → Position Assignment → List Check
+argument_checks_before scope line members position =
+    asks 409 line (is_some (input_named members position.item.formal)) ∷ asks 410 line (not (list_any (λ a. same_name a.formal position.item.formal) position.before)) ∷ reading_checks scope line position.item.actual
+    ++ asks 402 line (suits_input scope (input_named members position.item.formal) position.item.actual) ∷ []
 
 -- how an argument was spelled
 abbrev pub argument_before : Name → Term → Language Mark

@@ -2,7 +2,7 @@
 use Rattle.std.specs.Prelude.{◌≡◌, ◌↔◌, ℕ, List, [], Option}
 use Rattle.std.specs.List.{flat_map}
 use Rattle.wc_model.specs.Language.BodyRules.{argument_checks}
-use Rattle.wc_model.specs.Language.Checks.{spots_of}
+use Rattle.wc_model.specs.Language.Checks.{positions_of}
 use Rattle.wc_model.specs.Language.Declarations.{Member, VariableType}
 use Rattle.wc_model.specs.Language.Meaning.{Context, called_type}
 use Rattle.wc_model.specs.Language.Names.{Name}
@@ -28,9 +28,9 @@ ACallHasThePathsItHad = (scope : Scope) (line : ℕ) (instance : Name) (argument
     outputs_of arguments ≡ [] → IsCallPath (IsBlockPath scope.before) scope line instance arguments items ↔ IsCallPathBefore (IsBlockPath scope.before) scope line instance arguments items
 
 -- its list is checked by the rules by which it was
-abbrev pub ACallIsJudgedAsItWas : Type 0
-ACallIsJudgedAsItWas = (scope : Scope) (line : ℕ) (members : List Member) (arguments : List Assignment) →
-    outputs_of arguments ≡ [] → flat_map (argument_checks scope line members) (spots_of arguments) ≡ flat_map (argument_checks_before scope line members) (spots_of arguments)
+abbrev pub ACallIsValidatedAsItWas : Type 0
+ACallIsValidatedAsItWas = (scope : Scope) (line : ℕ) (members : List Member) (arguments : List Assignment) →
+    outputs_of arguments ≡ [] → flat_map (argument_checks scope line members) (positions_of arguments) ≡ flat_map (argument_checks_before scope line members) (positions_of arguments)
 
 -- and an input in it is spelled as it was
 abbrev pub AnInputIsSpelledAsItWas : Type 0

@@ -2,7 +2,7 @@
 -- `Before`; all around it is as it is. (No rule of the language.)
 use Rattle.std.specs.Prelude.{ℕ, List, [], ◌∷◌, Some}
 use Rattle.wc_model.specs.Language.Tree.{Alone, Apply, Assignment, Call, End, Jump, Lines, Load, Negate, Nested, Plain, ProgramUnit, Return, Step, Store, Text}
-use Rattle.wc_model.specs.Text.Grammar.{HasContent, InBody, InParentheses, IsOn, IsOperatorOf, IsProgramLast, MayStand, Setting, head, identifier, label_in, line_ends, opening, operands_of, symbol}
+use Rattle.wc_model.specs.Text.Grammar.{HasContent, InBody, InParentheses, IsOn, IsOperatorOf, IsProgramLast, MayOccur, Setting, head, identifier, label_in, line_ends, opening, operands_of, symbol}
 use Rattle.wc_model.specs.Text.Keywords.{end_word}
 use Rattle.wc_model.specs.Text.Languages.{Language, each, empty, one, separated, skipping, ◌given◌, ◌or◌, ◌then◌}
 use Rattle.wc_model.specs.Text.Marks.{ClosingBracket, Comma, IsSymbol, LineEnd, Mark, OpeningBracket, is_line_end}
@@ -36,7 +36,7 @@ lines_before setting End = line_ends
 lines_before setting (Alone label rest) = line_ends then label_in setting (Some label) then symbol LineEnd then lines_before setting rest
 lines_before setting (Plain label line step rest) =
     line_ends then label_in setting label then instruction_before line step then symbol LineEnd then lines_before setting rest
-    given MayStand setting step
+    given MayOccur setting step
 lines_before setting (Nested label line operator x inside close rest) =
     line_ends then label_in setting label then opening line operator x then lines_before InParentheses inside
     then one (IsOn close (IsSymbol ClosingBracket)) then symbol LineEnd then lines_before setting rest

@@ -55,8 +55,8 @@ abbrev pub ATextIsTooLongWhereItWas : Type 0
 ATextIsTooLongWhereItWas = (text : Text) → UnitsGiveNothingOut text → (refusal : Option Refusal) → IsCostFault text refusal ↔ IsCostFaultBefore text refusal
 
 -- its bodies are checked by the rules by which they were, in the same order, so its first fault is the same
-abbrev pub ATextIsJudgedAsItWas : Type 0
-ATextIsJudgedAsItWas = (text : Text) → UnitsGiveNothingOut text → (text_body_checks text ≡ text_body_checks_before text) × (body_fault text ≡ body_fault_before text)
+abbrev pub ATextIsValidatedAsItWas : Type 0
+ATextIsValidatedAsItWas = (text : Text) → UnitsGiveNothingOut text → (text_body_checks text ≡ text_body_checks_before text) × (body_fault text ≡ body_fault_before text)
 
 -- it is spelled by the tokens by which it was, and by no others
 abbrev pub ATextIsSpelledAsItWas : Type 0

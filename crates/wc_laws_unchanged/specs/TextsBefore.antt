@@ -4,10 +4,10 @@
 use Rattle.std.specs.Prelude.{◌≡◌, ℕ, ◌<◌, ◌≤◌, ◌⊎◌, true, false, List, [], ◌∷◌, ◌++◌, length, reverse, Option, Some, None, is_some}
 use Rattle.std.specs.List.{flat_map}
 use Rattle.wc_model.specs.Language.BodyRules.{closing_checks, condition_checks, is_instance, label_rules, members_called, opening_checks, step_rules}
-use Rattle.wc_model.specs.Language.Checks.{Check, Refusal, Spot, asks, first_broken, spots_of}
+use Rattle.wc_model.specs.Language.Checks.{Check, Refusal, Position, asks, first_broken, positions_of}
 use Rattle.wc_model.specs.Language.Declarations.{same_name}
 use Rattle.wc_model.specs.Language.Faults.{MOST_STEPS}
-use Rattle.wc_model.specs.Language.Kinds.{AloneLine, BodyLine, NestedLine, PlainLine, kind_after_operator, kind_after_step, kind_at, kind_behind, label_of, lines_of, opening_kind}
+use Rattle.wc_model.specs.Language.Kinds.{AloneLine, BodyLine, NestedLine, PlainLine, kind_after_operator, kind_after_step, kind_at, kind_following, label_of, lines_of, opening_kind}
 use Rattle.wc_model.specs.Language.Meaning.{Calls, Context, Effect, Fails, Goes, Mode, Outcome, Returned, Running, Seeking, Stuck, acts, arriving, at_end, chosen, continued, nested_effect, step_effect}
 use Rattle.wc_model.specs.Language.Names.{Name}
 use Rattle.wc_model.specs.Language.Paths.{EndsThere, GoesOn, IsNestedPath, Joined, MayAct, MayPass, MayStep, Onward, Way, arriving_way}
@@ -93,57 +93,57 @@ pub record IsLongestBefore (scope : Scope) (n : ℕ) : Type 0 where
   pub greatest : (other : List Item) → IsPathBefore scope other → length other ≤ n
 
 -- the last pass, 411: the first unit with a path of more steps than a unit may take
-abbrev pub IsTooLongBefore : Spot ProgramUnit → Type 0
-IsTooLongBefore spot = (path : List Item) × IsPathBefore (record { before = spot.before; unit = spot.item }) path × (MOST_STEPS < length path)
+abbrev pub IsTooLongBefore : Position ProgramUnit → Type 0
+IsTooLongBefore position = (path : List Item) × IsPathBefore (record { before = position.before; unit = position.item }) path × (MOST_STEPS < length path)
 
-abbrev pub IsShortEnoughBefore : Spot ProgramUnit → Type 0
-IsShortEnoughBefore spot = (path : List Item) → IsPathBefore (record { before = spot.before; unit = spot.item }) path → length path ≤ MOST_STEPS
+abbrev pub IsShortEnoughBefore : Position ProgramUnit → Type 0
+IsShortEnoughBefore position = (path : List Item) → IsPathBefore (record { before = position.before; unit = position.item }) path → length path ≤ MOST_STEPS
 
-abbrev pub FirstTooLongBefore : List (Spot ProgramUnit) → Option Refusal → Type 0
+abbrev pub FirstTooLongBefore : List (Position ProgramUnit) → Option Refusal → Type 0
 FirstTooLongBefore [] refusal = refusal ≡ None
-FirstTooLongBefore (spot ∷ spots) refusal =
-    (IsTooLongBefore spot × (refusal ≡ Some (record { number = 411; line = spot.item.line }))) ⊎ (IsShortEnoughBefore spot × FirstTooLongBefore spots refusal)
+FirstTooLongBefore (position ∷ positions) refusal =
+    (IsTooLongBefore position × (refusal ≡ Some (record { number = 411; line = position.item.line }))) ⊎ (IsShortEnoughBefore position × FirstTooLongBefore positions refusal)
 
 abbrev pub IsCostFaultBefore : Text → Option Refusal → Type 0
-IsCostFaultBefore text refusal = FirstTooLongBefore (spots_of text) refusal
+IsCostFaultBefore text refusal = FirstTooLongBefore (positions_of text) refusal
 
 -- the rules on bodies: of a call, a step, the lines inside a parenthesis, a line, a body, a text; and the first that is broken
 abbrev pub call_checks_before : Scope → ℕ → Condition → Name → List Assignment → Option Kind → List Check
 call_checks_before scope line condition instance arguments kind =
     asks 401 line (is_some (type_of scope instance)) ∷ asks 402 line (is_instance (type_of scope instance)) ∷ condition_checks condition line kind
-    ++ flat_map (argument_checks_before scope line (members_called scope (type_of scope instance))) (spots_of arguments)
+    ++ flat_map (argument_checks_before scope line (members_called scope (type_of scope instance))) (positions_of arguments)
 
 abbrev pub step_rules_before : Scope → ℕ → Step → List BodyLine → Option Kind → List Check
-step_rules_before scope line (Load negated operand) behind kind = step_rules scope line (Load negated operand) behind kind
-step_rules_before scope line (StoreStep storing target) behind kind = step_rules scope line (StoreStep storing target) behind kind
-step_rules_before scope line (Apply operator operand) behind kind = step_rules scope line (Apply operator operand) behind kind
-step_rules_before scope line Negate behind kind = step_rules scope line Negate behind kind
-step_rules_before scope line (Jump condition label) behind kind = step_rules scope line (Jump condition label) behind kind
-step_rules_before scope line (Call condition instance arguments) behind kind = call_checks_before scope line condition instance arguments kind
-step_rules_before scope line (Return condition) behind kind = step_rules scope line (Return condition) behind kind
+step_rules_before scope line (Load negated operand) following kind = step_rules scope line (Load negated operand) following kind
+step_rules_before scope line (StoreStep storing target) following kind = step_rules scope line (StoreStep storing target) following kind
+step_rules_before scope line (Apply operator operand) following kind = step_rules scope line (Apply operator operand) following kind
+step_rules_before scope line Negate following kind = step_rules scope line Negate following kind
+step_rules_before scope line (Jump condition label) following kind = step_rules scope line (Jump condition label) following kind
+step_rules_before scope line (Call condition instance arguments) following kind = call_checks_before scope line condition instance arguments kind
+step_rules_before scope line (Return condition) following kind = step_rules scope line (Return condition) following kind
 
 abbrev pub inside_rules_before : Scope → Lines → Option Kind → List Check
 inside_rules_before scope End kind = []
 inside_rules_before scope (Alone label rest) kind = inside_rules_before scope rest kind
 inside_rules_before scope (Plain label line step rest) kind = step_rules_before scope line step [] kind ++ inside_rules_before scope rest (kind_after_step scope step kind)
 inside_rules_before scope (Nested label line operator operand inside close rest) kind =
-    opening_checks scope line operator operand kind ++ inside_rules_before scope inside (opening_kind scope operand) ++ closing_checks close kind (kind_behind scope inside (opening_kind scope operand))
+    opening_checks scope line operator operand kind ++ inside_rules_before scope inside (opening_kind scope operand) ++ closing_checks close kind (kind_following scope inside (opening_kind scope operand))
     ++ inside_rules_before scope rest (kind_after_operator operator kind)
 
 abbrev pub line_rules_before : Scope → BodyLine → List BodyLine → Option Kind → List Check
-line_rules_before scope (AloneLine label) behind kind = []
-line_rules_before scope (PlainLine label line step) behind kind = step_rules_before scope line step behind kind
-line_rules_before scope (NestedLine label line operator operand inside close) behind kind =
-    opening_checks scope line operator operand kind ++ inside_rules_before scope inside (opening_kind scope operand) ++ closing_checks close kind (kind_behind scope inside (opening_kind scope operand))
+line_rules_before scope (AloneLine label) following kind = []
+line_rules_before scope (PlainLine label line step) following kind = step_rules_before scope line step following kind
+line_rules_before scope (NestedLine label line operator operand inside close) following kind =
+    opening_checks scope line operator operand kind ++ inside_rules_before scope inside (opening_kind scope operand) ++ closing_checks close kind (kind_following scope inside (opening_kind scope operand))
 
-abbrev pub spot_rules_before : Scope → Spot BodyLine → List Check
-spot_rules_before scope spot = label_rules spot.before (label_of spot.item) ++ line_rules_before scope spot.item spot.behind (kind_at scope spot.before spot.item)
+abbrev pub rules_at_position_before : Scope → Position BodyLine → List Check
+rules_at_position_before scope position = label_rules position.before (label_of position.item) ++ line_rules_before scope position.item position.following (kind_at scope position.before position.item)
 
 abbrev pub body_rules_before : Scope → List Check
-body_rules_before scope = flat_map (spot_rules_before scope) (spots_of (lines_of scope.unit.body))
+body_rules_before scope = flat_map (rules_at_position_before scope) (positions_of (lines_of scope.unit.body))
 
 abbrev pub text_body_checks_before : Text → List Check
-text_body_checks_before text = flat_map (λ spot. body_rules_before (record { before = spot.before; unit = spot.item })) (spots_of text)
+text_body_checks_before text = flat_map (λ position. body_rules_before (record { before = position.before; unit = position.item })) (positions_of text)
 
 abbrev pub body_fault_before : Text → Option Refusal
 body_fault_before text = first_broken (text_body_checks_before text)

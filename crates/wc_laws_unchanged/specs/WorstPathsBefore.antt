@@ -2,7 +2,7 @@
 -- among the paths of `TextsBefore`, and its bound is the length of the longest of those; all around it is as it is. (No rule
 -- of the language.)
 use Rattle.std.specs.Prelude.{◌≡◌, ℕ, Bool, true, false, List, [], ◌∷◌, ◌++◌, Some}
-use Rattle.wc_model.specs.Language.Checks.{Spot, spots_of}
+use Rattle.wc_model.specs.Language.Checks.{Position, positions_of}
 use Rattle.wc_model.specs.Language.Names.{Name}
 use Rattle.wc_model.specs.Language.Paths.{EndsThere, IsNestedPath, MayPass, Onward, Way, arriving_way}
 use Rattle.wc_model.specs.Language.Scopes.{Scope}
@@ -30,17 +30,17 @@ abbrev pub AreWorstLinesBefore : Scope → List ℕ → Type 0
 AreWorstLinesBefore scope lines = (path : List Item) × IsWorstPathBefore scope path × (lines ≡ own_lines path)
 
 -- the printed line of a unit's worst path, if paths are asked for
-abbrev pub IsPathPartBefore : Bool → Spot ProgramUnit → List ℕ → Type 0
-IsPathPartBefore false spot part = part ≡ []
-IsPathPartBefore true spot part = (lines : List ℕ) × AreWorstLinesBefore (record { before = spot.before; unit = spot.item }) lines × (part ≡ path_line lines)
+abbrev pub IsPathPartBefore : Bool → Position ProgramUnit → List ℕ → Type 0
+IsPathPartBefore false position part = part ≡ []
+IsPathPartBefore true position part = (lines : List ℕ) × AreWorstLinesBefore (record { before = position.before; unit = position.item }) lines × (part ≡ path_line lines)
 
 -- the printed lines of units: name and bound of each, and its worst path
-abbrev pub AreUnitLinesBefore : Bool → List (Spot ProgramUnit) → List ℕ → Type 0
+abbrev pub AreUnitLinesBefore : Bool → List (Position ProgramUnit) → List ℕ → Type 0
 AreUnitLinesBefore paths [] lines = lines ≡ []
-AreUnitLinesBefore paths (spot ∷ spots) lines =
-    (bound : ℕ) × (part others : List ℕ) × IsLongestBefore (record { before = spot.before; unit = spot.item }) bound × IsPathPartBefore paths spot part × AreUnitLinesBefore paths spots others
-    × (lines ≡ (unit_line spot.item.spelled bound ++ part) ++ others)
+AreUnitLinesBefore paths (position ∷ positions) lines =
+    (bound : ℕ) × (part others : List ℕ) × IsLongestBefore (record { before = position.before; unit = position.item }) bound × IsPathPartBefore paths position part × AreUnitLinesBefore paths positions others
+    × (lines ≡ (unit_line position.item.spelled bound ++ part) ++ others)
 
 -- what a check of a text printed, with paths or without
 abbrev pub IsUnitReportBefore : Bool → Text → List ℕ → Type 0
-IsUnitReportBefore paths text lines = AreUnitLinesBefore paths (spots_of text) lines
+IsUnitReportBefore paths text lines = AreUnitLinesBefore paths (positions_of text) lines

@@ -7,10 +7,10 @@ ghost use Rattle.wc_model.specs.Language.Checks.{first_broken};
 ghost use Rattle.wc_model.specs.Language.Faults.{declaration_fault};
 ghost use Rattle.wc_laws_unchanged.specs.CheckLaws.{ACheckPrintsWhatItPrinted, AUnitHasTheWorstPathItHad};
 ghost use Rattle.wc_laws_unchanged.specs.DeclarationLaws.{AnOldTextStaysAsItIs, DeclarationsIgnoreDirections, OutputsAddOnlyTheirAddresses, OutputsFailOnlyByTheirAddresses};
-ghost use Rattle.wc_laws_unchanged.specs.Laws.{ACallHasThePathsItHad, ACallIsJudgedAsItWas, ACallMeansWhatItDid, AnInputIsSpelledAsItWas};
+ghost use Rattle.wc_laws_unchanged.specs.Laws.{ACallHasThePathsItHad, ACallIsValidatedAsItWas, ACallMeansWhatItDid, AnInputIsSpelledAsItWas};
 ghost use Rattle.wc_laws_unchanged.specs.OutputExamples.{gives_nowhere};
 ghost use Rattle.wc_laws_unchanged.specs.OutputsRemoved.{text_output_checks, without_outputs};
-ghost use Rattle.wc_laws_unchanged.specs.TextLaws.{ATextIsJudgedAsItWas, ATextIsSpelledAsItWas, ATextIsTooLongWhereItWas, ATextMeansWhatItDid, AUnitHasTheBoundItHad, AUnitHasThePathsItHad};
+ghost use Rattle.wc_laws_unchanged.specs.TextLaws.{ATextIsValidatedAsItWas, ATextIsSpelledAsItWas, ATextIsTooLongWhereItWas, ATextMeansWhatItDid, AUnitHasTheBoundItHad, AUnitHasThePathsItHad};
 
 /// A call that gives no output out does what it did.
 pub fn a_call_means_what_it_did()
@@ -23,8 +23,8 @@ pub fn a_call_has_the_paths_it_had()
 {}
 
 /// A call that gives no output out is checked as it was.
-pub fn a_call_is_judged_as_it_was()
-    ensures { ACallIsJudgedAsItWas }
+pub fn a_call_is_validated_as_it_was()
+    ensures { ACallIsValidatedAsItWas }
 {}
 
 /// An input of a call is spelled as it was.
@@ -53,8 +53,8 @@ pub fn a_text_is_too_long_where_it_was()
 {}
 
 /// The bodies of such a text are checked by the rules by which they were, so their first fault is the same.
-pub fn a_text_is_judged_as_it_was()
-    ensures { ATextIsJudgedAsItWas }
+pub fn a_text_is_validated_as_it_was()
+    ensures { ATextIsValidatedAsItWas }
 {}
 
 /// Such a text is spelled by the tokens by which it was, and by no others.

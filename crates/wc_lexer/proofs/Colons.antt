@@ -5,7 +5,7 @@ use Rattle.std.specs.Option.{option_map_or}
 use Rattle.wc_laws_tokens.proofs.Reach.{mark_passes}
 use Rattle.wc_laws_tokens.specs.Sights.{Take, sight, sight_by_reach}
 use Rattle.wc_model.specs.Text.Characters.{begins}
-use Rattle.wc_model.specs.Text.Lexemes.{may_stand_before}
+use Rattle.wc_model.specs.Text.Lexemes.{may_occur_before}
 use Rattle.wc_model.specs.Text.Shapes.{Assign, Colon, Shape, mark_of}
 
 -- a mark of two bytes that starts with a colon ends with `=`
@@ -25,7 +25,7 @@ colon_sight (b ∷ rest) after h r f = subst (λ x. Take 1 Colon ≡ sight (x �
   where
     here : (xs : List ℕ) → begins (λ b. b == 61) xs ≡ false → Take 1 Colon ≡ sight (58 ∷ xs)
     here [] e = refl
-    here (c ∷ more) e = sym (ap (λ o. sight_by_reach (cond (option_map_or (λ s. may_stand_before s more) o false) 2 1) (58 ∷ c ∷ more)) (no_pair c e (mark_of (58 ∷ c ∷ [])) refl))
+    here (c ∷ more) e = sym (ap (λ o. sight_by_reach (cond (option_map_or (λ s. may_occur_before s more) o false) 2 1) (58 ∷ c ∷ more)) (no_pair c e (mark_of (58 ∷ c ∷ [])) refl))
 
 -- a colon before `=`
 pub assign_sight : (text after : List ℕ) → begins (λ b. b == 58) text ≡ true → after ≡ drop 1 text → begins (λ b. b == 61) after ≡ true → (Take 2 Assign ≡ sight text) × (2 ≤ length text)

@@ -23,5 +23,5 @@ cut_none p xs rest e short = none_passes p xs (omega (arith, ap length e, length
 
 -- something is left from the place on
 pub cut_some : (p : ℕ → Bool) (xs before rest : List ℕ) → before ≡ take (position_or_len p xs) xs → rest ≡ drop (position_or_len p xs) xs → 1 ≤ length rest → (list_any p xs ≡ true) × (before ≡ before_first p xs) × (take (length rest - 1) (drop 1 rest) ≡ after_first p xs)
-cut_some p xs before rest front e long =
-    (some_passes p xs (omega (arith, ap length e, length-drop (position_or_len p xs) xs)), front, take_all (length rest - 1) (drop 1 rest) (omega (arith, length-drop 1 rest)) ∙ ap (drop 1) e ∙ drop-drop 1 (position_or_len p xs) xs)
+cut_some p xs before rest prefix e long =
+    (some_passes p xs (omega (arith, ap length e, length-drop (position_or_len p xs) xs)), prefix, take_all (length rest - 1) (drop 1 rest) (omega (arith, length-drop 1 rest)) ∙ ap (drop 1) e ∙ drop-drop 1 (position_or_len p xs) xs)

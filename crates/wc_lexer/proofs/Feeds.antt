@@ -19,7 +19,7 @@ is_other b = not (is_line_feed b)
 
 -- no line feed follows the first byte
 abbrev pub IsFirstAtMost : List ℕ → Type 0
-IsFirstAtMost piece = list_all is_other (drop 1 piece) ≡ true
+IsFirstAtMost chunk = list_all is_other (drop 1 chunk) ≡ true
 
 -- bytes without a line feed
 pub none_counted : (xs : List ℕ) → list_all is_other xs ≡ true → count_by is_line_feed xs ≡ 0
@@ -30,7 +30,7 @@ none_counted (b ∷ xs) h =
     omega (arith, sum_by-cons (λ x. cond (is_line_feed x) 1 0) b xs, ap feeds (not-true (is_line_feed b) both.0), none_counted xs both.1)
 
 -- a slice whose line feed can be its first byte alone
-pub first_counted : (piece : List ℕ) → IsFirstAtMost piece → cond (begins is_line_feed piece) 1 0 ≡ count_by is_line_feed piece
+pub first_counted : (chunk : List ℕ) → IsFirstAtMost chunk → cond (begins is_line_feed chunk) 1 0 ≡ count_by is_line_feed chunk
 first_counted [] h = refl
 first_counted (b ∷ rest) h = omega (arith, sum_by-cons (λ x. cond (is_line_feed x) 1 0) b rest, none_counted rest h)
 
@@ -48,17 +48,17 @@ others_by p fails (b ∷ xs) h =
     and_from _ _ (other_by p fails b both.0) (others_by p fails xs both.1)
 
 -- what holds of all bytes holds after the first
-behind_first : (xs : List ℕ) → list_all is_other xs ≡ true → IsFirstAtMost xs
-behind_first [] h = refl
-behind_first (b ∷ xs) h = (and_parts (is_other b) (list_all is_other xs) h).1
+following_first : (xs : List ℕ) → list_all is_other xs ≡ true → IsFirstAtMost xs
+following_first [] h = refl
+following_first (b ∷ xs) h = (and_parts (is_other b) (list_all is_other xs) h).1
 
 -- an identifier
-run_others : (piece : List ℕ) → IsTrue (is_run piece) → list_all is_other piece ≡ true
-run_others piece h = others_by is_identifier_character refl piece (and_parts (begins starts_identifier piece) _ h).1
+run_others : (chunk : List ℕ) → IsTrue (is_run chunk) → list_all is_other chunk ≡ true
+run_others chunk h = others_by is_identifier_character refl chunk (and_parts (begins starts_identifier chunk) _ h).1
 
 -- a number without a sign
-unsigned_others : (piece : List ℕ) → IsTrue (is_unsigned_run piece) → list_all is_other piece ≡ true
-unsigned_others piece h = others_by is_number_character refl piece (and_parts _ (list_all is_number_character piece) h).1
+unsigned_others : (chunk : List ℕ) → IsTrue (is_unsigned_run chunk) → list_all is_other chunk ≡ true
+unsigned_others chunk h = others_by is_number_character refl chunk (and_parts _ (list_all is_number_character chunk) h).1
 
 -- what follows a `#`
 value_others : (value : List ℕ) → IsTrue (is_literal_value value) → list_all is_other value ≡ true
@@ -70,38 +70,38 @@ value_others (b ∷ value) h = go (is_minus b) refl h
     go false other all = others_by is_number_character refl (b ∷ value) all
 
 -- each lexeme
-pub lexeme_feeds : (piece after : List ℕ) → Lexeme piece after → IsFirstAtMost piece
-lexeme_feeds piece after (Run h) = behind_first piece (run_others piece h)
-lexeme_feeds piece after (Typed type value e t v) =
-    behind_first piece (ap (list_all is_other) e ∙ list_all-append is_other type (35 ∷ value) ∙ and_from _ _ (run_others type t) (value_others value v))
-lexeme_feeds piece after (Unsigned h) = behind_first piece (unsigned_others piece h)
-lexeme_feeds piece after (Signed sign number e s n) = subst IsFirstAtMost (sym e) (unsigned_others number n)
-lexeme_feeds piece after (Sign sign e s) = subst IsFirstAtMost (sym e) refl
-lexeme_feeds piece after (Addressed address e a) = subst IsFirstAtMost (sym e) (others_by is_address_character refl address a)
-lexeme_feeds piece after (Marked shape found may) = mark_passes (λ p s. list_all is_other (drop 1 p)) piece shape refl found
+pub lexeme_feeds : (chunk after : List ℕ) → Lexeme chunk after → IsFirstAtMost chunk
+lexeme_feeds chunk after (Run h) = following_first chunk (run_others chunk h)
+lexeme_feeds chunk after (Typed type value e t v) =
+    following_first chunk (ap (list_all is_other) e ∙ list_all-append is_other type (35 ∷ value) ∙ and_from _ _ (run_others type t) (value_others value v))
+lexeme_feeds chunk after (Unsigned h) = following_first chunk (unsigned_others chunk h)
+lexeme_feeds chunk after (Signed sign number e s n) = subst IsFirstAtMost (sym e) (unsigned_others number n)
+lexeme_feeds chunk after (Sign sign e s) = subst IsFirstAtMost (sym e) refl
+lexeme_feeds chunk after (Addressed address e a) = subst IsFirstAtMost (sym e) (others_by is_address_character refl address a)
+lexeme_feeds chunk after (Marked shape found may) = mark_passes (λ p s. list_all is_other (drop 1 p)) chunk shape refl found
 
 -- ---- what is at a place
 
 -- a byte at the start is the first one
-front_begins : (count : ℕ) (rest : List ℕ) → 1 ≤ count → begins is_line_feed (take count rest) ≡ begins is_line_feed rest
-front_begins zero rest h = absurd (omega arith)
-front_begins (suc k) [] h = refl
-front_begins (suc k) (b ∷ rest) h = refl
+prefix_begins : (count : ℕ) (rest : List ℕ) → 1 ≤ count → begins is_line_feed (take count rest) ≡ begins is_line_feed rest
+prefix_begins zero rest h = absurd (omega arith)
+prefix_begins (suc k) [] h = refl
+prefix_begins (suc k) (b ∷ rest) h = refl
 
 -- a token's line feed is its first byte
 pub token_feeds : (text rest : List ℕ) (n count feeds : ℕ) (shape : Shape) → rest ≡ drop n text → n < length text → Take count shape ≡ sight rest → 1 ≤ count → feeds ≡ cond (begins is_line_feed rest) 1 0 → feeds ≡ count_by is_line_feed (take count rest)
 token_feeds text rest n count feeds shape r h e some f =
     let long : 1 ≤ length rest = omega (arith, some_left text n h, ap length r) in
     let held : Holds rest (Take count shape) = holds_at rest (Take count shape) long e in
-    f ∙ ap (λ v. cond v 1 0) (sym (front_begins count rest some)) ∙ first_counted (take count rest) (lexeme_feeds (take count rest) (drop count rest) held.0.lexeme)
+    f ∙ ap (λ v. cond v 1 0) (sym (prefix_begins count rest some)) ∙ first_counted (take count rest) (lexeme_feeds (take count rest) (drop count rest) held.0.lexeme)
 
 -- a blank starts with no line feed
-blank_starts : (piece after : List ℕ) → Blank piece after → begins is_line_feed piece ≡ false
-blank_starts piece after (Space e) = ap (begins is_line_feed) e
-blank_starts piece after (Tab e) = ap (begins is_line_feed) e
-blank_starts piece after (Return e next) = ap (begins is_line_feed) e
+blank_starts : (chunk after : List ℕ) → Blank chunk after → begins is_line_feed chunk ≡ false
+blank_starts chunk after (Space e) = ap (begins is_line_feed) e
+blank_starts chunk after (Tab e) = ap (begins is_line_feed) e
+blank_starts chunk after (Return e next) = ap (begins is_line_feed) e
 blank_starts [] after (Comment c) = refl
-blank_starts (b ∷ piece) after (Comment c) = ap (begins is_line_feed) c.opens
+blank_starts (b ∷ chunk) after (Comment c) = ap (begins is_line_feed) c.opens
 
 -- a blank of one byte has no line feed
 pub space_feeds : (text rest : List ℕ) (n : ℕ) → rest ≡ drop n text → n < length text → Pass 1 ≡ sight rest → 0 ≡ count_by is_line_feed (take 1 rest)

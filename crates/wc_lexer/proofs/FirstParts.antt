@@ -4,7 +4,7 @@ use Rattle.std.proofs.lemmas.Bool.{and_parts, cond-true, cond-false, not-true}
 use Rattle.std.proofs.lemmas.List.{append-nil}
 use Rattle.std.specs.Char.{is_ascii_alphabetic}
 use Rattle.std.specs.List.{list_all, prefix_len}
-use Rattle.wc_laws_tokens.proofs.Attained.{front_passes}
+use Rattle.wc_laws_tokens.proofs.Attained.{prefix_passes}
 use Rattle.wc_laws_tokens.proofs.DurationParts.{has_no_letter, part, first_part, onto_number}
 use Rattle.wc_model.specs.Text.Characters.{begins}
 use Rattle.wc_model.specs.Text.Durations.{parts_of, onto_parts}
@@ -14,11 +14,11 @@ abbrev pub is_no_letter : ℕ → Bool
 is_no_letter b = not (is_ascii_alphabetic b)
 
 -- the prefix ends where an element fails
-pub front_stops : (p : ℕ → Bool) (xs : List ℕ) → begins p (drop (prefix_len p xs) xs) ≡ false
-front_stops p [] = refl
-front_stops p (x ∷ xs) =
+pub prefix_stops : (p : ℕ → Bool) (xs : List ℕ) → begins p (drop (prefix_len p xs) xs) ≡ false
+prefix_stops p [] = refl
+prefix_stops p (x ∷ xs) =
     elim (p x) as (λ v. p x ≡ v → begins p (drop (cond v (1 + prefix_len p xs) 0) (x ∷ xs)) ≡ false)
-    [ true ↦ λ e. rw one-add (front_stops p xs) | false ↦ λ e. e ] refl
+    [ true ↦ λ e. rw one-add (prefix_stops p xs) | false ↦ λ e. e ] refl
 
 -- bytes that are not letters
 pub no_letters : (xs : List ℕ) → list_all is_no_letter xs ≡ true → has_no_letter xs ≡ true
@@ -52,15 +52,15 @@ part_first [] [] [] h k stop next long = absurd (omega arith)
 pub text_parts : (text : List ℕ) → 1 ≤ length text → (n : ℕ) → n ≡ prefix_len is_no_letter text → (m : ℕ) → m ≡ prefix_len is_ascii_alphabetic (drop n text) → parts_of text ≡ part (take n text) (take m (drop n text)) ∷ parts_of (drop m (drop n text))
 text_parts text long n e m f =
     let number = take n text in
-    let behind = drop n text in
-    let letters = take m behind in
-    let rest = drop m behind in
-    let whole : number ++ (letters ++ rest) ≡ text = ap (λ l. number ++ l) (take-append-drop m behind) ∙ take-append-drop n text in
-    let none : has_no_letter number ≡ true = no_letters number (subst (λ k. list_all is_no_letter (take k text) ≡ true) (sym e) (front_passes is_no_letter text)) in
-    let all : list_all is_ascii_alphabetic letters ≡ true = subst (λ k. list_all is_ascii_alphabetic (take k behind) ≡ true) (sym f) (front_passes is_ascii_alphabetic behind) in
-    let stop : begins is_ascii_alphabetic rest ≡ false = subst (λ k. begins is_ascii_alphabetic (drop k behind) ≡ false) (sym f) (front_stops is_ascii_alphabetic behind) in
-    let next : begins is_no_letter behind ≡ false = subst (λ k. begins is_no_letter (drop k text) ≡ false) (sym e) (front_stops is_no_letter text) in
-    let joined : begins is_no_letter (letters ++ rest) ≡ false = subst (λ l. begins is_no_letter l ≡ false) (sym (take-append-drop m behind)) next in
+    let following = drop n text in
+    let letters = take m following in
+    let rest = drop m following in
+    let whole : number ++ (letters ++ rest) ≡ text = ap (λ l. number ++ l) (take-append-drop m following) ∙ take-append-drop n text in
+    let none : has_no_letter number ≡ true = no_letters number (subst (λ k. list_all is_no_letter (take k text) ≡ true) (sym e) (prefix_passes is_no_letter text)) in
+    let all : list_all is_ascii_alphabetic letters ≡ true = subst (λ k. list_all is_ascii_alphabetic (take k following) ≡ true) (sym f) (prefix_passes is_ascii_alphabetic following) in
+    let stop : begins is_ascii_alphabetic rest ≡ false = subst (λ k. begins is_ascii_alphabetic (drop k following) ≡ false) (sym f) (prefix_stops is_ascii_alphabetic following) in
+    let next : begins is_no_letter following ≡ false = subst (λ k. begins is_no_letter (drop k text) ≡ false) (sym e) (prefix_stops is_no_letter text) in
+    let joined : begins is_no_letter (letters ++ rest) ≡ false = subst (λ l. begins is_no_letter l ≡ false) (sym (take-append-drop m following)) next in
     ap parts_of (sym whole) ∙ part_first number letters rest none all stop joined (omega (arith, ap length whole))
 
 -- it takes a byte or more
@@ -75,9 +75,9 @@ takes_some (b ∷ text) long n e m f =
     ] refl e
 
 -- the first part of a text, by its slices
-pub first_cut : (text : List ℕ) → 1 ≤ length text → (n : ℕ) → n ≡ prefix_len is_no_letter text → (number behind : List ℕ) → number ≡ take n text → behind ≡ drop n text → (m : ℕ) → m ≡ prefix_len is_ascii_alphabetic behind → (letters rest : List ℕ) → letters ≡ take m behind → rest ≡ drop m behind → parts_of text ≡ part number letters ∷ parts_of rest
-first_cut text long n e number behind front back m f letters rest some more =
+pub first_cut : (text : List ℕ) → 1 ≤ length text → (n : ℕ) → n ≡ prefix_len is_no_letter text → (number following : List ℕ) → number ≡ take n text → following ≡ drop n text → (m : ℕ) → m ≡ prefix_len is_ascii_alphabetic following → (letters rest : List ℕ) → letters ≡ take m following → rest ≡ drop m following → parts_of text ≡ part number letters ∷ parts_of rest
+first_cut text long n e number following prefix back m f letters rest some more =
     let all = text_parts text long n e m (f ∙ ap (prefix_len is_ascii_alphabetic) back) in
     let named : letters ≡ take m (drop n text) = some ∙ ap (take m) back in
     let left : rest ≡ drop m (drop n text) = more ∙ ap (drop m) back in
-    all ∙ ap (λ x. part x (take m (drop n text)) ∷ parts_of (drop m (drop n text))) (sym front) ∙ ap (λ x. part number x ∷ parts_of (drop m (drop n text))) (sym named) ∙ ap (λ x. part number letters ∷ parts_of x) (sym left)
+    all ∙ ap (λ x. part x (take m (drop n text)) ∷ parts_of (drop m (drop n text))) (sym prefix) ∙ ap (λ x. part number x ∷ parts_of (drop m (drop n text))) (sym named) ∙ ap (λ x. part number letters ∷ parts_of x) (sym left)

@@ -34,18 +34,18 @@ wide_product n times h e =
     sym (wide (n * times) (omega arith))
 
 -- a form that holds
-pub formed : (form : Bool) (n : ℕ) → form ≡ true → within_64_bits n ≡ option_and_then within_64_bits (then_some form n)
-formed form n h = sym (ap (λ v. option_and_then within_64_bits (then_some v n)) h)
+pub formed : (format : Bool) (n : ℕ) → format ≡ true → within_64_bits n ≡ option_and_then within_64_bits (then_some format n)
+formed format n h = sym (ap (λ v. option_and_then within_64_bits (then_some v n)) h)
 
 -- the form of a fraction
-pub fraction_form : (text : List ℕ) → 1 ≤ length text → length text ≤ 9 → list_all is_ascii_digit text ≡ true → (nat_le 1 (length text) && nat_le (length text) 9 && list_all is_ascii_digit text) ≡ true
-fraction_form text low high all = and_from _ _ (and_from _ _ (le-leb 1 (length text) low) (le-leb (length text) 9 high)) all
+pub fraction_format : (text : List ℕ) → 1 ≤ length text → length text ≤ 9 → list_all is_ascii_digit text ≡ true → (nat_le 1 (length text) && nat_le (length text) 9 && list_all is_ascii_digit text) ≡ true
+fraction_format text low high all = and_from _ _ (and_from _ _ (le-leb 1 (length text) low) (le-leb (length text) 9 high)) all
 
 -- a fraction
 pub fraction_some : (text : List ℕ) (value unit : ℕ) (answer : Option ℕ) → 1 ≤ length text → length text ≤ 9 → list_all is_ascii_digit text ≡ true → Some value ≡ within_64_bits (value_of_digits 10 text) → unit ≡ 10 ^ (9 - length text) → answer ≡ within_64_bits (value * unit) → answer ≡ option_and_then within_64_bits (then_some (nat_le 1 (length text) && nat_le (length text) 9 && list_all is_ascii_digit text) (digits_value 10 text * 10 ^ (9 - length text)))
 fraction_some text value unit answer low high all valued sized e =
     let number : value ≡ digits_value 10 text = is_narrow _ value valued ∙ ap (digits_value 10) (without_underscores text all) in
-    e ∙ ap (λ v. within_64_bits (v * unit)) number ∙ ap (λ u. within_64_bits (digits_value 10 text * u)) sized ∙ formed _ _ (fraction_form text low high all)
+    e ∙ ap (λ v. within_64_bits (v * unit)) number ∙ ap (λ u. within_64_bits (digits_value 10 text * u)) sized ∙ formed _ _ (fraction_format text low high all)
 
 -- a power of ten
 pub ten_power : (n : ℕ) → 1 ≤ 10 ^ n
@@ -54,4 +54,4 @@ ten_power n = one-le-pow n 10 (omega arith)
 -- a fraction that is too wide
 pub fraction_none : (text : List ℕ) → 1 ≤ length text → length text ≤ 9 → list_all is_ascii_digit text ≡ true → None ≡ within_64_bits (value_of_digits 10 text) → None ≡ option_and_then within_64_bits (then_some (nat_le 1 (length text) && nat_le (length text) 9 && list_all is_ascii_digit text) (digits_value 10 text * 10 ^ (9 - length text)))
 fraction_none text low high all valued =
-    wide_product (digits_value 10 text) (10 ^ (9 - length text)) (ten_power (9 - length text)) (valued ∙ ap (λ l. within_64_bits (digits_value 10 l)) (without_underscores text all)) ∙ formed _ _ (fraction_form text low high all)
+    wide_product (digits_value 10 text) (10 ^ (9 - length text)) (ten_power (9 - length text)) (valued ∙ ap (λ l. within_64_bits (digits_value 10 l)) (without_underscores text all)) ∙ formed _ _ (fraction_format text low high all)

@@ -6,9 +6,9 @@ pub mod FirstParts
 pub mod Fractions
 pub mod PartSums
 pub mod Steps
-pub mod Spots
+pub mod TextSpans
 pub mod Feeds
 pub mod BracketBytes
-pub mod NameFronts
+pub mod NamePrefixes
 pub mod WordSights
 pub mod Colons

@@ -9,13 +9,13 @@ use Rattle.wc_model.specs.Text.Shapes.{Shape, shape_of}
 
 -- a lexeme with a shape
 pub sees_token : (count : ℕ) (text : List ℕ) (shape : Shape) → count ≡ reach text → ¬ (count ≡ 0) → Ok shape ≡ shape_of (take count text) → Take count shape ≡ sight_by_reach (reach text) text
-sees_token zero text shape e some judged = absurd (some refl)
-sees_token (suc n) text shape e some judged = ap (sight_of_lexeme (suc n)) judged ∙ ap (λ k. sight_by_reach k text) e
+sees_token zero text shape e some validated = absurd (some refl)
+sees_token (suc n) text shape e some validated = ap (sight_of_lexeme (suc n)) validated ∙ ap (λ k. sight_by_reach k text) e
 
 -- a lexeme with a fault
 pub sees_fault : (count number : ℕ) (text : List ℕ) → count ≡ reach text → ¬ (count ≡ 0) → Err number ≡ shape_of (take count text) → Refuse number ≡ sight_by_reach (reach text) text
-sees_fault zero number text e some judged = absurd (some refl)
-sees_fault (suc n) number text e some judged = ap (sight_of_lexeme (suc n)) judged ∙ ap (λ k. sight_by_reach k text) e
+sees_fault zero number text e some validated = absurd (some refl)
+sees_fault (suc n) number text e some validated = ap (sight_of_lexeme (suc n)) validated ∙ ap (λ k. sight_by_reach k text) e
 
 -- what opens or closes a comment has two bytes
 pub bracket_is_long : (b : ℕ) (rest : List ℕ) → starts_with_bracket (b ∷ rest) ≡ true → 1 ≤ length rest

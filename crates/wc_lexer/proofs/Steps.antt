@@ -4,9 +4,9 @@ use Rattle.std.proofs.Math.Seq.{take-add}
 use Rattle.std.proofs.lemmas.List.{append-nil, drop-drop}
 use Rattle.std.proofs.lemmas.List.Sums.{sum_by-append}
 use Rattle.wc_lexer.proofs.PartSums.{empty}
-use Rattle.wc_lexer.proofs.Spots.{is_stuck_length}
-use Rattle.wc_lexer.specs.Refusals.{AtToken, WantsRoom}
-use Rattle.wc_lexer.specs.Spots.{IsSpotAt, IsTokenSpot, Piece, stuck_length}
+use Rattle.wc_lexer.proofs.TextSpans.{is_stuck_length}
+use Rattle.wc_lexer.specs.Refusals.{AtToken, NeedsMemory}
+use Rattle.wc_lexer.specs.TextSpans.{IsTextSpanAt, IsTokenTextSpan, Chunk, stuck_length}
 use Rattle.wc_laws_tokens.specs.Sights.{Pass, Refuse, Sight, Take, sight}
 use Rattle.wc_laws_tokens.proofs.FoundTokens.{Holds, sight_holds}
 use Rattle.wc_laws_tokens.proofs.TokenSteps.{blank_is_filled, lexeme_is_filled}
@@ -14,7 +14,7 @@ use Rattle.wc_model.specs.Text.Blanks.{Blank}
 use Rattle.wc_model.specs.Text.Characters.{is_line_feed}
 use Rattle.wc_model.specs.Text.Lexemes.{IsLongestLexeme}
 use Rattle.wc_model.specs.Text.Shapes.{Shape, shape_of}
-use Rattle.wc_model.specs.Text.Tokens.{AtEnd, Cuts, FaultAt, IsCut, Nothing, Skipped, Taken, Token, line_after, most_bytes, token_behind}
+use Rattle.wc_model.specs.Text.Tokens.{AtEnd, Cuts, FaultAt, IsCut, Nothing, Skipped, Taken, Token, line_after, most_bytes, token_after}
 
 -- what goes on from here completes these tokens
 abbrev pub Goes : (List ℕ → List ℕ → Type 0) → List ℕ → ℕ → List Token → Type 0
@@ -24,7 +24,7 @@ Goes Ends text n tokens = (more : List Token) → Cuts Ends (take n text) (drop 
 pub record Going (text : List ℕ) (n : ℕ) (tokens : List Token) : Type 0 where
   pub at_end : Goes AtEnd text n tokens
   pub at_token : Goes AtToken text n tokens
-  pub at_fault : (number line start count : ℕ) → Goes (IsSpotAt number line start count) text n tokens
+  pub at_fault : (number line start count : ℕ) → Goes (IsTextSpanAt number line start count) text n tokens
 
 -- a cut from a later place is one from after a slice
 pub moved : (Ends : List ℕ → List ℕ → Type 0) (text : List ℕ) (n count : ℕ) (more : List Token) → Cuts Ends (take (n + count) text) (drop (n + count) text) more → Cuts Ends (take n text ++ take count (drop n text)) (drop count (drop n text)) more
@@ -35,10 +35,10 @@ pub blank_goes : (Ends : List ℕ → List ℕ → Type 0) (text : List ℕ) (n 
 blank_goes Ends text n count tokens blank goes more cuts = goes more (Skipped (take count (drop n text)) (drop count (drop n text)) (take-append-drop count (drop n text)) blank (moved Ends text n count more cuts))
 
 -- over a token
-pub token_goes : (Ends : List ℕ → List ℕ → Type 0) (text : List ℕ) (n count : ℕ) (tokens : List Token) (shape : Shape) → IsLongestLexeme (take count (drop n text)) (drop count (drop n text)) → shape_of (take count (drop n text)) ≡ Ok shape → Goes Ends text n tokens → Goes Ends text (n + count) (tokens ++ (token_behind (take n text) shape (take count (drop n text)) ∷ []))
+pub token_goes : (Ends : List ℕ → List ℕ → Type 0) (text : List ℕ) (n count : ℕ) (tokens : List Token) (shape : Shape) → IsLongestLexeme (take count (drop n text)) (drop count (drop n text)) → shape_of (take count (drop n text)) ≡ Ok shape → Goes Ends text n tokens → Goes Ends text (n + count) (tokens ++ (token_after (take n text) shape (take count (drop n text)) ∷ []))
 token_goes Ends text n count tokens shape longest h goes more cuts =
-    subst (Cuts Ends [] text) (sym (append_assoc tokens (token_behind (take n text) shape (take count (drop n text)) ∷ []) more))
-    (goes (token_behind (take n text) shape (take count (drop n text)) ∷ more) (Taken shape (take count (drop n text)) (drop count (drop n text)) (take-append-drop count (drop n text)) longest h (moved Ends text n count more cuts)))
+    subst (Cuts Ends [] text) (sym (append_assoc tokens (token_after (take n text) shape (take count (drop n text)) ∷ []) more))
+    (goes (token_after (take n text) shape (take count (drop n text)) ∷ more) (Taken shape (take count (drop n text)) (drop count (drop n text)) (take-append-drop count (drop n text)) longest h (moved Ends text n count more cuts)))
 
 -- what is at a place, if something does
 pub holds_at : (rest : List ℕ) (seen : Sight) → 1 ≤ length rest → seen ≡ sight rest → Holds rest seen
@@ -53,20 +53,20 @@ some_left text n h = omega (arith, length-drop n text)
 pub going_on : (text rest : List ℕ) (n count : ℕ) (tokens : List Token) → rest ≡ drop n text → n < length text → Pass count ≡ sight rest → Going text n tokens → Going text (n + count) tokens
 going_on text rest n count tokens r h e going =
     let blank : Holds (drop n text) (Pass count) = holds_at (drop n text) (Pass count) (some_left text n h) (e ∙ ap sight r) in
-    record { at_end = blank_goes AtEnd text n count tokens blank going.at_end; at_token = blank_goes AtToken text n count tokens blank going.at_token; at_fault = λ number line start size. blank_goes (IsSpotAt number line start size) text n count tokens blank (going.at_fault number line start size) }
+    record { at_end = blank_goes AtEnd text n count tokens blank going.at_end; at_token = blank_goes AtToken text n count tokens blank going.at_token; at_fault = λ number line start size. blank_goes (IsTextSpanAt number line start size) text n count tokens blank (going.at_fault number line start size) }
 
 -- a token is taken
 pub going_with : (text rest : List ℕ) (n count : ℕ) (tokens : List Token) (token : Token) → rest ≡ drop n text → n < length text → Take count token.shape ≡ sight rest → token.text ≡ take count rest → token.start ≡ n → token.line ≡ line_after (take n text) → Going text n tokens → Going text (n + count) (tokens ++ (token ∷ []))
-going_with text rest n count tokens token r h e piece started counted going =
+going_with text rest n count tokens token r h e chunk started counted going =
     let shape = token.shape in
     let held : Holds (drop n text) (Take count shape) = holds_at (drop n text) (Take count shape) (some_left text n h) (e ∙ ap sight r) in
-    let here : Token = token_behind (take n text) shape (take count (drop n text)) in
-    let same : here ≡ token = ap (λ t. record { shape = shape; text = t; start = length (take n text); line = line_after (take n text) }) (sym (piece ∙ ap (take count) r)) ∙ ap (λ s. record { shape = shape; text = token.text; start = s; line = line_after (take n text) }) (length-take-le n text (omega arith) ∙ sym started) ∙ ap (λ l. record { shape = shape; text = token.text; start = token.start; line = l }) (sym counted) in
-    subst (λ t. Going text (n + count) (tokens ++ (t ∷ []))) same (record { at_end = token_goes AtEnd text n count tokens shape held.0 held.1 going.at_end; at_token = token_goes AtToken text n count tokens shape held.0 held.1 going.at_token; at_fault = λ number line start size. token_goes (IsSpotAt number line start size) text n count tokens shape held.0 held.1 (going.at_fault number line start size) })
+    let here : Token = token_after (take n text) shape (take count (drop n text)) in
+    let same : here ≡ token = ap (λ t. record { shape = shape; text = t; start = length (take n text); line = line_after (take n text) }) (sym (chunk ∙ ap (take count) r)) ∙ ap (λ s. record { shape = shape; text = token.text; start = s; line = line_after (take n text) }) (length-take-le n text (omega arith) ∙ sym started) ∙ ap (λ l. record { shape = shape; text = token.text; start = token.start; line = l }) (sym counted) in
+    subst (λ t. Going text (n + count) (tokens ++ (t ∷ []))) same (record { at_end = token_goes AtEnd text n count tokens shape held.0 held.1 going.at_end; at_token = token_goes AtToken text n count tokens shape held.0 held.1 going.at_token; at_fault = λ number line start size. token_goes (IsTextSpanAt number line start size) text n count tokens shape held.0 held.1 (going.at_fault number line start size) })
 
 -- lines are counted on
-pub counted_on : (text rest piece : List ℕ) (n count line feeds : ℕ) → rest ≡ drop n text → piece ≡ take count rest → line ≡ line_after (take n text) → feeds ≡ count_by is_line_feed piece → line + feeds ≡ line_after (take (n + count) text)
-counted_on text rest piece n count line feeds r p l f =
+pub counted_on : (text rest chunk : List ℕ) (n count line feeds : ℕ) → rest ≡ drop n text → chunk ≡ take count rest → line ≡ line_after (take n text) → feeds ≡ count_by is_line_feed chunk → line + feeds ≡ line_after (take (n + count) text)
+counted_on text rest chunk n count line feeds r p l f =
     let both = sum_by-append (λ b. cond (is_line_feed b) 1 0) (take n text) (take count (drop n text)) in
     let here : feeds ≡ count_by is_line_feed (take count (drop n text)) = f ∙ ap (count_by is_line_feed) (p ∙ ap (take count) r) in
     let split = ap line_after (take-add n count text) in
@@ -78,16 +78,16 @@ cut_at_end text n tokens h going =
     subst (IsCut text) (append-nil tokens) (going.at_end [] (Nothing (empty (drop n text) (omega (arith, length-drop n text)))))
 
 -- at a fault it is the first, and its slice is here
-pub fault_here : (text rest : List ℕ) (n number line count : ℕ) → count ≡ stuck_length rest → (tokens : List Token) → length text ≤ most_bytes → rest ≡ drop n text → n < length text → Refuse number ≡ sight rest → line ≡ line_after (take n text) → Going text n tokens → IsTokenSpot text number line n count
+pub fault_here : (text rest : List ℕ) (n number line count : ℕ) → count ≡ stuck_length rest → (tokens : List Token) → length text ≤ most_bytes → rest ≡ drop n text → n < length text → Refuse number ≡ sight rest → line ≡ line_after (take n text) → Going text n tokens → IsTokenTextSpan text number line n count
 fault_here text rest n number line count size tokens short r h e l going =
     let held : FaultAt (drop n text) number = holds_at (drop n text) (Refuse number) (some_left text n h) (e ∙ ap sight r) in
     let started : n ≡ length (take n text) = sym (length-take-le n text (omega arith)) in
     let counted = size ∙ ap stuck_length r ∙ is_stuck_length (drop n text) number held in
-    Piece (tokens ++ []) short (going.at_fault number line n count [] (Nothing (record { fault = held; here = l; starts = started; counted = counted })))
+    Chunk (tokens ++ []) short (going.at_fault number line n count [] (Nothing (record { fault = held; here = l; starts = started; counted = counted })))
 
 -- at a token space is needed
-pub room_here : (text rest : List ℕ) (n count : ℕ) (shape : Shape) (tokens : List Token) → length text ≤ most_bytes → rest ≡ drop n text → n < length text → Take count shape ≡ sight rest → Going text n tokens → WantsRoom text
-room_here text rest n count shape tokens short r h e going =
+pub capacity_here : (text rest : List ℕ) (n count : ℕ) (shape : Shape) (tokens : List Token) → length text ≤ most_bytes → rest ≡ drop n text → n < length text → Take count shape ≡ sight rest → Going text n tokens → NeedsMemory text
+capacity_here text rest n count shape tokens short r h e going =
     let held : Holds (drop n text) (Take count shape) = holds_at (drop n text) (Take count shape) (some_left text n h) (e ∙ ap sight r) in
     record {
       short = short;

@@ -3,4 +3,4 @@ pub mod Widths
 pub mod Sights
 pub mod Parts
 pub mod Refusals
-pub mod Spots
+pub mod TextSpans

@@ -8,18 +8,18 @@ use Rattle.wc_lexer.specs.declared.durations.TimeUnit.{TimeUnit}
 use Rattle.wc_model.specs.Text.Durations as durations
 
 -- the part is so long, has this unit and this whole number, and has a point or none
-pub record TellsPart (part : durations.Part) (told : Part) : Type 0 where
-  pub form : durations.is_part part ≡ true
-  pub milliseconds : told.milliseconds ≡ durations.unit_milliseconds part
-  pub below : told.below ≡ durations.unit_below part
-  pub whole : told.whole ≡ durations.whole_of part
-  pub point : told.has_point ≡ durations.has_point part
-  pub billionths : told.billionths ≡ durations.billionths_of part
+pub record ReportsPart (part : durations.Part) (reported : Part) : Type 0 where
+  pub format : durations.is_part part ≡ true
+  pub milliseconds : reported.milliseconds ≡ durations.unit_milliseconds part
+  pub below : reported.below ≡ durations.unit_below part
+  pub whole : reported.whole ≡ durations.whole_of part
+  pub point : reported.has_point ≡ durations.has_point part
+  pub billionths : reported.billionths ≡ durations.billionths_of part
 
 -- a part that gives nothing has a wrong form or is too long for 64 bits
-abbrev pub IsPartTold : durations.Part → Option Part → Type 0
-IsPartTold part None = (durations.is_part part ≡ false) ⊎ (2 ^ 64 ≤ durations.billionths_of part)
-IsPartTold part (Some told) = TellsPart part told
+abbrev pub IsPartReported : durations.Part → Option Part → Type 0
+IsPartReported part None = (durations.is_part part ≡ false) ⊎ (2 ^ 64 ≤ durations.billionths_of part)
+IsPartReported part (Some reported) = ReportsPart part reported
 
 -- a part by its unit and its numbers, if its length has 64 bits
 abbrev pub part_by : TimeUnit → Option ℕ → Option ℕ → Bool → Option Part
@@ -28,10 +28,10 @@ part_by unit (Some whole) None has_point = None
 part_by unit (Some whole) (Some fraction) has_point = option_map (λ n. record { milliseconds = unit.milliseconds; below = unit.below; whole = whole; has_point = has_point; billionths = n }) (within_64_bits ((whole * 10 ^ 9 + fraction) * unit.milliseconds))
 
 -- the billionths after the point of a number, if its form is right and they have 64 bits
-abbrev pub fraction_told : List ℕ → Option ℕ
-fraction_told number =
+abbrev pub fraction_reported : List ℕ → Option ℕ
+fraction_reported number =
     let part : durations.Part = record { number = number; letters = [] } in
-    option_and_then within_64_bits (then_some (durations.has_fraction_form part) (digits_value 10 (durations.fraction_digits part) * 10 ^ (9 - length (durations.fraction_digits part))))
+    option_and_then within_64_bits (then_some (durations.has_fraction_format part) (digits_value 10 (durations.fraction_digits part) * 10 ^ (9 - length (durations.fraction_digits part))))
 
 -- there are no parts
 abbrev pub are_none : List durations.Part → Bool
@@ -45,6 +45,6 @@ are_later above (part ∷ parts) = durations.is_later_part part && nat_lt (durat
 
 -- the sum, if the form is right; no sum is reported if the form is wrong or the sum is too long
 -- for 64 bits
-abbrev pub IsSumTold : Bool → ℕ → Option ℕ → Type 0
-IsSumTold form sum None = (form ≡ false) ⊎ (2 ^ 64 ≤ sum)
-IsSumTold form sum (Some told) = (form ≡ true) × (told ≡ sum)
+abbrev pub IsSumReported : Bool → ℕ → Option ℕ → Type 0
+IsSumReported format sum None = (format ≡ false) ⊎ (2 ^ 64 ≤ sum)
+IsSumReported format sum (Some reported) = (format ≡ true) × (reported ≡ sum)

@@ -8,11 +8,11 @@ use Rattle.wc_model.specs.declared.fault.Fault.TheVariants.{Memory, Refused}
 
 -- a token is here
 abbrev pub AtToken : List ℕ → List ℕ → Type 0
-AtToken before rest = (shape : Shape) × (piece : List ℕ) × (after : List ℕ) × (piece ++ after ≡ rest) × IsLongestLexeme piece after × (shape_of piece ≡ Ok shape)
+AtToken before rest = (shape : Shape) × (chunk : List ℕ) × (after : List ℕ) × (chunk ++ after ≡ rest) × IsLongestLexeme chunk after × (shape_of chunk ≡ Ok shape)
 
 -- space is needed for a token: the text is not too long, and is cut up to a place at which
 -- there is one
-pub record WantsRoom (text : List ℕ) : Type 0 where
+pub record NeedsMemory (text : List ℕ) : Type 0 where
   pub short : length text ≤ most_bytes
   pub tokens : List Token
   pub cut : Cuts AtToken [] text tokens
@@ -20,4 +20,4 @@ pub record WantsRoom (text : List ℕ) : Type 0 where
 -- the fault is the text's first, or out of memory, if space is needed
 abbrev pub Names : List ℕ → Fault → Type 0
 Names text (Refused number place) = IsFirstTokenFault text number place
-Names text Memory = WantsRoom text
+Names text Memory = NeedsMemory text

@@ -27,9 +27,9 @@ shape_view Arrow = shapes.Arrow
 shape_view LineEnd = shapes.LineEnd
 
 -- the shape of a lexeme, or its fault's number
-abbrev pub judgement_view : Result Shape ℕ → Result shapes.Shape ℕ
-judgement_view (Ok shape) = Ok (shape_view shape)
-judgement_view (Err number) = Err number
+abbrev pub validation_view : Result Shape ℕ → Result shapes.Shape ℕ
+validation_view (Ok shape) = Ok (shape_view shape)
+validation_view (Err number) = Err number
 
 -- the token that a token of the lexer represents
 abbrev pub token_view : Token → tokens.Token

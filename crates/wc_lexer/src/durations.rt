@@ -3,14 +3,16 @@ ghost use Rattle.std.specs.Bool.{nat_le, nat_lt, then_some};
 ghost use Rattle.std.specs.Char.{is_ascii_digit};
 ghost use Rattle.std.specs.List.{after_first, before_first, list_all, list_any};
 ghost use Rattle.std.specs.Str.Parse.{digits_value};
-ghost use Rattle.wc_lexer.specs.Parts.{IsPartTold, IsSumTold, are_later, fraction_told, part_by};
+ghost use Rattle.wc_lexer.specs.Parts.{IsPartReported, IsSumReported, are_later, fraction_reported, part_by};
 ghost use Rattle.wc_lexer.specs.Widths.{within_64_bits};
 ghost use Rattle.wc_model.specs.Text.Characters.{begins, is_empty, is_point, is_underscore};
 ghost use Rattle.wc_model.specs.Text.Digits.{are_digits, value_of_digits};
 ghost use Rattle.wc_model.specs.Text.Durations.{are_duration_parts, billionths, duration_of, duration_parts, milliseconds_of, parts_of, unit_named, without_separator};
 
-use crate::fronts::{begins_with, behind_first, length_before, letterless_length, letters_length};
 use crate::numbers::{are_digits, signed, value_of_digits};
+use crate::prefixes::{
+    begins_with, following_first, length_before, letterless_length, letters_length,
+};
 use wc_model::is_word;
 
 /// A unit of time.
@@ -162,8 +164,8 @@ fn first_part(text: &[u8]) -> (&[u8], &[u8], &[u8])
         ≡ record { number = result.0.now; letters = result.1.now } ∷ parts_of result.2.now }
     ensures shorter { length result.2.now < length text.now }
 {
-    let (number, behind) = text.split_at(letterless_length(text));
-    let (letters, rest) = behind.split_at(letters_length(behind));
+    let (number, following) = text.split_at(letterless_length(text));
+    let (letters, rest) = following.split_at(letters_length(following));
     (number, letters, rest)
 }
 
@@ -227,12 +229,12 @@ fn after_point(number: &[u8]) -> &[u8]
     ensures { result.now ≡ after_first is_point number.now }
 {
     let (_, rest) = number.split_at(length_before(number, b'.'));
-    behind_first(rest)
+    following_first(rest)
 }
 
 /// The billionths after the point, none if there is no point.
 fn fraction_of(number: &[u8]) -> Option<u64>
-    ensures { result ≡ fraction_told number.now }
+    ensures { result ≡ fraction_reported number.now }
 {
     if has_point(number) {
         fraction(after_point(number))
@@ -242,8 +244,8 @@ fn fraction_of(number: &[u8]) -> Option<u64>
 }
 
 /// What a part says.
-fn judged_part(number: &[u8], letters: &[u8]) -> Option<Part>
-    ensures { IsPartTold (record { number = number.now; letters = letters.now }) result }
+fn parse_duration_part(number: &[u8], letters: &[u8]) -> Option<Part>
+    ensures { IsPartReported (record { number = number.now; letters = letters.now }) result }
 {
     let Some(unit) = unit_named(letters) else {
         return None;
@@ -277,7 +279,7 @@ fn is_last(rest: &[u8]) -> bool
 }
 
 /// The part may follow a part with a unit so long.
-fn may_stand_behind(part: Part, above: u64, is_last: bool) -> bool
+fn may_occur_after(part: Part, above: u64, is_last: bool) -> bool
     ensures { result
         ≡
         (nat_lt part.whole part.below && nat_lt part.milliseconds above &&
@@ -287,7 +289,7 @@ fn may_stand_behind(part: Part, above: u64, is_last: bool) -> bool
 }
 
 /// The first part may precede others, or is the last.
-fn may_stand_first(part: Part, is_last: bool) -> bool
+fn may_occur_first(part: Part, is_last: bool) -> bool
     ensures { result ≡ (not part.has_point || is_last) }
 {
     !part.has_point || is_last
@@ -305,17 +307,17 @@ fn with_part(first: u64, later: Option<u64>) -> Option<u64>
 
 /// The billionths of the parts after a part with a unit so long.
 fn later_billionths(text: &[u8], above: u64) -> Option<u64>
-    ensures { IsSumTold (are_later above (map without_separator (parts_of text.now)))
+    ensures { IsSumReported (are_later above (map without_separator (parts_of text.now)))
         (billionths (map without_separator (parts_of text.now))) result }
 {
     if text.is_empty() {
         return Some(0);
     }
     let (number, letters, rest) = first_part(text);
-    let Some(first) = judged_part(without_separator(number), letters) else {
+    let Some(first) = parse_duration_part(without_separator(number), letters) else {
         return None;
     };
-    if !may_stand_behind(first, above, is_last(rest)) {
+    if !may_occur_after(first, above, is_last(rest)) {
         return None;
     }
     with_part(first.billionths, later_billionths(rest, first.milliseconds))
@@ -323,17 +325,17 @@ fn later_billionths(text: &[u8], above: u64) -> Option<u64>
 
 /// The billionths of all parts.
 fn all_billionths(text: &[u8]) -> Option<u64>
-    ensures { IsSumTold (are_duration_parts (duration_parts text.now))
+    ensures { IsSumReported (are_duration_parts (duration_parts text.now))
         (billionths (duration_parts text.now)) result }
 {
     if text.is_empty() {
         return None;
     }
     let (number, letters, rest) = first_part(text);
-    let Some(first) = judged_part(number, letters) else {
+    let Some(first) = parse_duration_part(number, letters) else {
         return None;
     };
-    if !may_stand_first(first, is_last(rest)) {
+    if !may_occur_first(first, is_last(rest)) {
         return None;
     }
     with_part(first.billionths, later_billionths(rest, first.milliseconds))
@@ -358,7 +360,7 @@ pub(crate) fn duration(text: &[u8]) -> Option<i32>
     ensures { result ≡ duration_of text.now }
 {
     if begins_with(text, b'-') {
-        milliseconds(true, behind_first(text))
+        milliseconds(true, following_first(text))
     } else {
         milliseconds(false, text)
     }

@@ -18,7 +18,7 @@ fn begins_plain(text: &[u8]) -> bool
 /// The number of characters of an identifier at the start, and whether their underscores are
 /// single.
 #[inline(always)]
-pub(crate) fn identifier_front(text: &[u8]) -> (usize, bool)
+pub(crate) fn identifier_prefix(text: &[u8]) -> (usize, bool)
     ensures longest { result.0 ≡ prefix_len is_identifier_character text.now }
     ensures within { result.0 ≤ length text.now }
     ensures single { result.1 ≡ has_single_underscores (take result.0 text.now) }

@@ -4,8 +4,8 @@ ghost use Rattle.wc_lexer.specs.Sights.{mark_reach_of};
 
 use crate::Shape;
 use crate::characters::{is_sign, starts_identifier};
-use crate::fronts::{address_length, identifier_length, number_length};
-use crate::marks::{mark, may_stand_before};
+use crate::marks::{mark, may_occur_before};
+use crate::prefixes::{address_length, identifier_length, number_length};
 
 /// How long the value of a typed literal is.
 fn value_length(text: &[u8]) -> usize
@@ -54,7 +54,7 @@ fn is_mark_before(spelling: &[u8], after: &[u8]) -> bool
     ensures { result ≡ is_mark_before spelling.now after.now }
 {
     match mark(spelling) {
-        Some(shape) => may_stand_before(shape, after),
+        Some(shape) => may_occur_before(shape, after),
         None => false,
     }
 }

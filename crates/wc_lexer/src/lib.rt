@@ -2,13 +2,13 @@
 #![tactic(auto)]
 
 mod characters;
+mod chunk;
 mod durations;
-mod fronts;
 mod identifiers;
 mod lengths;
 mod marks;
 mod numbers;
-mod piece;
+mod prefixes;
 mod shape;
 mod shapes;
 mod spaces;

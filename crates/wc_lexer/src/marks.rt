@@ -1,6 +1,6 @@
 ghost use Rattle.std.specs.Prelude.{◌≡◌, option_map};
 ghost use Rattle.wc_lexer.specs.Views.{shape_view};
-ghost use Rattle.wc_model.specs.Text.Lexemes.{may_stand_before};
+ghost use Rattle.wc_model.specs.Text.Lexemes.{may_occur_before};
 ghost use Rattle.wc_model.specs.Text.Shapes.{mark_of};
 
 use crate::Shape;
@@ -27,8 +27,8 @@ pub(crate) fn mark(spelling: &[u8]) -> Option<Shape>
 }
 
 /// `&N` ends if no character of an identifier follows, and `(` before `*` opens a comment.
-pub(crate) fn may_stand_before(shape: Shape, after: &[u8]) -> bool
-    ensures { result ≡ may_stand_before (shape_view shape) after.now }
+pub(crate) fn may_occur_before(shape: Shape, after: &[u8]) -> bool
+    ensures { result ≡ may_occur_before (shape_view shape) after.now }
 {
     match (shape, after) {
         (Shape::AndNot, [first, ..]) => !is_identifier_character(*first),

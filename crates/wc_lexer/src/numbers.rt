@@ -6,7 +6,7 @@ ghost use Rattle.wc_model.specs.Text.Characters.{begins, is_underscore};
 ghost use Rattle.wc_model.specs.Text.Digits.{are_digits, digits_of, has_single_underscores, value_of_digits};
 ghost use Rattle.wc_model.specs.Text.WholeNumbers.{base_of, unsigned_of, whole_number_of, within_32_bits};
 
-use crate::fronts::{begins_with, behind_first, cut_at};
+use crate::prefixes::{begins_with, cut_at, following_first};
 
 /// The value of a digit or a letter, 36 for any other byte.
 fn digit_value(byte: u8) -> u64
@@ -160,9 +160,9 @@ pub(crate) fn whole_number(text: &[u8]) -> Option<i32>
     ensures { result ≡ whole_number_of text.now }
 {
     if begins_with(text, b'-') {
-        number_in_32_bits(true, digits(10, behind_first(text)))
+        number_in_32_bits(true, digits(10, following_first(text)))
     } else if begins_with(text, b'+') {
-        number_in_32_bits(false, digits(10, behind_first(text)))
+        number_in_32_bits(false, digits(10, following_first(text)))
     } else {
         number_in_32_bits(false, unsigned(text))
     }

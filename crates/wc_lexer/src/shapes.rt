@@ -1,6 +1,6 @@
 ghost use Rattle.std.specs.Prelude.{◌≡◌, if◌then◌else◌, ok_or};
 ghost use Rattle.std.specs.List.{list_any};
-ghost use Rattle.wc_lexer.specs.Views.{is_name_so, judgement_view};
+ghost use Rattle.wc_lexer.specs.Views.{is_name_so, validation_view};
 ghost use Rattle.wc_model.specs.Text.Characters.{is_hash};
 ghost use Rattle.wc_model.specs.Language.Names.{name_of};
 ghost use Rattle.wc_model.specs.Text.Shapes.{duration_shape, identifier_shape, literal_shape, number_shape, shape_of, truth_shape, typed_shape, mark_of};
@@ -8,9 +8,9 @@ ghost use Rattle.wc_model.specs.Text.Shapes.{duration_shape, identifier_shape, l
 use crate::Shape;
 use crate::characters::{is_sign, starts_identifier};
 use crate::durations::duration;
-use crate::fronts::cut_at;
 use crate::marks::mark;
 use crate::numbers::{has_single_underscores, whole_number};
+use crate::prefixes::cut_at;
 use wc_model::{LONGEST_NAME, is_word};
 
 /// An identifier of that length, with single underscores or not, is a name.
@@ -23,7 +23,7 @@ pub(crate) fn is_name(length: usize, has_single: bool) -> bool
 
 /// An identifier is no longer than a name, and has single underscores.
 fn identifier_shape(lexeme: &[u8]) -> Result<Shape, u16>
-    ensures { judgement_view result ≡ identifier_shape lexeme.now }
+    ensures { validation_view result ≡ identifier_shape lexeme.now }
 {
     if is_name(lexeme.len(), has_single_underscores(lexeme)) {
         Ok(Shape::Identifier)
@@ -34,7 +34,7 @@ fn identifier_shape(lexeme: &[u8]) -> Result<Shape, u16>
 
 /// A number has one of the forms of whole-number literals.
 fn number_shape(lexeme: &[u8]) -> Result<Shape, u16>
-    ensures { judgement_view result ≡ number_shape lexeme.now }
+    ensures { validation_view result ≡ number_shape lexeme.now }
 {
     match whole_number(lexeme) {
         Some(value) => Ok(Shape::Whole(value)),
@@ -44,7 +44,7 @@ fn number_shape(lexeme: &[u8]) -> Result<Shape, u16>
 
 /// `BOOL#0` and `BOOL#1` are truth values.
 fn truth_shape(value: &[u8]) -> Result<Shape, u16>
-    ensures { judgement_view result ≡ truth_shape value.now }
+    ensures { validation_view result ≡ truth_shape value.now }
 {
     match value {
         b"0" => Ok(Shape::Truth(false)),
@@ -55,7 +55,7 @@ fn truth_shape(value: &[u8]) -> Result<Shape, u16>
 
 /// `T#` and `TIME#` precede durations.
 fn duration_shape(value: &[u8]) -> Result<Shape, u16>
-    ensures { judgement_view result ≡ duration_shape value.now }
+    ensures { validation_view result ≡ duration_shape value.now }
 {
     match duration(value) {
         Some(milliseconds) => Ok(Shape::Duration(milliseconds)),
@@ -65,7 +65,7 @@ fn duration_shape(value: &[u8]) -> Result<Shape, u16>
 
 /// A literal by its type's name and what follows the `#`.
 fn typed_shape(name: &[u8], value: &[u8]) -> Result<Shape, u16>
-    ensures { judgement_view result ≡ typed_shape (name_of name.now) value.now }
+    ensures { validation_view result ≡ typed_shape (name_of name.now) value.now }
 {
     if is_word(name, b"bool") {
         truth_shape(value)
@@ -78,7 +78,7 @@ fn typed_shape(name: &[u8], value: &[u8]) -> Result<Shape, u16>
 
 /// An identifier, or a typed literal if it holds a `#`.
 fn word_shape(lexeme: &[u8]) -> Result<Shape, u16>
-    ensures { judgement_view result
+    ensures { validation_view result
         ≡
         (if list_any is_hash lexeme.now then literal_shape lexeme.now
         else identifier_shape lexeme.now) }
@@ -91,7 +91,7 @@ fn word_shape(lexeme: &[u8]) -> Result<Shape, u16>
 
 /// A mark.
 fn mark_shape(lexeme: &[u8]) -> Result<Shape, u16>
-    ensures { judgement_view result ≡ ok_or (mark_of lexeme.now) 101 }
+    ensures { validation_view result ≡ ok_or (mark_of lexeme.now) 101 }
 {
     match mark(lexeme) {
         Some(shape) => Ok(shape),
@@ -101,7 +101,7 @@ fn mark_shape(lexeme: &[u8]) -> Result<Shape, u16>
 
 /// The shape of a lexeme, or the number of its fault.
 pub(crate) fn shape(lexeme: &[u8]) -> Result<Shape, u16>
-    ensures { judgement_view result ≡ shape_of lexeme.now }
+    ensures { validation_view result ≡ shape_of lexeme.now }
 {
     match lexeme {
         [first, ..] if starts_identifier(*first) => word_shape(lexeme),

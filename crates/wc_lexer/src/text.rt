@@ -1,11 +1,11 @@
 ghost use Rattle.std.specs.Prelude.{◌≡◌, ◌+◌, ◌≤◌, IfErr, IfOk, length, map};
 ghost use Rattle.wc_lexer.specs.Refusals.{Names};
-ghost use Rattle.wc_lexer.specs.Spots.{StopsAt, stuck_length};
+ghost use Rattle.wc_lexer.specs.TextSpans.{StopsAt, stuck_length};
 ghost use Rattle.wc_lexer.specs.Views.{token_view};
 ghost use Rattle.wc_model.specs.Text.Tokens.{IsCut, most_bytes};
 
+use crate::chunk::{Chunk, first_chunk};
 use crate::lengths::lexeme_length;
-use crate::piece::{Piece, first_piece};
 use crate::spaces::{first_feeds, line_feeds, opens_comment};
 use crate::{Stop, Token};
 use std::alloc::Global;
@@ -75,14 +75,14 @@ pub fn tokens_or_stop<'a>(alloc: Global, text: &'a [u8]) -> Result<Vec<Token<'a>
     let mut line = 1_u32;
     while start < text.len() {
         let (_, rest) = text.split_at(start);
-        let (count, feeds) = match first_piece(rest) {
-            Piece::Fault(number) => return Err(stop_at(number, line, start, rest)),
-            Piece::Space => (1, 0),
-            Piece::Comment(count) => {
+        let (count, feeds) = match first_chunk(rest) {
+            Chunk::Fault(number) => return Err(stop_at(number, line, start, rest)),
+            Chunk::Space => (1, 0),
+            Chunk::Comment(count) => {
                 let (comment, _) = rest.split_at(count);
                 (count, line_feeds(comment))
             }
-            Piece::Lexeme(count, shape) => {
+            Chunk::Lexeme(count, shape) => {
                 let (lexeme, _) = rest.split_at(count);
                 let token = Token {
                     shape,

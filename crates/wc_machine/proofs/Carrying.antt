@@ -119,7 +119,7 @@ one_carried old new numbers first now at k number some there within so_far = rec
 -- a moment that is carried on is not ahead
 pub moment_carried : (last : ℕ) (kinds old_kinds : List SlotKind) (now numbers : List ℤ) (at k : ℕ) (number : ℤ) → slice_get kinds at ≡ slice_get old_kinds k → slice_get numbers k ≡ Some number → AreBefore last kinds now → AreBefore last old_kinds numbers → AreBefore last kinds (slice_set now at number)
 moment_carried last kinds old_kinds now numbers at k number kind there before old_before = record {
-  each = λ place m moment stands. elim (written_moment now at place m number stands) [
+  each = λ place m moment represents. elim (written_moment now at place m number represents) [
     | inl both ↦ old_before.each k m (sym kind ∙ ap (slice_get kinds) (sym both.0) ∙ moment) (there ∙ ap Some both.1)
     | inr old ↦ before.each place m moment old
   ];

@@ -8,7 +8,7 @@ use Rattle.wc_text_flat.proofs.Texts.{Newest, newest}
 use Rattle.wc_text_flat.specs.Contents.{frame_of_reversed, frame_of_text}
 use Rattle.wc_text_flat.specs.NumberBlocks.{is_slot}
 use Rattle.wc_execution.specs.Lines.{AreAll}
-use Rattle.wc_model.specs.Language.Checks.{Spot, spots_of, spots_behind}
+use Rattle.wc_model.specs.Language.Checks.{Position, positions_of, positions_after}
 use Rattle.wc_model.specs.Language.DirectVariables.{direct_variables, kind_of_direct}
 use Rattle.wc_model.specs.Language.Frames.{slot_kinds, slot_kind_of}
 use Rattle.wc_model.specs.Language.Paths.{IsProgramBound, IsBoundOfLast}
@@ -29,27 +29,27 @@ begins_with : (before : List ProgramUnit) (program : ProgramUnit) → (others : 
 begins_with before program = (slot_kinds (map (λ p. (Path p.0, p.1)) (unit_places before program)), refl)
 
 -- what comes first is found in the whole
-found_in_front : {A : Type 0} (front rest : List A) (k : ℕ) → k < length front → slice_get (front ++ rest) k ≡ slice_get front k
-found_in_front [] rest k below = absurd (omega (arith, below))
-found_in_front (x ∷ xs) rest zero below = refl
-found_in_front (x ∷ xs) rest (suc k) below = found_in_front xs rest k (omega (arith, below))
+found_in_prefix : {A : Type 0} (prefix rest : List A) (k : ℕ) → k < length prefix → slice_get (prefix ++ rest) k ≡ slice_get prefix k
+found_in_prefix [] rest k below = absurd (omega (arith, below))
+found_in_prefix (x ∷ xs) rest zero below = refl
+found_in_prefix (x ∷ xs) rest (suc k) below = found_in_prefix xs rest k (omega (arith, below))
 
 -- each of n is of the kind, by a test
 abbrev every : SlotKind → List SlotKind → ℕ → ℕ → Bool
-every kind front first zero = true
-every kind front first (suc n) = is_slot kind (slice_get front (first + n)) && every kind front first n
+every kind prefix first zero = true
+every kind prefix first (suc n) = is_slot kind (slice_get prefix (first + n)) && every kind prefix first n
 
-each_is : (kind : SlotKind) (front : List SlotKind) (first count : ℕ) → every kind front first count ≡ true → (i : ℕ) → i < count → is_slot kind (slice_get front (first + i)) ≡ true
-each_is kind front first zero e i below = absurd (omega (arith, below))
-each_is kind front first (suc n) e i below = by_next (below_next n i below) (λ h. each_is kind front first n (and_parts (is_slot kind (slice_get front (first + n))) (every kind front first n) e).1 i h)
+each_is : (kind : SlotKind) (prefix : List SlotKind) (first count : ℕ) → every kind prefix first count ≡ true → (i : ℕ) → i < count → is_slot kind (slice_get prefix (first + i)) ≡ true
+each_is kind prefix first zero e i below = absurd (omega (arith, below))
+each_is kind prefix first (suc n) e i below = by_next (below_next n i below) (λ h. each_is kind prefix first n (and_parts (is_slot kind (slice_get prefix (first + n))) (every kind prefix first n) e).1 i h)
   where
-    by_next : (i < n) ⊎ (i ≡ n) → (i < n → is_slot kind (slice_get front (first + i)) ≡ true) → is_slot kind (slice_get front (first + i)) ≡ true
+    by_next : (i < n) ⊎ (i ≡ n) → (i < n → is_slot kind (slice_get prefix (first + i)) ≡ true) → is_slot kind (slice_get prefix (first + i)) ≡ true
     by_next (inl h) onward = onward h
-    by_next (inr same) onward = subst (λ k. is_slot kind (slice_get front (first + k)) ≡ true) (sym same) (and_parts (is_slot kind (slice_get front (first + n))) (every kind front first n) e).0
+    by_next (inr same) onward = subst (λ k. is_slot kind (slice_get prefix (first + k)) ≡ true) (sym same) (and_parts (is_slot kind (slice_get prefix (first + n))) (every kind prefix first n) e).0
 
-all_in_front : (kind : SlotKind) (front rest : List SlotKind) (first count : ℕ) → every kind front first count ≡ true → first + count ≤ length front → AreAll kind (front ++ rest) first count
-all_in_front kind front rest first count e within i below =
-    subst (λ o. is_slot kind o ≡ true) (sym (found_in_front front rest (first + i) (omega (arith, within, below)))) (each_is kind front first count e i below)
+all_in_prefix : (kind : SlotKind) (prefix rest : List SlotKind) (first count : ℕ) → every kind prefix first count ≡ true → first + count ≤ length prefix → AreAll kind (prefix ++ rest) first count
+all_in_prefix kind prefix rest first count e within i below =
+    subst (λ o. is_slot kind o ≡ true) (sym (found_in_prefix prefix rest (first + i) (omega (arith, within, below)))) (each_is kind prefix first count e i below)
 
 -- the slots of inputs, weights and outputs
 pub record AreFirst (kinds : List SlotKind) : Type 0 where
@@ -59,12 +59,12 @@ pub record AreFirst (kinds : List SlotKind) : Type 0 where
   pub words : AreAll slots.Dint kinds 41 4
   pub many : 45 ≤ length kinds
 
-first_in_front : (rest : List SlotKind) → AreFirst (direct_slots ++ rest)
-first_in_front rest = record {
-  inputs = all_in_front slots.Bool direct_slots rest 0 22 refl (omega arith);
-  weights = all_in_front slots.Dint direct_slots rest 22 3 refl (omega arith);
-  bits = all_in_front slots.Bool direct_slots rest 25 16 refl (omega arith);
-  words = all_in_front slots.Dint direct_slots rest 41 4 refl (omega arith);
+first_in_prefix : (rest : List SlotKind) → AreFirst (direct_slots ++ rest)
+first_in_prefix rest = record {
+  inputs = all_in_prefix slots.Bool direct_slots rest 0 22 refl (omega arith);
+  weights = all_in_prefix slots.Dint direct_slots rest 22 3 refl (omega arith);
+  bits = all_in_prefix slots.Bool direct_slots rest 25 16 refl (omega arith);
+  words = all_in_prefix slots.Dint direct_slots rest 41 4 refl (omega arith);
   many = omega (arith, length-append direct_slots rest);
 }
 
@@ -75,21 +75,21 @@ ends_with_program bytes text read = subst Newest (append-nil (reverse text)) (ne
 pub first_places : (bytes : List ℕ) (text : Text) → IsRead bytes text → AreFirst (slot_kinds (frame_of_text text))
 first_places bytes text read =
     let new = ends_with_program bytes text read in
-    let begun = begins_with new.before new.program in
-    subst (λ units. AreFirst (slot_kinds (frame_of_reversed units))) (sym new.are) (subst AreFirst (sym begun.1) (first_in_front begun.0))
+    let started = begins_with new.before new.program in
+    subst (λ units. AreFirst (slot_kinds (frame_of_reversed units))) (sym new.are) (subst AreFirst (sym started.1) (first_in_prefix started.0))
 
 -- the last of the positions of a list
-record LastSpot {X : Type 0} (before : List X) (x : X) (xs : List X) : Type 0 where
-  spot : Spot X
-  is : slice_get (spots_behind before (x ∷ xs)) (length xs) ≡ Some spot
-  reversed : reverse (x ∷ xs) ++ before ≡ spot.item ∷ spot.before
+record LastPosition {X : Type 0} (before : List X) (x : X) (xs : List X) : Type 0 where
+  position : Position X
+  is : slice_get (positions_after before (x ∷ xs)) (length xs) ≡ Some position
+  reversed : reverse (x ∷ xs) ++ before ≡ position.item ∷ position.before
 
-last_spot : {X : Type 0} (before : List X) (x : X) (xs : List X) → LastSpot before x xs
-last_spot before x [] = record { spot = record { before = before; item = x; behind = [] }; is = refl; reversed = refl }
-last_spot before x (y ∷ ys) =
-    let inner = last_spot (x ∷ before) y ys in
+last_position : {X : Type 0} (before : List X) (x : X) (xs : List X) → LastPosition before x xs
+last_position before x [] = record { position = record { before = before; item = x; following = [] }; is = refl; reversed = refl }
+last_position before x (y ∷ ys) =
+    let inner = last_position (x ∷ before) y ys in
     record {
-      spot = inner.spot;
+      position = inner.position;
       is = inner.is;
       reversed = ap (λ zs. zs ++ before) (reverse-append (x ∷ []) (y ∷ ys)) ∙ append_assoc (reverse (y ∷ ys)) (x ∷ []) before ∙ inner.reversed;
     }
@@ -98,10 +98,10 @@ last_spot before x (y ∷ ys) =
 pub last_bound : (text : Text) (n bound : ℕ) → n + 1 ≡ length text → IsBoundAt text n bound → IsProgramBound text bound
 last_bound [] n bound e is = absurd (omega (arith, e))
 last_bound (x ∷ xs) n bound e is =
-    let last = last_spot [] x xs in
+    let last = last_position [] x xs in
     let here : n ≡ length xs = omega (arith, e) in
-    let found : slice_get (spots_of (x ∷ xs)) n ≡ Some last.spot = ap (λ k. slice_get (spots_of (x ∷ xs)) k) here ∙ last.is in
-    let units : reverse (x ∷ xs) ≡ last.spot.item ∷ last.spot.before = sym (append-nil (reverse (x ∷ xs))) ∙ last.reversed in
+    let found : slice_get (positions_of (x ∷ xs)) n ≡ Some last.position = ap (λ k. slice_get (positions_of (x ∷ xs)) k) here ∙ last.is in
+    let units : reverse (x ∷ xs) ≡ last.position.item ∷ last.position.before = sym (append-nil (reverse (x ∷ xs))) ∙ last.reversed in
     subst (λ us. IsBoundOfLast us bound) (sym units) (rw found at is)
 
 -- outputs are their bits and words

@@ -20,7 +20,7 @@ pub(crate) fn carried_over<S: Store>(
         ≡ slot_kinds (frame_of_text (text_view loaded.now.source)) }
     requires numbers { length (S.numbers first)
         ≡ length (frame_of_text (text_view loaded.now.source)) }
-    requires room { length (S.slot_kinds first) ≤ 65536 }
+    requires capacity { length (S.slot_kinds first) ≤ 65536 }
     requires old_kinds { S.slot_kinds old_store.now
         ≡ slot_kinds (frame_of_text (text_view old.now.source)) }
     ensures kinds { S.slot_kinds result ≡ S.slot_kinds first }

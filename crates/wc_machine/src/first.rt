@@ -10,7 +10,7 @@ use wc_store::Store;
 fn filled<S: Store>(store: S, initials: &[i64]) -> S
     requires first { AreFirst (S.slot_kinds store) initials.now }
     requires numbers { length (S.numbers store) ≡ length initials.now }
-    requires room { length initials.now ≤ 65536 }
+    requires capacity { length initials.now ≤ 65536 }
     requires moments { AreBefore 0 (S.slot_kinds store) (S.numbers store) }
     ensures numbers { S.numbers result ≡ initials.now }
     ensures kinds { S.slot_kinds result ≡ S.slot_kinds store }
@@ -32,7 +32,7 @@ pub(crate) fn first_store<S: Store>(
 ) -> Result<S, Fault>
     requires count { length initials.now ≡ length kinds.now }
     requires first { AreFirst kinds.now initials.now }
-    requires room { length kinds.now ≤ 65536 }
+    requires capacity { length kinds.now ≤ 65536 }
     ensures numbers { IfOk result (λ store. S.numbers store ≡ initials.now) }
     ensures kinds { IfOk result (λ store. S.slot_kinds store ≡ kinds.now) }
     ensures moments { IfOk result (λ store. AreBefore 0 (S.slot_kinds store) (S.numbers store)) }

@@ -1,6 +1,6 @@
 ghost use Rattle.std.specs.Prelude.{◌≡◌, ◌≤◌, ◌<◌, ℕ, Some, IfErr, IfOk, IsOkUnless};
 ghost use Rattle.wc_text_flat.specs.Contents.{frame_of_text, number_in};
-ghost use Rattle.wc_machine.specs.Machines.{text_of, Leaves, StandsFor};
+ghost use Rattle.wc_machine.specs.Machines.{text_of, Leaves, RepresentsText};
 ghost use Rattle.wc_machine.specs.Seeing.{IsSeen};
 ghost use Rattle.wc_model.specs.Language.Carried.{carried};
 ghost use Rattle.wc_model.specs.Language.Frames.{place_number};
@@ -51,9 +51,9 @@ impl<'a, S: Store> Model for Machine<'a, S> {
 impl<'a, S: Store> Machine<'a, S> {
     /// A machine at the store of the declarations, before its first scan. `Memory` is its only fault.
     pub fn new(alloc: Global, loaded: Loaded<'a>) -> Result<Machine<'a, S>, Fault>
-        ensures stands { IfOk result
+        ensures represents { IfOk result
             (λ machine.
-            StandsFor machine (text_view loaded.entry.source)
+            RepresentsText machine (text_view loaded.entry.source)
             (initial_of (text_view loaded.entry.source))) }
         ensures last { IfOk result (λ machine. machine.last ≡ 0) }
         ensures memory { IsOkUnless result Fault.Memory }
@@ -81,8 +81,8 @@ impl<'a, S: Store> Machine<'a, S> {
         alloc: Global,
         loaded: Loaded<'a>,
     ) -> Result<Machine<'a, S>, (Machine<'a, S>, Fault)>
-        ensures stands { (text : Text) (store : Contents) → StandsFor self.entry text store
-            → IfOk result (λ machine. StandsFor machine (text_view loaded.entry.source)
+        ensures represents { (text : Text) (store : Contents) → RepresentsText self.entry text store
+            → IfOk result (λ machine. RepresentsText machine (text_view loaded.entry.source)
             (carried text store (text_view loaded.entry.source))) }
         ensures text { IfOk result
             (λ machine. text_of machine ≡ text_view loaded.entry.source) }
@@ -113,7 +113,7 @@ impl<'a, S: Store> Machine<'a, S> {
         requires in_range { now ≤ 1099511627775 }
         // So each bit of the status has a place that the program can read. The proof does without.
         requires status { image.now.status < 64 }
-        ensures means { (text : Text) (store : Contents) → StandsFor self.old text store
+        ensures means { (text : Text) (store : Contents) → RepresentsText self.old text store
             → Leaves self.new text result.0 (scan_of text store image.now now) }
         ensures last { self.new.last ≡ now }
         ensures within { (n : ℕ) → IsProgramBound (text_of self.old) n → result.0 ≤ n }
@@ -138,9 +138,9 @@ impl<'a, S: Store> Machine<'a, S> {
         requires in_range { now ≤ 1099511627775 }
         // So each bit of the status has a place that the program can read. The proof does without.
         requires status { image.now.status < 64 }
-        ensures seen { (text : Text) (store : Contents) → StandsFor self.old text store
+        ensures seen { (text : Text) (store : Contents) → RepresentsText self.old text store
             → IfOk result.1 (λ lines. IsSeen text store image.now now lines.items) }
-        ensures means { (text : Text) (store : Contents) → StandsFor self.old text store
+        ensures means { (text : Text) (store : Contents) → RepresentsText self.old text store
             → Leaves self.new text result.0.0 (scan_of text store image.now now) }
         ensures last { self.new.last ≡ now }
         ensures within { (n : ℕ) → IsProgramBound (text_of self.old) n → result.0.0 ≤ n }
@@ -162,7 +162,7 @@ impl<'a, S: Store> Machine<'a, S> {
 
     /// What the last scan left at the outputs.
     pub fn outputs(&self) -> Outputs
-        ensures { (text : Text) (store : Contents) → StandsFor self.now text store
+        ensures { (text : Text) (store : Contents) → RepresentsText self.now text store
             → result ≡ outputs_of store }
     {
         read_outputs(&self.store)
@@ -172,7 +172,7 @@ impl<'a, S: Store> Machine<'a, S> {
     /// frame has no such place.
     pub fn number(&self, place: Place) -> Option<i64>
         ensures { (text : Text) (store : Contents) (location : Location)
-            → StandsFor self.now text store
+            → RepresentsText self.now text store
             → place_number (frame_of_text text) location ≡ Some place.0
             → result ≡ number_in store location }
     {

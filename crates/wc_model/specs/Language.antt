@@ -18,7 +18,7 @@ pub mod Paths
 pub mod WorstPaths
 pub mod Kinds
 pub mod Checks
-pub mod Judging
+pub mod Validation
 pub mod Frames
 pub mod DeclarationRules
 pub mod BodyRules

@@ -15,13 +15,13 @@ pub trait ByteOut {
 
     /// Takes a prefix of `piece`, and returns the number of bytes. To take none of a chunk that has
     /// some is a failed call, as is an error.
-    fn write(&mut self, piece: &[u8]) -> io::Result<usize>
-        ensures bound { WritesAtMost result piece.now }
+    fn write(&mut self, chunk: &[u8]) -> io::Result<usize>
+        ensures bound { WritesAtMost result chunk.now }
         // A failed call takes none.
         ensures bytes { WriteAppends (bytes_taken self.old)
-            (bytes_taken self.new) result piece.now }
+            (bytes_taken self.new) result chunk.now }
         ensures failures { failure_count self.new
-            ≡ failures_after_write (failure_count self.old) result piece.now };
+            ≡ failures_after_write (failure_count self.old) result chunk.now };
 
     /// The number of calls of `write` that failed. It stops at the greatest value.
     fn failures(&self) -> u64

@@ -8,10 +8,10 @@ impl<D: Write> ByteOut for Device<D> {
 
     ghost failure_count = { λ d. d.failures };
 
-    fn write(&mut self, piece: &[u8]) -> io::Result<usize> {
-        let result = self.inner.write(piece);
+    fn write(&mut self, chunk: &[u8]) -> io::Result<usize> {
+        let result = self.inner.write(chunk);
         let failed = match &result {
-            Ok(count) => *count == 0 && !piece.is_empty(),
+            Ok(count) => *count == 0 && !chunk.is_empty(),
             Err(_) => true,
         };
         if failed {

@@ -10,7 +10,7 @@ use std::io::Read;
 #[derive(Drop)]
 pub struct FuseIn<'t> {
     pub(crate) left: &'t [u8],
-    pub(crate) piece: &'t [u8],
+    pub(crate) chunk: &'t [u8],
     pub(crate) times: u32,
     pub(crate) fails: bool,
     pub(crate) failures: u64,
@@ -20,15 +20,15 @@ pub struct FuseIn<'t> {
 impl<'t> FuseIn<'t> {
     /// A reader of `head` and then `piece`, `times` times; if `fails`, each read after them is an error,
     /// else they end there.
-    pub fn new(head: &'t [u8], piece: &'t [u8], times: u32, fails: bool) -> Self
-        ensures bytes { fuse_bytes result ≡ head.entry.now ++ repeated piece.entry.now times }
+    pub fn new(head: &'t [u8], chunk: &'t [u8], times: u32, fails: bool) -> Self
+        ensures bytes { fuse_bytes result ≡ head.entry.now ++ repeated chunk.entry.now times }
         ensures end { result.fails ≡ fails }
         ensures failures { result.failures ≡ 0 }
         ensures spent { result.spent ≡ 0 }
     {
         FuseIn {
             left: head,
-            piece,
+            chunk,
             times,
             fails,
             failures: 0,
@@ -44,7 +44,7 @@ impl<'t> FuseIn<'t> {
         ensures burnt { has_burnt_in self.new }
     {
         if self.left.is_empty() && self.times > 0 {
-            self.left = self.piece;
+            self.left = self.chunk;
             self.times -= 1;
         }
     }

@@ -6,9 +6,9 @@ use std::alloc::Global;
 /// no memory once it is made.
 #[derive(Drop)]
 pub struct FuseOut {
-    pub(crate) room: Vec<u8, Global>,
+    pub(crate) capacity: Vec<u8, Global>,
     pub(crate) taken: usize,
     pub(crate) per_call: usize,
     pub(crate) failures: u64,
-    ghost within: { taken ≤ length room.items },
+    ghost within: { taken ≤ length capacity.items },
 }

@@ -18,13 +18,13 @@ use Rattle.wc_model.specs.declared.kind.Kind.{Kind}
 use Rattle.wc_model.specs.declared.kind.Kind.TheVariants.{Bool as KindBool, Dint as KindDint, Time as KindTime}
 use Rattle.wc_names.specs.Carrying.{kept_from}
 use Rattle.wc_built_in.specs.Direct.{direct_at}
-use Rattle.wc_names.specs.StandsFor.{Stands, first_place}
+use Rattle.wc_names.specs.RepresentsText.{Represents, first_place}
 use Rattle.wc_names.specs.declared.unit_table.UnitTable.{UnitTable}
 use Rattle.wc_names.proofs.OwnPlaces.{unit_own}
 use Rattle.wc_names.proofs.Positions.{position_on}
 use Rattle.wc_names.proofs.Lists.{found_within}
 use Rattle.wc_names.proofs.ScopeTables.{address_in_program, all_below, as_entry, directs, frame_path}
-use Rattle.wc_names.proofs.VariablePlaces.{front_item, later_item}
+use Rattle.wc_names.proofs.VariablePlaces.{prefix_item, later_item}
 use Rattle.wc_laws_soundness.proofs.Tests.{same_direct-sound}
 
 -- a program's frame, as a list in two parts
@@ -32,18 +32,18 @@ program_is : (scope : Scope) → is_block scope.unit ≡ false → frame_of scop
 program_is scope e = ap (λ b. if b then map (λ p. (Path p.0, p.1)) (unit_places scope.before scope.unit) else program_frame scope.before scope.unit) e
 
 -- the directly represented variable of a number is there, by a test of each number
-stands_at : ℕ → Option DirectVariable → Bool
-stands_at n (Some v) = same_direct v (direct_at n)
-stands_at n None = false
+is_at : ℕ → Option DirectVariable → Bool
+is_at n (Some v) = same_direct v (direct_at n)
+is_at n None = false
 
-stands_at-sound : (n : ℕ) (o : Option DirectVariable) → stands_at n o ≡ true → o ≡ Some (direct_at n)
-unfolding stands_at
-stands_at-sound n (Some v) e = ap Some (same_direct-sound v (direct_at n) e)
-stands_at-sound n None e = cc
+is_at-sound : (n : ℕ) (o : Option DirectVariable) → is_at n o ≡ true → o ≡ Some (direct_at n)
+unfolding is_at
+is_at-sound n (Some v) e = ap Some (same_direct-sound v (direct_at n) e)
+is_at-sound n None e = cc
 
-each_stands : list_all (λ n. stands_at n (slice_get direct_variables n)) (numbers_below 45) ≡ true
-unfolding stands_at
-each_stands = refl
+each_holds : list_all (λ n. is_at n (slice_get direct_variables n)) (numbers_below 45) ≡ true
+unfolding is_at
+each_holds = refl
 
 each_is_one : list_all (λ n. list_any (same_direct (direct_at n)) direct_variables) (numbers_below 45) ≡ true
 each_is_one = refl
@@ -57,9 +57,9 @@ one_kind KindTime = refl
 address_there : (scope : Scope) (n : ℕ) → is_block scope.unit ≡ false → n < 45 → slice_get (frame_of scope) n ≡ Some (Direct (direct_at n), zero_of (kind_of_direct (direct_at n)))
 address_there scope n program below =
     ap (λ frame. slice_get frame n) (program_is scope program)
-    ∙ front_item directs (map as_entry (unit_places scope.before scope.unit)) n below
+    ∙ prefix_item directs (map as_entry (unit_places scope.before scope.unit)) n below
     ∙ slice_get-map (λ w. (Direct w, zero_of (kind_of_direct w))) direct_variables n
-    ∙ ap (option_map (λ w. (Direct w, zero_of (kind_of_direct w)))) (stands_at-sound n (slice_get direct_variables n) (all_below (λ k. stands_at k (slice_get direct_variables k)) 45 n each_stands below))
+    ∙ ap (option_map (λ w. (Direct w, zero_of (kind_of_direct w)))) (is_at-sound n (slice_get direct_variables n) (all_below (λ k. is_at k (slice_get direct_variables k)) 45 n each_holds below))
 
 -- an address keeps its value and its number
 pub address_kept : (scope old : Scope) (n : ℕ) → is_block scope.unit ≡ false → is_block old.unit ≡ false → n < 45 → Some n ≡ carried_within old scope n
@@ -78,18 +78,18 @@ pub record PathAt (scope : Scope) (n : ℕ) : Type 0 where
   pub framed : slice_get (frame_of scope) n ≡ Some (Path entry.0, entry.1)
 
 pub path_at : (scope : Scope) (n : ℕ) → is_block scope.unit ≡ false → 45 ≤ n → n < length (frame_of scope) → PathAt scope n
-path_at scope n program behind within =
+path_at scope n program following within =
     let places = unit_places scope.before scope.unit in
     let first : first_place scope.unit ≡ 45 = ap (λ b. if b then 0 else 45) program in
     let size : length (frame_of scope) ≡ 45 + length places =
     ap length (program_is scope program) ∙ length-append directs (map as_entry places) ∙ ap (λ k. 45 + k) (length-map places as_entry)
     in
-    let at = found_within places (n - 45) (omega (arith, size, behind, within)) in
-    let split : n ≡ length directs + (n - 45) = omega (arith, behind) in
+    let at = found_within places (n - 45) (omega (arith, size, following, within)) in
+    let split : n ≡ length directs + (n - 45) = omega (arith, following) in
     record {
       entry = at.0;
       there = ap (λ k. slice_get places (n - k)) first ∙ at.1;
-      least = omega (arith, first, behind);
+      least = omega (arith, first, following);
       framed = ap (λ frame. slice_get frame n) (program_is scope program) ∙ ap (slice_get (directs ++ map as_entry places)) split ∙ later_item directs (map as_entry places) (n - 45)
           ∙ slice_get-map as_entry places (n - 45) ∙ ap (option_map as_entry) at.1;
     }
@@ -100,7 +100,7 @@ path_kept scope old n at =
     ∙ sym (ap (option_and_then (number_if_kept_within old scope)) at.framed)
 
 -- each place of a program's frame is at its own number
-pub own_frame : (units : List UnitTable) (scope : Scope) → Stands units scope.before scope.unit → is_block scope.unit ≡ false → (n : ℕ) (entry : Location × Content) → slice_get (frame_of scope) n ≡ Some entry → place_number (frame_of scope) entry.0 ≡ Some n
+pub own_frame : (units : List UnitTable) (scope : Scope) → Represents units scope.before scope.unit → is_block scope.unit ≡ false → (n : ℕ) (entry : Location × Content) → slice_get (frame_of scope) n ≡ Some entry → place_number (frame_of scope) entry.0 ≡ Some n
 own_frame units scope h program n entry there = by (cases_lt n 45)
   where
     by : (n < 45) ⊎ (45 ≤ n) → place_number (frame_of scope) entry.0 ≡ Some n

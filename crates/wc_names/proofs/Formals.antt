@@ -17,8 +17,8 @@ use Rattle.wc_model.specs.declared.source.Section.{Section}
 use Rattle.wc_model.specs.declared.source.Section.TheVariants.{Input, Output, Own}
 use Rattle.wc_built_in.specs.Fields.{Seen, member_seen}
 use Rattle.wc_names.specs.Members.{kind_numbered, row_seen}
-use Rattle.wc_names.specs.Numbered.{number_within, numbered_formal, numbered_type, stands_in}
-use Rattle.wc_names.specs.StandsFor.{Stands, row_named}
+use Rattle.wc_names.specs.Numbered.{number_within, numbered_formal, numbered_type, is_allowed_in}
+use Rattle.wc_names.specs.RepresentsText.{Represents, row_named}
 use Rattle.wc_names.specs.declared.declared_type.DeclaredType.{DeclaredType}
 use Rattle.wc_names.specs.declared.declared_type.DeclaredType.TheVariants as numbered
 use Rattle.wc_names.specs.declared.formal.Formal.{Formal as FoundFormal}
@@ -94,7 +94,7 @@ numbered_by : (before : List ProgramUnit) (type : VariableType) (m : Member) (ki
 numbered_by before type m kind n k p =
     ap (λ o. is_some (option_and_then (λ x. option_map (made x) (number_within before type (m.name ∷ []))) o)) k ∙ ap (λ q. is_some (option_map (made kind) q)) p
 
-plain_formal : (d : Direction) (section : Section) (declared : DeclaredType) → passes d section ≡ true → stands_in section declared ≡ true → (kind : Kind) × (declared ≡ numbered.Elementary kind)
+plain_formal : (d : Direction) (section : Section) (declared : DeclaredType) → passes d section ≡ true → is_allowed_in section declared ≡ true → (kind : Kind) × (declared ≡ numbered.Elementary kind)
 plain_formal d section (numbered.Elementary kind) i s = (kind, refl)
 plain_formal Into Input (numbered.Standard block) i s = cc
 plain_formal OutOf Input (numbered.Standard block) i s = cc
@@ -111,16 +111,16 @@ row_there : (o : Option Row) (seen : Seen) → option_map row_seen o ≡ Some se
 row_there None seen e = cc
 row_there (Some row) seen e = (row, refl, cc)
 
-block_formal : (d : Direction) (units : List UnitTable) (before : List ProgramUnit) (u : ProgramUnit) (h : Stands units before u) (type : VariableType) (number : ℕ) (name : Name) → numbered_type before type ≡ Some (numbered.Block number) →
+block_formal : (d : Direction) (units : List UnitTable) (before : List ProgramUnit) (u : ProgramUnit) (h : Represents units before u) (type : VariableType) (number : ℕ) (name : Name) → numbered_type before type ≡ Some (numbered.Block number) →
     (m : Member) → member_named (members_of before type) name ≡ Some m → passes d m.section ≡ true → is_some (numbered_formal before type m) ≡ true
 block_formal d units before u h type number name e m found i =
     let b = members_by units before u h type number name e in
-    let r = row_there (row_named b.stands.table.names b.stands.table.rows.items name) (member_seen m) (b.members ∙ ap (option_map member_seen) found) in
+    let r = row_there (row_named b.represents.table.names b.represents.table.rows.items name) (member_seen m) (b.members ∙ ap (option_map member_seen) found) in
     let row = r.0 in
     let section : row.section ≡ m.section = ap (λ (s : Seen). s.section) r.2 in
     let kind_is : kind_numbered row.declared ≡ elementary_kind m.type = ap (λ (s : Seen). s.kind) r.2 in
-    let f = from_row units b.earlier b.unit b.stands name [] row r.1 in
-    let plain = plain_formal d row.section row.declared (ap (passes d) section ∙ i) f.stands in
+    let f = from_row units b.earlier b.unit b.represents name [] row r.1 in
+    let plain = plain_formal d row.section row.declared (ap (passes d) section ∙ i) f.represents in
     let zero = within_elementary b.earlier f.v plain.0 [] (Some 0) (f.declared ∙ ap Some plain.1) (λ k initial. refl) in
     let at = sym (b.places (name ∷ [])) ∙ f.at_is ∙ ap (option_map (λ n. row.first + n)) (sym zero) in
     numbered_by before type m plain.0 (row.first + 0) (sym kind_is ∙ ap kind_numbered plain.1) (ap (λ x. number_within before type (x ∷ [])) (found_name (members_of before type) name m found) ∙ at)
@@ -148,7 +148,7 @@ kept d f (Some m) h = by (passes d m.section) (h m refl)
     by false g = refl
 
 -- each input and each output has a number
-pub formals_numbered : (d : Direction) (units : List UnitTable) (before : List ProgramUnit) (u : ProgramUnit) (h : Stands units before u) (type : VariableType) (declared : DeclaredType) (name : Name) → numbered_type before type ≡ Some declared →
+pub formals_numbered : (d : Direction) (units : List UnitTable) (before : List ProgramUnit) (u : ProgramUnit) (h : Represents units before u) (type : VariableType) (declared : DeclaredType) (name : Name) → numbered_type before type ≡ Some declared →
     is_some (option_and_then (numbered_formal before type) (formal_named d (members_of before type) name)) ≡ is_some (formal_named d (members_of before type) name)
 formals_numbered d units before u h (Elementary kind) declared name e = refl
 formals_numbered d units before u h (Standard block) declared name e =

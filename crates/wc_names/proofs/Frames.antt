@@ -10,7 +10,7 @@ use Rattle.wc_model.specs.Language.Names.{Name}
 use Rattle.wc_model.specs.Language.Store.{Content, below, block_places, same_path, variable_places}
 use Rattle.wc_model.specs.Language.Tree.{ProgramUnit}
 use Rattle.wc_names.specs.Keys.{same_name_laws}
-use Rattle.wc_names.specs.StandsFor.{AreDifferent, AreRows, IsRow, end_of, row_named}
+use Rattle.wc_names.specs.RepresentsText.{AreDifferent, AreRows, IsRow, end_of, row_named}
 use Rattle.wc_names.specs.declared.variable.Variable.{Variable as Row}
 use Rattle.wc_built_in.proofs.FieldTables.{position_from-map}
 use Rattle.wc_names.proofs.Places.{same_count}
@@ -56,14 +56,14 @@ end_least before first [] = omega arith
 end_least before first (v ∷ vs) = let h = end_least before (first + places_of_type before v.type_name) vs in omega (arith, h)
 
 -- a variable with its row
-pub record Beside (before : List ProgramUnit) (v : Variable) (row : Row) : Type 0 where
+pub record Alongside (before : List ProgramUnit) (v : Variable) (row : Row) : Type 0 where
   pub first : ℕ
   pub is : IsRow before first v row
 
 -- if a variable has the name, the path leads into it
 pub data Leads (before : List ProgramUnit) (vs : List Variable) (end : ℕ) (name : Name) (ns : List Name) (found : Option Row) (at : Option ℕ) : Type 0 where
   nothing : found ≡ None → at ≡ None → is_among (map (λ v. v.name) vs) name ≡ false → find (λ v. same_name v.name name) vs ≡ None → Leads before vs end name ns found at
-  into : (v : Variable) (row : Row) → found ≡ Some row → Beside before v row → v.name ≡ name → at ≡ option_map (λ n. row.first + n) (position_from (λ e. same_path e.0 ns) 0 (own_places before v)) → row.first + length (own_places before v) ≤ end → find (λ w. same_name w.name name) vs ≡ Some v → Leads before vs end name ns found at
+  into : (v : Variable) (row : Row) → found ≡ Some row → Alongside before v row → v.name ≡ name → at ≡ option_map (λ n. row.first + n) (position_from (λ e. same_path e.0 ns) 0 (own_places before v)) → row.first + length (own_places before v) ≤ end → find (λ w. same_name w.name name) vs ≡ Some v → Leads before vs end name ns found at
 
 pub leads : (before : List ProgramUnit) (first : ℕ) (vs : List Variable) (rows : List Row) (name : Name) (ns : List Name) → AreRows before first vs rows → AreDifferent (map (λ v. v.name) vs) →
     Leads before vs (end_of before first vs) name ns (row_named (map (λ v. v.name) vs) rows name) (position_from (λ e. same_path e.0 (name ∷ ns)) first (places_of before vs))

@@ -4,9 +4,9 @@ use Rattle.std.specs.Prelude.{OnOk}
 use Rattle.std.specs.Result.{IsErr, IsErrAnd}
 use Rattle.wc_model.specs.declared.fault.Fault.{Fault}
 
-pub handed_on : {X : Type 0} (holds : Result X Fault → Type 0) (fault : Fault) (result : Result X Fault) → IsErr result × IsErrAnd result (λ e. e ≡ fault) → holds (Err fault) → holds result
-handed_on holds fault (Ok x) gives h = absurd gives.1
-handed_on holds fault (Err f) gives h = subst (λ x. holds (Err x)) (sym gives.1) h
+pub propagated : {X : Type 0} (holds : Result X Fault → Type 0) (fault : Fault) (result : Result X Fault) → IsErr result × IsErrAnd result (λ e. e ≡ fault) → holds (Err fault) → holds result
+propagated holds fault (Ok x) gives h = absurd gives.1
+propagated holds fault (Err f) gives h = subst (λ x. holds (Err x)) (sym gives.1) h
 
 -- what a call promises if it succeeds leads to what is wanted there
 pub on_ok : {X E P Q : Type 0} (r : Result X E) → (P → Q) → OnOk r P → OnOk r Q

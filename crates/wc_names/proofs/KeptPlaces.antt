@@ -14,14 +14,14 @@ use Rattle.wc_model.specs.declared.kind.Kind.{Kind}
 use Rattle.wc_model.specs.declared.source.Initial.{Initial}
 use Rattle.wc_names.specs.Carrying.{HasPlace, field_within, kept_from, plain_within}
 use Rattle.wc_names.specs.Keys.{same_name_laws}
-use Rattle.wc_names.specs.StandsFor.{AreDifferent, Stands, first_place, row_named, type_at}
+use Rattle.wc_names.specs.RepresentsText.{AreDifferent, Represents, first_place, row_named, type_at}
 use Rattle.wc_names.specs.declared.declared_type.DeclaredType.{DeclaredType}
 use Rattle.wc_names.specs.declared.declared_type.DeclaredType.TheVariants as numbered
 use Rattle.wc_names.specs.declared.unit_table.UnitTable.{UnitTable}
 use Rattle.wc_names.specs.declared.variable.Variable.{Variable as Row}
 use Rattle.wc_names.proofs.Frames.{own_places}
-use Rattle.wc_names.proofs.Lookups.{field_of_one, from_row, has_room, place_from}
-use Rattle.wc_names.proofs.Places.{TypeCase, found_block, of_block, of_elementary, of_standard, stands_more, units_length}
+use Rattle.wc_names.proofs.Lookups.{field_of_one, from_row, has_capacity, place_from}
+use Rattle.wc_names.proofs.Places.{TypeCase, found_block, of_block, of_elementary, of_standard, holds_further, units_length}
 use Rattle.wc_names.proofs.Positions.{position_on}
 use Rattle.wc_names.proofs.VariablePlaces.{other_name}
 use Rattle.wc_laws_soundness.proofs.Carrying.{at_once, is_field, one_block}
@@ -177,14 +177,14 @@ field_kept before type initial block m inner old_before old_type declared old_in
 pub record InBlock (units : List UnitTable) (before : List ProgramUnit) (type : Option VariableType) (initial : Option Initial) (number : ℕ) : Type 0 where
   pub unit : ProgramUnit
   pub earlier : List ProgramUnit
-  pub stands : Stands units earlier unit
+  pub represents : Represents units earlier unit
   pub counted : number ≡ length earlier
   pub below : number < length before
   pub first : first_place unit ≡ 0
   pub places : variable_places (block_places before) type initial ≡ unit_places earlier unit
   pub lead : (ns : List Name) → lead_by (lead_from ns) before type ns ≡ lead_from ns earlier unit
 
-pub in_block : (units : List UnitTable) (before : List ProgramUnit) (u : ProgramUnit) → Stands units before u → (type : Option VariableType) (initial : Option Initial) (number : ℕ) → TypeCase before type (numbered.Block number) → InBlock units before type initial number
+pub in_block : (units : List UnitTable) (before : List ProgramUnit) (u : ProgramUnit) → Represents units before u → (type : Option VariableType) (initial : Option Initial) (number : ℕ) → TypeCase before type (numbered.Block number) → InBlock units before type initial number
 in_block units before u h type initial number (of_elementary k t d) = absurd (cc)
 in_block units before u h type initial number (of_standard b t d) = absurd (cc)
 in_block units before u h type initial number (of_block n unit us t f d) =
@@ -193,10 +193,10 @@ in_block units before u h type initial number (of_block n unit us t f d) =
     record {
       unit = unit;
       earlier = us;
-      stands = stands_more h.others units us unit h.front found.stands;
+      represents = holds_further h.others units us unit h.prefix found.represents;
       counted = count;
       below =
-          let l = slice_get_within h.others (length us) found.stands.table found.stands.there in
+          let l = slice_get_within h.others (length us) found.represents.table found.represents.there in
           let m = units_length before h.others h.earlier in
           omega (arith, l, m, count);
       first = rw found.block refl;
@@ -243,12 +243,12 @@ unlike_block units before old_before type old_type initial old_initial number de
     by (of_block n u us t f d) ns = absurd (no_block (length us) d)
 
 -- there is space for it
-pub kept_room : (before : List ProgramUnit) (type : Option VariableType) (old_before : List ProgramUnit) (w : Variable) (ns : List Name) (first : ℕ) → ((n : ℕ) → position_from (λ e. same_path e.0 ns) 0 (own_places old_before w) ≡ Some n → first + n < 65536) →
+pub kept_capacity : (before : List ProgramUnit) (type : Option VariableType) (old_before : List ProgramUnit) (w : Variable) (ns : List Name) (first : ℕ) → ((n : ℕ) → position_from (λ e. same_path e.0 ns) 0 (own_places old_before w) ≡ Some n → first + n < 65536) →
     (n : ℕ) → kept_within before type old_before (type_named old_before w.type_name) w.initial ns ≡ Some n → first + n < 65536
-kept_room before type old_before w ns first room n e = by (same_lead (lead_by (lead_from ns) old_before (type_named old_before w.type_name) ns) (lead_by (lead_from ns) before type ns)) e
+kept_capacity before type old_before w ns first capacity n e = by (same_lead (lead_by (lead_from ns) old_before (type_named old_before w.type_name) ns) (lead_by (lead_from ns) before type ns)) e
   where
     by : (b : Bool) → (if b then position_from (λ e. same_path e.0 ns) 0 (own_places old_before w) else None) ≡ Some n → first + n < 65536
-    by true e = room n e
+    by true e = capacity n e
     by false e = absurd (cc)
 
 -- a variable of the new unit, and the one of the same name of the old unit
@@ -256,13 +256,13 @@ pub record Meets (before : List ProgramUnit) (u : ProgramUnit) (old_before : Lis
   pub v : Variable
   pub w : Variable
   pub inner : List Name × Content
-  pub stands : slice_get (variable_places (block_places before) (type_named before v.type_name) v.initial) (number - row.first) ≡ Some inner
+  pub represents : slice_get (variable_places (block_places before) (type_named before v.type_name) v.initial) (number - row.first) ≡ Some inner
   pub type : type_at before v.type_name ≡ Some row.declared
   pub old_type : type_at old_before w.type_name ≡ Some old_row.declared
   pub is : option_map (λ n. old_row.first + n) (kept_within before (type_named before v.type_name) old_before (type_named old_before w.type_name) w.initial inner.0) ≡ kept_from before u old_before old entry.0
-  pub room : (n : ℕ) → kept_within before (type_named before v.type_name) old_before (type_named old_before w.type_name) w.initial inner.0 ≡ Some n → old_row.first + n < 65536
+  pub capacity : (n : ℕ) → kept_within before (type_named before v.type_name) old_before (type_named old_before w.type_name) w.initial inner.0 ≡ Some n → old_row.first + n < 65536
 
-pub meets : (old_units : List UnitTable) (before : List ProgramUnit) (u : ProgramUnit) (old_before : List ProgramUnit) (old : ProgramUnit) (number : ℕ) (entry : List Name × Content) (name : Name) (row old_row : Row) → HasPlace before u number entry name row → (o : Stands old_units old_before old) →
+pub meets : (old_units : List UnitTable) (before : List ProgramUnit) (u : ProgramUnit) (old_before : List ProgramUnit) (old : ProgramUnit) (number : ℕ) (entry : List Name × Content) (name : Name) (row old_row : Row) → HasPlace before u number entry name row → (o : Represents old_units old_before old) →
     row_named o.table.names o.table.rows.items name ≡ Some old_row → Meets before u old_before old number entry row old_row
 meets old_units before u old_before old number entry name row old_row place o e =
     let into = from_row old_units old_before old o name place.inner.0 old_row e in
@@ -270,9 +270,9 @@ meets old_units before u old_before old number entry name row old_row place o e 
       v = place.variable;
       w = into.v;
       inner = place.inner;
-      stands = place.stands;
+      represents = place.represents;
       type = place.declared;
       old_type = into.declared;
       is = sym (ap (λ (x : List Name × Content). kept_from before u old_before old x.0) place.entry_is ∙ kept_in before u old_before old name place.inner.0 place.variable into.v old_row.first place.named into.named into.at_is);
-      room = kept_room before (type_named before place.variable.type_name) old_before into.v place.inner.0 old_row.first (has_room old_row.first (own_places old_before into.v) place.inner.0 o.table.size into.room o.is.small);
+      capacity = kept_capacity before (type_named before place.variable.type_name) old_before into.v place.inner.0 old_row.first (has_capacity old_row.first (own_places old_before into.v) place.inner.0 o.table.size into.capacity o.is.small);
     }

@@ -2,7 +2,7 @@
 use Rattle.std.proofs.Common.{◌≡◌, ℕ, ◌<◌, ◌≤◌, List, [], ◌∷◌, length, get_or, take, drop, refl, arith}
 use Rattle.std.specs.Char.{to_ascii_lowercase}
 use Rattle.wc_model.specs.Language.Names.{Name, name_of}
-use Rattle.wc_names.specs.Keys.{caseless, mix, number_behind, word_of}
+use Rattle.wc_names.specs.Keys.{caseless, mix, number_after, word_of}
 
 -- eight bytes in small letters
 abbrev pub small_eight : List ℕ → List ℕ
@@ -16,11 +16,11 @@ eight (a ∷ b ∷ c ∷ d ∷ e ∷ f ∷ g ∷ h ∷ text) long = refl
 eight text long = absurd (omega (arith, long))
 
 -- the first word of what is left
-pub word_next : (number : ℕ) (name : Name) → 8 ≤ length name → number_behind number name ≡ number_behind (mix number (word_of (take 8 name))) (drop 8 name)
+pub word_next : (number : ℕ) (name : Name) → 8 ≤ length name → number_after number name ≡ number_after (mix number (word_of (take 8 name))) (drop 8 name)
 word_next number (a ∷ b ∷ c ∷ d ∷ e ∷ f ∷ g ∷ h ∷ name) long = refl
 word_next number name long = absurd (omega (arith, long))
 
 -- one of the last bytes
-pub byte_next : (number byte : ℕ) (name : Name) → length name < 7 → number_behind number (byte ∷ name) ≡ number_behind (mix number (caseless byte)) name
+pub byte_next : (number byte : ℕ) (name : Name) → length name < 7 → number_after number (byte ∷ name) ≡ number_after (mix number (caseless byte)) name
 byte_next number byte (b ∷ c ∷ d ∷ e ∷ f ∷ g ∷ h ∷ name) short = absurd (omega (arith, short))
 byte_next number byte name short = refl

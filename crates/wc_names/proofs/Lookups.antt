@@ -11,20 +11,20 @@ use Rattle.wc_model.specs.declared.block.StandardBlock.{StandardBlock}
 use Rattle.wc_model.specs.declared.kind.Kind.{Kind}
 use Rattle.wc_model.specs.declared.source.Initial.{Initial}
 use Rattle.wc_model.specs.Language.Scopes.{Scope, type_of}
-use Rattle.wc_names.specs.Numbered.{number_within, numbered_type, stands_in}
+use Rattle.wc_names.specs.Numbered.{number_within, numbered_type, is_allowed_in}
 use Rattle.wc_names.specs.declared.declared_type.DeclaredType.{DeclaredType}
-use Rattle.wc_names.specs.StandsFor.{AreRows, Stands, end_of, first_from, first_number, first_place, row_named, type_at}
+use Rattle.wc_names.specs.RepresentsText.{AreRows, Represents, end_of, first_from, first_number, first_place, row_named, type_at}
 use Rattle.wc_names.specs.declared.declared_type.DeclaredType.TheVariants as numbered
 use Rattle.wc_names.specs.declared.unit_table.UnitTable.{UnitTable}
 use Rattle.wc_names.specs.declared.variable.Variable.{Variable as Row}
 use Rattle.wc_names.proofs.Frames.{Leads, into, leads, nothing, own_places, places_of, rows_length}
-use Rattle.wc_names.proofs.Places.{TypeCase, found_block, of_block, of_elementary, of_standard, stands_more, type_case}
+use Rattle.wc_names.proofs.Places.{TypeCase, found_block, of_block, of_elementary, of_standard, holds_further, type_case}
 use Rattle.wc_names.proofs.Positions.{or_else, position_alike, position_append, position_none, position_within}
 use Rattle.wc_built_in.proofs.FieldTables.{position_from-map}
 use Rattle.wc_model.specs.Language.Declarations.{type_named}
 
 -- there are as many names as rows
-pub named_rows : (units : List UnitTable) (before : List ProgramUnit) (u : ProgramUnit) (h : Stands units before u) → length h.table.names ≡ length h.table.rows.items
+pub named_rows : (units : List UnitTable) (before : List ProgramUnit) (u : ProgramUnit) (h : Represents units before u) → length h.table.names ≡ length h.table.rows.items
 named_rows units before u h = ap length h.is.names ∙ rows_length before (first_place u) (variables_of u) h.table.rows.items h.is.rows
 
 -- where the places of the variable of a name begin
@@ -39,7 +39,7 @@ rows_first before first (v ∷ vs) (row ∷ rows) name h = by (same_name v.name 
     by true rest = ap Some h.0.begins
     by false rest = rest
 
-pub first_found : (units : List UnitTable) (scope : Scope) (h : Stands units scope.before scope.unit) (name : Name) → option_map (λ (row : Row). row.first) (row_named h.table.names h.table.rows.items name) ≡ first_number scope name
+pub first_found : (units : List UnitTable) (scope : Scope) (h : Represents units scope.before scope.unit) (name : Name) → option_map (λ (row : Row). row.first) (row_named h.table.names h.table.rows.items name) ≡ first_number scope name
 first_found units scope h name =
     ap (λ (names : List Name). option_map (λ (row : Row). row.first) (row_named names h.table.rows.items name)) h.is.names
     ∙ rows_first scope.before (first_place scope.unit) (variables_of scope.unit) h.table.rows.items name h.is.rows
@@ -48,7 +48,7 @@ first_found units scope h name =
 abbrev pub place_from : List ProgramUnit → ProgramUnit → List Name → Option ℕ
 place_from before u names = position_from (λ e. same_path e.0 names) (first_place u) (unit_places before u)
 
-pub leads_from : (units : List UnitTable) (before : List ProgramUnit) (u : ProgramUnit) (h : Stands units before u) (name : Name) (ns : List Name) →
+pub leads_from : (units : List UnitTable) (before : List ProgramUnit) (u : ProgramUnit) (h : Represents units before u) (name : Name) (ns : List Name) →
     Leads before (variables_of u) h.table.size name ns (row_named h.table.names h.table.rows.items name) (place_from before u (name ∷ ns))
 leads_from units before u h name ns =
     subst (λ end. Leads before (variables_of u) end name ns (row_named h.table.names h.table.rows.items name) (place_from before u (name ∷ ns))) (sym h.is.size)
@@ -56,7 +56,7 @@ leads_from units before u h name ns =
     (leads before (first_place u) (variables_of u) h.table.rows.items name ns h.is.rows h.is.different))
 
 -- no variable has the name
-pub from_nothing : (units : List UnitTable) (before : List ProgramUnit) (u : ProgramUnit) (h : Stands units before u) (name : Name) (ns : List Name) → row_named h.table.names h.table.rows.items name ≡ None → place_from before u (name ∷ ns) ≡ None
+pub from_nothing : (units : List UnitTable) (before : List ProgramUnit) (u : ProgramUnit) (h : Represents units before u) (name : Name) (ns : List Name) → row_named h.table.names h.table.rows.items name ≡ None → place_from before u (name ∷ ns) ≡ None
 from_nothing units before u h name ns e = by (leads_from units before u h name ns)
   where
     by : Leads before (variables_of u) h.table.size name ns (row_named h.table.names h.table.rows.items name) (place_from before u (name ∷ ns)) → place_from before u (name ∷ ns) ≡ None
@@ -68,13 +68,13 @@ pub record Into (before : List ProgramUnit) (u : ProgramUnit) (name : Name) (row
   pub v : Variable
   pub declared : type_at before v.type_name ≡ Some row.declared
   pub at_is : at ≡ option_map (λ n. row.first + n) (position_from (λ e. same_path e.0 ns) 0 (own_places before v))
-  pub room : row.first + length (own_places before v) ≤ end
+  pub capacity : row.first + length (own_places before v) ≤ end
   pub named : find (λ w. same_name w.name name) (variables_of u) ≡ Some v
   pub spelled : v.name ≡ name
   pub section : row.section ≡ v.section
-  pub stands : stands_in row.section row.declared ≡ true
+  pub represents : is_allowed_in row.section row.declared ≡ true
 
-pub from_row : (units : List UnitTable) (before : List ProgramUnit) (u : ProgramUnit) (h : Stands units before u) (name : Name) (ns : List Name) (row : Row) → row_named h.table.names h.table.rows.items name ≡ Some row →
+pub from_row : (units : List UnitTable) (before : List ProgramUnit) (u : ProgramUnit) (h : Represents units before u) (name : Name) (ns : List Name) (row : Row) → row_named h.table.names h.table.rows.items name ≡ Some row →
     Into before u name row ns (place_from before u (name ∷ ns)) h.table.size
 from_row units before u h name ns row e = by (leads_from units before u h name ns)
   where
@@ -83,11 +83,11 @@ from_row units before u h name ns row e = by (leads_from units before u h name n
     by (into v r f b n a l q) =
         let g : Some r ≡ Some row = sym f ∙ e in
         let same : r ≡ row = cc in
-        subst (λ x. Into before u name x ns (place_from before u (name ∷ ns)) h.table.size) same (record { v = v; declared = b.is.declared; at_is = a; room = l; named = q; spelled = n; section = b.is.section; stands = ap (λ x. stands_in x r.declared) b.is.section ∙ b.is.stands })
+        subst (λ x. Into before u name x ns (place_from before u (name ∷ ns)) h.table.size) same (record { v = v; declared = b.is.declared; at_is = a; capacity = l; named = q; spelled = n; section = b.is.section; represents = ap (λ x. is_allowed_in x r.declared) b.is.section ∙ b.is.represents })
 
 -- there is space for what is found within a variable
-pub has_room : (first : ℕ) (own : List (List Name × Content)) (ns : List Name) (size : ℕ) → first + length own ≤ size → size ≤ 4096 → (n : ℕ) → position_from (λ e. same_path e.0 ns) 0 own ≡ Some n → first + n < 65536
-has_room first own ns size room small n e = let l = position_within (λ e. same_path e.0 ns) 0 own n e in omega (arith, l, room, small)
+pub has_capacity : (first : ℕ) (own : List (List Name × Content)) (ns : List Name) (size : ℕ) → first + length own ≤ size → size ≤ 4096 → (n : ℕ) → position_from (λ e. same_path e.0 ns) 0 own ≡ Some n → first + n < 65536
+has_capacity first own ns size capacity small n e = let l = position_within (λ e. same_path e.0 ns) 0 own n e in omega (arith, l, capacity, small)
 
 -- the places within a variable, by its type
 pub within_elementary : (before : List ProgramUnit) (v : Variable) (kind : Kind) (ns : List Name) (result : Option ℕ) → type_at before v.type_name ≡ Some (numbered.Elementary kind) →
@@ -115,11 +115,11 @@ within_standard before v block ns result e is = by (type_case before (type_named
 pub record BlockOf (units : List UnitTable) (before : List ProgramUnit) (v : Variable) (number : ℕ) (ns : List Name) : Type 0 where
   pub unit : ProgramUnit
   pub earlier : List ProgramUnit
-  pub stands : Stands units earlier unit
+  pub represents : Represents units earlier unit
   pub counted : number ≡ length earlier
   pub places : place_from earlier unit ns ≡ position_from (λ e. same_path e.0 ns) 0 (own_places before v)
 
-pub within_block : (units : List UnitTable) (before : List ProgramUnit) (u : ProgramUnit) (h : Stands units before u) (v : Variable) (number : ℕ) (ns : List Name) → type_at before v.type_name ≡ Some (numbered.Block number) →
+pub within_block : (units : List UnitTable) (before : List ProgramUnit) (u : ProgramUnit) (h : Represents units before u) (v : Variable) (number : ℕ) (ns : List Name) → type_at before v.type_name ≡ Some (numbered.Block number) →
     BlockOf units before v number ns
 within_block units before u h v number ns e = by (type_case before (type_named before v.type_name) (numbered.Block number) e)
   where
@@ -132,7 +132,7 @@ within_block units before u h v number ns e = by (type_case before (type_named b
         record {
           unit = unit;
           earlier = us;
-          stands = stands_more h.others units us unit h.front found.stands;
+          represents = holds_further h.others units us unit h.prefix found.represents;
           counted = cc;
           places = ap (λ first. position_from (λ e. same_path e.0 ns) first (unit_places us unit)) zero_first ∙ ap (position_from (λ e. same_path e.0 ns) 0) (sym found.places)
               ∙ sym (ap (λ x. position_from (λ e. same_path e.0 ns) 0 (variable_places (block_places before) x v.initial)) t);
@@ -177,7 +177,7 @@ no_name before first (v ∷ vs) =
     ∙ no_name before (first + length (below v.name (own_places before v))) vs
 
 -- no variable has the name
-pub none_named : (units : List UnitTable) (before : List ProgramUnit) (u : ProgramUnit) (h : Stands units before u) (name : Name) → row_named h.table.names h.table.rows.items name ≡ None → find (λ w. same_name w.name name) (variables_of u) ≡ None
+pub none_named : (units : List UnitTable) (before : List ProgramUnit) (u : ProgramUnit) (h : Represents units before u) (name : Name) → row_named h.table.names h.table.rows.items name ≡ None → find (λ w. same_name w.name name) (variables_of u) ≡ None
 none_named units before u h name e = by (leads_from units before u h name [])
   where
     by : Leads before (variables_of u) h.table.size name [] (row_named h.table.names h.table.rows.items name) (place_from before u (name ∷ [])) → find (λ w. same_name w.name name) (variables_of u) ≡ None

@@ -11,13 +11,13 @@ use Rattle.wc_model.specs.Language.Tree.{ProgramUnit}
 use Rattle.wc_built_in.specs.Fields.{member_seen}
 use Rattle.wc_names.specs.Members.{kind_numbered, row_seen}
 use Rattle.wc_names.specs.Numbered.{number_within, numbered_type}
-use Rattle.wc_names.specs.StandsFor.{AreRows, Stands, first_place, row_named}
+use Rattle.wc_names.specs.RepresentsText.{AreRows, Represents, first_place, row_named}
 use Rattle.wc_names.specs.declared.declared_type.DeclaredType.{DeclaredType}
 use Rattle.wc_names.specs.declared.declared_type.DeclaredType.TheVariants as numbered
 use Rattle.wc_names.specs.declared.unit_table.UnitTable.{UnitTable}
 use Rattle.wc_names.specs.declared.variable.Variable.{Variable as Row}
 use Rattle.wc_names.proofs.Lookups.{place_from}
-use Rattle.wc_names.proofs.Places.{TypeCase, found_block, of_block, of_elementary, of_standard, stands_more, type_case}
+use Rattle.wc_names.proofs.Places.{TypeCase, found_block, of_block, of_elementary, of_standard, holds_further, type_case}
 
 -- the kind of a type, by its number
 pub kind_case : (before : List ProgramUnit) (type : VariableType) (declared : DeclaredType) → TypeCase before (Some type) declared → elementary_kind type ≡ kind_numbered declared
@@ -53,12 +53,12 @@ members_of_rows before first (v ∷ vs) (row ∷ rows) name h =
 pub record MembersOf (units : List UnitTable) (before : List ProgramUnit) (type : VariableType) (number : ℕ) (name : Name) : Type 0 where
   pub earlier : List ProgramUnit
   pub unit : ProgramUnit
-  pub stands : Stands units earlier unit
+  pub represents : Represents units earlier unit
   pub counted : number ≡ length earlier
-  pub members : option_map row_seen (row_named stands.table.names stands.table.rows.items name) ≡ option_map member_seen (member_named (members_of before type) name)
+  pub members : option_map row_seen (row_named represents.table.names represents.table.rows.items name) ≡ option_map member_seen (member_named (members_of before type) name)
   pub places : (ns : List Name) → place_from earlier unit ns ≡ number_within before type ns
 
-pub members_by : (units : List UnitTable) (before : List ProgramUnit) (u : ProgramUnit) (h : Stands units before u) (type : VariableType) (number : ℕ) (name : Name) → numbered_type before type ≡ Some (numbered.Block number) →
+pub members_by : (units : List UnitTable) (before : List ProgramUnit) (u : ProgramUnit) (h : Represents units before u) (type : VariableType) (number : ℕ) (name : Name) → numbered_type before type ≡ Some (numbered.Block number) →
     MembersOf units before type number name
 members_by units before u h type number name e = by (type_case before (Some type) (numbered.Block number) e)
   where
@@ -67,15 +67,15 @@ members_by units before u h type number name e = by (type_case before (Some type
     by (of_standard b t d) = cc
     by (of_block m unit us t f d) =
         let found = found_block before h.others m unit us h.earlier f in
-        let stands = stands_more h.others units us unit h.front found.stands in
+        let represents = holds_further h.others units us unit h.prefix found.represents in
         let same : type ≡ Block m = cc in
         let zero_first : first_place unit ≡ 0 = rw found.block refl in
         record {
           earlier = us;
           unit = unit;
-          stands = stands;
+          represents = represents;
           counted = cc;
-          members = ap (λ ns. option_map row_seen (row_named ns stands.table.rows.items name)) stands.is.names ∙ sym (members_of_rows us _ (variables_of unit) stands.table.rows.items name stands.is.rows)
+          members = ap (λ ns. option_map row_seen (row_named ns represents.table.rows.items name)) represents.is.names ∙ sym (members_of_rows us _ (variables_of unit) represents.table.rows.items name represents.is.rows)
               ∙ sym (ap (λ x. option_map member_seen (member_named (members_of before x) name)) same
               ∙ ap (λ (o : Option (ProgramUnit × List ProgramUnit)). option_map member_seen (member_named (elim o as (λ x. List Member) [ Some g ↦ flat_map (as_member g.1) (variables_of g.0) | None ↦ [] ]) name)) f);
           places = λ ns. ap (λ first. position_from (λ e. same_path e.0 ns) first (unit_places us unit)) zero_first ∙ ap (position_from (λ e. same_path e.0 ns) 0) (sym found.places)

@@ -10,13 +10,13 @@ use Rattle.wc_model.specs.Language.Names.{Name}
 use Rattle.wc_model.specs.Language.Store.{Content, below, block_places, first_content, places_declared, same_path, standard_fields, unit_places, variable_places}
 use Rattle.wc_model.specs.Language.Tree.{ProgramUnit}
 use Rattle.wc_model.specs.declared.source.Initial.{Initial}
-use Rattle.wc_names.specs.StandsFor.{AreDifferent, AreUnits, Stands}
+use Rattle.wc_names.specs.RepresentsText.{AreDifferent, AreUnits, Represents}
 use Rattle.wc_names.specs.declared.unit_table.UnitTable.{UnitTable}
 use Rattle.wc_names.proofs.Frames.{nowhere, own_places, places_of, position_below}
 use Rattle.wc_names.proofs.KeptPlaces.{field_of, fields_differ, own_number}
 use Rattle.wc_names.proofs.Lookups.{field_of_one, no_name}
 use Rattle.wc_names.proofs.Positions.{or_else, position_append, position_on}
-use Rattle.wc_names.proofs.VariablePlaces.{front_item, item_below, later_item}
+use Rattle.wc_names.proofs.VariablePlaces.{prefix_item, item_below, later_item}
 use Rattle.wc_laws_soundness.proofs.Tests.{same_name-refl}
 
 -- each entry is the first with its path
@@ -58,8 +58,8 @@ variables_own before (v ∷ vs) different own k entry e = by (cases_lt k (length
     inside None there f = cc
     inside (Some inner) there f = here inner there (let same : (v.name ∷ inner.0, inner.1) ≡ entry = cc in sym same)
 
-    behind : (j : ℕ) → k ≡ length (below v.name (own_places before v)) + j → position_from (λ p. same_path p.0 entry.0) 0 (places_of before vs) ≡ Some j → (name : Name) × (ns : List Name) × (entry.0 ≡ name ∷ ns) × (is_among (map (λ w. w.name) vs) name ≡ true) → position_from (λ p. same_path p.0 entry.0) 0 (places_of before (v ∷ vs)) ≡ Some k
-    behind j split found head =
+    following : (j : ℕ) → k ≡ length (below v.name (own_places before v)) + j → position_from (λ p. same_path p.0 entry.0) 0 (places_of before vs) ≡ Some j → (name : Name) × (ns : List Name) × (entry.0 ≡ name ∷ ns) × (is_among (map (λ w. w.name) vs) name ≡ true) → position_from (λ p. same_path p.0 entry.0) 0 (places_of before (v ∷ vs)) ≡ Some k
+    following j split found head =
         let test : List Name × Content → Bool = λ p. same_path p.0 entry.0 in
         let size = length (below v.name (own_places before v)) in
         let none : position_from test 0 (below v.name (own_places before v)) ≡ None =
@@ -73,13 +73,13 @@ variables_own before (v ∷ vs) different own k entry e = by (cases_lt k (length
         ∙ position_on test size (places_of before vs) ∙ ap (option_map (λ n. size + n)) found ∙ ap Some (sym split)
 
     by : (k < length (below v.name (own_places before v))) ⊎ (length (below v.name (own_places before v)) ≤ k) → HaveOwnNumbers (places_of before vs) → position_from (λ p. same_path p.0 entry.0) 0 (places_of before (v ∷ vs)) ≡ Some k
-    by (inl within) rest = inside (slice_get (own_places before v) k) refl (sym (item_below v.name (own_places before v) k) ∙ sym (front_item (below v.name (own_places before v)) (places_of before vs) k within) ∙ e)
+    by (inl within) rest = inside (slice_get (own_places before v) k) refl (sym (item_below v.name (own_places before v) k) ∙ sym (prefix_item (below v.name (own_places before v)) (places_of before vs) k within) ∙ e)
     by (inr past) rest =
         let size = length (below v.name (own_places before v)) in
         let split : k ≡ size + (k - size) = omega (arith, past) in
         let there : slice_get (places_of before vs) (k - size) ≡ Some entry = sym (later_item (below v.name (own_places before v)) (places_of before vs) (k - size)) ∙ ap (slice_get (places_of before (v ∷ vs))) (sym split) ∙ e in
         let found = rest (k - size) entry there in
-        behind (k - size) split found (named_there before vs entry.0 (k - size) found)
+        following (k - size) split found (named_there before vs entry.0 (k - size) found)
 
 -- the places of a variable, if those of instances of blocks have their own numbers
 type_own : (places : Name → List (List Name × Content)) (type : Option VariableType) (initial : Option Initial) → ((name : Name) → HaveOwnNumbers (places name)) → HaveOwnNumbers (variable_places places type initial)
@@ -112,5 +112,5 @@ blocks_own (unit ∷ before) tables h name =
     by false this others = others
 
 -- and the places of a unit
-pub unit_own : (units : List UnitTable) (before : List ProgramUnit) (u : ProgramUnit) → Stands units before u → HaveOwnNumbers (unit_places before u)
+pub unit_own : (units : List UnitTable) (before : List ProgramUnit) (u : ProgramUnit) → Represents units before u → HaveOwnNumbers (unit_places before u)
 unit_own units before u h = variables_own before (variables_of u) h.is.different (λ v. type_own (block_places before) (type_named before v.type_name) v.initial (blocks_own before h.others h.earlier))

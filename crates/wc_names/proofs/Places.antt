@@ -12,7 +12,7 @@ use Rattle.wc_model.specs.declared.block.StandardBlock.{StandardBlock}
 use Rattle.wc_model.specs.declared.kind.Kind.{Kind}
 use Rattle.wc_model.specs.declared.source.Initial.{Initial}
 use Rattle.wc_names.specs.Numbered.{numbered_type}
-use Rattle.wc_names.specs.StandsFor.{AreUnits, Stands, end_of, first_place, number_named, type_at}
+use Rattle.wc_names.specs.RepresentsText.{AreUnits, Represents, end_of, first_place, number_named, type_at}
 use Rattle.wc_names.specs.declared.declared_type.DeclaredType.{DeclaredType}
 use Rattle.wc_names.specs.declared.declared_type.DeclaredType.TheVariants as numbered
 use Rattle.wc_names.specs.declared.unit_table.UnitTable.{UnitTable}
@@ -45,28 +45,28 @@ units_length [] tables h = ap length h
 units_length (unit ∷ before) tables h = ap length h.2 ∙ (let e : length (h.0 ++ h.1 ∷ []) ≡ length h.0 + length (h.1 ∷ []) = length-append h.0 (h.1 ∷ []) in let f : length h.0 ≡ length before = units_length before h.0 h.4 in omega (arith, e, f))
 
 -- the table of the first unit
-pub front_table : (unit : ProgramUnit) (before : List ProgramUnit) (tables : List UnitTable) (h : AreUnits (unit ∷ before) tables) → slice_get tables (length before) ≡ Some h.1
-front_table unit before tables h =
+pub prefix_table : (unit : ProgramUnit) (before : List ProgramUnit) (tables : List UnitTable) (h : AreUnits (unit ∷ before) tables) → slice_get tables (length before) ≡ Some h.1
+prefix_table unit before tables h =
     ap (λ ts. slice_get ts (length before)) h.2 ∙ ap (λ n. slice_get (h.0 ++ h.1 ∷ []) n) (sym (units_length before h.0 h.4)) ∙ get_last h.0 h.1
 
-pub stands_front : (unit : ProgramUnit) (before : List ProgramUnit) (tables : List UnitTable) → AreUnits (unit ∷ before) tables → Stands tables before unit
-stands_front unit before tables h = record {
+pub prefix_holds : (unit : ProgramUnit) (before : List ProgramUnit) (tables : List UnitTable) → AreUnits (unit ∷ before) tables → Represents tables before unit
+prefix_holds unit before tables h = record {
   table = h.1;
   others = h.0;
-  there = front_table unit before tables h;
+  there = prefix_table unit before tables h;
   is = h.3;
   earlier = h.4;
-  front = λ k t e. ap (λ ts. slice_get ts k) h.2 ∙ get_more h.0 (h.1 ∷ []) k t e;
+  prefix = λ k t e. ap (λ ts. slice_get ts k) h.2 ∙ get_more h.0 (h.1 ∷ []) k t e;
 }
 
-pub stands_more : (tables more : List UnitTable) (before : List ProgramUnit) (unit : ProgramUnit) → ((k : ℕ) (t : UnitTable) → slice_get tables k ≡ Some t → slice_get more k ≡ Some t) → Stands tables before unit → Stands more before unit
-stands_more tables more before unit step h = record {
+pub holds_further : (tables more : List UnitTable) (before : List ProgramUnit) (unit : ProgramUnit) → ((k : ℕ) (t : UnitTable) → slice_get tables k ≡ Some t → slice_get more k ≡ Some t) → Represents tables before unit → Represents more before unit
+holds_further tables more before unit step h = record {
   table = h.table;
   others = h.others;
   there = step (length before) h.table h.there;
   is = h.is;
   earlier = h.earlier;
-  front = λ k t e. step k t (h.front k t e);
+  prefix = λ k t e. step k t (h.prefix k t e);
 }
 
 -- two pairs that are one have the same parts
@@ -75,7 +75,7 @@ same_pair {X} {Y} a c b d e = let p : ◌≡◌ {A = X × Y} (a, b) (c, d) = cc 
 
 -- what a name found among the units is: a block with its table, and its places
 pub record Found (before : List ProgramUnit) (tables : List UnitTable) (name : Name) (unit : ProgramUnit) (earlier : List ProgramUnit) : Type 0 where
-  pub stands : Stands tables earlier unit
+  pub represents : Represents tables earlier unit
   pub block : is_block unit ≡ true
   pub places : block_places before name ≡ places_declared (block_places earlier) earlier unit
 
@@ -88,7 +88,7 @@ found_in unit before tables name h u us rest true true s b e =
     let eu = parts.0 in
     let eus = parts.1 in
     let f : Found (unit ∷ before) tables name unit before = record {
-      stands = stands_front unit before tables h;
+      represents = prefix_holds unit before tables h;
       block = b;
       places = ap (λ t. elim t as (λ x. List (List Name × Content)) [ true ↦ places_declared (block_places before) before unit | false ↦ block_places before name ]) s;
     } in
@@ -96,7 +96,7 @@ found_in unit before tables name h u us rest true true s b e =
 found_in unit before tables name h u us rest true false s b e = cc
 found_in unit before tables name h u us rest false block s b e =
     let f = rest e in record {
-      stands = stands_more h.0 tables us u (λ k t g. ap (λ ts. slice_get ts k) h.2 ∙ get_more h.0 (h.1 ∷ []) k t g) f.stands;
+      represents = holds_further h.0 tables us u (λ k t g. ap (λ ts. slice_get ts k) h.2 ∙ get_more h.0 (h.1 ∷ []) k t g) f.represents;
       block = f.block;
       places = ap (λ t. elim t as (λ x. List (List Name × Content)) [ true ↦ places_declared (block_places before) before unit | false ↦ block_places before name ]) s ∙ f.places;
     }
@@ -114,7 +114,7 @@ numbered_in : (unit : ProgramUnit) (before : List ProgramUnit) (tables : List Un
 numbered_in unit before tables name h n rest true e =
     let en : length before ≡ n = cc in (
       h.1,
-      ap (λ k. slice_get tables k) (sym en) ∙ front_table unit before tables h,
+      ap (λ k. slice_get tables k) (sym en) ∙ prefix_table unit before tables h,
       here (is_block unit) ∙ (λ i. if sym h.3.is_block i then Some (en i) else None),
     )
   where
@@ -176,12 +176,12 @@ standard_type_width before name b e = by (type_case before (type_named before na
     by (of_block n u us t f d) = cc
 
 -- a block's frame is as large as its places are many
-pub block_size : (before : List ProgramUnit) (tables : List UnitTable) (name : Name) (u : ProgramUnit) (us : List ProgramUnit) (f : Found before tables name u us) → f.stands.table.size ≡ length (block_places before name)
+pub block_size : (before : List ProgramUnit) (tables : List UnitTable) (name : Name) (u : ProgramUnit) (us : List ProgramUnit) (f : Found before tables name u us) → f.represents.table.size ≡ length (block_places before name)
 block_size before tables name u us f =
     let end = places_end us 0 (variables_of u) in
     let zero_first : first_place u ≡ 0 = rw f.block refl in
     let n : 0 + length (places_declared (block_places us) us u) ≡ length (places_declared (block_places us) us u) = omega arith in
-    f.stands.is.size ∙ ap (λ first. end_of us first (variables_of u)) zero_first ∙ sym end ∙ n ∙ ap length (sym f.places)
+    f.represents.is.size ∙ ap (λ first. end_of us first (variables_of u)) zero_first ∙ sym end ∙ n ∙ ap length (sym f.places)
 
 pub block_type_width : (before : List ProgramUnit) (tables : List UnitTable) (name : Name) (n : ℕ) → AreUnits before tables → type_at before name ≡ Some (numbered.Block n) →
     (t : UnitTable) × (slice_get tables n ≡ Some t) × (t.size ≡ places_of_type before name)
@@ -193,8 +193,8 @@ block_type_width before tables name n h e = by (type_case before (type_named bef
     by (of_block m u us t f d) =
         let en : n ≡ length us = cc in
         let found = found_block before tables m u us h f in (
-          found.stands.table,
-          ap (λ k. slice_get tables k) en ∙ found.stands.there,
+          found.represents.table,
+          ap (λ k. slice_get tables k) en ∙ found.represents.there,
           block_size before tables m u us found ∙ ap (λ x. length (variable_places (block_places before) x None)) (sym t),
         )
 

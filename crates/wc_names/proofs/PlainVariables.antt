@@ -13,7 +13,7 @@ use Rattle.wc_model.specs.Language.Store.{Path, below, block_places, same_path, 
 use Rattle.wc_model.specs.Language.Tree.{ProgramUnit}
 use Rattle.wc_model.specs.declared.kind.Kind.{Kind}
 use Rattle.wc_names.specs.Numbered.{plain_of_field}
-use Rattle.wc_names.specs.StandsFor.{AreDifferent, Stands, first_place, plain_at, plain_from}
+use Rattle.wc_names.specs.RepresentsText.{AreDifferent, Represents, first_place, plain_at, plain_from}
 use Rattle.wc_names.specs.declared.unit_table.UnitTable.{UnitTable}
 use Rattle.wc_names.proofs.Frames.{own_places, places_of, position_below}
 use Rattle.wc_names.proofs.Places.{same_count}
@@ -51,15 +51,15 @@ another names own name d a = by (same_name own name) refl
     by true s = let e : own ≡ name = (bytes_eq-Decides own name).0 s in let f : is_among names name ≡ false = subst (λ n. is_among names n ≡ false) e d in cc
     by false s = refl
 
-plain_behind : (scope : Scope) (first : ℕ) (vs : List Variable) → AreDifferent (map (λ v. v.name) vs) →
+plain_after : (scope : Scope) (first : ℕ) (vs : List Variable) → AreDifferent (map (λ v. v.name) vs) →
     ((name : Name) → is_among (map (λ v. v.name) vs) name ≡ true → place_number (frame_of scope) (Path (name ∷ [])) ≡ position_from (λ e. same_path e.0 (name ∷ [])) first (places_of scope.before vs)) →
     plain_from scope.before first vs ≡ flat_map (λ v. plain_of scope v (type_named scope.before v.type_name)) vs
-plain_behind scope first [] d h = refl
-plain_behind scope first (v ∷ vs) d h =
+plain_after scope first [] d h = refl
+plain_after scope first (v ∷ vs) d h =
     let names = map (λ (w : Variable). w.name) vs in
     let self : same_name v.name v.name ≡ true = (bytes_eq-Decides v.name v.name).1 refl in
     let here = plain_here scope first v (type_named scope.before v.type_name) (λ kind t. h v.name (ap (λ b. b || is_among names v.name) self) ∙ to_first scope.before first v vs kind t) in
-    let rest = plain_behind scope (first + places_of_type scope.before v.type_name) vs d.1 (λ name a.
+    let rest = plain_after scope (first + places_of_type scope.before v.type_name) vs d.1 (λ name a.
     h name (or_true (same_name name v.name) (is_among names name) a) ∙ cut scope.before first v vs name false (another names v.name name d.0 a)) in
     λ i. here i ++ rest i
   where
@@ -68,5 +68,5 @@ plain_behind scope first (v ∷ vs) d h =
     or_true false b e = e
 
 -- the plain variables of a table are those of its unit
-pub plain_fields : (units : List UnitTable) (scope : Scope) (h : Stands units scope.before scope.unit) → map plain_of_field h.table.fields.items ≡ plain_variables scope
-plain_fields units scope h = h.is.fields ∙ plain_behind scope (first_place scope.unit) (variables_of scope.unit) h.is.different (λ name a. frame_path scope (name ∷ []))
+pub plain_fields : (units : List UnitTable) (scope : Scope) (h : Represents units scope.before scope.unit) → map plain_of_field h.table.fields.items ≡ plain_variables scope
+plain_fields units scope h = h.is.fields ∙ plain_after scope (first_place scope.unit) (variables_of scope.unit) h.is.different (λ name a. frame_path scope (name ∷ []))

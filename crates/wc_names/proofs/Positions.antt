@@ -49,7 +49,7 @@ position_within p i (x ∷ xs) n e = step (p x) (position_from p (i + 1) xs) e (
     step false more q h = let l = h q in omega (arith, l)
 
 -- a number after others, if there is space
-pub behind_is : (first : ℕ) (inner result at : Option ℕ) → ((n : ℕ) → inner ≡ Some n → first + n < 65536 → result ≡ Some (first + n)) → (inner ≡ None → result ≡ None) → inner ≡ at → ((n : ℕ) → at ≡ Some n → first + n < 65536) →
+pub after_is : (first : ℕ) (inner result at : Option ℕ) → ((n : ℕ) → inner ≡ Some n → first + n < 65536 → result ≡ Some (first + n)) → (inner ≡ None → result ≡ None) → inner ≡ at → ((n : ℕ) → at ≡ Some n → first + n < 65536) →
     result ≡ option_map (λ n. first + n) at
-behind_is first inner result None some none e room = none e
-behind_is first inner result (Some n) some none e room = some n e (room n refl)
+after_is first inner result None some none e capacity = none e
+after_is first inner result (Some n) some none e capacity = some n e (capacity n refl)

@@ -4,21 +4,21 @@ use Rattle.std.proofs.lemmas.List.{length-map}
 use Rattle.std.proofs.lemmas.Bool.{eq-eqb, eqb-true}
 use Rattle.std.specs.Prelude.{slice_get, option_and_then}
 use Rattle.std.specs.List.{list_all, position_from}
-use Rattle.wc_model.specs.Language.Checks.{spots_behind}
+use Rattle.wc_model.specs.Language.Checks.{positions_after}
 use Rattle.wc_model.specs.Language.Declarations.{is_block, variables_of}
 use Rattle.wc_model.specs.Language.DirectVariables.{DirectVariable, direct_variables, kind_of_direct, numbers_below}
-use Rattle.wc_model.specs.Language.Frames.{frame_of, place_number, scope_of_spot}
+use Rattle.wc_model.specs.Language.Frames.{frame_of, place_number, scope_of_position}
 use Rattle.wc_model.specs.Language.Names.{Name}
 use Rattle.wc_model.specs.Language.Scopes.{Scope}
 use Rattle.wc_model.specs.Language.Store.{Content, Location, Direct, Path, same_path, same_place, unit_places, zero_of}
 use Rattle.wc_model.specs.Language.Tree.{ProgramUnit, Text}
 use Rattle.wc_built_in.specs.Direct.{direct_at}
-use Rattle.wc_names.specs.StandsFor.{AreUnits, Stands, first_place, onto}
+use Rattle.wc_names.specs.RepresentsText.{AreUnits, Represents, first_place, onto}
 use Rattle.wc_names.specs.declared.unit_table.UnitTable.{UnitTable}
 use Rattle.wc_built_in.proofs.FieldTables.{position_from-map}
 use Rattle.wc_names.proofs.Lists.{get_more}
 use Rattle.wc_names.proofs.Lookups.{place_from}
-use Rattle.wc_names.proofs.Places.{places_end, stands_front, stands_more}
+use Rattle.wc_names.proofs.Places.{places_end, prefix_holds, holds_further}
 use Rattle.wc_names.proofs.Positions.{or_else, position_append, position_none}
 
 -- the tables of the first units
@@ -34,14 +34,14 @@ pub from_0 : {n m : ℕ} → 0 + n ≡ m → n ≡ m
 from_0 {n} {m} e = omega (arith, e)
 
 -- a unit by its number
-pub at_unit : (xs : Text) (b : List ProgramUnit) (ts : List UnitTable) (n : ℕ) (scope : Scope) → AreUnits (onto xs b) ts → slice_get (map scope_of_spot (spots_behind b xs)) n ≡ Some scope →
-    Stands ts scope.before scope.unit × (length b + n ≡ length scope.before)
+pub at_unit : (xs : Text) (b : List ProgramUnit) (ts : List UnitTable) (n : ℕ) (scope : Scope) → AreUnits (onto xs b) ts → slice_get (map scope_of_position (positions_after b xs)) n ≡ Some scope →
+    Represents ts scope.before scope.unit × (length b + n ≡ length scope.before)
 at_unit [] b ts n scope h e = cc
 at_unit (x ∷ xs) b ts zero scope h e =
     let r = peel xs (x ∷ b) ts h in
     let here : Scope = record { before = b; unit = x } in
     let same : here ≡ scope = cc in
-    subst (λ s. Stands ts s.before s.unit × (length b + zero ≡ length s.before)) same (stands_more r.0 ts b x r.2 (stands_front x b r.0 r.1), omega arith)
+    subst (λ s. Represents ts s.before s.unit × (length b + zero ≡ length s.before)) same (holds_further r.0 ts b x r.2 (prefix_holds x b r.0 r.1), omega arith)
 at_unit (x ∷ xs) b ts (suc n) scope h e =
     let r = at_unit xs (x ∷ b) ts n scope h e in
     let l = r.1 in
@@ -161,5 +161,5 @@ frame_size_by scope size false e h =
     let k : size ≡ length (directs ++ map as_entry places) = omega (arith, f, l, h, a) in
     k ∙ (rw e refl)
 
-pub frame_size : (units : List UnitTable) (scope : Scope) (h : Stands units scope.before scope.unit) → h.table.size ≡ length (frame_of scope)
+pub frame_size : (units : List UnitTable) (scope : Scope) (h : Represents units scope.before scope.unit) → h.table.size ≡ length (frame_of scope)
 frame_size units scope h = frame_size_by scope h.table.size (is_block scope.unit) refl (places_end scope.before (first_place scope.unit) (variables_of scope.unit) ∙ sym h.is.size)

@@ -12,8 +12,8 @@ use Rattle.wc_model.specs.Language.Store.{Location, Path, Content, below, block_
 use Rattle.wc_model.specs.Language.Tree.{ProgramUnit}
 use Rattle.wc_model.specs.declared.block.StandardBlock.{StandardBlock}
 use Rattle.wc_model.specs.declared.kind.Kind.{Kind}
-use Rattle.wc_names.specs.Slots.{AreFinished, EachHoldsFirst, HoldsFirst, IsBegun, IsGrown, begun_contents, contents_of}
-use Rattle.wc_names.specs.StandsFor.{AreRows, IsRow, Stands, type_at}
+use Rattle.wc_names.specs.Slots.{AreFinished, EachHoldsFirst, HoldsFirst, IsStarted, IsGrown, started_contents, contents_of}
+use Rattle.wc_names.specs.RepresentsText.{AreRows, IsRow, Represents, type_at}
 use Rattle.wc_names.specs.declared.declared_type.DeclaredType.{DeclaredType}
 use Rattle.wc_names.specs.declared.declared_type.DeclaredType.TheVariants as numbered
 use Rattle.wc_names.specs.declared.frame.Frame.{Frame}
@@ -21,11 +21,11 @@ use Rattle.wc_names.specs.declared.unit_table.UnitTable.{UnitTable}
 use Rattle.wc_names.specs.declared.variable.Variable.{Variable as Row}
 use Rattle.wc_names.proofs.Frames.{own_places, places_of}
 use Rattle.wc_names.proofs.Lists.{LastOr, among, found_within, from_index_or, last, last_or, nothing}
-use Rattle.wc_names.proofs.Places.{TypeCase, found_block, of_block, of_elementary, of_standard, stands_more, type_case, units_length}
+use Rattle.wc_names.proofs.Places.{TypeCase, found_block, of_block, of_elementary, of_standard, holds_further, type_case, units_length}
 
 -- a list that goes on is the whole; a part of what follows is added
-pub piece_added : {X : Type 0} (old new own rest whole : List X) → old ++ (own ++ rest) ≡ whole → new ≡ old ++ own → new ++ rest ≡ whole
-piece_added old new own rest whole on e = ap (λ xs. xs ++ rest) e ∙ (append_assoc old own rest ∙ on)
+pub chunk_added : {X : Type 0} (old new own rest whole : List X) → old ++ (own ++ rest) ≡ whole → new ≡ old ++ own → new ++ rest ≡ whole
+chunk_added old new own rest whole on e = ap (λ xs. xs ++ rest) e ∙ (append_assoc old own rest ∙ on)
 
 -- names do not change what places hold
 contents_below : (name : Name) (places : List (List Name × Content)) → contents_of (below name places) ≡ contents_of places
@@ -39,9 +39,9 @@ contents_next before v vs =
     ∙ ap (λ cs. cs ++ contents_of (places_of before vs)) (contents_below v.name (own_places before v))
 
 -- likewise for what is said of contents
-pub told_next : {X : Type 0} (f : Content → X) (before : List ProgramUnit) (v : Variable) (vs : List Variable) (own : List Content) → contents_of (own_places before v) ≡ own →
+pub reported_next : {X : Type 0} (f : Content → X) (before : List ProgramUnit) (v : Variable) (vs : List Variable) (own : List Content) → contents_of (own_places before v) ≡ own →
     map f (contents_of (places_of before (v ∷ vs))) ≡ map f own ++ map f (contents_of (places_of before vs))
-told_next f before v vs own e =
+reported_next f before v vs own e =
     ap (map f) (contents_next before v vs)
     ∙ (map-append f (contents_of (own_places before v)) (contents_of (places_of before vs)) ∙ ap (λ cs. map f cs ++ map f (contents_of (places_of before vs))) e)
 
@@ -68,10 +68,10 @@ spreads_next before u old now new row rows h grown = by h.left h.are h.kinds h.i
           first = h.first + places_of_type before v.type_name;
           left = vs;
           are = are.1;
-          kinds = piece_added now.kinds.items new.kinds.items (map slot_kind_of g.0) (map slot_kind_of (contents_of (places_of before vs))) (old.kinds.items ++ map slot_kind_of (contents_of (unit_places before u)))
-              (ap (λ xs. now.kinds.items ++ xs) (sym (told_next slot_kind_of before v vs g.0 g.1)) ∙ kinds) g.2.kinds;
-          initials = piece_added now.initials.items new.initials.items (map content_number g.0) (map content_number (contents_of (places_of before vs))) (old.initials.items ++ map content_number (contents_of (unit_places before u)))
-              (ap (λ xs. now.initials.items ++ xs) (sym (told_next content_number before v vs g.0 g.1)) ∙ initials) g.2.initials;
+          kinds = chunk_added now.kinds.items new.kinds.items (map slot_kind_of g.0) (map slot_kind_of (contents_of (places_of before vs))) (old.kinds.items ++ map slot_kind_of (contents_of (unit_places before u)))
+              (ap (λ xs. now.kinds.items ++ xs) (sym (reported_next slot_kind_of before v vs g.0 g.1)) ∙ kinds) g.2.kinds;
+          initials = chunk_added now.initials.items new.initials.items (map content_number g.0) (map content_number (contents_of (places_of before vs))) (old.initials.items ++ map content_number (contents_of (unit_places before u)))
+              (ap (λ xs. now.initials.items ++ xs) (sym (reported_next content_number before v vs g.0 g.1)) ∙ initials) g.2.initials;
         }
 
 -- the same by the number of its row
@@ -121,12 +121,12 @@ held_standard before v block e = by (type_case before (type_named before v.type_
 pub record HeldBlock (units : List UnitTable) (before : List ProgramUnit) (v : Variable) (number : ℕ) : Type 0 where
   pub unit : ProgramUnit
   pub earlier : List ProgramUnit
-  pub stands : Stands units earlier unit
+  pub represents : Represents units earlier unit
   pub counted : number ≡ length earlier
   pub below : number < length before
   pub held : contents_of (own_places before v) ≡ contents_of (unit_places earlier unit)
 
-pub held_block : (units : List UnitTable) (before : List ProgramUnit) (u : ProgramUnit) → Stands units before u → (v : Variable) (number : ℕ) → type_at before v.type_name ≡ Some (numbered.Block number) → HeldBlock units before v number
+pub held_block : (units : List UnitTable) (before : List ProgramUnit) (u : ProgramUnit) → Represents units before u → (v : Variable) (number : ℕ) → type_at before v.type_name ≡ Some (numbered.Block number) → HeldBlock units before v number
 held_block units before u h v number e = by (type_case before (type_named before v.type_name) (numbered.Block number) e)
   where
     by : TypeCase before (type_named before v.type_name) (numbered.Block number) → HeldBlock units before v number
@@ -138,10 +138,10 @@ held_block units before u h v number e = by (type_case before (type_named before
         record {
           unit = unit;
           earlier = us;
-          stands = stands_more h.others units us unit h.front found.stands;
+          represents = holds_further h.others units us unit h.prefix found.represents;
           counted = count;
           below =
-              let l = slice_get_within h.others (length us) found.stands.table found.stands.there in
+              let l = slice_get_within h.others (length us) found.represents.table found.represents.there in
               let n = units_length before h.others h.earlier in
               omega (arith, l, n, count);
           held = ap (λ x. contents_of (variable_places (block_places before) x v.initial)) t ∙ ap contents_of found.places;
@@ -156,25 +156,25 @@ finished_more units before u count frames v number old new b e done kinds initia
     let there = found_within frames number within in
     let same = ap (slice_get frames) (sym b.counted) ∙ there.1 in
     record {
-      kinds = kinds there.0 there.1 ∙ ap (λ xs. old.kinds.items ++ xs) (done.kinds b.earlier b.unit there.0 b.stands same);
-      initials = initials there.0 there.1 ∙ ap (λ xs. old.initials.items ++ xs) (done.initials b.earlier b.unit there.0 b.stands same);
+      kinds = kinds there.0 there.1 ∙ ap (λ xs. old.kinds.items ++ xs) (done.kinds b.earlier b.unit there.0 b.represents same);
+      initials = initials there.0 there.1 ∙ ap (λ xs. old.initials.items ++ xs) (done.initials b.earlier b.unit there.0 b.represents same);
     }
 
 -- one unit's more
 pub finished_on : (units : List UnitTable) (count : ℕ) (frames more : List Frame) (none frame : Frame) → none.kinds.items ≡ [] → none.initials.items ≡ [] → more ≡ frames ++ frame ∷ [] →
-    ((before : List ProgramUnit) (u : ProgramUnit) → Stands units before u → count ≡ length before → IsGrown none frame (contents_of (unit_places before u))) → AreFinished units count frames → AreFinished units (count + 1) more
+    ((before : List ProgramUnit) (u : ProgramUnit) → Represents units before u → count ≡ length before → IsGrown none frame (contents_of (unit_places before u))) → AreFinished units count frames → AreFinished units (count + 1) more
 finished_on units count frames more none frame kinds initials is grown done = record {
   counted = ap length is ∙ (let l : length (frames ++ frame ∷ []) ≡ length frames + length (frame ∷ []) = length-append frames (frame ∷ []) in let n = done.counted in let g : length (frames ++ frame ∷ []) ≡ count + 1 = omega (arith, l, n) in g);
-  kinds = λ before u f stands there. (by before u f stands (last_or frames frame (length before) f (ap (λ fs. slice_get fs (length before)) (sym is) ∙ there))).0;
-  initials = λ before u f stands there. (by before u f stands (last_or frames frame (length before) f (ap (λ fs. slice_get fs (length before)) (sym is) ∙ there))).1;
+  kinds = λ before u f represents there. (by before u f represents (last_or frames frame (length before) f (ap (λ fs. slice_get fs (length before)) (sym is) ∙ there))).0;
+  initials = λ before u f represents there. (by before u f represents (last_or frames frame (length before) f (ap (λ fs. slice_get fs (length before)) (sym is) ∙ there))).1;
 }
   where
-    by : (before : List ProgramUnit) (u : ProgramUnit) (f : Frame) → Stands units before u → LastOr frames frame (length before) f →
+    by : (before : List ProgramUnit) (u : ProgramUnit) (f : Frame) → Represents units before u → LastOr frames frame (length before) f →
         (f.kinds.items ≡ map slot_kind_of (contents_of (unit_places before u))) × (f.initials.items ≡ map content_number (contents_of (unit_places before u)))
-    by before u f stands (among there) = (done.kinds before u f stands there, done.initials before u f stands there)
-    by before u f stands (last at e) =
+    by before u f represents (among there) = (done.kinds before u f represents there, done.initials before u f represents there)
+    by before u f represents (last at e) =
         let n = done.counted in
-        let g = grown before u stands (let c : count ≡ length before = omega (arith, at, n) in c) in (
+        let g = grown before u represents (let c : count ≡ length before = omega (arith, at, n) in c) in (
           ap (λ (x : Frame). x.kinds.items) e ∙ (g.kinds ∙ ap (λ xs. xs ++ map slot_kind_of (contents_of (unit_places before u))) kinds),
           ap (λ (x : Frame). x.initials.items) e ∙ (g.initials ∙ ap (λ xs. xs ++ map content_number (contents_of (unit_places before u))) initials),
         )
@@ -191,34 +191,34 @@ first_on frames more frame is held each = λ k f there. by k f (last_or frames f
 pub none_finished : (units : List UnitTable) (frames : List Frame) → frames ≡ [] → AreFinished units 0 frames
 none_finished units frames none = record {
   counted = ap length none;
-  kinds = λ before u frame stands there. absurd (nothing frames frame (length before) none there);
-  initials = λ before u frame stands there. absurd (nothing frames frame (length before) none there);
+  kinds = λ before u frame represents there. absurd (nothing frames frame (length before) none there);
+  initials = λ before u frame represents there. absurd (nothing frames frame (length before) none there);
 }
 
 pub none_first : (frames : List Frame) → frames ≡ [] → EachHoldsFirst frames
 none_first frames none = λ k frame there. absurd (nothing frames frame k none there)
 
 -- the whole frame, from one that is started
-pub frame_spread : (scope : Scope) (begun new : Frame) → IsBegun (is_block scope.unit) begun → IsGrown begun new (contents_of (unit_places scope.before scope.unit)) →
+pub frame_spread : (scope : Scope) (started new : Frame) → IsStarted (is_block scope.unit) started → IsGrown started new (contents_of (unit_places scope.before scope.unit)) →
     (new.kinds.items ≡ slot_kinds (frame_of scope)) × (new.initials.items ≡ first_numbers (frame_of scope))
-frame_spread scope begun new begins grown = by (is_block scope.unit) begins
+frame_spread scope started new begins grown = by (is_block scope.unit) begins
   where
     places : List (List Name × Content)
     places = unit_places scope.before scope.unit
 
-    told_paths : {X : Type 0} (f : Content → X) (ps : List (List Name × Content)) → map f (contents_of ps) ≡ map (λ (entry : Location × Content). f entry.1) (map (λ p. (Path p.0, p.1)) ps)
-    told_paths f [] = refl
-    told_paths f (p ∷ ps) = ap (λ xs. f p.1 ∷ xs) (told_paths f ps)
+    reported_paths : {X : Type 0} (f : Content → X) (ps : List (List Name × Content)) → map f (contents_of ps) ≡ map (λ (entry : Location × Content). f entry.1) (map (λ p. (Path p.0, p.1)) ps)
+    reported_paths f [] = refl
+    reported_paths f (p ∷ ps) = ap (λ xs. f p.1 ∷ xs) (reported_paths f ps)
 
     frame : Bool → List (Location × Content)
     frame b = if b then map (λ p. (Path p.0, p.1)) places else program_frame scope.before scope.unit
 
-    by : (b : Bool) → IsBegun b begun → (new.kinds.items ≡ slot_kinds (frame b)) × (new.initials.items ≡ first_numbers (frame b))
+    by : (b : Bool) → IsStarted b started → (new.kinds.items ≡ slot_kinds (frame b)) × (new.initials.items ≡ first_numbers (frame b))
     by true is = (
-      grown.kinds ∙ (ap (λ xs. xs ++ map slot_kind_of (contents_of places)) is.kinds ∙ told_paths slot_kind_of places),
-      grown.initials ∙ (ap (λ xs. xs ++ map content_number (contents_of places)) is.initials ∙ told_paths content_number places),
+      grown.kinds ∙ (ap (λ xs. xs ++ map slot_kind_of (contents_of places)) is.kinds ∙ reported_paths slot_kind_of places),
+      grown.initials ∙ (ap (λ xs. xs ++ map content_number (contents_of places)) is.initials ∙ reported_paths content_number places),
     )
     by false is = (
-      grown.kinds ∙ (ap (λ xs. xs ++ map slot_kind_of (contents_of places)) is.kinds ∙ ap (λ xs. map slot_kind_of (begun_contents false) ++ xs) (told_paths slot_kind_of places)),
-      grown.initials ∙ (ap (λ xs. xs ++ map content_number (contents_of places)) is.initials ∙ ap (λ xs. map content_number (begun_contents false) ++ xs) (told_paths content_number places)),
+      grown.kinds ∙ (ap (λ xs. xs ++ map slot_kind_of (contents_of places)) is.kinds ∙ ap (λ xs. map slot_kind_of (started_contents false) ++ xs) (reported_paths slot_kind_of places)),
+      grown.initials ∙ (ap (λ xs. xs ++ map content_number (contents_of places)) is.initials ∙ ap (λ xs. map content_number (started_contents false) ++ xs) (reported_paths content_number places)),
     )

@@ -11,7 +11,7 @@ use Rattle.wc_model.specs.Language.Store.{Content, below, block_places}
 use Rattle.wc_model.specs.Language.Tree.{ProgramUnit}
 use Rattle.wc_names.specs.Carrying.{HasPlace}
 use Rattle.wc_names.specs.Keys.{same_name_laws}
-use Rattle.wc_names.specs.StandsFor.{AreDifferent, AreRows, IsRow, IsTableOf, first_place, type_at}
+use Rattle.wc_names.specs.RepresentsText.{AreDifferent, AreRows, IsRow, IsTableOf, first_place, type_at}
 use Rattle.wc_names.specs.declared.unit_table.UnitTable.{UnitTable}
 use Rattle.wc_names.specs.declared.variable.Variable.{Variable as Row}
 use Rattle.wc_names.proofs.Frames.{own_places, places_of}
@@ -42,10 +42,10 @@ rows_rise before first (v ∷ vs) (r ∷ rows) h zero (suc j) d le l =
 rows_rise before first (v ∷ vs) (r ∷ rows) h (suc i) (suc j) d le l = rows_rise before (first + places_of_type before v.type_name) vs rows h.1 i j d (omega (arith, le)) (omega (arith, l))
 
 -- an item of the prefix of a list, and one after it
-pub front_item : {X : Type 0} (xs ys : List X) (k : ℕ) → k < length xs → slice_get (xs ++ ys) k ≡ slice_get xs k
-front_item [] ys k l = absurd (omega (arith, l))
-front_item (x ∷ xs) ys zero l = refl
-front_item (x ∷ xs) ys (suc k) l = front_item xs ys k (omega (arith, l))
+pub prefix_item : {X : Type 0} (xs ys : List X) (k : ℕ) → k < length xs → slice_get (xs ++ ys) k ≡ slice_get xs k
+prefix_item [] ys k l = absurd (omega (arith, l))
+prefix_item (x ∷ xs) ys zero l = refl
+prefix_item (x ∷ xs) ys (suc k) l = prefix_item xs ys k (omega (arith, l))
 
 pub later_item : {X : Type 0} (xs ys : List X) (k : ℕ) → slice_get (xs ++ ys) (length xs + k) ≡ slice_get ys k
 later_item [] ys k = ap (slice_get ys) (zero-add k)
@@ -82,20 +82,20 @@ pub record Located (before : List ProgramUnit) (first : ℕ) (vs : List Variable
   pub declared : type_at before v.type_name ≡ Some row.declared
   pub begins : row.first ≤ number
   pub inner : List Name × Content
-  pub stands : slice_get (own_places before v) (number - row.first) ≡ Some inner
+  pub represents : slice_get (own_places before v) (number - row.first) ≡ Some inner
   pub entry_is : entry ≡ (v.name ∷ inner.0, inner.1)
 
 -- the places of the first variable end before those of the next begin
 ends_within : (before : List ProgramUnit) (first : ℕ) (v : Variable) (vs : List Variable) (rows : List Row) (number : ℕ) (entry : List Name × Content) → AreRows before (first + places_of_type before v.type_name) vs rows → first ≤ number →
     slice_get (places_of before (v ∷ vs)) (number - first) ≡ Some entry → ((j : ℕ) (d : Row) → j < length rows → number < (slice_index_or rows j d).first) → number - first < length (below v.name (own_places before v))
-ends_within before first v [] [] number entry h least there behind =
+ends_within before first v [] [] number entry h least there following =
     let l = slice_get_within (places_of before (v ∷ [])) (number - first) entry there in
     let whole : length (places_of before (v ∷ [])) ≡ length (below v.name (own_places before v)) = ap length (append-nil (below v.name (own_places before v))) in
     omega (arith, l, whole)
-ends_within before first v [] (r ∷ rows) number entry h least there behind = absurd h
-ends_within before first v (w ∷ vs) [] number entry h least there behind = absurd h
-ends_within before first v (w ∷ vs) (r ∷ rows) number entry h least there behind =
-    let l = behind 0 r (omega arith) in
+ends_within before first v [] (r ∷ rows) number entry h least there following = absurd h
+ends_within before first v (w ∷ vs) [] number entry h least there following = absurd h
+ends_within before first v (w ∷ vs) (r ∷ rows) number entry h least there following =
+    let l = following 0 r (omega arith) in
     let b = h.0.begins in
     let own = own_places before v in
     let size : length (below v.name own) ≡ length own = length-map own (λ p. (v.name ∷ p.0, p.1)) in
@@ -110,7 +110,7 @@ located_here before first v vs row rows number entry is least there within =
     let size : length (below v.name own) ≡ length own = length-map own (λ p. (v.name ∷ p.0, p.1)) in
     let inner = found_within own (number - first) (omega (arith, within, size)) in
     let same : Some entry ≡ Some (v.name ∷ inner.0.0, inner.0.1) =
-    sym there ∙ front_item (below v.name own) (places_of before vs) (number - first) within ∙ item_below v.name own (number - first) ∙ ap (option_map (λ p. (v.name ∷ p.0, p.1))) inner.1
+    sym there ∙ prefix_item (below v.name own) (places_of before vs) (number - first) within ∙ item_below v.name own (number - first) ∙ ap (option_map (λ p. (v.name ∷ p.0, p.1))) inner.1
     in
     record {
       v = v;
@@ -121,28 +121,28 @@ located_here before first v vs row rows number entry is least there within =
       declared = is.declared;
       begins = (let b = is.begins in omega (arith, b, least));
       inner = inner.0;
-      stands = ap (λ n. slice_get own (number - n)) is.begins ∙ inner.1;
+      represents = ap (λ n. slice_get own (number - n)) is.begins ∙ inner.1;
       entry_is = cc;
     }
 
 pub located : (before : List ProgramUnit) (first : ℕ) (vs : List Variable) (rows : List Row) (number : ℕ) (entry : List Name × Content) → AreRows before first vs rows → AreDifferent (map (λ w. w.name) vs) → first ≤ number →
     slice_get (places_of before vs) (number - first) ≡ Some entry → (k : ℕ) → k < length rows → ((j : ℕ) (d : Row) → j ≤ k → (slice_index_or rows j d).first ≤ number) → ((j : ℕ) (d : Row) → k < j → j < length rows → number < (slice_index_or rows j d).first) → Located before first vs rows number entry k
-located before first [] [] number entry h different least there k l begun behind = absurd (omega (arith, l))
-located before first [] (r ∷ rows) number entry h different least there k l begun behind = absurd h
-located before first (v ∷ vs) [] number entry h different least there k l begun behind = absurd h
-located before first (v ∷ vs) (row ∷ rows) number entry h different least there zero l begun behind =
-    located_here before first v vs row rows number entry h.0 least there (ends_within before first v vs rows number entry h.1 least there (λ j d m. behind (suc j) d (omega arith) (omega (arith, m))))
-located before first (v ∷ vs) (row ∷ rows) number entry h different least there (suc k) l begun behind =
+located before first [] [] number entry h different least there k l started following = absurd (omega (arith, l))
+located before first [] (r ∷ rows) number entry h different least there k l started following = absurd h
+located before first (v ∷ vs) [] number entry h different least there k l started following = absurd h
+located before first (v ∷ vs) (row ∷ rows) number entry h different least there zero l started following =
+    located_here before first v vs row rows number entry h.0 least there (ends_within before first v vs rows number entry h.1 least there (λ j d m. following (suc j) d (omega arith) (omega (arith, m))))
+located before first (v ∷ vs) (row ∷ rows) number entry h different least there (suc k) l started following =
     let own = own_places before v in
     let next = first + places_of_type before v.type_name in
     let size : length (below v.name own) ≡ length own = length-map own (λ p. (v.name ∷ p.0, p.1)) in
     let width : length own ≡ places_of_type before v.type_name = same_count (block_places before) (type_named before v.type_name) v.initial in
     let m : k < length rows = omega (arith, l) in
     let a = rows_least before next vs rows h.1 k row m in
-    let b = begun (suc k) row (omega arith) in
-    let behind_this : number - first ≡ length (below v.name own) + (number - next) = omega (arith, a, b, size, width) in
-    let on : slice_get (places_of before vs) (number - next) ≡ Some entry = sym (later_item (below v.name own) (places_of before vs) (number - next)) ∙ ap (slice_get (places_of before (v ∷ vs))) (sym behind_this) ∙ there in
-    let r = located before next vs rows number entry h.1 different.1 (omega (arith, a, b)) on k m (λ j d e. begun (suc j) d (omega (arith, e))) (λ j d e f. behind (suc j) d (omega (arith, e)) (omega (arith, f))) in
+    let b = started (suc k) row (omega arith) in
+    let after_this : number - first ≡ length (below v.name own) + (number - next) = omega (arith, a, b, size, width) in
+    let on : slice_get (places_of before vs) (number - next) ≡ Some entry = sym (later_item (below v.name own) (places_of before vs) (number - next)) ∙ ap (slice_get (places_of before (v ∷ vs))) (sym after_this) ∙ there in
+    let r = located before next vs rows number entry h.1 different.1 (omega (arith, a, b)) on k m (λ j d e. started (suc j) d (omega (arith, e))) (λ j d e f. following (suc j) d (omega (arith, e)) (omega (arith, f))) in
     record {
       v = r.v;
       row = r.row;
@@ -152,16 +152,16 @@ located before first (v ∷ vs) (row ∷ rows) number entry h different least th
       declared = r.declared;
       begins = r.begins;
       inner = r.inner;
-      stands = r.stands;
+      represents = r.represents;
       entry_is = r.entry_is;
     }
 
 -- if no variable begins at the number or before, no place has it
-pub none_begun : (before : List ProgramUnit) (first : ℕ) (vs : List Variable) (rows : List Row) (number : ℕ) (entry : List Name × Content) → AreRows before first vs rows → first ≤ number → slice_get (places_of before vs) (number - first) ≡ Some entry → ((j : ℕ) (d : Row) → j < length rows → number < (slice_index_or rows j d).first) → ⊥
-none_begun before first [] [] number entry h least there behind = let l = slice_get_within (places_of before []) (number - first) entry there in omega (arith, l)
-none_begun before first [] (r ∷ rows) number entry h least there behind = absurd h
-none_begun before first (v ∷ vs) [] number entry h least there behind = absurd h
-none_begun before first (v ∷ vs) (r ∷ rows) number entry h least there behind = let l = behind 0 r (omega arith) in let b = h.0.begins in omega (arith, l, b, least)
+pub none_started : (before : List ProgramUnit) (first : ℕ) (vs : List Variable) (rows : List Row) (number : ℕ) (entry : List Name × Content) → AreRows before first vs rows → first ≤ number → slice_get (places_of before vs) (number - first) ≡ Some entry → ((j : ℕ) (d : Row) → j < length rows → number < (slice_index_or rows j d).first) → ⊥
+none_started before first [] [] number entry h least there following = let l = slice_get_within (places_of before []) (number - first) entry there in omega (arith, l)
+none_started before first [] (r ∷ rows) number entry h least there following = absurd h
+none_started before first (v ∷ vs) [] number entry h least there following = absurd h
+none_started before first (v ∷ vs) (r ∷ rows) number entry h least there following = let l = following 0 r (omega arith) in let b = h.0.begins in omega (arith, l, b, least)
 
 -- what is found is the variable with the place
 pub found_is : (before : List ProgramUnit) (u : ProgramUnit) (table : UnitTable) (number : ℕ) (entry : List Name × Content) (k : ℕ) (name : Name) (row : Row) (h : IsTableOf before u table) → Located before (first_place u) (variables_of u) table.rows.items number entry k →
@@ -172,4 +172,4 @@ found_is before u table number entry k name row h at names rows =
     let same_rows : Some at.row ≡ Some row = sym at.row_there ∙ rows in
     let same_row : at.row ≡ row = cc in
     subst (λ r. HasPlace before u number entry name r) same_row (
-    subst (λ n. HasPlace before u number entry n at.row) same_name (record { variable = at.v; named = at.named; declared = at.declared; begins = at.begins; inner = at.inner; stands = at.stands; entry_is = at.entry_is }))
+    subst (λ n. HasPlace before u number entry n at.row) same_name (record { variable = at.v; named = at.named; declared = at.declared; begins = at.begins; inner = at.inner; represents = at.represents; entry_is = at.entry_is }))

@@ -10,7 +10,7 @@ use Rattle.wc_model.specs.Language.Store.{Content, block_places, same_path, unit
 use Rattle.wc_model.specs.Language.Tree.{ProgramUnit}
 use Rattle.wc_model.specs.declared.block.StandardBlock.{StandardBlock}
 use Rattle.wc_model.specs.declared.kind.Kind.{Kind}
-use Rattle.wc_names.specs.StandsFor.{first_place, type_at}
+use Rattle.wc_names.specs.RepresentsText.{first_place, type_at}
 use Rattle.wc_names.specs.declared.declared_type.DeclaredType.{DeclaredType}
 use Rattle.wc_names.specs.declared.declared_type.DeclaredType.TheVariants as numbered
 use Rattle.wc_names.specs.declared.variable.Variable.{Variable as Row}
@@ -22,7 +22,7 @@ pub record HasPlace (before : List ProgramUnit) (u : ProgramUnit) (number : ℕ)
   pub declared : type_at before variable.type_name ≡ Some row.declared
   pub begins : row.first ≤ number
   pub inner : List Name × Content
-  pub stands : slice_get (variable_places (block_places before) (type_named before variable.type_name) variable.initial) (number - row.first) ≡ Some inner
+  pub represents : slice_get (variable_places (block_places before) (type_named before variable.type_name) variable.initial) (number - row.first) ≡ Some inner
   pub entry_is : entry ≡ (name ∷ inner.0, inner.1)
 
 -- the number of a plain variable's place among those of a variable of this type, if it keeps its value

@@ -34,13 +34,13 @@ abbrev pub word_of : List ℕ → ℕ
 word_of bytes = from_le_bytes w64 (map caseless bytes)
 
 -- the number of a name after another number: eight bytes are one word, and each of the last ones is one
-abbrev pub number_behind : ℕ → Name → ℕ
-number_behind number (a ∷ b ∷ c ∷ d ∷ e ∷ f ∷ g ∷ h ∷ name) = number_behind (mix number (word_of (a ∷ b ∷ c ∷ d ∷ e ∷ f ∷ g ∷ h ∷ []))) name
-number_behind number name = fold (λ n byte. mix n (caseless byte)) number name
+abbrev pub number_after : ℕ → Name → ℕ
+number_after number (a ∷ b ∷ c ∷ d ∷ e ∷ f ∷ g ∷ h ∷ name) = number_after (mix number (word_of (a ∷ b ∷ c ∷ d ∷ e ∷ f ∷ g ∷ h ∷ []))) name
+number_after number name = fold (λ n byte. mix n (caseless byte)) number name
 
 -- the number of a name, by all of its bytes
 abbrev pub name_number : Name → ℕ
-name_number name = number_behind 0xcbf29ce484222325 name
+name_number name = number_after 0xcbf29ce484222325 name
 
 -- what is hashed of a name: its number alone
 abbrev pub fed_name : Name → fed.HashWrites

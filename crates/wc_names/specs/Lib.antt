@@ -1,5 +1,5 @@
 pub mod Numbered
-pub mod StandsFor
+pub mod RepresentsText
 pub mod Keys
 pub mod Slots
 pub mod Members

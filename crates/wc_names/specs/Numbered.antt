@@ -27,10 +27,10 @@ numbered_type before (Standard block) = Some (numbered.Standard block)
 numbered_type before (Block name) = option_map (λ found. numbered.Block (length found.1)) (block_named before name)
 
 -- a variable of the type may be in the section
-abbrev pub stands_in : Section → DeclaredType → Bool
-stands_in section (numbered.Elementary kind) = true
-stands_in section (numbered.Standard block) = is_own section
-stands_in section (numbered.Block number) = is_own section
+abbrev pub is_allowed_in : Section → DeclaredType → Bool
+is_allowed_in section (numbered.Elementary kind) = true
+is_allowed_in section (numbered.Standard block) = is_own section
+is_allowed_in section (numbered.Block number) = is_own section
 
 -- the number of a place among those of an instance of a type
 abbrev pub number_within : List ProgramUnit → VariableType → List Name → Option ℕ
@@ -50,8 +50,8 @@ numbered_entity scope e = record {
 }
 
 -- the places of a variable of this type are in the unit's frame from this number on, in the order of the type's own
-abbrev pub StandsFrom : Scope → Name → VariableType → ℕ → Type 0
-StandsFrom scope name type first =
+abbrev pub StartsAt : Scope → Name → VariableType → ℕ → Type 0
+StartsAt scope name type first =
     (names : List Name) → place_number (frame_of scope) (Path (name ∷ names)) ≡ option_map (λ n. first + n) (number_within scope.before type names)
 
 -- a plain variable with its name, section, kind and place

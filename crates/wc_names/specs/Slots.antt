@@ -6,7 +6,7 @@ use Rattle.wc_model.specs.Language.Names.{Name}
 use Rattle.wc_model.specs.Language.Store.{Content, unit_places, zero_of}
 use Rattle.wc_model.specs.Language.Tree.{ProgramUnit}
 use Rattle.wc_laws_soundness.specs.FirstNumbers.{AreFirst}
-use Rattle.wc_names.specs.StandsFor.{Stands}
+use Rattle.wc_names.specs.RepresentsText.{Represents}
 use Rattle.wc_names.specs.declared.frame.Frame.{Frame}
 use Rattle.wc_names.specs.declared.unit_table.UnitTable.{UnitTable}
 
@@ -24,19 +24,19 @@ pub record IsGrown (old new : Frame) (contents : List Content) : Type 0 where
   pub initials : new.initials.items ≡ old.initials.items ++ map content_number contents
 
 -- a frame to which nothing but the directly represented variables is added, and to a block's not even these
-abbrev pub begun_contents : Bool → List Content
-begun_contents true = []
-begun_contents false = map (λ v. zero_of (kind_of_direct v)) direct_variables
+abbrev pub started_contents : Bool → List Content
+started_contents true = []
+started_contents false = map (λ v. zero_of (kind_of_direct v)) direct_variables
 
-pub record IsBegun (is_block : Bool) (frame : Frame) : Type 0 where
-  pub kinds : frame.kinds.items ≡ map slot_kind_of (begun_contents is_block)
-  pub initials : frame.initials.items ≡ map content_number (begun_contents is_block)
+pub record IsStarted (is_block : Bool) (frame : Frame) : Type 0 where
+  pub kinds : frame.kinds.items ≡ map slot_kind_of (started_contents is_block)
+  pub initials : frame.initials.items ≡ map content_number (started_contents is_block)
 
 -- the slots of an instance of each of the first n units, in text order
 pub record AreFinished (units : List UnitTable) (count : ℕ) (frames : List Frame) : Type 0 where
   pub counted : length frames ≡ count
-  pub kinds : (before : List ProgramUnit) (u : ProgramUnit) (frame : Frame) → Stands units before u → slice_get frames (length before) ≡ Some frame → frame.kinds.items ≡ map slot_kind_of (contents_of (unit_places before u))
-  pub initials : (before : List ProgramUnit) (u : ProgramUnit) (frame : Frame) → Stands units before u → slice_get frames (length before) ≡ Some frame → frame.initials.items ≡ map content_number (contents_of (unit_places before u))
+  pub kinds : (before : List ProgramUnit) (u : ProgramUnit) (frame : Frame) → Represents units before u → slice_get frames (length before) ≡ Some frame → frame.kinds.items ≡ map slot_kind_of (contents_of (unit_places before u))
+  pub initials : (before : List ProgramUnit) (u : ProgramUnit) (frame : Frame) → Represents units before u → slice_get frames (length before) ≡ Some frame → frame.initials.items ≡ map content_number (contents_of (unit_places before u))
 
 -- each slot of each frame holds what it may before the first scan
 abbrev pub EachHoldsFirst : List Frame → Type 0

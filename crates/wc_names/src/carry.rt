@@ -4,11 +4,11 @@ ghost use Rattle.wc_model.specs.Language.Names.{Name, name_of};
 ghost use Rattle.wc_model.specs.Language.Store.{Content, unit_places};
 ghost use Rattle.wc_model.specs.Language.Tree.{ProgramUnit};
 ghost use Rattle.wc_names.specs.Carrying.{HasPlace, field_within, kept_from, plain_within};
-ghost use Rattle.wc_names.specs.StandsFor.{IsTableOf, Stands, first_place};
+ghost use Rattle.wc_names.specs.RepresentsText.{IsTableOf, Represents, first_place};
 ghost use Rattle.wc_names.specs.declared.variable.Variable.{Variable as Row};
 
 use crate::declared_type::DeclaredType;
-use crate::lookup::{behind, row};
+use crate::lookup::{following, row};
 use crate::unit_table::UnitTable;
 use crate::variable::Variable;
 use wc_model::{Kind, StandardBlock};
@@ -23,10 +23,10 @@ struct Named<'a> {
 }
 
 /// The number of those variables that begin at a place or before it, if they are in the order of their places.
-fn count_begun(rows: &[Variable], number: u16) -> usize
+fn count_started(rows: &[Variable], number: u16) -> usize
     ensures before { IsNonDecreasingBy (λ (row : Row). row.first) rows.now
         → (k : ℕ) (d : Row) → k < result → (slice_index_or rows.now k d).first ≤ number }
-    ensures behind { IsNonDecreasingBy (λ (row : Row). row.first) rows.now
+    ensures following { IsNonDecreasingBy (λ (row : Row). row.first) rows.now
         → (k : ℕ) (d : Row) → result ≤ k → k < length rows.now
         → number < (slice_index_or rows.now k d).first }
     ensures bound { result ≤ length rows.now }
@@ -42,7 +42,7 @@ fn variable_with<'a>(table: &UnitTable<'a>, number: u16) -> Option<Named<'a>>
         → MatchOption result ⊥
         (λ found. HasPlace before u number entry (name_of found.name.now) found.row) }
 {
-    let Some(at) = count_begun(&table.rows, number).checked_sub(1) else {
+    let Some(at) = count_started(&table.rows, number).checked_sub(1) else {
         return None;
     };
     let Some(name) = table.names.at(at) else {
@@ -85,8 +85,8 @@ pub(crate) fn kept_number<'a, 'o>(
 ) -> Option<u16>
     ensures { (before : List ProgramUnit) (u : ProgramUnit) (old_before : List ProgramUnit)
         (old : ProgramUnit) (entry : List Name × Content)
-        → Stands units.now before u → unit ≡ length before
-        → Stands old_units.now old_before old → old_unit ≡ length old_before
+        → Represents units.now before u → unit ≡ length before
+        → Represents old_units.now old_before old → old_unit ≡ length old_before
         → first_place u ≤ number
         → slice_get (unit_places before u) (number - first_place u) ≡ Some entry
         → result ≡ kept_from before u old_before old entry.0 }
@@ -102,15 +102,15 @@ pub(crate) fn kept_number<'a, 'o>(
     };
     let inner = number.saturating_sub(found.row.first);
     match found.row.declared {
-        DeclaredType::Elementary(kind) => behind(old.first, plain_within(kind, old.declared)),
+        DeclaredType::Elementary(kind) => following(old.first, plain_within(kind, old.declared)),
         DeclaredType::Standard(block) => {
-            behind(old.first, field_within(block, inner, old.declared))
+            following(old.first, field_within(block, inner, old.declared))
         }
         DeclaredType::Block(block) => match old.declared {
             DeclaredType::Block(other) => {
                 // A block precedes the unit that has its instance, so this is always so.
                 if block < unit {
-                    behind(
+                    following(
                         old.first,
                         kept_number(units, block, old_units, other, inner),
                     )

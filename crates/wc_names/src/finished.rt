@@ -4,8 +4,8 @@ ghost use Rattle.wc_model.specs.Language.Store.{block_places, unit_places, varia
 ghost use Rattle.wc_model.specs.Language.Declarations.{Variable as Declared, is_block, type_named};
 ghost use Rattle.wc_model.specs.Language.Scopes.{Scope};
 ghost use Rattle.wc_model.specs.Language.Tree.{ProgramUnit};
-ghost use Rattle.wc_names.specs.Slots.{AreFinished, EachHoldsFirst, HoldsFirst, IsBegun, IsGrown, contents_of};
-ghost use Rattle.wc_names.specs.StandsFor.{Stands, type_at};
+ghost use Rattle.wc_names.specs.Slots.{AreFinished, EachHoldsFirst, HoldsFirst, IsStarted, IsGrown, contents_of};
+ghost use Rattle.wc_names.specs.RepresentsText.{Represents, type_at};
 ghost use Rattle.wc_names.specs.declared.unit_table.UnitTable.{UnitTable};
 
 use crate::declared_type::DeclaredType;
@@ -38,7 +38,7 @@ fn push_finished(frame: &mut Frame, finished: &[Frame], unit: usize) -> Result<(
 /// Adds the slots of a variable. Those of an instance of a unit before are finished.
 fn push_row(frame: &mut Frame, finished: &[Frame], row: &Variable) -> Result<(), Fault>
     ensures grown { (units : List UnitTable) (before : List ProgramUnit) (u : ProgramUnit)
-        (v : Declared) → Stands units before u → AreFinished units (length before) finished.now
+        (v : Declared) → Represents units before u → AreFinished units (length before) finished.now
         → row.now.initial ≡ option_map (λ i. i.value) v.initial
         → type_at before v.type_name ≡ Some row.now.declared
         → OnOk result
@@ -65,7 +65,7 @@ fn push_unit<'a>(
     units: &[UnitTable<'a>],
     unit: usize,
 ) -> Result<(), Fault>
-    ensures grown { (before : List ProgramUnit) (u : ProgramUnit) → Stands units.now before u
+    ensures grown { (before : List ProgramUnit) (u : ProgramUnit) → Represents units.now before u
         → unit ≡ length before → AreFinished units.now unit finished.now
         → OnOk result (IsGrown frame.old frame.new (contents_of (unit_places before u))) }
     ensures first { OnOk result
@@ -120,8 +120,8 @@ fn finish_before<'a>(
 }
 
 /// The slots that precede those of a unit's variables.
-fn first_slots(alloc: Global, is_block: bool) -> Result<Frame, Fault>
-    ensures begins { IfOk result (IsBegun is_block) }
+fn direct_variable_slots(alloc: Global, is_block: bool) -> Result<Frame, Fault>
+    ensures begins { IfOk result (IsStarted is_block) }
     ensures first { IfOk result HoldsFirst }
     ensures memory { IsOkUnless result Fault.Memory }
 {
@@ -135,7 +135,7 @@ fn first_slots(alloc: Global, is_block: bool) -> Result<Frame, Fault>
 
 /// Whether a unit is a function block.
 fn is_function_block<'a>(units: &[UnitTable<'a>], unit: usize) -> bool
-    ensures { (before : List ProgramUnit) (u : ProgramUnit) → Stands units.now before u
+    ensures { (before : List ProgramUnit) (u : ProgramUnit) → Represents units.now before u
         → unit ≡ length before
         → result ≡ is_block u }
 {
@@ -147,17 +147,17 @@ fn is_function_block<'a>(units: &[UnitTable<'a>], unit: usize) -> bool
 
 /// The slots of a unit's frame: a program's begins with the directly represented variables.
 pub(crate) fn slots<'a>(alloc: Global, units: &[UnitTable<'a>], unit: usize) -> Result<Frame, Fault>
-    ensures kinds { (scope : Scope) → Stands units.now scope.before scope.unit
+    ensures kinds { (scope : Scope) → Represents units.now scope.before scope.unit
         → unit ≡ length scope.before
         → IfOk result (λ frame. frame.kinds.items ≡ slot_kinds (frame_of scope)) }
-    ensures initials { (scope : Scope) → Stands units.now scope.before scope.unit
+    ensures initials { (scope : Scope) → Represents units.now scope.before scope.unit
         → unit ≡ length scope.before
         → IfOk result (λ frame. frame.initials.items ≡ first_numbers (frame_of scope)) }
     ensures first { IfOk result HoldsFirst }
     ensures memory { IsOkUnless result Fault.Memory }
 {
     let finished = finish_before(alloc, units, unit)?;
-    let mut frame = first_slots(alloc, is_function_block(units, unit))?;
+    let mut frame = direct_variable_slots(alloc, is_function_block(units, unit))?;
     push_unit(&mut frame, &finished, units, unit)?;
     Ok(frame)
 }

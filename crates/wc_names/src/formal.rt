@@ -4,7 +4,7 @@ ghost use Rattle.wc_model.specs.Language.Declarations.{VariableType, members_of}
 ghost use Rattle.wc_model.specs.Language.Names.{name_of};
 ghost use Rattle.wc_model.specs.Language.Tree.{ProgramUnit};
 ghost use Rattle.wc_names.specs.Numbered.{numbered_formal, numbered_type};
-ghost use Rattle.wc_names.specs.StandsFor.{Stands};
+ghost use Rattle.wc_names.specs.RepresentsText.{Represents};
 
 use crate::declared_type::DeclaredType;
 use crate::member::member_of;
@@ -39,7 +39,7 @@ pub(crate) fn formal_of<'a>(
     name: &[u8],
 ) -> Option<Formal>
     ensures { (before : List ProgramUnit) (u : ProgramUnit) (type : VariableType)
-        → Stands units.now before u
+        → Represents units.now before u
         → numbered_type before type ≡ Some declared
         → result ≡ option_and_then (numbered_formal before type)
         (formal_named direction (members_of before type) (name_of name.now)) }

@@ -9,10 +9,10 @@ ghost use Rattle.wc_model.specs.Language.Store.{Content, Location};
 ghost use Rattle.wc_model.specs.Language.Tree.{Text};
 ghost use Rattle.wc_model.specs.Language.Views.{term_view};
 ghost use Rattle.wc_laws_soundness.specs.FirstNumbers.{AreFirst};
-ghost use Rattle.wc_names.specs.StandsFor.{AreTables, first_number};
+ghost use Rattle.wc_names.specs.RepresentsText.{AreTables, first_number};
 ghost use Rattle.wc_model.specs.declared.source.Source.{Source};
 ghost use Rattle.wc_names.specs.Spelled.{AreSpelledAs, spelled, spelled_of_unit};
-ghost use Rattle.wc_names.specs.Numbered.{IsUnit, StandsFrom, numbered_entity, numbered_formal, numbered_type, plain_of_field};
+ghost use Rattle.wc_names.specs.Numbered.{IsUnit, StartsAt, numbered_entity, numbered_formal, numbered_type, plain_of_field};
 
 use crate::carry::kept_number;
 use crate::declared_type::DeclaredType;
@@ -78,10 +78,10 @@ impl<'a> Tables<'a> {
             → IsUnit text unit scope
             → option_map (λ v. v.declared) result
             ≡ option_and_then (numbered_type scope.before) (type_of scope (name_of name.now)) }
-        ensures stands { (text : Text) (scope : Scope) (type : VariableType)
+        ensures represents { (text : Text) (scope : Scope) (type : VariableType)
             → AreTables self.now text → IsUnit text unit scope
             → type_of scope (name_of name.now) ≡ Some type
-            → IfSome result (λ v. StandsFrom scope (name_of name.now) type v.first) }
+            → IfSome result (λ v. StartsAt scope (name_of name.now) type v.first) }
         ensures begins { (text : Text) (scope : Scope) → AreTables self.now text
             → IsUnit text unit scope
             → option_map (λ v. v.first) result ≡ first_number scope (name_of name.now) }

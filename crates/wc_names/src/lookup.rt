@@ -9,7 +9,7 @@ ghost use Rattle.wc_model.specs.Language.Tree.{ProgramUnit};
 ghost use Rattle.wc_model.specs.declared.kind.Kind.{Kind};
 ghost use Rattle.wc_model.specs.declared.source.Initial.{Initial};
 ghost use Rattle.wc_built_in.specs.Direct.{direct_at};
-ghost use Rattle.wc_names.specs.StandsFor.{Stands, first_place, row_named};
+ghost use Rattle.wc_names.specs.RepresentsText.{Represents, first_place, row_named};
 ghost use Rattle.wc_names.specs.declared.unit_table.UnitTable.{UnitTable as Table};
 
 use crate::declared_type::DeclaredType;
@@ -67,7 +67,7 @@ fn plain_at(names: &[&[u8]]) -> Option<u16>
 }
 
 /// A number after others.
-pub(crate) fn behind(first: u16, inner: Option<u16>) -> Option<u16>
+pub(crate) fn following(first: u16, inner: Option<u16>) -> Option<u16>
     ensures some { (n : ℕ) → inner ≡ Some n → first + n < 65536
         → result ≡ Some (first + n) }
     ensures none { inner ≡ None → result ≡ None }
@@ -81,7 +81,7 @@ pub(crate) fn behind(first: u16, inner: Option<u16>) -> Option<u16>
 /// The number of a path's place in a unit's frame.
 #[cycle(numbers)]
 pub(crate) fn number<'a>(units: &[UnitTable<'a>], unit: usize, names: &[&[u8]]) -> Option<u16>
-    ensures { (before : List ProgramUnit) (u : ProgramUnit) → Stands units.now before u
+    ensures { (before : List ProgramUnit) (u : ProgramUnit) → Represents units.now before u
         → unit ≡ length before
         → result
         ≡ position_from
@@ -94,17 +94,17 @@ pub(crate) fn number<'a>(units: &[UnitTable<'a>], unit: usize, names: &[&[u8]]) 
     let Some(row) = row(units, unit, name) else {
         return None;
     };
-    number_behind(units, row, rest)
+    number_after(units, row, rest)
 }
 
 /// The number of the place to which the rest of a path leads, after the variable that its first name names.
 #[cycle(numbers)]
-pub(crate) fn number_behind<'a>(
+pub(crate) fn number_after<'a>(
     units: &[UnitTable<'a>],
     row: Variable,
     rest: &[&[u8]],
 ) -> Option<u16>
-    ensures { (before : List ProgramUnit) (u : ProgramUnit) (h : Stands units.now before u)
+    ensures { (before : List ProgramUnit) (u : ProgramUnit) (h : Represents units.now before u)
         (name : Name)
         → row_named h.table.names h.table.rows.items name ≡ Some row
         → result
@@ -113,15 +113,15 @@ pub(crate) fn number_behind<'a>(
         (first_place u) (unit_places before u) }
 {
     match row.declared {
-        DeclaredType::Elementary(_) => behind(row.first, plain_at(rest)),
-        DeclaredType::Standard(block) => behind(row.first, field_at(block, rest)),
-        DeclaredType::Block(block) => behind(row.first, number(units, block, rest)),
+        DeclaredType::Elementary(_) => following(row.first, plain_at(rest)),
+        DeclaredType::Standard(block) => following(row.first, field_at(block, rest)),
+        DeclaredType::Block(block) => following(row.first, number(units, block, rest)),
     }
 }
 
 /// The number of the place of a directly represented variable in a unit's frame: a function block has none.
 pub(crate) fn direct_number<'a>(units: &[UnitTable<'a>], unit: usize, number: u8) -> Option<u16>
-    ensures { (scope : Scope) → Stands units.now scope.before scope.unit
+    ensures { (scope : Scope) → Represents units.now scope.before scope.unit
         → unit ≡ length scope.before → number < 45
         → result ≡ place_number (frame_of scope) (Direct (direct_at number)) }
 {
@@ -136,7 +136,7 @@ pub(crate) fn direct_number<'a>(units: &[UnitTable<'a>], unit: usize, number: u8
 
 /// The number of an address's place in a unit's frame.
 pub(crate) fn address<'a>(units: &[UnitTable<'a>], unit: usize, text: &[u8]) -> Option<u16>
-    ensures { (scope : Scope) → Stands units.now scope.before scope.unit
+    ensures { (scope : Scope) → Represents units.now scope.before scope.unit
         → unit ≡ length scope.before
         → result
         ≡ option_and_then (place_number (frame_of scope))

@@ -7,10 +7,10 @@ ghost use Rattle.wc_model.specs.Language.Store.{same_path, standard_fields, unit
 ghost use Rattle.wc_built_in.specs.Fields.{is_named, member_seen, value_kind};
 ghost use Rattle.wc_names.specs.Members.{found_seen, kind_numbered, row_seen};
 ghost use Rattle.wc_names.specs.Numbered.{number_within, numbered_type};
-ghost use Rattle.wc_names.specs.StandsFor.{Stands, first_place, row_named};
+ghost use Rattle.wc_names.specs.RepresentsText.{Represents, first_place, row_named};
 
 use crate::declared_type::DeclaredType;
-use crate::lookup::{number_behind, row};
+use crate::lookup::{number_after, row};
 use crate::unit_table::UnitTable;
 use wc_built_in::field_named;
 use wc_model::{Kind, Section, SlotKind, StandardBlock};
@@ -81,11 +81,11 @@ fn standard_member(block: StandardBlock, name: &[u8]) -> Option<Member>
 
 /// The member of that name of a function block of the text.
 fn block_member<'a>(units: &[UnitTable<'a>], block: usize, name: &[u8]) -> Option<Member>
-    ensures seen { (before : List ProgramUnit) (u : ProgramUnit) (h : Stands units.now before u)
+    ensures seen { (before : List ProgramUnit) (u : ProgramUnit) (h : Represents units.now before u)
         → block ≡ length before
         → option_map found_seen result
         ≡ option_map row_seen (row_named h.table.names h.table.rows.items (name_of name.now)) }
-    ensures place { (before : List ProgramUnit) (u : ProgramUnit) → Stands units.now before u
+    ensures place { (before : List ProgramUnit) (u : ProgramUnit) → Represents units.now before u
         → block ≡ length before
         → IfSome result
         (λ m. m.place
@@ -96,7 +96,7 @@ fn block_member<'a>(units: &[UnitTable<'a>], block: usize, name: &[u8]) -> Optio
         Some(row) => Some(Member {
             section: row.section,
             kind: kind_of(row.declared),
-            place: number_behind(units, row, &[]),
+            place: number_after(units, row, &[]),
         }),
         None => None,
     }
@@ -109,11 +109,11 @@ pub(crate) fn member_of<'a>(
     name: &[u8],
 ) -> Option<Member>
     ensures seen { (before : List ProgramUnit) (u : ProgramUnit) (type : VariableType)
-        → Stands units.now before u → numbered_type before type ≡ Some declared
+        → Represents units.now before u → numbered_type before type ≡ Some declared
         → option_map found_seen result
         ≡ option_map member_seen (member_named (members_of before type) (name_of name.now)) }
     ensures place { (before : List ProgramUnit) (u : ProgramUnit) (type : VariableType)
-        → Stands units.now before u → numbered_type before type ≡ Some declared
+        → Represents units.now before u → numbered_type before type ≡ Some declared
         → IfSome result
         (λ m. m.place ≡ number_within before type (name_of name.now ∷ [])) }
 {

@@ -6,10 +6,10 @@ ghost use Rattle.wc_model.specs.Language.Tree.{Address, Field, Variable as NameO
 ghost use Rattle.wc_model.specs.Language.Views.{term_view, word_view};
 ghost use Rattle.wc_built_in.specs.Direct.{direct_at};
 ghost use Rattle.wc_names.specs.Numbered.{numbered_entity};
-ghost use Rattle.wc_names.specs.StandsFor.{Stands};
+ghost use Rattle.wc_names.specs.RepresentsText.{Represents};
 
 use crate::entity::Entity;
-use crate::lookup::{behind, direct_number, number_behind, row};
+use crate::lookup::{direct_number, following, number_after, row};
 use crate::member::{kind_of, member_of};
 use crate::unit_table::UnitTable;
 use wc_built_in::variable_at;
@@ -78,7 +78,7 @@ pub(crate) fn is_result(section: Section) -> bool
 
 /// What an address names in the body of a unit.
 fn address_entity<'a>(units: &[UnitTable<'a>], unit: usize, word: Word<'_>) -> Option<Entity>
-    ensures { (scope : Scope) → Stands units.now scope.before scope.unit
+    ensures { (scope : Scope) → Represents units.now scope.before scope.unit
         → unit ≡ length scope.before
         → result
         ≡ option_map (numbered_entity scope) (entity_of scope (Address (word_view word.entry))) }
@@ -96,7 +96,7 @@ fn address_entity<'a>(units: &[UnitTable<'a>], unit: usize, word: Word<'_>) -> O
 
 /// What a name names in the body of a unit.
 fn name_entity<'a>(units: &[UnitTable<'a>], unit: usize, name: &[u8]) -> Option<Entity>
-    ensures { (scope : Scope) → Stands units.now scope.before scope.unit
+    ensures { (scope : Scope) → Represents units.now scope.before scope.unit
         → unit ≡ length scope.before
         → result
         ≡ option_map (numbered_entity scope) (entity_of scope (NameOf (name_of name.now))) }
@@ -106,7 +106,7 @@ fn name_entity<'a>(units: &[UnitTable<'a>], unit: usize, name: &[u8]) -> Option<
             kind: kind_of(row.declared),
             readable: true,
             writable: !is_input(row.section),
-            place: place_at(number_behind(units, row, &[])),
+            place: place_at(number_after(units, row, &[])),
         }),
         None => None,
     }
@@ -119,7 +119,7 @@ fn field_entity<'a>(
     instance: &[u8],
     field: &[u8],
 ) -> Option<Entity>
-    ensures { (scope : Scope) → Stands units.now scope.before scope.unit
+    ensures { (scope : Scope) → Represents units.now scope.before scope.unit
         → unit ≡ length scope.before
         → result
         ≡ option_map (numbered_entity scope)
@@ -133,7 +133,7 @@ fn field_entity<'a>(
             kind: member.kind,
             readable: is_result(member.section),
             writable: is_input(member.section),
-            place: place_at(behind(row.first, member.place)),
+            place: place_at(following(row.first, member.place)),
         }),
         None => None,
     }
@@ -145,7 +145,7 @@ pub(crate) fn entity<'a>(
     unit: usize,
     operand: &Operand<'_>,
 ) -> Option<Entity>
-    ensures { (scope : Scope) → Stands units.now scope.before scope.unit
+    ensures { (scope : Scope) → Represents units.now scope.before scope.unit
         → unit ≡ length scope.before
         → result ≡ option_map (numbered_entity scope) (entity_of scope (term_view operand.now)) }
 {

@@ -3,7 +3,7 @@ use Rattle.std.proofs.Common.{refl, ℕ, List, Option}
 use Rattle.wc_indicator.specs.Kept.{IndicatorState}
 use Rattle.wc_open_scale.specs.Calls.{Answers, IsCutShortAt}
 use Rattle.wc_open_scale.specs.Coming.{with_bytes}
-use Rattle.wc_open_scale.specs.Standing.{Goes}
+use Rattle.wc_open_scale.specs.Representation.{Goes}
 use Rattle.wc_open_scale.specs.declared.open_scale.OpenScale.{OpenScale}
 use Rattle.wc_sma.specs.Feeding.{Fails, Feeds}
 use Rattle.wc_sma.specs.declared.line.Line.{Line}
@@ -11,19 +11,19 @@ use Rattle.wc_sma.specs.declared.line.Line.{Line}
 -- a line that is fed takes them
 pub takes_bytes : {S : Type 0} (old : OpenScale S) (line : Line) (indicator : IndicatorState) (taken taken' : Option (List ℕ)) (bytes : List ℕ) →
     Feeds old.line old.indicator taken line indicator taken' bytes → Goes old (record old { indicator = indicator; line = line }) (with_bytes bytes)
-takes_bytes old line indicator taken taken' bytes feeds plate came stands =
+takes_bytes old line indicator taken taken' bytes feeds plate came represents =
     record {
-      is_plate = stands.is_plate;
-      indicator = feeds.acts came.bytes plate came.history stands.line stands.indicator;
-      line = feeds.stands came.bytes stands.line;
-      inputs = stands.inputs;
-      program = stands.program;
+      is_plate = represents.is_plate;
+      indicator = feeds.acts came.bytes plate came.history represents.line represents.indicator;
+      line = feeds.represents came.bytes represents.line;
+      inputs = represents.inputs;
+      program = represents.program;
     }
 
 -- and answers them
 pub answers_bytes : {S : Type 0} (old : OpenScale S) (line : Line) (indicator : IndicatorState) (taken taken' : Option (List ℕ)) (bytes : List ℕ) →
     Feeds old.line old.indicator taken line indicator taken' bytes → Answers old bytes taken taken'
-answers_bytes old line indicator taken taken' bytes feeds plate came stands = feeds.answers came.bytes plate came.history stands.line stands.indicator
+answers_bytes old line indicator taken taken' bytes feeds plate came represents = feeds.answers came.bytes plate came.history represents.line represents.indicator
 
 -- a line that fails is cut short
 pub cuts_short : {S : Type 0} (old : OpenScale S) (line : Line) (indicator : IndicatorState) (taken taken' : Option (List ℕ)) (bytes : List ℕ) →
@@ -31,7 +31,7 @@ pub cuts_short : {S : Type 0} (old : OpenScale S) (line : Line) (indicator : Ind
 cuts_short old line indicator taken taken' bytes fails =
     record {
       failed = fails.failed;
-      cut = λ plate came stands. fails.cut came.bytes plate came.history stands.line stands.indicator;
+      cut = λ plate came represents. fails.cut came.bytes plate came.history represents.line represents.indicator;
       inputs = refl;
       machine = refl;
     }

@@ -4,7 +4,7 @@ use Rattle.wc_model.specs.Instrument.WeighingHistories.{History, Sample}
 use Rattle.wc_model.specs.Run.ProcessImage.{inputs_of}
 use Rattle.wc_model.specs.Run.Rows.{history_of, line_bytes}
 use Rattle.wc_open_scale.specs.Rows.{EachRowIsACall}
-use Rattle.wc_open_scale.specs.Standing.{Came, Running}
+use Rattle.wc_open_scale.specs.Representation.{Came, Running}
 
 abbrev came_of : History → ℕ → Option Running → List ℕ → Came
 came_of history inputs program bytes = record { history = history; bytes = bytes; inputs = inputs; program = program }

@@ -6,7 +6,7 @@ use Rattle.wc_model.specs.Instrument.Requests.{requests_in}
 use Rattle.wc_model.specs.Instrument.WeighingHistories.{Sample}
 use Rattle.wc_model.specs.Run.ProcessImage.{image_with}
 use Rattle.wc_model.specs.declared.image.Image.{Image}
-use Rattle.wc_open_scale.specs.Standing.{Came, Running}
+use Rattle.wc_open_scale.specs.Representation.{Came, Running}
 
 -- no farther than the sensor reaches
 abbrev pub IsSample : ℤ → Type 0

@@ -3,5 +3,5 @@ pub mod Changing
 pub mod Coming
 pub mod Rows
 pub mod Scanning
-pub mod Standing
+pub mod Representation
 pub mod States

@@ -3,7 +3,7 @@ use Rattle.std.specs.Prelude.{◌≡◌, ℕ, List, ◌∷◌, ◌++◌, Option,
 use Rattle.wc_model.specs.Run.ProcessImage.{inputs_of}
 use Rattle.wc_model.specs.Run.Rows.{Bytes, Change, Counts, Inputs, Past, RowData, Scan, history_of, line_bytes}
 use Rattle.wc_open_scale.specs.Coming.{with_bytes, with_inputs, with_sample}
-use Rattle.wc_open_scale.specs.Standing.{Came, Running}
+use Rattle.wc_open_scale.specs.Representation.{Came, Running}
 
 -- what rows have brought, with a program or none
 abbrev pub came_by : Past → Option Running → Came

@@ -1,7 +1,7 @@
 ghost use Rattle.std.specs.Prelude.{◌≡◌, Err, IfErr, IsOkUnless, OnOk};
 ghost use Rattle.wc_model.specs.Language.Views.{text_view};
 ghost use Rattle.wc_open_scale.specs.Changing.{IsChangedTo};
-ghost use Rattle.wc_open_scale.specs.Standing.{HasNoProgram};
+ghost use Rattle.wc_open_scale.specs.Representation.{HasNoProgram};
 
 use crate::change_fault::ChangeFault;
 use crate::open_scale::OpenScale;

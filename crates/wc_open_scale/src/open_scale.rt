@@ -1,11 +1,11 @@
 ghost use Rattle.std.specs.Prelude.{◌≡◌, ◌<◌, ◌⊎◌, Option, Some, IfErr, IfOk, IsErr, IsOkUnless, OnOk, is_some, option_copied, option_map};
-ghost use Rattle.wc_indicator.specs.Kept.{StandsForHistory};
-ghost use Rattle.wc_machine.specs.Machines.{StandsFor};
+ghost use Rattle.wc_indicator.specs.Kept.{RepresentsHistory};
+ghost use Rattle.wc_machine.specs.Machines.{RepresentsText};
 ghost use Rattle.wc_model.specs.Instrument.Plates.{PlateData};
 ghost use Rattle.wc_model.specs.Run.Writing.{HasFailedSince};
 ghost use Rattle.wc_open_scale.specs.Calls.{Answers, HasLineFailed, IsCutShortAt};
 ghost use Rattle.wc_open_scale.specs.Coming.{IsSample, image_of, with_bytes, with_inputs, with_program, with_sample};
-ghost use Rattle.wc_open_scale.specs.Standing.{Came, Goes, IsRunning, Running, Stands, only_program};
+ghost use Rattle.wc_open_scale.specs.Representation.{Came, Goes, IsRunning, Running, Represents, only_program};
 
 use std::alloc::Global;
 use wc_indicator::Indicator;
@@ -33,9 +33,9 @@ impl<'a, S: Store> OpenScale<'a, S> {
         plate: &Plate,
         machine: Option<Machine<'a, S>>,
     ) -> Result<OpenScale<'a, S>, Fault>
-        ensures stands { IfOk result
+        ensures represents { IfOk result
             (λ scale. (program : Option Running) → IsRunning machine.entry program
-            → Stands scale plate.now (only_program program)) }
+            → Represents scale plate.now (only_program program)) }
         ensures machine { IfOk result (λ scale. scale.machine ≡ machine.entry) }
         ensures memory { IsOkUnless result Fault.Memory }
     {
@@ -52,7 +52,7 @@ impl<'a, S: Store> OpenScale<'a, S> {
     #[inline(always)]
     pub fn sample(&mut self, counts: i32)
         requires in_range { IsSample counts }
-        ensures stands { Goes self.old self.new (with_sample counts) }
+        ensures represents { Goes self.old self.new (with_sample counts) }
         ensures machine { self.new.machine ≡ self.old.machine }
     {
         self.indicator.sample(counts);
@@ -63,7 +63,7 @@ impl<'a, S: Store> OpenScale<'a, S> {
     /// answers `WriteFault` and does nothing.
     #[inline(always)]
     pub fn feed<W: ByteOut>(&mut self, bytes: &[u8], answers: &mut W) -> Result<(), WriteFault>
-        ensures stands { OnOk result (Goes self.old self.new (with_bytes bytes.now)) }
+        ensures represents { OnOk result (Goes self.old self.new (with_bytes bytes.now)) }
         ensures answers { OnOk result
             (Answers self.old bytes.now (W.bytes_taken answers.old)
             (W.bytes_taken answers.new)) }
@@ -87,7 +87,7 @@ impl<'a, S: Store> OpenScale<'a, S> {
     /// Takes the digital inputs from now on; bit i is `%IX0.i`. It takes no memory.
     #[inline(always)]
     pub fn inputs(&mut self, inputs: u16)
-        ensures stands { Goes self.old self.new (with_inputs inputs) }
+        ensures represents { Goes self.old self.new (with_inputs inputs) }
         ensures machine { self.new.machine ≡ self.old.machine }
     {
         self.inputs = inputs;
@@ -95,8 +95,8 @@ impl<'a, S: Store> OpenScale<'a, S> {
 
     /// Has this program from now on, in place of the one that it had.
     pub fn load(&mut self, machine: Machine<'a, S>)
-        ensures stands { (running : Running)
-            → StandsFor machine.entry running.text running.store
+        ensures represents { (running : Running)
+            → RepresentsText machine.entry running.text running.store
             → Goes self.old self.new (with_program running) }
         ensures machine { self.new.machine ≡ Some machine.entry }
     {
@@ -107,7 +107,7 @@ impl<'a, S: Store> OpenScale<'a, S> {
     /// memory.
     #[inline(always)]
     pub fn image(&self) -> Image
-        ensures told { (plate : PlateData) (came : Came) → Stands self.now plate came
+        ensures reported { (plate : PlateData) (came : Came) → Represents self.now plate came
             → result ≡ image_of plate came }
         ensures few { result.status < 64 }
     {
@@ -118,8 +118,8 @@ impl<'a, S: Store> OpenScale<'a, S> {
     #[inline(always)]
     pub fn indicator(&self) -> &Indicator
         ensures indicator { result.now ≡ self.now.indicator }
-        ensures stands { (plate : PlateData) (came : Came) → Stands self.now plate came
-            → StandsForHistory result.now plate came.history }
+        ensures represents { (plate : PlateData) (came : Came) → Represents self.now plate came
+            → RepresentsHistory result.now plate came.history }
     {
         &self.indicator
     }

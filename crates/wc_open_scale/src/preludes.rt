@@ -3,7 +3,7 @@ ghost use Rattle.wc_laws_instrument.specs.Preludes.{BringsBack, prelude_of, stat
 ghost use Rattle.wc_model.specs.Instrument.Plates.{PlateData};
 ghost use Rattle.wc_model.specs.Run.Rows.{Past};
 ghost use Rattle.wc_open_scale.specs.Rows.{came_by};
-ghost use Rattle.wc_open_scale.specs.Standing.{Came, Running, Stands};
+ghost use Rattle.wc_open_scale.specs.Representation.{Came, Running, Represents};
 ghost use Rattle.wc_open_scale.specs.States.{state_view};
 
 use crate::open_scale::OpenScale;
@@ -34,9 +34,9 @@ pub struct Prelude {
 impl<'a, S: Store> OpenScale<'a, S> {
     /// What is kept of all that has come.
     fn kept_state(&self) -> Prelude
-        ensures state { (plate : PlateData) (came : Came) → Stands self.now plate came
+        ensures state { (plate : PlateData) (came : Came) → Represents self.now plate came
             → state_view result ≡ state_of plate came.history came.bytes came.inputs }
-        ensures window { (plate : PlateData) (came : Came) → Stands self.now plate came
+        ensures window { (plate : PlateData) (came : Came) → Represents self.now plate came
             → result.window ≡ plate.window }
     {
         Prelude {
@@ -52,14 +52,14 @@ impl<'a, S: Store> OpenScale<'a, S> {
     /// What brings a new scale of this plate to the state of this one, whatever has come. It takes
     /// no memory.
     pub fn prelude(&self) -> Prelude
-        ensures state { (plate : PlateData) (came : Came) → Stands self.now plate came
+        ensures state { (plate : PlateData) (came : Came) → Represents self.now plate came
             → state_view result ≡ state_of plate came.history came.bytes came.inputs }
-        ensures window { (plate : PlateData) (came : Came) → Stands self.now plate came
+        ensures window { (plate : PlateData) (came : Came) → Represents self.now plate came
             → result.window ≡ plate.window }
         // Rows that bring it can be put in the place of those that have come: whatever follows goes
         // on as it would have.
         ensures brings_back { (plate : PlateData) (past : Past) (program : Option Running)
-            → Stands self.now plate (came_by past program)
+            → Represents self.now plate (came_by past program)
             → BringsBack plate past (prelude_of result.window (state_view result)) }
     {
         self.kept_state()

@@ -2,7 +2,7 @@ ghost use Rattle.std.specs.Prelude.{◌≡◌, ◌<◌, ◌≤◌, ◌^◌, ℕ,
 ghost use Rattle.wc_machine.specs.Machines.{text_of};
 ghost use Rattle.wc_model.specs.Language.Paths.{IsProgramBound};
 ghost use Rattle.wc_open_scale.specs.Scanning.{EndsScan, LeavesScan, RecordsScan, Scans};
-ghost use Rattle.wc_open_scale.specs.Standing.{HasNoProgram, IsNotBehind, IsScannedAt};
+ghost use Rattle.wc_open_scale.specs.Representation.{HasNoProgram, IsNotAfter, IsScannedAt};
 
 use crate::open_scale::OpenScale;
 use wc_machine::Machine;
@@ -37,7 +37,7 @@ impl<'a, S: Store> OpenScale<'a, S> {
     #[inline(always)]
     pub fn scan(&mut self, ms: u64) -> Option<Record>
         requires early { ms < 2 ^ 40 }
-        requires in_order { IsNotBehind self.old ms }
+        requires in_order { IsNotAfter self.old ms }
         ensures there { is_some result ≡ is_some self.old.machine }
         ensures scans { IfSome result (Scans self.old self.new ms) }
         ensures last { IsScannedAt self.new ms }

@@ -1,11 +1,11 @@
 ghost use Rattle.std.specs.Prelude.{◌≡◌, ◌<◌, ◌≤◌, ◌^◌, ℕ, IfOk, IfSome, IsOkUnless, is_some};
-ghost use Rattle.wc_machine.specs.Machines.{StandsFor, text_of};
+ghost use Rattle.wc_machine.specs.Machines.{RepresentsText, text_of};
 ghost use Rattle.wc_machine.specs.Seeing.{IsSeen};
 ghost use Rattle.wc_model.specs.Language.Paths.{IsProgramBound};
 ghost use Rattle.wc_model.specs.Language.Store.{Store as Contents};
 ghost use Rattle.wc_model.specs.Language.Tree.{Text};
 ghost use Rattle.wc_open_scale.specs.Scanning.{EndsScan, LeavesScan, RecordsScan, Scans, Sees};
-ghost use Rattle.wc_open_scale.specs.Standing.{HasNoProgram, IsNotBehind, IsScannedAt};
+ghost use Rattle.wc_open_scale.specs.Representation.{HasNoProgram, IsNotAfter, IsScannedAt};
 
 use crate::open_scale::OpenScale;
 use std::alloc::Global;
@@ -29,7 +29,7 @@ fn trace_at<S: Store>(
     ensures within { (n : ℕ) → IsProgramBound (text_of machine.old) n → result.0.steps ≤ n }
     ensures last { machine.new.last ≡ ms }
     ensures ends { EndsScan machine.old ms image.now }
-    ensures seen { (text : Text) (store : Contents) → StandsFor machine.old text store
+    ensures seen { (text : Text) (store : Contents) → RepresentsText machine.old text store
         → IfOk result.1 (λ lines. IsSeen text store image.now ms lines.items) }
     ensures memory { IsOkUnless result.1 Fault.Memory }
 {
@@ -52,7 +52,7 @@ impl<'a, S: Store> OpenScale<'a, S> {
         ms: u64,
     ) -> Option<(Record, Result<Vec<SeenLine>, Fault>)>
         requires early { ms < 2 ^ 40 }
-        requires in_order { IsNotBehind self.old ms }
+        requires in_order { IsNotAfter self.old ms }
         ensures there { is_some result ≡ is_some self.old.machine }
         ensures scans { IfSome result (λ traced. Scans self.old self.new ms traced.0) }
         ensures seen { IfSome result (λ traced. Sees self.old ms traced.1) }

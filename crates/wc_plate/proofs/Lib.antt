@@ -1,3 +1,3 @@
 pub mod Lookups
-pub mod Judged
+pub mod Validated
 pub mod Texts

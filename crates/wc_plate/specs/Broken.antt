@@ -2,7 +2,7 @@
 -- these is the profile's own.
 use Rattle.std.specs.Prelude.{◌≡◌, ℕ, ◌*ℤ◌, pos, int_div, false, Some, None, Result, Ok, Err}
 use Rattle.wc_model.specs.Instrument.Plates.{PlateData, least_sample, greatest_sample}
-use Rattle.wc_model.specs.Instrument.PlateTable.{Written, is_between, is_count, is_interval, judged, line_unit}
+use Rattle.wc_model.specs.Instrument.PlateTable.{Written, is_between, is_count, is_interval, validated, line_unit}
 use Rattle.wc_plate.specs.declared.broken.BrokenRule.{BrokenRule}
 use Rattle.wc_plate.specs.declared.broken.BrokenRule.TheVariants.{UnknownKey, MissingKey, WrongKind, Unit, Decimals, Interval, Load, ZeroCounts, SpanCounts, Window}
 
@@ -33,6 +33,6 @@ Breaks w (SpanCounts n) = (int_div w.max w.e ≡ pos n) × (is_between (pos 4 *�
 Breaks w Window = is_between (pos 2) (pos 16) w.window ≡ false
 
 -- the plate of what is written, or the first rule that it breaks
-abbrev pub Judges : Written → Result PlateData BrokenRule → Type 0
-Judges w (Ok plate) = judged w (line_unit w.unit) ≡ Ok plate
-Judges w (Err rule) = (judged w (line_unit w.unit) ≡ Err (number_of rule)) × Breaks w rule
+abbrev pub Validates : Written → Result PlateData BrokenRule → Type 0
+Validates w (Ok plate) = validated w (line_unit w.unit) ≡ Ok plate
+Validates w (Err rule) = (validated w (line_unit w.unit) ≡ Err (number_of rule)) × Breaks w rule

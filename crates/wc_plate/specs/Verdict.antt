@@ -26,6 +26,6 @@ BreaksIn table None rule = IsKeyFault table rule
 BreaksIn table (Some written) rule = Breaks written rule
 
 -- the plate of a table, or the first rule that it breaks, with the key at fault
-abbrev pub JudgesTable : Table → Result PlateData BrokenRule → Type 0
-JudgesTable table (Ok plate) = plate_of (Some table) ≡ Ok plate
-JudgesTable table (Err rule) = (plate_of (Some table) ≡ Err (number_of rule)) × BreaksIn table (written_of table) rule
+abbrev pub ValidatesTable : Table → Result PlateData BrokenRule → Type 0
+ValidatesTable table (Ok plate) = plate_of (Some table) ≡ Ok plate
+ValidatesTable table (Err rule) = (plate_of (Some table) ≡ Err (number_of rule)) × BreaksIn table (written_of table) rule

@@ -3,12 +3,12 @@
 #![tactic(auto)]
 
 mod broken;
-mod judging;
 mod kept;
 mod keys;
 mod reading;
+mod validation;
 
 pub use broken::BrokenRule;
-pub use judging::allows_interval;
 pub use kept::Plate;
 pub use reading::{plate, plate_of};
+pub use validation::allows_interval;

@@ -2,22 +2,22 @@ ghost use Rattle.std.specs.Prelude.{IsErrOf};
 ghost use Rattle.toml.specs.Errors.{IsBlank};
 ghost use Rattle.toml.specs.View.{table_view};
 ghost use Rattle.wc_plate.specs.TomlTable.{entries_of};
-ghost use Rattle.wc_plate.specs.Verdict.{IsVerdictOn, JudgesTable};
+ghost use Rattle.wc_plate.specs.Verdict.{IsVerdictOn, ValidatesTable};
 
 use crate::broken::BrokenRule;
-use crate::judging::judge_written;
 use crate::kept::Plate;
 use crate::keys::written_in;
+use crate::validation::validate_written;
 use std::alloc::Global;
 use toml::Table;
 use wc_model::Fault;
 
 /// The plate of a table, or the first rule that it breaks, with the key at fault and what it was checked by.
 pub fn plate_of(table: &Table) -> Result<Plate, BrokenRule<'_>>
-    ensures { JudgesTable (entries_of (table_view table.now)) result }
+    ensures { ValidatesTable (entries_of (table_view table.now)) result }
 {
     let written = written_in(table)?;
-    judge_written(&written)
+    validate_written(&written)
 }
 
 /// Reads a plate. A text that is not TOML is refused by 501, keys that are not the seven by 502, and by 503 to 508

@@ -1,7 +1,7 @@
 -- The first token of a line, if it is none of those that have a case of their own.
 use Rattle.std.proofs.Common.{◌≡◌, ℕ, Bool, false, List, refl}
 use Rattle.wc_laws_grammar.specs.LineMoves.{Start, line_move}
-use Rattle.wc_laws_grammar.specs.Moves.{begun_line, body_move, inside_move}
+use Rattle.wc_laws_grammar.specs.Moves.{started_line, body_move, inside_move}
 use Rattle.wc_lexer.specs.Views.{shape_view}
 use Rattle.wc_lexer.specs.declared.shape.Shape.{Shape}
 use Rattle.wc_lexer.specs.declared.shape.Shape.TheVariants.{Identifier, Whole, Duration, Truth, Address, And, AndNot, Opening, Closing, Comma}
@@ -11,7 +11,7 @@ use Rattle.wc_model.specs.Text.Positions.{Position}
 use Rattle.wc_model.specs.Text.Reading.{symbol_of}
 
 -- in parentheses, other than a `)`
-pub inside-other : (p : Position) (o : positions.Opening) (outer : List positions.Opening) (line : ℕ) (shape : Shape) (bytes : List ℕ) → (shape ≡ Closing → ⊥) → inside_move p o outer (symbol_of (shape_view shape) bytes) line ≡ begun_line p (line_move InParentheses Start (symbol_of (shape_view shape) bytes) line false)
+pub inside-other : (p : Position) (o : positions.Opening) (outer : List positions.Opening) (line : ℕ) (shape : Shape) (bytes : List ℕ) → (shape ≡ Closing → ⊥) → inside_move p o outer (symbol_of (shape_view shape) bytes) line ≡ started_line p (line_move InParentheses Start (symbol_of (shape_view shape) bytes) line false)
 inside-other p o outer line Identifier bytes h = refl
 inside-other p o outer line (Whole value) bytes h = refl
 inside-other p o outer line (Duration value) bytes h = refl
@@ -25,7 +25,7 @@ inside-other p o outer line Comma bytes h = refl
 inside-other p o outer line another bytes h = refl
 
 -- in a body, other than an identifier
-pub body-other : (p : Position) (line : ℕ) (colon : Bool) (shape : Shape) (bytes : List ℕ) → (shape ≡ Identifier → ⊥) → body_move p (symbol_of (shape_view shape) bytes) line colon ≡ begun_line p (line_move InBody Start (symbol_of (shape_view shape) bytes) line colon)
+pub body-other : (p : Position) (line : ℕ) (colon : Bool) (shape : Shape) (bytes : List ℕ) → (shape ≡ Identifier → ⊥) → body_move p (symbol_of (shape_view shape) bytes) line colon ≡ started_line p (line_move InBody Start (symbol_of (shape_view shape) bytes) line colon)
 body-other p line colon Identifier bytes h = absurd (h refl)
 body-other p line colon (Whole value) bytes h = refl
 body-other p line colon another bytes h = refl

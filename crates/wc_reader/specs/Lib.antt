@@ -1,4 +1,4 @@
 pub mod TextViews
-pub mod Told
+pub mod Reported
 pub mod Programs
 pub mod ReadTexts

@@ -1,6 +1,6 @@
 -- What the reader says of a text that it refuses.
 use Rattle.std.specs.Prelude.{◌≡◌, ℕ, List, ◌⊎◌}
-use Rattle.wc_lexer.specs.Refusals.{WantsRoom}
+use Rattle.wc_lexer.specs.Refusals.{NeedsMemory}
 use Rattle.wc_model.specs.Text.Reading.{IsMisread, IsRead}
 use Rattle.wc_model.specs.Text.ReadingFaults.{ReadingFault, number_of}
 use Rattle.wc_model.specs.Text.Tokens.{IsFirstTokenFault}
@@ -19,5 +19,5 @@ pub record IsUnread (bytes : List ℕ) (number place : ℕ) : Type 0 where
 
 -- what a refusal says; out of memory says that space is needed for a token
 abbrev pub IsRefusedAs : List ℕ → Fault → Type 0
-IsRefusedAs bytes Memory = WantsRoom bytes
+IsRefusedAs bytes Memory = NeedsMemory bytes
 IsRefusedAs bytes (Refused number place) = IsUnread bytes number place

@@ -13,7 +13,7 @@ use Rattle.wc_text_lines.specs.LineViews.{line_state_view}
 use Rattle.wc_reader.specs.declared.text_state.TextState.{TextState}
 use Rattle.wc_reader.specs.declared.text_state.TextState.TheVariants.{Outside, Unnamed, Declaring, InBody}
 use Rattle.wc_reader.specs.declared.text_state.BodyPlace.{BodyPlace}
-use Rattle.wc_reader.specs.declared.text_state.BodyPlace.TheVariants.{Within, InSection, BehindUnit}
+use Rattle.wc_reader.specs.declared.text_state.BodyPlace.TheVariants.{Within, InSection, AfterUnit}
 use Rattle.wc_reader.specs.declared.text_state.LinePlace.{LinePlace}
 use Rattle.wc_reader.specs.declared.text_state.LinePlace.TheVariants.{AtLine, OnLine, Closed}
 use Rattle.wc_reader.specs.declared.text_state.Reading.{Reading}
@@ -28,7 +28,7 @@ line_place_view p Closed = moves.Closed p
 abbrev pub place_view : Position → BodyPlace → State
 place_view p (Within place) = line_place_view p place
 place_view p (InSection section) = moves.Declaring p.before p.unit section moves.Undeclared
-place_view p BehindUnit = moves.behind_unit p
+place_view p AfterUnit = moves.after_unit p
 
 -- how far a text has been read after these units
 abbrev pub state_view : List ProgramUnit → TextState → State

@@ -5,7 +5,7 @@ ghost use Rattle.wc_model.specs.Language.Names.{name_of};
 ghost use Rattle.wc_model.specs.Text.Positions as positions;
 ghost use Rattle.wc_model.specs.Language.Tree.{ProgramUnit};
 ghost use Rattle.wc_model.specs.Language.Views.{lines_view};
-ghost use Rattle.wc_text_lines.specs.LineViews.{begun_view, in_line_view, line_state_view};
+ghost use Rattle.wc_text_lines.specs.LineViews.{started_view, in_line_view, line_state_view};
 ghost use Rattle.wc_text_bodies.specs.BodyViews.{IsCounted, position_view};
 ghost use Rattle.wc_reader.specs.TextViews.{line_place_view, place_view};
 ghost use Rattle.wc_text_lines.specs.Words.{symbol_view};
@@ -13,31 +13,33 @@ ghost use Rattle.wc_text_lines.specs.Words.{symbol_view};
 use crate::text_state::{BodyPlace, LinePlace};
 use std::alloc::{AllocError, Global};
 use wc_lexer::{Shape, Token};
-use wc_text_bodies::{Body, add_form, add_label, close, section_begun};
-use wc_text_lines::{Begun, InLine, LineState, at_start, at_start_inside, ends_unit, line_move};
+use wc_text_bodies::{Body, add_label, add_shape, close, section_started};
+use wc_text_lines::{
+    InLine, LineState, StartedLine, at_start, at_start_inside, ends_unit, line_move,
+};
 
 /// On the line of an instruction, or after its end.
 #[inline(always)]
 fn in_line_place<'a>(
     alloc: Global,
     body: &mut Body<'a>,
-    begun: Begun<'a>,
+    started: StartedLine<'a>,
     state: InLine<'a>,
 ) -> Result<LinePlace<'a>, AllocError>
     requires { IsCounted body.old }
-    ensures behind { IfOk result
+    ensures following { IfOk result
         (λ place. (units : List ProgramUnit)
         → line_place_view (position_view units body.new) place
         ≡ moves.on_line (position_view units body.old)
-        (in_line_view (begun_view begun.entry) state.entry)) }
+        (in_line_view (started_view started.entry) state.entry)) }
     ensures counted { OnOk result (IsCounted body.new) }
 {
     match state {
-        InLine::Formed(form, true) => {
-            add_form(alloc, body, begun, form)?;
+        InLine::Formed(line_shape, true) => {
+            add_shape(alloc, body, started, line_shape)?;
             Ok(LinePlace::AtLine)
         }
-        state => Ok(LinePlace::OnLine(LineState::Instructing(begun, state))),
+        state => Ok(LinePlace::OnLine(LineState::Instructing(started, state))),
     }
 }
 
@@ -49,7 +51,7 @@ fn line_place<'a>(
     line: LineState<'a>,
 ) -> Result<LinePlace<'a>, AllocError>
     requires { IsCounted body.old }
-    ensures behind { IfOk result
+    ensures following { IfOk result
         (λ place. (units : List ProgramUnit)
         → line_place_view (position_view units body.new) place
         ≡ moves.on_line (position_view units body.old) (line_state_view line.entry)) }
@@ -60,7 +62,7 @@ fn line_place<'a>(
             add_label(body, label)?;
             Ok(LinePlace::AtLine)
         }
-        LineState::Instructing(begun, state) => in_line_place(alloc, body, begun, state),
+        LineState::Instructing(started, state) => in_line_place(alloc, body, started, state),
         line => Ok(LinePlace::OnLine(line)),
     }
 }
@@ -73,10 +75,10 @@ fn on_line<'a>(
     line: Option<LineState<'a>>,
 ) -> Result<Option<BodyPlace<'a>>, AllocError>
     requires { IsCounted body.old }
-    ensures behind { IfOk result
+    ensures following { IfOk result
         (λ next. (units : List ProgramUnit)
         → option_map (place_view (position_view units body.new)) next
-        ≡ moves.begun_line (position_view units body.old)
+        ≡ moves.started_line (position_view units body.old)
         (option_map line_state_view line.entry)) }
     ensures counted { IfOk result (λ next. IfSome next (λ place. IsCounted body.new)) }
 {
@@ -99,15 +101,15 @@ fn at_word<'a>(
 ) -> Result<Option<BodyPlace<'a>>, AllocError>
     requires counted { IsCounted body.old }
     requires identifier { symbol_view token ≡ marks.Identifier token.text.now }
-    ensures behind { IfOk result
+    ensures following { IfOk result
         (λ next. (units : List ProgramUnit)
         → option_map (place_view (position_view units body.new)) next
         ≡ moves.section_or_line
         (position_view units body.old) token.entry.text.now token.entry.line
-        (moves.section_begun (lines_view body.old.done.items) (name_of token.entry.text.now))) }
+        (moves.section_started (lines_view body.old.done.items) (name_of token.entry.text.now))) }
     ensures counted { IfOk result (λ next. IfSome next (λ place. IsCounted body.new)) }
 {
-    match section_begun(&body.done, token.text) {
+    match section_started(&body.done, token.text) {
         Some(section) => Ok(Some(BodyPlace::InSection(section))),
         None => on_line(alloc, body, at_start(token, false)),
     }
@@ -123,7 +125,7 @@ fn at_body_word<'a>(
 ) -> Result<Option<BodyPlace<'a>>, AllocError>
     requires counted { IsCounted body.old }
     requires identifier { symbol_view token ≡ marks.Identifier token.text.now }
-    ensures behind { IfOk result
+    ensures following { IfOk result
         (λ next. (units : List ProgramUnit)
         → option_map (place_view (position_view units body.new)) next
         ≡ moves.word_move (position_view units body.old)
@@ -131,7 +133,7 @@ fn at_body_word<'a>(
     ensures counted { IfOk result (λ next. IfSome next (λ place. IsCounted body.new)) }
 {
     if ends_unit(token.text, body.unit.kind) {
-        Ok(Some(BodyPlace::BehindUnit))
+        Ok(Some(BodyPlace::AfterUnit))
     } else {
         at_word(alloc, body, token)
     }
@@ -147,7 +149,7 @@ fn at_body_identifier<'a>(
 ) -> Result<Option<BodyPlace<'a>>, AllocError>
     requires counted { IsCounted body.old }
     requires identifier { symbol_view token ≡ marks.Identifier token.text.now }
-    ensures behind { IfOk result
+    ensures following { IfOk result
         (λ next. (units : List ProgramUnit)
         → option_map (place_view (position_view units body.new)) next
         ≡ moves.body_move (position_view units body.old)
@@ -170,7 +172,7 @@ fn at_body_line<'a>(
     colon: bool,
 ) -> Result<Option<BodyPlace<'a>>, AllocError>
     requires { IsCounted body.old }
-    ensures behind { IfOk result
+    ensures following { IfOk result
         (λ next. (units : List ProgramUnit)
         → option_map (place_view (position_view units body.new)) next
         ≡ moves.body_move (position_view units body.old)
@@ -187,7 +189,7 @@ fn at_body_line<'a>(
 #[inline(always)]
 fn at_closing<'a>(body: &mut Body<'a>, line: u32) -> Result<Option<BodyPlace<'a>>, AllocError>
     requires { IsCounted body.old }
-    ensures behind { IfOk result
+    ensures following { IfOk result
         (λ next.
         (units : List ProgramUnit) (innermost : positions.Opening) (outer : List positions.Opening)
         → (position_view units body.old).openings ≡ innermost ∷ outer
@@ -210,7 +212,7 @@ fn at_inside_line<'a>(
     token: Token<'a>,
 ) -> Result<Option<BodyPlace<'a>>, AllocError>
     requires { IsCounted body.old }
-    ensures behind { IfOk result
+    ensures following { IfOk result
         (λ next.
         (units : List ProgramUnit) (innermost : positions.Opening) (outer : List positions.Opening)
         → (position_view units body.old).openings ≡ innermost ∷ outer
@@ -234,7 +236,7 @@ fn at_line_start<'a>(
     colon: bool,
 ) -> Result<Option<BodyPlace<'a>>, AllocError>
     requires { IsCounted body.old }
-    ensures behind { IfOk result
+    ensures following { IfOk result
         (λ next. (units : List ProgramUnit)
         → option_map (place_view (position_view units body.new)) next
         ≡ moves.start_move (position_view units body.old)
@@ -257,7 +259,7 @@ fn at_line<'a>(
     colon: bool,
 ) -> Result<Option<BodyPlace<'a>>, AllocError>
     requires { IsCounted body.old }
-    ensures behind { IfOk result
+    ensures following { IfOk result
         (λ next. (units : List ProgramUnit)
         → option_map (place_view (position_view units body.new)) next
         ≡ moves.move (moves.AtLine (position_view units body.old))
@@ -279,7 +281,7 @@ fn along_line<'a>(
     token: Token<'a>,
 ) -> Result<Option<BodyPlace<'a>>, AllocError>
     requires { IsCounted body.old }
-    ensures behind { IfOk result
+    ensures following { IfOk result
         (λ next. (units : List ProgramUnit) (colon : Bool)
         → option_map (place_view (position_view units body.new)) next
         ≡ moves.move (moves.OnLine (position_view units body.old) (line_state_view line.entry))
@@ -291,7 +293,7 @@ fn along_line<'a>(
 }
 
 /// After the token that follows a `)`: the line's end.
-fn behind_closing<'a>(token: Token<'a>) -> Option<BodyPlace<'a>>
+fn after_closing<'a>(token: Token<'a>) -> Option<BodyPlace<'a>>
     ensures { (p : positions.Position) (line : ℕ) (colon : Bool)
         → option_map (place_view p) result
         ≡ moves.move (moves.Closed p) (symbol_view token.entry) line colon }
@@ -313,7 +315,7 @@ pub(crate) fn place_move<'a>(
     colon: bool,
 ) -> Result<Option<BodyPlace<'a>>, AllocError>
     requires { IsCounted body.old }
-    ensures behind { IfOk result
+    ensures following { IfOk result
         (λ next. (units : List ProgramUnit)
         → option_map (place_view (position_view units body.new)) next
         ≡ moves.move (line_place_view (position_view units body.old) place.entry)
@@ -323,6 +325,6 @@ pub(crate) fn place_move<'a>(
     match place {
         LinePlace::AtLine => at_line(alloc, body, token, colon),
         LinePlace::OnLine(line) => along_line(alloc, body, line, token),
-        LinePlace::Closed => Ok(behind_closing(token)),
+        LinePlace::Closed => Ok(after_closing(token)),
     }
 }

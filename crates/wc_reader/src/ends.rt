@@ -4,7 +4,7 @@ ghost use Rattle.wc_model.specs.Language.Tree.{ProgramUnit};
 ghost use Rattle.wc_model.specs.Language.Views.{unit_view};
 ghost use Rattle.wc_text_bodies.specs.BodyViews.{position_view};
 ghost use Rattle.wc_reader.specs.TextViews.{line_place_view, reading_view, state_view};
-ghost use Rattle.wc_reader.specs.Told.{TellsFault, TellsReading};
+ghost use Rattle.wc_reader.specs.Reported.{ReportsFault, ReportsReading};
 
 use crate::faults::has_program;
 use crate::text_state::{LinePlace, Reading, TextState};
@@ -15,7 +15,7 @@ use wc_text_bodies::{Body, open_in, open_on};
 
 /// Whole units at the text's end: one is a program, or none.
 fn whole_text<'a>(units: Vec<Unit<'a>, Global>, last_line: u32) -> Result<Source<'a>, Fault>
-    ensures told { TellsReading
+    ensures reported { ReportsReading
         (moves.at_end (moves.Outside (map unit_view units.entry.items)) last_line) result }
     // It takes no memory, so a refusal is not reported as out of memory.
     ensures refuses { IfErr result (λ fault. fault ≡ Fault.Memory → ⊥) }
@@ -42,8 +42,9 @@ fn unit_open(line: u32) -> Option<Fault>
 
 /// What is open in a body at the text's end.
 fn open_in_body<'a>(body: &Body<'a>, place: &LinePlace<'a>) -> Fault
-    ensures told { (units : List ProgramUnit) (last : ℕ)
-        → TellsFault (moves.at_end (line_place_view (position_view units body.now) place.now) last)
+    ensures reported { (units : List ProgramUnit) (last : ℕ)
+        → ReportsFault (moves.at_end (line_place_view
+        (position_view units body.now) place.now) last)
         result }
     // It takes no memory, so a refusal is not reported as out of memory.
     ensures refuses { result ≡ Fault.Memory → ⊥ }
@@ -56,10 +57,10 @@ fn open_in_body<'a>(body: &Body<'a>, place: &LinePlace<'a>) -> Fault
 
 /// What is open at the text's end.
 fn open_at_end<'a>(state: &TextState<'a>) -> Option<Fault>
-    ensures told { (units : List ProgramUnit) (last : ℕ)
+    ensures reported { (units : List ProgramUnit) (last : ℕ)
         → MatchOption result
         (moves.at_end (state_view units state.now) last ≡ moves.at_end (moves.Outside units) last)
-        (λ fault. TellsFault (moves.at_end (state_view units state.now) last) fault) }
+        (λ fault. ReportsFault (moves.at_end (state_view units state.now) last) fault) }
     // It takes no memory, so a refusal is not reported as out of memory.
     ensures refuses { IfSome result (λ fault. fault ≡ Fault.Memory → ⊥) }
 {
@@ -77,7 +78,7 @@ pub fn at_text_end<'a>(
     reading: &mut Reading<'a>,
     last_line: u32,
 ) -> Result<Source<'a>, Fault>
-    ensures told { TellsReading (moves.at_end (reading_view reading.old) last_line) result }
+    ensures reported { ReportsReading (moves.at_end (reading_view reading.old) last_line) result }
     // It takes no memory, so a refusal is not reported as out of memory.
     ensures refuses { IfErr result (λ fault. fault ≡ Fault.Memory → ⊥) }
 {

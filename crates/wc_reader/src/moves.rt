@@ -19,7 +19,7 @@ use wc_text_lines::{unit_kind, word};
 
 /// After a unit's first word, if the token is one.
 fn at_first_word<'a>(token: Token<'a>) -> Option<TextState<'a>>
-    ensures behind { (units : List ProgramUnit)
+    ensures following { (units : List ProgramUnit)
         → option_map (state_view units) result
         ≡ option_map (λ kind. moves.Unnamed units kind token.entry.line)
         (found unit_kinds (name_of token.entry.text.now)) }
@@ -34,7 +34,7 @@ fn at_first_word<'a>(token: Token<'a>) -> Option<TextState<'a>>
 /// After a token between units.
 #[inline(always)]
 fn outside<'a>(token: Token<'a>) -> Option<TextState<'a>>
-    ensures behind { (units : List ProgramUnit) (colon : Bool)
+    ensures following { (units : List ProgramUnit) (colon : Bool)
         → option_map (state_view units) result
         ≡ moves.move (moves.Outside units) (symbol_view token.entry) token.entry.line colon }
     ensures counted { IfSome result (λ it. IsStateCounted it) }
@@ -48,7 +48,7 @@ fn outside<'a>(token: Token<'a>) -> Option<TextState<'a>>
 
 /// After the token that follows a unit's first word: its name.
 fn at_name<'a>(alloc: Global, kind: UnitKind, line: u32, token: Token<'a>) -> Option<TextState<'a>>
-    ensures behind { (units : List ProgramUnit) (colon : Bool)
+    ensures following { (units : List ProgramUnit) (colon : Bool)
         → option_map (state_view units) result
         ≡ moves.move (moves.Unnamed units kind line)
         (symbol_view token.entry) token.entry.line colon }
@@ -77,14 +77,14 @@ fn section_state<'a>(
     section: Section,
     place: SectionPlace<'a>,
 ) -> TextState<'a>
-    ensures behind { (units : List ProgramUnit)
+    ensures following { (units : List ProgramUnit)
         → state_view units result
         ≡ section_view units (unit_view unit.entry) section place.entry }
     ensures counted { IsStateCounted result }
 {
     match place {
         SectionPlace::WithinSection(state) => TextState::Declaring(unit, section, state),
-        SectionPlace::BehindSection => {
+        SectionPlace::AfterSection => {
             TextState::InBody(body_start(alloc, unit), LinePlace::AtLine)
         }
     }
@@ -99,7 +99,7 @@ fn in_section<'a>(
     state: DeclarationState<'a>,
     token: Token<'a>,
 ) -> Result<Option<TextState<'a>>, AllocError>
-    ensures behind { IfOk result
+    ensures following { IfOk result
         (λ next. (units : List ProgramUnit)
         → option_map (state_view units) next
         ≡ moves.declaration_move units (unit_view unit.entry) section (declaring_view state.entry)
@@ -117,7 +117,7 @@ fn in_section<'a>(
 fn end_unit<'a>(units: &mut Vec<Unit<'a>, Global>, body: Body<'a>) -> Result<(), AllocError>
     ensures { OnOk result
         (moves.Outside (map unit_view units.new.items)
-        ≡ moves.behind_unit (position_view (map unit_view units.old.items) body.entry)) }
+        ≡ moves.after_unit (position_view (map unit_view units.old.items) body.entry)) }
 {
     let Body { unit, done, .. } = body;
     let Unit {
@@ -146,7 +146,7 @@ fn body_state<'a>(
     place: Option<BodyPlace<'a>>,
 ) -> Result<Option<TextState<'a>>, AllocError>
     requires { IfSome place (λ it. IsCounted body) }
-    ensures behind { IfOk result
+    ensures following { IfOk result
         (λ state.
         option_map (state_view (map unit_view units.new.items)) state
         ≡ option_map (place_view (position_view (map unit_view units.old.items) body.entry))
@@ -160,7 +160,7 @@ fn body_state<'a>(
             section,
             DeclarationState::Undeclared,
         ))),
-        Some(BodyPlace::BehindUnit) => {
+        Some(BodyPlace::AfterUnit) => {
             end_unit(units, body)?;
             Ok(Some(TextState::Outside))
         }
@@ -179,7 +179,7 @@ fn in_body<'a>(
     colon: bool,
 ) -> Result<Option<TextState<'a>>, AllocError>
     requires { IsCounted body }
-    ensures behind { IfOk result
+    ensures following { IfOk result
         (λ next.
         option_map (state_view (map unit_view units.new.items)) next
         ≡ moves.move
@@ -203,7 +203,7 @@ pub(crate) fn text_move<'a>(
     colon: bool,
 ) -> Result<Option<TextState<'a>>, AllocError>
     requires { IsStateCounted state }
-    ensures behind { IfOk result
+    ensures following { IfOk result
         (λ next.
         option_map (state_view (map unit_view units.new.items)) next
         ≡ moves.move (state_view (map unit_view units.old.items) state.entry)

@@ -11,7 +11,7 @@ ghost use Rattle.wc_reader.specs.ReadTexts.{IsRefusedAs};
 ghost use Rattle.wc_text_short_lines.specs.Several.{GoesOn};
 ghost use Rattle.wc_text_short_lines.specs.Walks.{walk};
 ghost use Rattle.wc_reader.specs.TextViews.{IsUndeclared, IsStateCounted, reading_view, state_view};
-ghost use Rattle.wc_reader.specs.Told.{IsUnexpected, IsUnexpectedAt, StopsWith, TellsReading};
+ghost use Rattle.wc_reader.specs.Reported.{IsUnexpected, IsUnexpectedAt, StopsWith, ReportsReading};
 ghost use Rattle.wc_text_lines.specs.Words.{marks_of, symbol_view};
 
 use crate::ends::at_text_end;
@@ -92,12 +92,12 @@ fn read_token<'a>(
 ) -> Result<(), Fault>
     requires { IsStateCounted reading.old.state }
     ensures goes_on { OnOk result
-        ((behind : List Mark) → colon_next behind false ≡ colon
-        → GoesOn (reading_view reading.old) (mark_of_token (token_view token.entry) ∷ behind)
-        (reading_view reading.new) behind) }
+        ((following : List Mark) → colon_next following false ≡ colon
+        → GoesOn (reading_view reading.old) (mark_of_token (token_view token.entry) ∷ following)
+        (reading_view reading.new) following) }
     ensures stops { IfErr result
-        (λ fault. (behind : List Mark) → colon_next behind false ≡ colon
-        → StopsWith (reading_view reading.old) (mark_of_token (token_view token.entry) ∷ behind)
+        (λ fault. (following : List Mark) → colon_next following false ≡ colon
+        → StopsWith (reading_view reading.old) (mark_of_token (token_view token.entry) ∷ following)
         fault) }
     ensures counted { OnOk result (IsStateCounted reading.new.state) }
 {
@@ -125,8 +125,8 @@ pub fn read_at<'a>(
         StopsWith (reading_view reading.old) (marks_of (drop index tokens.now)) fault) }
     ensures counted { OnOk result (IsStateCounted reading.new.state) }
 {
-    let behind = &tokens[index + 1..];
-    read_token(alloc, reading, tokens[index], is_colon_next(behind))
+    let following = &tokens[index + 1..];
+    read_token(alloc, reading, tokens[index], is_colon_next(following))
 }
 
 /// The section in which a declaration may begin here.
@@ -188,7 +188,7 @@ fn take_in_body<'a>(
 /// Reads a short line in place, and returns the number of its tokens: none if no such line is
 /// here.
 #[inline(always)]
-fn take_front<'a>(
+fn take_prefix<'a>(
     alloc: Global,
     state: &mut TextState<'a>,
     tokens: &[Token<'a>],
@@ -227,7 +227,7 @@ fn take_at<'a>(
     ensures within { IfOk result (λ next. next ≤ length tokens.now) }
 {
     let (_, left) = tokens.split_at(index);
-    let taken = take_front(alloc, &mut reading.state, left)?;
+    let taken = take_prefix(alloc, &mut reading.state, left)?;
     Ok(index + taken)
 }
 
@@ -268,10 +268,10 @@ fn read_on<'a>(
     last_line: u32,
 ) -> Result<Source<'a>, Fault>
     requires { IsStateCounted reading.old.state }
-    ensures told { TellsReading
-        (walk (reading_view reading.old) (marks_of tokens.now) last_line).told result }
+    ensures reported { ReportsReading
+        (walk (reading_view reading.old) (marks_of tokens.now) last_line).reported result }
     // At the end no memory is taken.
-    ensures room { IfErr result (λ fault. fault ≡ Fault.Memory → 0 < length tokens.now) }
+    ensures capacity { IfErr result (λ fault. fault ≡ Fault.Memory → 0 < length tokens.now) }
 {
     let mut place = 0;
     while place < tokens.len() {
@@ -303,9 +303,10 @@ pub fn read_tokens<'a>(
     tokens: &[Token<'a>],
     last_line: u32,
 ) -> Result<Source<'a>, Fault>
-    ensures told { TellsReading (walk at_first (marks_of tokens.now) last_line).told result }
+    ensures reported { ReportsReading (walk at_first
+        (marks_of tokens.now) last_line).reported result }
     // With no token no memory is taken.
-    ensures room { IfErr result (λ fault. fault ≡ Fault.Memory → 0 < length tokens.now) }
+    ensures capacity { IfErr result (λ fault. fault ≡ Fault.Memory → 0 < length tokens.now) }
 {
     let mut reading = reading_start(alloc);
     read_on(alloc, &mut reading, tokens, last_line)

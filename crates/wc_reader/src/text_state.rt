@@ -35,7 +35,7 @@ pub(crate) enum BodyPlace<'a> {
     /// Into a section, if no line of the body has come.
     InSection(Section),
     /// After the unit.
-    BehindUnit,
+    AfterUnit,
 }
 
 /// The whole units, and how far the text after them has been read.

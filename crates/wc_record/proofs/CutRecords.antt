@@ -11,7 +11,7 @@ use Rattle.csv.specs.declared.parser.State.{State}
 use Rattle.csv.specs.declared.parser.State.TheVariants as st
 use Rattle.wc_model.specs.Run.Log.{LogOf, Record, first_row, has_fields, last_moment, log_after, log_of, log_with, most_rows, refused_at, row_of, row_of_fields}
 use Rattle.wc_record.proofs.RecordEnds.{records_are_all}
-use Rattle.wc_record.proofs.Standing.{LeadsTo, StandsAt, leads}
+use Rattle.wc_record.proofs.Representation.{LeadsTo, IsAt, leads}
 use Rattle.wc_record.specs.Cutting.{cut_from}
 use Rattle.wc_record.specs.Places.{after, is_cut, record_start}
 use Rattle.wc_record.specs.declared.place.Place.{Place}
@@ -26,11 +26,11 @@ ReadsLong None = ⊥
 ReadsLong (Some p) = IsLong p.0
 
 -- if a step does not end the record, the machine is at the next place
-stands_on : (s : State) (fields : Record) (field : List ℕ) (byte : ℕ) (q : State × Action) (place : Place) → is_end q.1 ≡ false → LeadsTo (length fields) q place → StandsAt q.0 (length (fields_after q.1 fields field)) place
-stands_on s fields field byte (state, act.EndRecord) place e h = cc
-stands_on s fields field byte (state, act.EndField) place e h = rw (length-append fields (field ∷ [])) h
-stands_on s fields field byte (state, act.Skip) place e h = h
-stands_on s fields field byte (state, act.Copy) place e h = h
+still_represents : (s : State) (fields : Record) (field : List ℕ) (byte : ℕ) (q : State × Action) (place : Place) → is_end q.1 ≡ false → LeadsTo (length fields) q place → IsAt q.0 (length (fields_after q.1 fields field)) place
+still_represents s fields field byte (state, act.EndRecord) place e h = cc
+still_represents s fields field byte (state, act.EndField) place e h = rw (length-append fields (field ∷ [])) h
+still_represents s fields field byte (state, act.Skip) place e h = h
+still_represents s fields field byte (state, act.Copy) place e h = h
 
 -- a step loses no field
 keeps_fields : (a : Action) (fields : Record) (field : List ℕ) → length fields ≤ length (fields_after a fields field)
@@ -47,7 +47,7 @@ ends_field act.Skip fields field e = cc
 ends_field act.Copy fields field e = cc
 
 -- if three fields have ended, the end of the text ends a record
-ends_open : (s : State) (ended : ℕ) (place : Place) → StandsAt s ended place → 3 ≤ ended → ends_at_end s ≡ true
+ends_open : (s : State) (ended : ℕ) (place : Place) → IsAt s ended place → 3 ≤ ended → ends_at_end s ≡ true
 ends_open st.StartRecord ended place h few = absurd (omega (arith, h.1))
 ends_open st.AfterCr ended place h few = absurd (omega (arith, h.1))
 ends_open st.StartField ended place h few = refl
@@ -58,7 +58,7 @@ ends_open st.InEscape ended place h few = absurd h
 ends_open st.InComment ended place h few = absurd h
 
 -- if three fields have ended, the record is long however it goes on
-long_record : (s : State) (fields : Record) (field xs : List ℕ) (place : Place) → StandsAt s (length fields) place → 3 ≤ length fields → ReadsLong (next_record default_config s fields field xs)
+long_record : (s : State) (fields : Record) (field xs : List ℕ) (place : Place) → IsAt s (length fields) place → 3 ≤ length fields → ReadsLong (next_record default_config s fields field xs)
 unfolding next_record
 long_record s fields field [] place h few =
     let ended = length-append fields (field ∷ []) in
@@ -71,21 +71,21 @@ long_record s fields field (byte ∷ rest) place h few = by_end (is_end a) refl 
     next : Option Read
     next = next_record default_config (step default_config s byte).0 (fields_after a fields field) (field_after a byte field) rest
 
-    by_end : (b : Bool) → is_end a ≡ b → (StandsAt (step default_config s byte).0 (length (fields_after a fields field)) (after place byte) → 3 ≤ length (fields_after a fields field) → ReadsLong next)
+    by_end : (b : Bool) → is_end a ≡ b → (IsAt (step default_config s byte).0 (length (fields_after a fields field)) (after place byte) → 3 ≤ length (fields_after a fields field) → ReadsLong next)
         → ReadsLong (cond b (Some (fields_after a fields field, (step default_config s byte).0, rest)) next)
     by_end true e more = omega (arith, few, ends_field a fields field e)
     by_end false e more =
-        more (stands_on s fields field byte (step default_config s byte) (after place byte) e (leads s (length fields) place byte h)) (omega (arith, few, keeps_fields a fields field))
+        more (still_represents s fields field byte (step default_config s byte) (after place byte) e (leads s (length fields) place byte h)) (omega (arith, few, keeps_fields a fields field))
 
 -- what was read of a text, and of what is left of it by the cut: the same record, or two long ones
 abbrev pub AreAlike : Option Read → Option Read → Type 0
 AreAlike None None = ⊤
 AreAlike None (Some q) = ⊥
 AreAlike (Some p) None = ⊥
-AreAlike (Some p) (Some q) = ((p.0 ≡ q.0) × (p.1 ≡ q.1) × (q.2 ≡ cut_from record_start p.2) × StandsAt p.1 0 record_start) ⊎ (IsLong p.0 × IsLong q.0)
+AreAlike (Some p) (Some q) = ((p.0 ≡ q.0) × (p.1 ≡ q.1) × (q.2 ≡ cut_from record_start p.2) × IsAt p.1 0 record_start) ⊎ (IsLong p.0 × IsLong q.0)
 
 -- a place gives the number of fields that have ended, up to three
-ended_is : (s : State) (ended : ℕ) (place : Place) → StandsAt s ended place → place.ended ≡ min 3 ended
+ended_is : (s : State) (ended : ℕ) (place : Place) → IsAt s ended place → place.ended ≡ min 3 ended
 ended_is st.StartRecord ended place h = rw (h.0, h.1) refl
 ended_is st.AfterCr ended place h = rw (h.0, h.1) refl
 ended_is st.StartField ended place h = rw h.1 refl
@@ -110,7 +110,7 @@ both_long (Some p) None h k = absurd k
 both_long (Some p) (Some q) h k = inr (h, k)
 
 -- the end of a record leads to the start of one
-at_start : (ended : ℕ) (q : State × Action) (place : Place) → is_end q.1 ≡ true → LeadsTo ended q place → (place ≡ record_start) × StandsAt q.0 0 record_start
+at_start : (ended : ℕ) (q : State × Action) (place : Place) → is_end q.1 ≡ true → LeadsTo ended q place → (place ≡ record_start) × IsAt q.0 0 record_start
 at_start ended (state, act.EndRecord) place e h = h
 at_start ended (state, act.EndField) place e h = cc
 at_start ended (state, act.Skip) place e h = cc
@@ -123,7 +123,7 @@ same_end true fields = inl (refl, refl, refl, (refl, refl))
 same_end false fields = tt
 
 -- the next record of a text, and of what is left of it by the cut
-pub next_alike : (s : State) (fields : Record) (field xs : List ℕ) (place : Place) → StandsAt s (length fields) place
+pub next_alike : (s : State) (fields : Record) (field xs : List ℕ) (place : Place) → IsAt s (length fields) place
     → AreAlike (next_record default_config s fields field xs) (next_record default_config s fields field (cut_from place xs))
 unfolding next_record cut_from
 next_alike s fields field [] place h = same_end (ends_at_end s) (fields ++ (field ∷ []))
@@ -142,12 +142,12 @@ next_alike s fields field (byte ∷ rest) place h =
     led : LeadsTo (length fields) q (after place byte)
     led = leads s (length fields) place byte h
 
-    by_end : (b : Bool) → is_end q.1 ≡ b → (StandsAt q.0 (length (fields_after q.1 fields field)) (after place byte) → AreAlike (next rest) (next left))
+    by_end : (b : Bool) → is_end q.1 ≡ b → (IsAt q.0 (length (fields_after q.1 fields field)) (after place byte) → AreAlike (next rest) (next left))
         → AreAlike (cond b (Some (fields_after q.1 fields field, q.0, rest)) (next rest)) (cond b (Some (fields_after q.1 fields field, q.0, left)) (next left))
     by_end true e more = let start = at_start (length fields) q (after place byte) e led in inl (refl, refl, ap (λ (here : Place). cut_from here rest) start.0, start.1)
-    by_end false e more = more (stands_on s fields field byte q (after place byte) e led)
+    by_end false e more = more (still_represents s fields field byte q (after place byte) e led)
 
-    by_cut : (b : Bool) → is_cut place ≡ b → (StandsAt q.0 (length (fields_after q.1 fields field)) (after place byte) → AreAlike (next rest) (next left))
+    by_cut : (b : Bool) → is_cut place ≡ b → (IsAt q.0 (length (fields_after q.1 fields field)) (after place byte) → AreAlike (next rest) (next left))
         → AreAlike (next_record default_config s fields field (byte ∷ rest)) (next_record default_config s fields field (cond b [] (byte ∷ left)))
     by_cut true e more =
         let three : 3 ≤ place.ended = three_ended place e in
@@ -164,12 +164,12 @@ RowsAlike (a ∷ more) (b ∷ others) = ((a ≡ b) × RowsAlike more others) ⊎
 
 -- one record more
 one_more : (a b : Record) (p q : Read) (more others : List Record) → a ≡ p.0 → b ≡ q.0 → AreRecords default_config q.1 q.2 others → AreAlike (Some p) (Some q)
-    → (StandsAt p.1 0 record_start → AreRecords default_config p.1 (cut_from record_start p.2) others → RowsAlike more others) → RowsAlike (a ∷ more) (b ∷ others)
+    → (IsAt p.1 0 record_start → AreRecords default_config p.1 (cut_from record_start p.2) others → RowsAlike more others) → RowsAlike (a ∷ more) (b ∷ others)
 one_more a b p q more others e f rest (inl h) go = inl (e ∙ h.0 ∙ sym f, go h.3 (rw (h.1, ← h.2) rest))
 one_more a b p q more others e f rest (inr h) go = inr (rw e h.0, rw f h.1)
 
 -- all records
-rows_alike : (s : State) (xs : List ℕ) (rows others : List Record) → StandsAt s 0 record_start → AreRecords default_config s xs rows → AreRecords default_config s (cut_from record_start xs) others → RowsAlike rows others
+rows_alike : (s : State) (xs : List ℕ) (rows others : List Record) → IsAt s 0 record_start → AreRecords default_config s xs rows → AreRecords default_config s (cut_from record_start xs) others → RowsAlike rows others
 unfolding Reached
 rows_alike s xs [] [] h r u = tt
 rows_alike s xs [] (b ∷ others) h r u =
@@ -215,19 +215,19 @@ ends_alike before a b x y h k =
     full false = refl
 
 -- so after the first row
-behind_alike : (before rows others : List Record) → RowsAlike rows others → log_after before rows ≡ log_after before others
-behind_alike before [] [] h = refl
-behind_alike before [] (b ∷ others) h = absurd h
-behind_alike before (a ∷ more) [] h = absurd h
-behind_alike before (a ∷ more) (b ∷ others) (inl h) = rw h.0 (ap (log_with before (row_of before b)) (behind_alike (b ∷ before) more others h.1))
-behind_alike before (a ∷ more) (b ∷ others) (inr h) = ends_alike before a b _ _ h.0 h.1
+after_alike : (before rows others : List Record) → RowsAlike rows others → log_after before rows ≡ log_after before others
+after_alike before [] [] h = refl
+after_alike before [] (b ∷ others) h = absurd h
+after_alike before (a ∷ more) [] h = absurd h
+after_alike before (a ∷ more) (b ∷ others) (inl h) = rw h.0 (ap (log_with before (row_of before b)) (after_alike (b ∷ before) more others h.1))
+after_alike before (a ∷ more) (b ∷ others) (inr h) = ends_alike before a b _ _ h.0 h.1
 
 -- and of the whole log
 log_alike : (rows others : List Record) → RowsAlike rows others → log_of rows ≡ log_of others
 log_alike [] [] h = refl
 log_alike [] (b ∷ others) h = absurd h
 log_alike (a ∷ more) [] h = absurd h
-log_alike (a ∷ more) (b ∷ others) (inl h) = rw h.0 (ap (λ (log : LogOf). cond (has_fields first_row b) log (refused_at 601 1)) (behind_alike (b ∷ []) more others h.1))
+log_alike (a ∷ more) (b ∷ others) (inl h) = rw h.0 (ap (λ (log : LogOf). cond (has_fields first_row b) log (refused_at 601 1)) (after_alike (b ∷ []) more others h.1))
 log_alike (a ∷ more) (b ∷ others) (inr h) = rw (long_not_first a h.0, long_not_first b h.1) refl
 
 -- the log of a text with no byte order mark

@@ -10,7 +10,7 @@ use Rattle.std.specs.Prelude.{nat_le, MatchResult, option_map}
 use Rattle.hex.specs.Hex.{hex_digit_value, pair_value, decode_pairs, decode_sized, ◌>>=◌}
 use Rattle.hex.specs.declared.error.FromHexError.{FromHexError}
 use Rattle.wc_model.specs.Run.Hex.{bytes_of_hex, byte_of_digits, with_byte}
-use Rattle.wc_model.specs.Run.Log.{where_passes, line_piece_of, inputs_word_of}
+use Rattle.wc_model.specs.Run.Log.{where_passes, line_chunk_of, inputs_word_of}
 
 -- the value of an answer
 abbrev pub ok_of : {A E : Type 0} → Result A E → Option A
@@ -70,8 +70,8 @@ halves (high ∷ low ∷ rest) bytes e = by_parts (byte_of_digits high low) (byt
         rw (← same) (omega arith)
 
 -- what decoding into a buffer of its size gives
-room_same : (text : List ℕ) → ok_of (decode_sized text (length text / 2)) ≡ bytes_of_hex text
-room_same text = by_length (length text % 2 == 1) refl
+capacity_same : (text : List ℕ) → ok_of (decode_sized text (length text / 2)) ≡ bytes_of_hex text
+capacity_same text = by_length (length text % 2 == 1) refl
   where
     by_length : (odd : Bool) → (length text % 2 == 1) ≡ odd → ok_of (decode_sized text (length text / 2)) ≡ bytes_of_hex text
     by_length true e = let odd : length text % 2 ≡ 1 = grind (arith, nat_tests) in rw (e) (sym (odd_writes_nothing text odd))
@@ -80,8 +80,8 @@ room_same text = by_length (length text % 2 == 1) refl
         rw (e, same) (pairs_same 0 text)
 
 -- a longer text is not a chunk
-pub piece_too_long : (text : List ℕ) → 8192 < length text → None ≡ line_piece_of text
-piece_too_long text long = by_bytes (bytes_of_hex text) refl
+pub chunk_too_long : (text : List ℕ) → 8192 < length text → None ≡ line_chunk_of text
+chunk_too_long text long = by_bytes (bytes_of_hex text) refl
   where
     by_bytes : (bytes : Option (List ℕ)) → bytes_of_hex text ≡ bytes → None ≡ where_passes (λ bytes. nat_le (length bytes) 4096) bytes
     by_bytes None e = refl
@@ -163,29 +163,29 @@ Decodes decoded r out = MatchResult decoded (λ bytes. (r ≡ Ok tt) × (out ≡
 
 -- what was decoded into a buffer of its size
 read_whole : (text out : List ℕ) (size : ℕ) (r : Result Unit FromHexError) → size ≡ length text / 2 → Decodes (decode_sized text size) r out → (u : Unit) → r ≡ Ok u → bytes_of_hex text ≡ Some out
-read_whole text out size r is h u e = sym (room_same text) ∙ ap (λ n. ok_of (decode_sized text n)) (sym is) ∙ written (decode_sized text size) r out h u e
+read_whole text out size r is h u e = sym (capacity_same text) ∙ ap (λ n. ok_of (decode_sized text n)) (sym is) ∙ written (decode_sized text size) r out h u e
 
 -- bytes that were decoded are a chunk if they are few
-pub piece_read : (text out : List ℕ) (size : ℕ) (r : Result Unit FromHexError) → length text ≤ 8192 → size ≡ length text / 2 → Decodes (decode_sized text size) r out → (u : Unit) → r ≡ Ok u → Some out ≡ line_piece_of text
-piece_read text out size r few is h u e =
+pub chunk_read : (text out : List ℕ) (size : ℕ) (r : Result Unit FromHexError) → length text ≤ 8192 → size ≡ length text / 2 → Decodes (decode_sized text size) r out → (u : Unit) → r ≡ Ok u → Some out ≡ line_chunk_of text
+chunk_read text out size r few is h u e =
     let read = read_whole text out size r is h u e in
     let half = halves text out read in
     let short : nat_le (length out) 4096 ≡ true = grind (arith, nat_tests) in
     rw (read, short) refl
 
 -- they are few
-pub piece_few : (text out : List ℕ) (size : ℕ) (r : Result Unit FromHexError) → length text ≤ 8192 → size ≡ length text / 2 → Decodes (decode_sized text size) r out → (u : Unit) → r ≡ Ok u → length out ≤ 4096
-piece_few text out size r few is h u e = omega (arith, halves text out (read_whole text out size r is h u e))
+pub chunk_few : (text out : List ℕ) (size : ℕ) (r : Result Unit FromHexError) → length text ≤ 8192 → size ≡ length text / 2 → Decodes (decode_sized text size) r out → (u : Unit) → r ≡ Ok u → length out ≤ 4096
+chunk_few text out size r few is h u e = omega (arith, halves text out (read_whole text out size r is h u e))
 
 -- what is not decoded is not a chunk
-pub piece_not_read : (text out : List ℕ) (size : ℕ) (r : Result Unit FromHexError) → size ≡ length text / 2 → Decodes (decode_sized text size) r out → (f : FromHexError) → r ≡ Err f → None ≡ line_piece_of text
-piece_not_read text out size r is h f e =
-    let read : bytes_of_hex text ≡ None = sym (room_same text) ∙ ap (λ n. ok_of (decode_sized text n)) (sym is) ∙ refused (decode_sized text size) r out h f e in
+pub chunk_not_read : (text out : List ℕ) (size : ℕ) (r : Result Unit FromHexError) → size ≡ length text / 2 → Decodes (decode_sized text size) r out → (f : FromHexError) → r ≡ Err f → None ≡ line_chunk_of text
+chunk_not_read text out size r is h f e =
+    let read : bytes_of_hex text ≡ None = sym (capacity_same text) ∙ ap (λ n. ok_of (decode_sized text n)) (sym is) ∙ refused (decode_sized text size) r out h f e in
     rw read refl
 
 -- a buffer that is written whole holds what was written
-pub whole_room : (room out : List ℕ) (size : ℕ) → length out ≡ length room → size ≡ length room → take size (out ++ drop (length out) room) ≡ out
-whole_room room out size filled is =
-    let behind : drop (length out) room ≡ [] = drop_of_length-le room (omega (arith, filled)) in
+pub whole_capacity : (capacity out : List ℕ) (size : ℕ) → length out ≡ length capacity → size ≡ length capacity → take size (out ++ drop (length out) capacity) ≡ out
+whole_capacity capacity out size filled is =
+    let following : drop (length out) capacity ≡ [] = drop_of_length-le capacity (omega (arith, filled)) in
     let long : size ≡ length out = omega (arith, filled, is) in
-    rw (behind, append-nil out, long) (take-length out)
+    rw (following, append-nil out, long) (take-length out)

@@ -6,7 +6,7 @@ mod RecordEnds
 mod ReadRecords
 pub mod LogSteps
 mod Cuts
-mod Standing
+mod Representation
 mod CutRecords
 mod Marks
 mod Passing

@@ -12,9 +12,9 @@ use Rattle.wc_model.specs.Run.Rows.{LogRow, RowData}
 use Rattle.wc_record.proofs.Marks.{cut_log_is_same}
 use Rattle.wc_record.specs.Cutting.{cut_from}
 use Rattle.wc_record.specs.Places.{log_start}
-use Rattle.wc_record.specs.Left.{Answer, HasLeft, IsLeft, Takes, end_behind, log_behind, moment_or_zero, row_bytes}
+use Rattle.wc_record.specs.Left.{Answer, HasLeft, IsLeft, Takes, end_after, log_following, moment_or_zero, row_bytes}
 use Rattle.wc_record.specs.Steps.{GivesRecord}
-use Rattle.wc_record.specs.Told.{Reads, ReadsTo, all_records, record_at, records_read}
+use Rattle.wc_record.specs.Reported.{Reads, ReadsTo, all_records, record_at, records_read}
 use Rattle.wc_record.specs.Reading.{HasRecords, records_of}
 use Rattle.wc_record.specs.declared.log.LogEnd.{LogEnd}
 use Rattle.wc_record.specs.declared.log.Rows.{Rows}
@@ -126,26 +126,26 @@ pub none_refused : (left : List Record) (fields : Record) → left ≡ [] → fi
 none_refused left fields e f = rw e (refl, f)
 
 -- what is given is taken, and the end is kept
-pub taken : {R : Type 0} (bytes_left : R → Option (List ℕ)) (before left : List Record) (answer : Answer RowHead) (given : Rows R) (end : Option LogEnd) → end ≡ end_behind answer
-    → GivesRecord bytes_left before left answer given → Takes (head_view (row_bytes given)) bytes_left (log_behind before left) answer (record given { end = end })
+pub taken : {R : Type 0} (bytes_left : R → Option (List ℕ)) (before left : List Record) (answer : Answer RowHead) (given : Rows R) (end : Option LogEnd) → end ≡ end_after answer
+    → GivesRecord bytes_left before left answer given → Takes (head_view (row_bytes given)) bytes_left (log_following before left) answer (record given { end = end })
 taken bytes_left before left (Ok (Some row)) given end e h =
-    let stands = h.3.stands in
-    (log_behind h.0 h.1, h.2, rw e (h.0, h.1, record { has = stands.has; number = stands.number; last = stands.last; few = stands.few }, refl))
+    let represents = h.3.represents in
+    (log_following h.0 h.1, h.2, rw e (h.0, h.1, record { has = represents.has; number = represents.number; last = represents.last; few = represents.few }, refl))
 taken bytes_left before left (Ok None) given end e h = (h, rw e h)
 taken bytes_left before left (Err (fault.Refused number place)) given end e h = (h.0, rw e h.0)
 taken bytes_left before left (Err fault.Read) given end e h = tt
 taken bytes_left before left (Err fault.Memory) given end e h = tt
 
 -- after it are the same records, up to the end
-pub read_on : {R : Type 0} (bytes_left : R → Option (List ℕ)) (before left : List Record) (answer : Answer RowHead) (given : Rows R) (end : Option LogEnd) → end ≡ end_behind answer
+pub read_on : {R : Type 0} (bytes_left : R → Option (List ℕ)) (before left : List Record) (answer : Answer RowHead) (given : Rows R) (end : Option LogEnd) → end ≡ end_after answer
     → GivesRecord bytes_left before left answer given → ReadsTo bytes_left end (record given { end = end }) (all_records before left)
 read_on bytes_left before left (Ok (Some row)) given end e h =
-    let stands = h.3.stands in
+    let represents = h.3.represents in
     rw e (
       h.0,
       h.1,
       record {
-        stands = record { has = stands.has; number = stands.number; last = stands.last; few = stands.few };
+        represents = record { has = represents.has; number = represents.number; last = represents.last; few = represents.few };
         all = h.3.all;
         at_hand = h.3.at_hand;
       },
@@ -157,8 +157,8 @@ read_on bytes_left before left (Err fault.Memory) given end e h = rw e tt
 
 -- what is given of the same log and the same records
 pub gives_as : {R : Type 0} (bytes_left : R → Option (List ℕ)) (before left before' left' : List Record) (answer : Answer RowHead) (given : Rows R)
-    → log_behind before left ≡ log_behind before' left' → all_records before left ≡ all_records before' left' → GivesRecord bytes_left before' left' answer given → GivesRecord bytes_left before left answer given
-gives_as bytes_left before left before' left' (Ok (Some row)) given e f h = (h.0, h.1, e ∙ h.2, record { stands = h.3.stands; all = f ∙ h.3.all; at_hand = h.3.at_hand })
+    → log_following before left ≡ log_following before' left' → all_records before left ≡ all_records before' left' → GivesRecord bytes_left before' left' answer given → GivesRecord bytes_left before left answer given
+gives_as bytes_left before left before' left' (Ok (Some row)) given e f h = (h.0, h.1, e ∙ h.2, record { represents = h.3.represents; all = f ∙ h.3.all; at_hand = h.3.at_hand })
 gives_as bytes_left before left before' left' (Ok None) given e f h = e ∙ h
 gives_as bytes_left before left before' left' (Err (fault.Refused number place)) given e f h = (e ∙ h.0, rw f h.1)
 gives_as bytes_left before left before' left' (Err fault.Read) given e f h = (tt, tt)
@@ -210,7 +210,7 @@ all_read bytes_left rows (Some bytes) read number last end cut h =
       [],
       records_of (cut_from log_start bytes),
       record {
-        stands = record { has = h (cut_from log_start bytes) cut; number = number; last = last; few = omega arith };
+        represents = record { has = h (cut_from log_start bytes) cut; number = number; last = last; few = omega arith };
         all = refl;
         at_hand = tt;
       },

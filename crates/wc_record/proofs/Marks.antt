@@ -8,8 +8,8 @@ use Rattle.wc_record.specs.Cutting.{cut_from}
 use Rattle.wc_record.specs.Places.{after_opening, after_plain, log_start, record_start}
 use Rattle.wc_record.specs.Reading.{records_of}
 use Rattle.wc_record.specs.declared.place.Place.{Place}
-use Rattle.wc_record.specs.declared.place.Spot.{Spot}
-use Rattle.wc_record.specs.declared.place.Spot.TheVariants as spot
+use Rattle.wc_record.specs.declared.place.ByteState.{ByteState}
+use Rattle.wc_record.specs.declared.place.ByteState.TheVariants as byte_state
 
 -- what a text with no mark at its start begins with
 no_mark_first : (a : ℕ) (xs : List ℕ) → (a == 0xEF) ≡ false → strip_bom (a ∷ xs) ≡ a ∷ xs
@@ -39,11 +39,11 @@ no_mark_third a b c xs e = rw e (none (a == 0xEF) (b == 0xBB))
     none false y = refl
 
 -- the bytes that are read from a position on, if n bytes were read and no field has ended
-from : Spot → ℕ → List ℕ → List ℕ
-from at size bytes = cut_from (record { spot = at; ended = 0; size = size }) bytes
+from : ByteState → ℕ → List ℕ → List ℕ
+from at size bytes = cut_from (record { byte_state = at; ended = 0; size = size }) bytes
 
 -- after two bytes of a mark
-third_kept : (bytes : List ℕ) → strip_bom (0xEF ∷ 0xBB ∷ from spot.ThirdOfMark 2 bytes) ≡ cut_from record_start (strip_bom (0xEF ∷ 0xBB ∷ bytes))
+third_kept : (bytes : List ℕ) → strip_bom (0xEF ∷ 0xBB ∷ from byte_state.ThirdOfMark 2 bytes) ≡ cut_from record_start (strip_bom (0xEF ∷ 0xBB ∷ bytes))
 unfolding strip_bom cut_from from
 third_kept [] = refl
 third_kept (c ∷ rest) = by_third (c == 0xBF) refl
@@ -53,16 +53,16 @@ third_kept (c ∷ rest) = by_third (c == 0xBF) refl
     by_third false e = no_mark_third 0xEF 0xBB c _ e ∙ sym (ap (cut_from record_start) (no_mark_third 0xEF 0xBB c rest e))
 
 -- after one
-second_kept : (bytes : List ℕ) → strip_bom (0xEF ∷ from spot.SecondOfMark 1 bytes) ≡ cut_from record_start (strip_bom (0xEF ∷ bytes))
+second_kept : (bytes : List ℕ) → strip_bom (0xEF ∷ from byte_state.SecondOfMark 1 bytes) ≡ cut_from record_start (strip_bom (0xEF ∷ bytes))
 unfolding strip_bom cut_from from
 second_kept [] = refl
 second_kept (b ∷ rest) = by_second (b == 0xBB) refl
   where
     third : Place
-    third = record { spot = spot.ThirdOfMark; ended = 0; size = 2 }
+    third = record { byte_state = byte_state.ThirdOfMark; ended = 0; size = 2 }
 
     by_second : (x : Bool) → (b == 0xBB) ≡ x → strip_bom (0xEF ∷ b ∷ cut_from (cond x third (after_plain 0 2 b)) rest) ≡ cut_from record_start (strip_bom (0xEF ∷ b ∷ rest))
-    by_second true e = subst (λ y. strip_bom (0xEF ∷ y ∷ from spot.ThirdOfMark 2 rest) ≡ cut_from record_start (strip_bom (0xEF ∷ y ∷ rest))) (sym (eqb-true b 0xBB e)) (third_kept rest)
+    by_second true e = subst (λ y. strip_bom (0xEF ∷ y ∷ from byte_state.ThirdOfMark 2 rest) ≡ cut_from record_start (strip_bom (0xEF ∷ y ∷ rest))) (sym (eqb-true b 0xBB e)) (third_kept rest)
     by_second false e = no_mark_second 0xEF b _ e ∙ sym (ap (cut_from record_start) (no_mark_second 0xEF b rest e))
 
 -- what is read of a log is, without its mark, what is read of the log without its mark
@@ -72,10 +72,10 @@ mark_kept [] = refl
 mark_kept (a ∷ rest) = by_first (a == 0xEF) refl
   where
     second : Place
-    second = record { spot = spot.SecondOfMark; ended = 0; size = 1 }
+    second = record { byte_state = byte_state.SecondOfMark; ended = 0; size = 1 }
 
     by_first : (x : Bool) → (a == 0xEF) ≡ x → strip_bom (a ∷ cut_from (cond x second (after_opening 0 1 a)) rest) ≡ cut_from record_start (strip_bom (a ∷ rest))
-    by_first true e = subst (λ y. strip_bom (y ∷ from spot.SecondOfMark 1 rest) ≡ cut_from record_start (strip_bom (y ∷ rest))) (sym (eqb-true a 0xEF e)) (second_kept rest)
+    by_first true e = subst (λ y. strip_bom (y ∷ from byte_state.SecondOfMark 1 rest) ≡ cut_from record_start (strip_bom (y ∷ rest))) (sym (eqb-true a 0xEF e)) (second_kept rest)
     by_first false e = no_mark_first a _ e ∙ sym (ap (cut_from record_start) (no_mark_first a rest e))
 
 -- what is read of a log has the rows and the refusal of the whole log

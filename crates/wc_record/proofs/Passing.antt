@@ -13,10 +13,10 @@ abbrev read_of : Place → Option (List ℕ) → Option (List ℕ)
 read_of place known = option_map (cut_from place) known
 
 -- the bytes up to the cut are consumed
-consumes_cut : (old new : Option (List ℕ)) (here there : Place) (given front : List ℕ) (count : ℕ) → Cuts here given count there → take count given ≡ front → Consumes old new given → Consumes (read_of here old) (read_of there new) front
-consumes_cut None new here there given front count cuts e h = tt
-consumes_cut (Some xs) None here there given front count cuts e h = absurd h
-consumes_cut (Some xs) (Some ys) here there given front count cuts e h = ap (cut_from here) h ∙ cuts ys ∙ ap (λ (zs : List ℕ). zs ++ cut_from there ys) e
+consumes_cut : (old new : Option (List ℕ)) (here there : Place) (given prefix : List ℕ) (count : ℕ) → Cuts here given count there → take count given ≡ prefix → Consumes old new given → Consumes (read_of here old) (read_of there new) prefix
+consumes_cut None new here there given prefix count cuts e h = tt
+consumes_cut (Some xs) None here there given prefix count cuts e h = absurd h
+consumes_cut (Some xs) (Some ys) here there given prefix count cuts e h = ap (cut_from here) h ∙ cuts ys ∙ ap (λ (zs : List ℕ). zs ++ cut_from there ys) e
 
 -- at the end of the bytes there are none up to the cut
 end_of : (known : Option (List ℕ)) (place : Place) → IsAtEnd known → IsAtEnd (read_of place known)
@@ -40,10 +40,10 @@ pub reads_cut : (old new : Option (List ℕ)) (here there : Place) (buffer : Lis
     → Consumes (read_of here old) (read_of there new) (take count buffer) × (count ≡ 0 → 0 < length buffer → IsAtEnd (read_of there new))
 reads_cut old new here there buffer given count cuts bound stops size h = (
   consumes_cut old new here there (take given buffer) (take count buffer) count cuts (take-take count given buffer (omega (arith, bound, size))) h.0,
-  λ none room. ends old new there given (length (take given buffer)) (λ some. stops (omega (arith, none, some))) (sym size) (λ e. h.1 e room),
+  λ none capacity. ends old new there given (length (take given buffer)) (λ some. stops (omega (arith, none, some))) (sym size) (λ e. h.1 e capacity),
 )
 
 -- after the cut a read gives nothing
 pub reads_none : (known : Option (List ℕ)) (place : Place) (buffer : List ℕ) (none : ℕ) → is_cut place ≡ true → none ≡ 0 → Consumes (read_of place known) (read_of place known) (take none buffer) × (none ≡ 0 → 0 < length buffer → IsAtEnd (read_of place known))
-reads_none None place buffer none e zero_is = (tt, λ at room. tt)
-reads_none (Some xs) place buffer none e zero_is = (rw zero_is refl, λ at room. cut_at_end place xs e)
+reads_none None place buffer none e zero_is = (tt, λ at capacity. tt)
+reads_none (Some xs) place buffer none e zero_is = (rw zero_is refl, λ at capacity. cut_at_end place xs e)

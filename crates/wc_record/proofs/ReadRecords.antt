@@ -6,7 +6,7 @@ use Rattle.csv.specs.declared.parser.Config.{Config}
 use Rattle.csv.specs.declared.parser.State.{State}
 use Rattle.csv.specs.declared.reader.Trim.TheVariants as trim
 use Rattle.wc_model.specs.Run.Log.{Record}
-use Rattle.wc_record.specs.Reading.{HasRecords, TakesFirst, lent_bytes}
+use Rattle.wc_record.specs.Reading.{HasRecords, TakesFirst, borrowed_bytes}
 use Rattle.wc_record.specs.declared.records.Records.{Records}
 
 -- a record that was found is the first that is left
@@ -48,10 +48,10 @@ found_none cfg a b xs fields (Some ys) (one ∷ rest) h r =
 
 -- the read of a record
 next_left : {R : Type 0} (bytes_left : R → Option (List ℕ)) (old new : Records R) (fields : Record) (left : List Record) → HasRecords bytes_left old left
-    → ReadRecord (lent_bytes bytes_left) old.csv new.csv true fields → took_first new.csv ≡ true → is_flexible new.csv ≡ is_flexible old.csv
+    → ReadRecord (borrowed_bytes bytes_left) old.csv new.csv true fields → took_first new.csv ≡ true → is_flexible new.csv ≡ is_flexible old.csv
     → (rest : List Record) × (left ≡ fields ∷ rest) × HasRecords bytes_left new rest
 next_left bytes_left old new fields left h r first flexible =
-    let t = found_one _ old.csv.state new.csv.state h.bytes fields (pending_of (lent_bytes bytes_left new.csv.rdr) new.csv) left h.are_left (rw (h.config, h.known) at r.0) in (
+    let t = found_one _ old.csv.state new.csv.state h.bytes fields (pending_of (borrowed_bytes bytes_left new.csv.rdr) new.csv) left h.are_left (rw (h.config, h.known) at r.0) in (
       t.rest,
       t.first,
       record {
@@ -67,12 +67,12 @@ next_left bytes_left old new fields left h r first flexible =
 
 -- the read that finds no record
 none_left : {R : Type 0} (bytes_left : R → Option (List ℕ)) (old new : Records R) (fields : Record) (left : List Record) → HasRecords bytes_left old left
-    → ReadRecord (lent_bytes bytes_left) old.csv new.csv false fields → left ≡ []
+    → ReadRecord (borrowed_bytes bytes_left) old.csv new.csv false fields → left ≡ []
 none_left bytes_left old new fields left h r =
-    found_none _ old.csv.state new.csv.state h.bytes fields (pending_of (lent_bytes bytes_left new.csv.rdr) new.csv) left h.are_left (rw (h.config, h.known) at r.0)
+    found_none _ old.csv.state new.csv.state h.bytes fields (pending_of (borrowed_bytes bytes_left new.csv.rdr) new.csv) left h.are_left (rw (h.config, h.known) at r.0)
 
 -- what the read takes
-pub takes_first : {R : Type 0} (bytes_left : R → Option (List ℕ)) (old new : Records R) (found : Bool) (fields : Record) → (reader_trim old.csv ≡ trim.None → Ready old.csv → ReadRecord (lent_bytes bytes_left) old.csv new.csv found fields)
+pub takes_first : {R : Type 0} (bytes_left : R → Option (List ℕ)) (old new : Records R) (found : Bool) (fields : Record) → (reader_trim old.csv ≡ trim.None → Ready old.csv → ReadRecord (borrowed_bytes bytes_left) old.csv new.csv found fields)
     → (reader_trim old.csv ≡ trim.None → took_first new.csv ≡ true) → is_flexible new.csv ≡ is_flexible old.csv → TakesFirst (HasRecords bytes_left old) (HasRecords bytes_left new) found fields
 takes_first bytes_left old new true fields reads first flexible = λ left h. next_left bytes_left old new fields left h (reads h.untrimmed h.ready) (first h.untrimmed) flexible
 takes_first bytes_left old new false fields reads first flexible = λ left h. none_left bytes_left old new fields left h (reads h.untrimmed h.ready)

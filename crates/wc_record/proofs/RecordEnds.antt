@@ -59,27 +59,27 @@ step_ends cfg st.InComment c = either (c == 10) _ _ (plain st.StartRecord act.Sk
 step_ends cfg st.AfterCr c = either (c == 10) _ _ (plain st.StartRecord act.Skip refl) (start_record_ends cfg c)
 
 -- after a record nothing is open, and the text is no longer
-record Behind (s : State) (xs : List ℕ) (p : Read) : Type 0 where
+record After (s : State) (xs : List ℕ) (p : Read) : Type 0 where
   closed : ends_at_end p.1 ≡ false
   no_longer : length p.2 ≤ length xs
   shorter : ends_at_end s ≡ false → length p.2 < length xs
 
 -- so after each record
-behind : (cfg : Config) (s : State) (fields : List (List ℕ)) (field xs : List ℕ) (p : Read) → next_record cfg s fields field xs ≡ Some p → Behind s xs p
+following : (cfg : Config) (s : State) (fields : List (List ℕ)) (field xs : List ℕ) (p : Read) → next_record cfg s fields field xs ≡ Some p → After s xs p
 unfolding next_record
-behind cfg s fields field [] p e = by_end (ends_at_end s) refl e
+following cfg s fields field [] p e = by_end (ends_at_end s) refl e
   where
-    by_end : (b : Bool) → ends_at_end s ≡ b → cond b (Some (fields ++ (field ∷ []), st.StartRecord, [])) None ≡ Some p → Behind s [] p
+    by_end : (b : Bool) → ends_at_end s ≡ b → cond b (Some (fields ++ (field ∷ []), st.StartRecord, [])) None ≡ Some p → After s [] p
     by_end true opened f =
         let here : (fields ++ (field ∷ []), st.StartRecord, []) ≡ p = cc in
         rw (← here) (record { closed = refl; no_longer = omega arith; shorter = λ h. cc })
     by_end false opened f = cc
-behind cfg s fields field (c ∷ rest) p e = by_end (is_end (step cfg s c).1) refl e (behind cfg (step cfg s c).0 (fields_after (step cfg s c).1 fields field) (field_after (step cfg s c).1 c field) rest p)
+following cfg s fields field (c ∷ rest) p e = by_end (is_end (step cfg s c).1) refl e (following cfg (step cfg s c).0 (fields_after (step cfg s c).1 fields field) (field_after (step cfg s c).1 c field) rest p)
   where
     by_end : (b : Bool) → is_end (step cfg s c).1 ≡ b
         → cond b (Some (fields_after (step cfg s c).1 fields field, (step cfg s c).0, rest)) (next_record cfg (step cfg s c).0 (fields_after (step cfg s c).1 fields field) (field_after (step cfg s c).1 c field) rest) ≡ Some p
-        → (next_record cfg (step cfg s c).0 (fields_after (step cfg s c).1 fields field) (field_after (step cfg s c).1 c field) rest ≡ Some p → Behind (step cfg s c).0 rest p)
-        → Behind s (c ∷ rest) p
+        → (next_record cfg (step cfg s c).0 (fields_after (step cfg s c).1 fields field) (field_after (step cfg s c).1 c field) rest ≡ Some p → After (step cfg s c).0 rest p)
+        → After s (c ∷ rest) p
     by_end true ended f more =
         let here : (fields_after (step cfg s c).1 fields field, (step cfg s c).0, rest) ≡ p = cc in
         rw (← here) (record { closed = step_ends cfg s c ended; no_longer = omega arith; shorter = λ h. omega arith })
@@ -98,7 +98,7 @@ all_records cfg (suc n) s xs h closed = by_next (next_record cfg s [] [] xs) ref
         → AreRecords cfg s xs (records_next (records_from cfg n) o)
     by_next None e more = (s, xs, (refl, refl), e)
     by_next (Some p) e more =
-        let b = behind cfg s [] [] xs p e in
+        let b = following cfg s [] [] xs p e in
         let short = b.shorter closed in
         let rest = more p.1 p.2 (omega arith) b.closed in
         (rest.0, rest.1, (p, e, refl, rest.2), rest.3)

@@ -3,5 +3,5 @@ use Rattle.std.specs.Prelude.{ℕ, ◌-◌, ◌^◌, ◌==◌, ◌||◌, Bool, n
 
 -- as much was read as may be: 134217728 bytes and calls since the start, or the count has come to
 -- its end
-abbrev pub is_used_up : ℕ → ℕ → Bool
-is_used_up start spent = (spent == 2 ^ 64 - 1) || nat_le 134217728 (spent - start)
+abbrev pub is_exhausted : ℕ → ℕ → Bool
+is_exhausted start spent = (spent == 2 ^ 64 - 1) || nat_le 134217728 (spent - start)

@@ -3,11 +3,11 @@ use Rattle.std.specs.Prelude.{◌≡◌, ◌≤◌, ◌<◌, ◌^◌, ◌⊎◌,
 use Rattle.wc_model.specs.Run.Log.{Record, LogOf, log_of, log_after, last_moment, refused_at, with_row}
 use Rattle.wc_model.specs.Run.Rows.{LogRow}
 use Rattle.csv.specs.Reading.{reader_source}
-use Rattle.wc_record.specs.Bound.{is_used_up}
-use Rattle.wc_record.specs.Reading.{HasRecords, lent}
+use Rattle.wc_record.specs.Bound.{is_exhausted}
+use Rattle.wc_record.specs.Reading.{HasRecords, borrowed}
 use Rattle.wc_record.specs.Views.{IsDataInRange}
 use Rattle.wc_record.specs.declared.log.LogEnd.{LogEnd}
-use Rattle.wc_record.specs.declared.log.LogEnd.TheVariants.{AllRead, Met}
+use Rattle.wc_record.specs.declared.log.LogEnd.TheVariants.{AllRead, Raised}
 use Rattle.wc_record.specs.declared.log.Rows.{Rows}
 use Rattle.wc_record.specs.declared.row_kind.LogFault.{LogFault}
 use Rattle.wc_record.specs.declared.row_kind.LogFault.TheVariants as fault
@@ -19,13 +19,13 @@ Answer A = Result (Option A) LogFault
 -- what each call answers after an end
 abbrev pub answer_at : {A : Type 0} → LogEnd → Answer A
 answer_at AllRead = Ok None
-answer_at (Met met) = Err met
+answer_at (Raised raised) = Err raised
 
 -- how an answer ends the log, if it does
-abbrev pub end_behind : {A : Type 0} → Answer A → Option LogEnd
-end_behind (Ok (Some row)) = None
-end_behind (Ok None) = Some AllRead
-end_behind (Err met) = Some (Met met)
+abbrev pub end_after : {A : Type 0} → Answer A → Option LogEnd
+end_after (Ok (Some row)) = None
+end_after (Ok None) = Some AllRead
+end_after (Err raised) = Some (Raised raised)
 
 -- how the log has ended, if it has
 abbrev pub ended : {R : Type 0} → Rows R → Option LogEnd
@@ -41,7 +41,7 @@ last_ms rows = rows.last
 
 -- the bytes that are borrowed with the last row
 abbrev pub row_bytes : {R : Type 0} → Rows R → List ℕ
-row_bytes rows = rows.room.items
+row_bytes rows = rows.capacity.items
 
 -- what the reader had spent when it was borrowed
 abbrev pub started_at : {R : Type 0} → Rows R → ℕ
@@ -53,7 +53,7 @@ bounded_from rows = (reader_source rows.records.csv).start
 
 -- a count of the reader that is borrowed
 abbrev pub count_in : {R : Type 0} → (R → ℕ) → Rows R → ℕ
-count_in count rows = count (lent (reader_source rows.records.csv))
+count_in count rows = count (borrowed (reader_source rows.records.csv))
 
 -- the moment of a row, 0 if there is none
 abbrev pub moment_or_zero : Option ℕ → ℕ
@@ -61,12 +61,12 @@ moment_or_zero None = 0
 moment_or_zero (Some ms) = ms
 
 -- the log after the records that were read (newest first)
-abbrev pub log_behind : List Record → List Record → LogOf
-log_behind [] left = log_of left
-log_behind (fields ∷ before) left = log_after (fields ∷ before) left
+abbrev pub log_following : List Record → List Record → LogOf
+log_following [] left = log_of left
+log_following (fields ∷ before) left = log_after (fields ∷ before) left
 
 -- these records were read, and after them is this log
-pub record StandsBehind {R : Type 0} (bytes_left : R → Option (List ℕ)) (rows : Rows R) (before left : List Record) : Type 0 where
+pub record IsAfterRecords {R : Type 0} (bytes_left : R → Option (List ℕ)) (rows : Rows R) (before left : List Record) : Type 0 where
   pub has : HasRecords bytes_left rows.records left
   pub number : rows.number ≡ length before
   pub last : rows.last ≡ moment_or_zero (last_moment before)
@@ -79,14 +79,14 @@ nothing_left = record { rows = []; refusal = None }
 -- an end says what is left; after a fault of the reader or of memory nothing is known
 abbrev pub EndSays : LogEnd → LogOf → Type 0
 EndSays AllRead log = log ≡ nothing_left
-EndSays (Met (fault.Refused number place)) log = log ≡ refused_at number place
-EndSays (Met fault.Read) log = ⊥
-EndSays (Met fault.Memory) log = ⊥
+EndSays (Raised (fault.Refused number place)) log = log ≡ refused_at number place
+EndSays (Raised fault.Read) log = ⊥
+EndSays (Raised fault.Memory) log = ⊥
 
 -- this is left
 abbrev pub IsLeft : {R : Type 0} → (R → Option (List ℕ)) → Option LogEnd → Rows R → LogOf → Type 0
 IsLeft bytes_left (Some end) rows log = EndSays end log
-IsLeft bytes_left None rows log = (before : List Record) × (left : List Record) × StandsBehind bytes_left rows before left × (log ≡ log_behind before left)
+IsLeft bytes_left None rows log = (before : List Record) × (left : List Record) × IsAfterRecords bytes_left rows before left × (log ≡ log_following before left)
 
 -- these rows and this refusal are left
 abbrev pub HasLeft : {R : Type 0} → (R → Option (List ℕ)) → Rows R → LogOf → Type 0
@@ -103,7 +103,7 @@ IsRefusalLeft bytes_left log fault.Memory rows = ⊤
 abbrev pub Takes : {R A : Type 0} → (A → LogRow) → (R → Option (List ℕ)) → LogOf → Answer A → Rows R → Type 0
 Takes view bytes_left log (Ok (Some given)) rows = (rest : LogOf) × (log ≡ with_row (view given) rest) × HasLeft bytes_left rows rest
 Takes view bytes_left log (Ok None) rows = (log ≡ nothing_left) × HasLeft bytes_left rows log
-Takes view bytes_left log (Err met) rows = IsRefusalLeft bytes_left log met rows
+Takes view bytes_left log (Err raised) rows = IsRefusalLeft bytes_left log raised rows
 
 -- a row of that number, not before that moment, is the last that was read
 pub record IsNext {R : Type 0} (number ms : ℕ) (rows : Rows R) (row : LogRow) : Type 0 where
@@ -118,7 +118,7 @@ pub record IsNext {R : Type 0} (number ms : ℕ) (rows : Rows R) (row : LogRow) 
 -- a failed read has its cause in the reader: it has failed since, or its count of failures is
 -- at its end, or as much was read as may be
 abbrev pub HasCause : ℕ → ℕ → ℕ → ℕ → Type 0
-HasCause failures_before failures start spent = (failures_before < failures) ⊎ (failures ≡ 2 ^ 64 - 1) ⊎ (is_used_up start spent ≡ true)
+HasCause failures_before failures start spent = (failures_before < failures) ⊎ (failures ≡ 2 ^ 64 - 1) ⊎ (is_exhausted start spent ≡ true)
 
 -- likewise for the reader that is borrowed
 abbrev pub HasCauseIn : {R : Type 0} → (R → ℕ) → (R → ℕ) → ℕ → Rows R → Type 0

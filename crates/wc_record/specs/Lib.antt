@@ -7,4 +7,4 @@ pub mod Left
 pub mod Steps
 pub mod Recorders
 pub mod RecorderFields
-pub mod Told
+pub mod Reported

@@ -3,16 +3,16 @@
 -- that have ended, up to three, and the number of its bytes that were read, up to 65536.
 use Rattle.std.specs.Prelude.{ℕ, ◌+◌, ◌==◌, ◌||◌, ◌&&◌, Bool, true, false, min, nat_le, if◌then◌else◌}
 use Rattle.wc_record.specs.declared.place.Place.{Place}
-use Rattle.wc_record.specs.declared.place.Spot.{Spot}
-use Rattle.wc_record.specs.declared.place.Spot.TheVariants as spot
+use Rattle.wc_record.specs.declared.place.ByteState.{ByteState}
+use Rattle.wc_record.specs.declared.place.ByteState.TheVariants as byte_state
 
 -- before the first byte of a log
 abbrev pub log_start : Place
-log_start = record { spot = spot.LogStart; ended = 0; size = 0 }
+log_start = record { byte_state = byte_state.LogStart; ended = 0; size = 0 }
 
 -- before the first byte of a record
 abbrev pub record_start : Place
-record_start = record { spot = spot.Opening; ended = 0; size = 0 }
+record_start = record { byte_state = byte_state.Opening; ended = 0; size = 0 }
 
 -- three fields of the current record have ended, so that it has more than three, and 65536 of its
 -- bytes were read
@@ -22,34 +22,34 @@ is_cut place = nat_le 3 place.ended && nat_le 65536 place.size
 -- after a byte outside of quotes that opens none: a comma ends a field, a line's end the record
 abbrev pub after_plain : ℕ → ℕ → ℕ → Place
 after_plain ended size byte =
-    if byte == 44 then record { spot = spot.Opening; ended = min 3 (ended + 1); size = size }
+    if byte == 44 then record { byte_state = byte_state.Opening; ended = min 3 (ended + 1); size = size }
     else if (byte == 13) || (byte == 10) then record_start
-    else record { spot = spot.Plain; ended = ended; size = size }
+    else record { byte_state = byte_state.Plain; ended = ended; size = size }
 
 -- after a byte where a quote opens quotes
 abbrev pub after_opening : ℕ → ℕ → ℕ → Place
 after_opening ended size byte =
-    if byte == 34 then record { spot = spot.Quoted; ended = ended; size = size } else after_plain ended size byte
+    if byte == 34 then record { byte_state = byte_state.Quoted; ended = ended; size = size } else after_plain ended size byte
 
 -- after one byte more, at each position
-abbrev pub after_at : Spot → ℕ → ℕ → ℕ → Place
-after_at spot.Opening ended size byte = after_opening ended size byte
-after_at spot.Plain ended size byte = after_plain ended size byte
-after_at spot.Quoted ended size byte =
-    if byte == 34 then record { spot = spot.Opening; ended = ended; size = size }
-    else record { spot = spot.Quoted; ended = ended; size = size }
-after_at spot.LogStart ended size byte =
-    if byte == 0xEF then record { spot = spot.SecondOfMark; ended = ended; size = size } else after_opening ended size byte
-after_at spot.SecondOfMark ended size byte =
-    if byte == 0xBB then record { spot = spot.ThirdOfMark; ended = ended; size = size } else after_plain ended size byte
-after_at spot.ThirdOfMark ended size byte = if byte == 0xBF then record_start else after_plain ended size byte
+abbrev pub after_at : ByteState → ℕ → ℕ → ℕ → Place
+after_at byte_state.Opening ended size byte = after_opening ended size byte
+after_at byte_state.Plain ended size byte = after_plain ended size byte
+after_at byte_state.Quoted ended size byte =
+    if byte == 34 then record { byte_state = byte_state.Opening; ended = ended; size = size }
+    else record { byte_state = byte_state.Quoted; ended = ended; size = size }
+after_at byte_state.LogStart ended size byte =
+    if byte == 0xEF then record { byte_state = byte_state.SecondOfMark; ended = ended; size = size } else after_opening ended size byte
+after_at byte_state.SecondOfMark ended size byte =
+    if byte == 0xBB then record { byte_state = byte_state.ThirdOfMark; ended = ended; size = size } else after_plain ended size byte
+after_at byte_state.ThirdOfMark ended size byte = if byte == 0xBF then record_start else after_plain ended size byte
 
 -- no quotes are open there, and no byte order mark
-abbrev pub is_outside : Spot → Bool
-is_outside spot.Opening = true
-is_outside spot.Plain = true
+abbrev pub is_outside : ByteState → Bool
+is_outside byte_state.Opening = true
+is_outside byte_state.Plain = true
 is_outside other = false
 
 -- after one byte more
 abbrev pub after : Place → ℕ → Place
-after place byte = after_at place.spot place.ended (min 65536 (place.size + 1)) byte
+after place byte = after_at place.byte_state place.ended (min 65536 (place.size + 1)) byte

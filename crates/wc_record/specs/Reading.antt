@@ -4,7 +4,7 @@ use Rattle.csv.specs.Reading.{AreRecords, Ready, default_config, is_flexible, re
 use Rattle.csv.specs.declared.reader.Trim.TheVariants as trim
 use Rattle.wc_model.specs.Run.Log.{Record}
 use Rattle.wc_record.specs.Cutting.{cut_from}
-use Rattle.wc_record.specs.declared.bounded.Bounded.{Bounded}
+use Rattle.wc_record.specs.declared.bounded.LimitedReader.{LimitedReader}
 use Rattle.wc_record.specs.declared.records.Records.{Records}
 
 -- the records that `csv` reads of bytes: a byte order mark at their start is dropped
@@ -12,12 +12,12 @@ abbrev pub records_of : List ℕ → List Record
 records_of bytes = records default_config (strip_bom bytes)
 
 -- the reader that is borrowed
-abbrev pub lent : {R : Type 0} → Bounded R → R
-lent bounded = bounded.reader.now
+abbrev pub borrowed : {R : Type 0} → LimitedReader R → R
+borrowed bounded = bounded.reader.now
 
 -- the bytes that are read of a reader that is borrowed
-abbrev pub lent_bytes : {R : Type 0} → (R → Option (List ℕ)) → Bounded R → Option (List ℕ)
-lent_bytes bytes_left bounded = option_map (cut_from bounded.place) (bytes_left (lent bounded))
+abbrev pub borrowed_bytes : {R : Type 0} → (R → Option (List ℕ)) → LimitedReader R → Option (List ℕ)
+borrowed_bytes bytes_left bounded = option_map (cut_from bounded.place) (bytes_left (borrowed bounded))
 
 -- `csv` reads by its defaults, from known bytes, and these records are left
 pub record HasRecords {R : Type 0} (bytes_left : R → Option (List ℕ)) (records : Records R) (left : List Record) : Type 0 where
@@ -26,7 +26,7 @@ pub record HasRecords {R : Type 0} (bytes_left : R → Option (List ℕ)) (recor
   pub flexible : is_flexible records.csv ≡ true
   pub ready : Ready records.csv
   pub bytes : List ℕ
-  pub known : source_of (lent_bytes bytes_left) records.csv ≡ Some bytes
+  pub known : source_of (borrowed_bytes bytes_left) records.csv ≡ Some bytes
   pub are_left : AreRecords default_config (reader_state records.csv) bytes left
 
 -- a read that found a record took the first that was left, and one that found none had none left

@@ -2,10 +2,10 @@ ghost use Rattle.std.specs.Prelude.{◌≡◌, true, false, option_map, Ok, IsEr
 ghost use Rattle.std.specs.Io.{ReadsAtMost};
 ghost use Rattle.std.specs.Io.KnownBytes.{ReadConsumes};
 ghost use Rattle.wc_model.specs.Run.Devices.{failures_after_read, spent_after_read};
-ghost use Rattle.wc_record.specs.Bound.{is_used_up};
+ghost use Rattle.wc_record.specs.Bound.{is_exhausted};
 ghost use Rattle.wc_record.specs.Cutting.{cut_from};
 ghost use Rattle.wc_record.specs.Places.{is_cut, log_start};
-ghost use Rattle.wc_record.specs.Reading.{lent, lent_bytes};
+ghost use Rattle.wc_record.specs.Reading.{borrowed, borrowed_bytes};
 
 use crate::given::Given;
 use crate::place::Place;
@@ -15,8 +15,8 @@ use wc_model::{ByteIn, MOST_SPENT};
 
 /// Whether as much of a log was read as may be: 134217728 bytes and calls since the start, or a
 /// count at its end. Both are counts of `ByteIn::spent`, the first of when the reader was borrowed.
-pub fn is_used_up(start: u64, spent: u64) -> bool
-    ensures { result ≡ is_used_up start spent }
+pub fn is_exhausted(start: u64, spent: u64) -> bool
+    ensures { result ≡ is_exhausted start spent }
 {
     spent == u64::MAX || spent.saturating_sub(start) >= MOST_SPENT
 }
@@ -27,13 +27,13 @@ fn read_within<R: ByteIn>(reader: &mut R, start: u64, buffer: &mut [u8]) -> io::
     ensures bytes { ReadConsumes (R.bytes_left reader.old)
         (R.bytes_left reader.new) result buffer.new }
     // What is exhausted reads no further.
-    ensures used_up { is_used_up start (R.spent_count reader.old) ≡ true
+    ensures used_up { is_exhausted start (R.spent_count reader.old) ≡ true
         → IsErr result × (reader.new ≡ reader.old) }
-    ensures passed { is_used_up start (R.spent_count reader.old) ≡ false
+    ensures passed { is_exhausted start (R.spent_count reader.old) ≡ false
         → (R.failure_count reader.new ≡ failures_after_read (R.failure_count reader.old) result)
         × (R.spent_count reader.new ≡ spent_after_read (R.spent_count reader.old) result) }
 {
-    if is_used_up(start, reader.spent()) {
+    if is_exhausted(start, reader.spent()) {
         return Err(io::Error::from(io::ErrorKind::Other));
     }
     reader.read(buffer)
@@ -43,22 +43,22 @@ fn read_within<R: ByteIn>(reader: &mut R, start: u64, buffer: &mut [u8]) -> io::
 /// record that has more than three fields: such a record is refused, so that nothing after its
 /// third field counts.
 #[derive(Drop)]
-pub(crate) struct Bounded<'r, R> {
+pub(crate) struct LimitedReader<'r, R> {
     pub(crate) reader: &'r mut R,
     pub(crate) start: u64,
     place: Place,
     given: Given,
 }
 
-impl<'r, R: ByteIn> Bounded<'r, R> {
+impl<'r, R: ByteIn> LimitedReader<'r, R> {
     /// The reader of a log, of which nothing is read yet.
-    pub(crate) fn new(reader: &'r mut R, start: u64) -> Bounded<'r, R>
-        ensures bytes { lent_bytes R.bytes_left result
+    pub(crate) fn new(reader: &'r mut R, start: u64) -> LimitedReader<'r, R>
+        ensures bytes { borrowed_bytes R.bytes_left result
             ≡ option_map (cut_from log_start) (R.bytes_left reader.old) }
-        ensures lent { lent result ≡ reader.old }
+        ensures borrowed { borrowed result ≡ reader.old }
         ensures start { result.start ≡ start }
     {
-        Bounded {
+        LimitedReader {
             reader,
             start,
             place: Place::new(),
@@ -71,12 +71,12 @@ impl<'r, R: ByteIn> Bounded<'r, R> {
     fn read_on(&mut self, buffer: &mut [u8]) -> io::Result<usize>
         requires { is_cut self.old.place ≡ false }
         ensures bound { ReadsAtMost result buffer.new }
-        ensures bytes { ReadConsumes (lent_bytes R.bytes_left self.old)
-            (lent_bytes R.bytes_left self.new) result buffer.new }
+        ensures bytes { ReadConsumes (borrowed_bytes R.bytes_left self.old)
+            (borrowed_bytes R.bytes_left self.new) result buffer.new }
         // What is exhausted reads no further.
-        ensures used_up { is_used_up self.old.start (R.spent_count self.old.reader.now) ≡ true
+        ensures used_up { is_exhausted self.old.start (R.spent_count self.old.reader.now) ≡ true
             → IsErr result × (self.new.reader.now ≡ self.old.reader.now) }
-        ensures failures { is_used_up self.old.start (R.spent_count self.old.reader.now) ≡ false
+        ensures failures { is_exhausted self.old.start (R.spent_count self.old.reader.now) ≡ false
             → R.failure_count self.new.reader.now
             ≡ failures_after_read (R.failure_count self.old.reader.now) result }
         ensures start { self.new.start ≡ self.old.start }
@@ -92,7 +92,7 @@ impl<'r, R: ByteIn> Bounded<'r, R> {
     }
 }
 
-impl<R> Bounded<'_, R> {
+impl<R> LimitedReader<'_, R> {
     /// Whether the row that ends directly before that byte of the log ends with a line feed. One in quotes that are open at the
     /// log's end ends no row.
     pub(crate) fn ends_line(&self, byte: u64) -> bool {
@@ -100,22 +100,22 @@ impl<R> Bounded<'_, R> {
     }
 }
 
-impl<'r, R: ByteIn> Read for Bounded<'r, R> {
+impl<'r, R: ByteIn> Read for LimitedReader<'r, R> {
     ghost remaining = { λ b. option_map (cut_from b.place) (R.bytes_left b.reader.now) };
 
     fn read(&mut self, buffer: &mut [u8]) -> io::Result<usize>
         ensures bound { ReadsAtMost result buffer.new }
-        ensures bytes { ReadConsumes (lent_bytes R.bytes_left self.old)
-            (lent_bytes R.bytes_left self.new) result buffer.new }
+        ensures bytes { ReadConsumes (borrowed_bytes R.bytes_left self.old)
+            (borrowed_bytes R.bytes_left self.new) result buffer.new }
         // Nothing after the cut is read.
         ensures cut { is_cut self.old.place ≡ true
             → (result ≡ Ok 0) × (self.new.reader.now ≡ self.old.reader.now) }
         // What is exhausted reads no further.
         ensures used_up { is_cut self.old.place ≡ false
-            → is_used_up self.old.start (R.spent_count self.old.reader.now) ≡ true
+            → is_exhausted self.old.start (R.spent_count self.old.reader.now) ≡ true
             → IsErr result × (self.new.reader.now ≡ self.old.reader.now) }
         ensures failures { is_cut self.old.place ≡ false
-            → is_used_up self.old.start (R.spent_count self.old.reader.now) ≡ false
+            → is_exhausted self.old.start (R.spent_count self.old.reader.now) ≡ false
             → R.failure_count self.new.reader.now
             ≡ failures_after_read (R.failure_count self.old.reader.now) result }
         ensures start { self.new.start ≡ self.old.start }

@@ -1,7 +1,7 @@
 use memchr::memchr_iter;
 
 /// As many words of 64 bits as the 8192 bytes have that `csv` takes from its reader at once.
-const PIECE_WORDS: usize = 128;
+const CHUNK_WORDS: usize = 128;
 
 /// What a log's reader gave: the number of bytes, and of the last chunk its length, its last byte and a bit for each CR. It
 /// takes no memory that could be refused.
@@ -10,7 +10,7 @@ pub(crate) struct Given {
     total: u64,
     length: usize,
     last: u8,
-    returns: [u64; PIECE_WORDS],
+    returns: [u64; CHUNK_WORDS],
 }
 
 impl Given {
@@ -20,7 +20,7 @@ impl Given {
             total: 0,
             length: 0,
             last: 0,
-            returns: [0; PIECE_WORDS],
+            returns: [0; CHUNK_WORDS],
         }
     }
 
@@ -32,15 +32,15 @@ impl Given {
     }
 
     /// Notes a chunk in place of the one before.
-    pub(crate) fn note(&mut self, piece: &[u8]) {
-        let Some(last) = piece.last() else {
+    pub(crate) fn note(&mut self, chunk: &[u8]) {
+        let Some(last) = chunk.last() else {
             return;
         };
-        self.total = self.total.saturating_add(piece.len() as u64);
-        self.length = piece.len();
+        self.total = self.total.saturating_add(chunk.len() as u64);
+        self.length = chunk.len();
         self.last = *last;
-        self.returns = [0; PIECE_WORDS];
-        for place in memchr_iter(b'\r', piece) {
+        self.returns = [0; CHUNK_WORDS];
+        for place in memchr_iter(b'\r', chunk) {
             self.mark(place);
         }
     }
@@ -59,8 +59,8 @@ impl Given {
         if self.is_end(place) {
             return self.last == b'\n';
         }
-        let behind = self.total.saturating_sub(place) as usize;
-        match self.length.checked_sub(behind.saturating_add(1)) {
+        let following = self.total.saturating_sub(place) as usize;
+        match self.length.checked_sub(following.saturating_add(1)) {
             Some(before) => !self.is_return(before),
             None => false,
         }

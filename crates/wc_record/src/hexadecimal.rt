@@ -1,20 +1,20 @@
 ghost use Rattle.std.specs.Prelude.{◌≡◌, ◌≤◌, if◌then◌else◌, true, IfOk, length, Some, None};
-ghost use Rattle.wc_model.specs.Run.Log.{line_piece_of, inputs_word_of};
+ghost use Rattle.wc_model.specs.Run.Log.{line_chunk_of, inputs_word_of};
 
 use std::alloc::AllocError;
 
 /// Puts the line bytes that a text of hexadecimal digits writes into the buffer, if it writes at
 /// most 4096: whether it does. No memory is taken if the buffer is large enough.
-pub(crate) fn line_piece(room: &mut Vec<u8>, text: &[u8]) -> Result<bool, AllocError>
-    ensures piece { IfOk result
-        (λ found. (if found then Some room.new.items else None) ≡ line_piece_of text.now) }
-    ensures few { IfOk result (λ found. found ≡ true → length room.new.items ≤ 4096) }
+pub(crate) fn line_chunk(capacity: &mut Vec<u8>, text: &[u8]) -> Result<bool, AllocError>
+    ensures chunk { IfOk result
+        (λ found. (if found then Some capacity.new.items else None) ≡ line_chunk_of text.now) }
+    ensures few { IfOk result (λ found. found ≡ true → length capacity.new.items ≤ 4096) }
 {
     if text.len() > 8192 {
         return Ok(false);
     }
-    room.resize(text.len() / 2, 0)?;
-    match hex::decode_to_slice(text, room.as_mut_slice()) {
+    capacity.resize(text.len() / 2, 0)?;
+    match hex::decode_to_slice(text, capacity.as_mut_slice()) {
         Ok(()) => Ok(true),
         Err(_) => Ok(false),
     }

@@ -17,7 +17,7 @@ mod row_data;
 mod row_head;
 mod row_kind;
 
-pub use bounded::is_used_up;
+pub use bounded::is_exhausted;
 pub use last_scans::{Record, Recorder};
 pub use log::Rows;
 pub use process_image::image;

@@ -1,14 +1,14 @@
 ghost use Rattle.std.specs.Prelude.{◌≡◌, ◌⊎◌, ◌∷◌, [], suc, max, List, Some, None, true, false, IfOk, IfErr, IfSome, OnOk, IsErrOf};
 ghost use Rattle.csv.specs.Records.{fields_of};
 ghost use Rattle.wc_model.specs.Run.Log.{Record, LogOf, log_of};
-ghost use Rattle.wc_record.specs.Left.{HasCauseIn, HasLeft, IsNext, StandsBehind, Takes, bounded_from, count_in, ended, last_ms, row_bytes, rows_read, started_at};
+ghost use Rattle.wc_record.specs.Left.{HasCauseIn, HasLeft, IsNext, IsAfterRecords, Takes, bounded_from, count_in, ended, last_ms, row_bytes, rows_read, started_at};
 ghost use Rattle.wc_record.specs.Left as left;
 ghost use Rattle.wc_record.specs.Reading.{HasRecords, TakesFirst, records_of};
-ghost use Rattle.wc_record.specs.Steps.{GivesRecord, IsBehindFirst, Keeps, KeepsRow, RefusesAt};
-ghost use Rattle.wc_record.specs.Told.{Reads, at_hand, fields_told, records_read};
+ghost use Rattle.wc_record.specs.Steps.{GivesRecord, IsAfterFirst, Keeps, KeepsRow, RefusesAt};
+ghost use Rattle.wc_record.specs.Reported.{Reads, at_hand, fields_reported, records_read};
 ghost use Rattle.wc_record.specs.Views.{head_view, row_view};
 
-use crate::bounded::{Bounded, is_used_up};
+use crate::bounded::{LimitedReader, is_exhausted};
 use crate::fields::{is_first_row, row_in};
 use crate::records::Records;
 use crate::refused_row::RefusedRow;
@@ -21,10 +21,10 @@ use std::mem::replace;
 use wc_model::{ByteIn, MOST_ROWS};
 
 /// Capacity for the bytes of a record: as many as `csv` takes from its reader at once.
-const RECORD_ROOM: usize = 8192;
+const RECORD_CAPACITY: usize = 8192;
 
 /// Capacity for the ends of its fields, three and one that is too many.
-const ENDS_ROOM: usize = 4;
+const ENDS_CAPACITY: usize = 4;
 
 /// A record to read into. `csv` takes no more bytes at once than it has space for, so with less
 /// space than its line has bytes each record would be taken in two chunks. If memory is refused, it
@@ -34,7 +34,7 @@ const ENDS_ROOM: usize = 4;
 fn roomy_record(alloc: Global) -> ByteRecord
     ensures { fields_of result ≡ [] }
 {
-    match ByteRecord::with_capacity(alloc, RECORD_ROOM, ENDS_ROOM) {
+    match ByteRecord::with_capacity(alloc, RECORD_CAPACITY, ENDS_CAPACITY) {
         Ok(row) => row,
         Err(_) => ByteRecord::new(alloc),
     }
@@ -46,7 +46,7 @@ pub(crate) enum LogEnd {
     /// No row is left.
     AllRead,
     /// A fault occurred.
-    Met(LogFault),
+    Raised(LogFault),
 }
 
 /// What each further call answers.
@@ -56,19 +56,19 @@ fn answer_at(end: LogEnd) -> Result<Option<RowHead>, LogFault>
 {
     match end {
         LogEnd::AllRead => Ok(None),
-        LogEnd::Met(fault) => Err(fault),
+        LogEnd::Raised(fault) => Err(fault),
     }
 }
 
 /// How the log has ended, if that answer ends it.
 #[inline(always)]
-fn end_behind(answer: &Result<Option<RowHead>, LogFault>) -> Option<LogEnd>
-    ensures { result ≡ left.end_behind answer.now }
+fn end_after(answer: &Result<Option<RowHead>, LogFault>) -> Option<LogEnd>
+    ensures { result ≡ left.end_after answer.now }
 {
     match answer {
         Ok(Some(_)) => None,
         Ok(None) => Some(LogEnd::AllRead),
-        Err(fault) => Some(LogEnd::Met(*fault)),
+        Err(fault) => Some(LogEnd::Raised(*fault)),
     }
 }
 
@@ -80,7 +80,7 @@ pub struct Rows<'r, R> {
     alloc: Global,
     records: Records<'r, R>,
     row: ByteRecord,
-    room: Vec<u8>,
+    capacity: Vec<u8>,
     start: u64,
     number: u32,
     last: u64,
@@ -104,9 +104,9 @@ impl<'r, R: ByteIn> Rows<'r, R> {
         let start = reader.spent();
         Rows {
             alloc,
-            records: Records::new(alloc, Bounded::new(reader, start)),
+            records: Records::new(alloc, LimitedReader::new(reader, start)),
             row: ByteRecord::new(alloc),
-            room: Vec::new(alloc),
+            capacity: Vec::new(alloc),
             start,
             number: 0,
             last: 0,
@@ -128,7 +128,7 @@ impl<'r, R: ByteIn> Rows<'r, R> {
         let failures = self.records.failures();
         if failures > failures_before
             || failures == u64::MAX
-            || is_used_up(self.start, self.records.spent())
+            || is_exhausted(self.start, self.records.spent())
         {
             LogFault::Read
         } else {
@@ -144,7 +144,7 @@ impl<'r, R: ByteIn> Rows<'r, R> {
             (λ found.
             TakesFirst (HasRecords R.bytes_left self.old.records)
             (HasRecords R.bytes_left self.new.records) found (fields_of self.new.row)) }
-        ensures fault { IfErr result (λ met. met ≡ LogFault.Memory) }
+        ensures fault { IfErr result (λ raised. raised ≡ LogFault.Memory) }
         ensures keeps { KeepsRow self.old self.new }
     {
         match self.records.read(&mut self.row) {
@@ -158,12 +158,12 @@ impl<'r, R: ByteIn> Rows<'r, R> {
     #[inline(never)]
     fn first_row(&mut self) -> Result<(), LogFault>
         ensures first { OnOk result
-            ((left : List Record) → StandsBehind R.bytes_left self.old [] left
-            → IsBehindFirst R.bytes_left self.new left) }
+            ((left : List Record) → IsAfterRecords R.bytes_left self.old [] left
+            → IsAfterFirst R.bytes_left self.new left) }
         ensures refused { IfErr result
-            (λ met. (left : List Record) → StandsBehind R.bytes_left self.old [] left
-            → RefusesAt met [] left self.new) }
-        ensures no_device { IfErr result (λ met. met ≡ LogFault.Read → ⊥) }
+            (λ raised. (left : List Record) → IsAfterRecords R.bytes_left self.old [] left
+            → RefusesAt raised [] left self.new) }
+        ensures no_device { IfErr result (λ raised. raised ≡ LogFault.Read → ⊥) }
         ensures counted { OnOk result
             ((rows_read self.new ≡ 1) × (last_ms self.new ≡ last_ms self.old)) }
         ensures keeps { Keeps self.old self.new }
@@ -189,9 +189,9 @@ impl<'r, R: ByteIn> Rows<'r, R> {
 
     /// The row that the record writes.
     #[inline(always)]
-    fn judged(&mut self) -> Result<Option<RowHead>, LogFault>
+    fn validated(&mut self) -> Result<Option<RowHead>, LogFault>
         ensures gives { (first : Record) (before rest : List Record)
-            → StandsBehind R.bytes_left self.old (first ∷ before) rest
+            → IsAfterRecords R.bytes_left self.old (first ∷ before) rest
             → GivesRecord R.bytes_left (first ∷ before) (fields_of self.old.row ∷ rest)
             result self.new }
         ensures row { IfOk result
@@ -199,7 +199,7 @@ impl<'r, R: ByteIn> Rows<'r, R> {
             IfSome given
             (λ head. IsNext (suc (rows_read self.old)) (last_ms self.old) self.new
             (head_view (row_bytes self.new) head))) }
-        ensures no_device { IfErr result (λ met. met ≡ LogFault.Read → ⊥) }
+        ensures no_device { IfErr result (λ raised. raised ≡ LogFault.Read → ⊥) }
         ensures keeps { Keeps self.old self.new }
     {
         if self.number >= MOST_ROWS {
@@ -209,7 +209,7 @@ impl<'r, R: ByteIn> Rows<'r, R> {
             });
         }
         let number = self.number + 1;
-        match row_in(&mut self.room, &self.row, number, self.last) {
+        match row_in(&mut self.capacity, &self.row, number, self.last) {
             Ok(row) => {
                 self.number = number;
                 self.last = row.ms;
@@ -227,18 +227,18 @@ impl<'r, R: ByteIn> Rows<'r, R> {
     #[inline(always)]
     fn later_row(&mut self) -> Result<Option<RowHead>, LogFault>
         ensures gives { (first : Record) (before left : List Record)
-            → StandsBehind R.bytes_left self.old (first ∷ before) left
+            → IsAfterRecords R.bytes_left self.old (first ∷ before) left
             → GivesRecord R.bytes_left (first ∷ before) left result self.new }
         ensures row { IfOk result
             (λ given.
             IfSome given
             (λ head. IsNext (suc (rows_read self.old)) (last_ms self.old) self.new
             (head_view (row_bytes self.new) head))) }
-        ensures no_device { IfErr result (λ met. met ≡ LogFault.Read → ⊥) }
+        ensures no_device { IfErr result (λ raised. raised ≡ LogFault.Read → ⊥) }
         ensures keeps { Keeps self.old self.new }
     {
         match self.read() {
-            Ok(true) => self.judged(),
+            Ok(true) => self.validated(),
             Ok(false) => Ok(None),
             Err(fault) => Err(fault),
         }
@@ -247,14 +247,15 @@ impl<'r, R: ByteIn> Rows<'r, R> {
     /// The next row, if nothing has ended the log.
     #[inline(always)]
     fn next_row(&mut self) -> Result<Option<RowHead>, LogFault>
-        ensures gives { (before left : List Record) → StandsBehind R.bytes_left self.old before left
+        ensures gives { (before left : List Record)
+            → IsAfterRecords R.bytes_left self.old before left
             → GivesRecord R.bytes_left before left result self.new }
         ensures row { IfOk result
             (λ given.
             IfSome given
             (λ head. IsNext (suc (max 1 (rows_read self.old))) (last_ms self.old) self.new
             (head_view (row_bytes self.new) head))) }
-        ensures no_device { IfErr result (λ met. met ≡ LogFault.Read → ⊥) }
+        ensures no_device { IfErr result (λ raised. raised ≡ LogFault.Read → ⊥) }
         ensures keeps { Keeps self.old self.new }
     {
         if self.number == 0 {
@@ -270,8 +271,9 @@ impl<'r, R: ByteIn> Rows<'r, R> {
     /// The next row, if nothing has ended the log, with the cause of what kept a record from
     /// being read.
     #[inline(always)]
-    fn told_row(&mut self) -> Result<Option<RowHead>, LogFault>
-        ensures gives { (before left : List Record) → StandsBehind R.bytes_left self.old before left
+    fn reported_row(&mut self) -> Result<Option<RowHead>, LogFault>
+        ensures gives { (before left : List Record)
+            → IsAfterRecords R.bytes_left self.old before left
             → GivesRecord R.bytes_left before left result self.new }
         ensures row { IfOk result
             (λ given.
@@ -313,7 +315,7 @@ impl<'r, R: ByteIn> Rows<'r, R> {
             IfSome given
             (λ head. IsNext (suc (max 1 (rows_read self.old))) (last_ms self.old) self.new
             (head_view (row_bytes self.new) head))) }
-        ensures ends { ended self.new ≡ left.end_behind result }
+        ensures ends { ended self.new ≡ left.end_after result }
         ensures again { IfSome (ended self.old)
             (λ end. (result ≡ left.answer_at end) × (self.new ≡ self.old)) }
         ensures cause { ended self.old ≡ None → IsErrOf result LogFault.Read
@@ -328,8 +330,8 @@ impl<'r, R: ByteIn> Rows<'r, R> {
         match self.end {
             Some(end) => answer_at(end),
             None => {
-                let answer = self.told_row();
-                if let Some(end) = end_behind(&answer) {
+                let answer = self.reported_row();
+                if let Some(end) = end_after(&answer) {
                     self.end = Some(end);
                 }
                 answer
@@ -361,10 +363,10 @@ impl<'r, R: ByteIn> Rows<'r, R> {
         ensures memory { (result ≡ LogFault.Memory)
             → ¬ HasCauseIn R.failure_count R.spent_count failures_before self.new }
         ensures fault { (result ≡ LogFault.Read) ⊎ (result ≡ LogFault.Memory) }
-        ensures ends { self.new ≡ record self.old { end = Some (LogEnd.Met result) } }
+        ensures ends { self.new ≡ record self.old { end = Some (LogEnd.Raised result) } }
     {
         let fault = self.cause(failures_before);
-        self.end = Some(LogEnd::Met(fault));
+        self.end = Some(LogEnd::Raised(fault));
         fault
     }
 
@@ -383,7 +385,7 @@ impl<'r, R: ByteIn> Rows<'r, R> {
             IfSome given
             (λ row. IsNext (suc (max 1 (rows_read self.old))) (last_ms self.old) self.new
             (row_view row))) }
-        ensures ends { ended self.new ≡ left.end_behind result }
+        ensures ends { ended self.new ≡ left.end_after result }
         ensures again { IfSome (ended self.old)
             (λ end. (result ≡ left.answer_at end) × (self.new ≡ self.old)) }
         ensures cause { ended self.old ≡ None → IsErrOf result LogFault.Read
@@ -414,7 +416,7 @@ impl<'r, R: ByteIn> Rows<'r, R> {
     pub fn bytes(&self) -> &[u8]
         ensures { result.now ≡ row_bytes self.now }
     {
-        self.room.as_slice()
+        self.capacity.as_slice()
     }
 
     /// The line of the log on which the row that was read last starts, counted from 1.
@@ -433,10 +435,10 @@ impl<'r, R: ByteIn> Rows<'r, R> {
     /// rows are not read on.
     #[cold]
     #[inline(never)]
-    pub fn tell(&mut self, alloc: Global, told: &mut RefusedRow)
-        ensures { fields_told told.new ≡ at_hand self.old }
+    pub fn report(&mut self, alloc: Global, reported: &mut RefusedRow)
+        ensures { fields_reported reported.new ≡ at_hand self.old }
     {
-        told.line = self.line();
-        told.row = replace(&mut self.row, ByteRecord::new(alloc));
+        reported.line = self.line();
+        reported.row = replace(&mut self.row, ByteRecord::new(alloc));
     }
 }

@@ -9,7 +9,7 @@ const MOST_READ: u32 = 65536;
 
 /// What the next byte may be.
 #[derive(Clone, Copy, PartialEq, Eq)]
-pub(crate) enum Spot {
+pub(crate) enum ByteState {
     /// The first of a log, where a byte order mark may be.
     LogStart,
     /// The second of a byte order mark.
@@ -29,7 +29,7 @@ pub(crate) enum Spot {
 #[derive(Clone, Copy, PartialEq, Eq)]
 pub(crate) struct Place {
     /// What the next byte may be.
-    pub(crate) spot: Spot,
+    pub(crate) byte_state: ByteState,
     /// The number of fields of the current record that have ended, 3 if there are more.
     pub(crate) ended: u8,
     /// The number of its bytes that were read, 65536 if there are more.
@@ -62,7 +62,7 @@ fn at_record() -> Place
     ensures { result ≡ record_start }
 {
     Place {
-        spot: Spot::Opening,
+        byte_state: ByteState::Opening,
         ended: 0,
         size: 0,
     }
@@ -70,12 +70,12 @@ fn at_record() -> Place
 
 /// The place after a byte that opens no quotes, outside of them.
 #[inline(always)]
-fn behind_plain(ended: u8, size: u32, byte: u8) -> Place
+fn following_plain(ended: u8, size: u32, byte: u8) -> Place
     ensures { result ≡ after_plain ended size byte }
 {
     if byte == b',' {
         Place {
-            spot: Spot::Opening,
+            byte_state: ByteState::Opening,
             ended: one_field_more(ended),
             size,
         }
@@ -83,7 +83,7 @@ fn behind_plain(ended: u8, size: u32, byte: u8) -> Place
         at_record()
     } else {
         Place {
-            spot: Spot::Plain,
+            byte_state: ByteState::Plain,
             ended,
             size,
         }
@@ -92,17 +92,17 @@ fn behind_plain(ended: u8, size: u32, byte: u8) -> Place
 
 /// The place after a byte that may open quotes.
 #[inline(always)]
-fn behind_opening(ended: u8, size: u32, byte: u8) -> Place
+fn following_opening(ended: u8, size: u32, byte: u8) -> Place
     ensures { result ≡ after_opening ended size byte }
 {
     if byte == b'"' {
         Place {
-            spot: Spot::Quoted,
+            byte_state: ByteState::Quoted,
             ended,
             size,
         }
     } else {
-        behind_plain(ended, size, byte)
+        following_plain(ended, size, byte)
     }
 }
 
@@ -125,7 +125,7 @@ impl Place {
         ensures { result ≡ log_start }
     {
         Place {
-            spot: Spot::LogStart,
+            byte_state: ByteState::LogStart,
             ended: 0,
             size: 0,
         }
@@ -142,29 +142,29 @@ impl Place {
 
     /// Whether it is in quotes that are open.
     pub(crate) fn is_in_quotes(self) -> bool {
-        self.spot == Spot::Quoted
+        self.byte_state == ByteState::Quoted
     }
 
     /// The place after this byte.
     #[inline(always)]
-    fn behind(self, byte: u8) -> Place
+    fn following(self, byte: u8) -> Place
         ensures { result ≡ after self byte }
     {
         let size = one_byte_more(self.size);
-        let spot = match self.spot {
-            Spot::Opening => return behind_opening(self.ended, size, byte),
-            Spot::Plain => return behind_plain(self.ended, size, byte),
-            Spot::Quoted if byte == b'"' => Spot::Opening,
-            Spot::Quoted => Spot::Quoted,
-            Spot::LogStart if byte == 0xef => Spot::SecondOfMark,
-            Spot::LogStart => return behind_opening(self.ended, size, byte),
-            Spot::SecondOfMark if byte == 0xbb => Spot::ThirdOfMark,
-            Spot::SecondOfMark => return behind_plain(self.ended, size, byte),
-            Spot::ThirdOfMark if byte == 0xbf => return at_record(),
-            Spot::ThirdOfMark => return behind_plain(self.ended, size, byte),
+        let byte_state = match self.byte_state {
+            ByteState::Opening => return following_opening(self.ended, size, byte),
+            ByteState::Plain => return following_plain(self.ended, size, byte),
+            ByteState::Quoted if byte == b'"' => ByteState::Opening,
+            ByteState::Quoted => ByteState::Quoted,
+            ByteState::LogStart if byte == 0xef => ByteState::SecondOfMark,
+            ByteState::LogStart => return following_opening(self.ended, size, byte),
+            ByteState::SecondOfMark if byte == 0xbb => ByteState::ThirdOfMark,
+            ByteState::SecondOfMark => return following_plain(self.ended, size, byte),
+            ByteState::ThirdOfMark if byte == 0xbf => return at_record(),
+            ByteState::ThirdOfMark => return following_plain(self.ended, size, byte),
         };
         Place {
-            spot,
+            byte_state,
             ended: self.ended,
             size,
         }
@@ -173,9 +173,9 @@ impl Place {
     /// Whether no quotes are open here, and no byte order mark.
     #[inline(always)]
     fn is_outside(self) -> bool
-        ensures { result ≡ is_outside self.spot }
+        ensures { result ≡ is_outside self.byte_state }
     {
-        matches!(self.spot, Spot::Opening | Spot::Plain)
+        matches!(self.byte_state, ByteState::Opening | ByteState::Plain)
     }
 
     /// The number of these bytes that are on lines that end in them, which can neither be cut nor
@@ -202,7 +202,7 @@ impl Place {
             if self.is_cut() {
                 return index;
             }
-            *self = self.behind(*byte);
+            *self = self.following(*byte);
         }
         bytes.len()
     }

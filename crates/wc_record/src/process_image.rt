@@ -1,5 +1,5 @@
 ghost use Rattle.std.specs.Prelude.{◌≡◌, ◌<◌, if◌then◌else◌};
-ghost use Rattle.wc_indicator.specs.Kept.{Tells};
+ghost use Rattle.wc_indicator.specs.Kept.{Reports};
 ghost use Rattle.wc_model.specs.Run.ProcessImage.{image_with, status_of, weights_of};
 
 use wc_indicator::Indicator;
@@ -14,7 +14,7 @@ fn bit(set: bool) -> u8
 
 /// Stable, over, under, centre of zero, tare active and valid, the lowest bit first.
 fn status(indicator: &Indicator) -> u8
-    ensures told { Tells status_of indicator.now result }
+    ensures reported { Reports status_of indicator.now result }
     ensures few { result < 64 }
 {
     bit(indicator.stable())
@@ -26,7 +26,7 @@ fn status(indicator: &Indicator) -> u8
 
 /// The gross weight, the net weight and the tare value, all 0 without an indication.
 fn weights(indicator: &Indicator) -> [i32; 3]
-    ensures { Tells weights_of indicator.now result }
+    ensures { Reports weights_of indicator.now result }
 {
     match (indicator.gross(), indicator.net()) {
         (Some(gross), Some(net)) => [gross, net, indicator.tare_value()],
@@ -36,7 +36,7 @@ fn weights(indicator: &Indicator) -> [i32; 3]
 
 /// What a scan sees: these inputs, and the indicator's status and weights. The status is below 64.
 pub fn image(indicator: &Indicator, inputs: u16) -> Image
-    ensures told { Tells (λ p history. image_with p inputs history) indicator.now result }
+    ensures reported { Reports (λ p history. image_with p inputs history) indicator.now result }
     ensures few { result.status < 64 }
 {
     Image {

@@ -1,9 +1,9 @@
 ghost use Rattle.std.specs.Prelude.{◌≡◌, ℕ, List, Some, true, false, IfOk};
 ghost use Rattle.csv.specs.Records.{fields_of};
 ghost use Rattle.csv.specs.Reading.{reader_source};
-ghost use Rattle.wc_record.specs.Reading.{HasRecords, TakesFirst, lent, lent_bytes, records_of};
+ghost use Rattle.wc_record.specs.Reading.{HasRecords, TakesFirst, borrowed, borrowed_bytes, records_of};
 
-use crate::bounded::Bounded;
+use crate::bounded::LimitedReader;
 use csv::{ByteRecord, Reader, ReaderBuilder};
 use std::alloc::Global;
 use wc_model::ByteIn;
@@ -15,16 +15,16 @@ pub(crate) struct Unread;
 /// The records of a log, one after the other.
 #[derive(Drop)]
 pub(crate) struct Records<'r, R> {
-    csv: Reader<Bounded<'r, R>>,
+    csv: Reader<LimitedReader<'r, R>>,
 }
 
 impl<'r, R: ByteIn> Records<'r, R> {
     /// The records that the reader has to give: no header, of any number of fields, which keep
     /// their blanks.
-    pub(crate) fn new(alloc: Global, bounded: Bounded<'r, R>) -> Records<'r, R>
-        ensures records { (bytes : List ℕ) → lent_bytes R.bytes_left bounded.entry ≡ Some bytes
+    pub(crate) fn new(alloc: Global, bounded: LimitedReader<'r, R>) -> Records<'r, R>
+        ensures records { (bytes : List ℕ) → borrowed_bytes R.bytes_left bounded.entry ≡ Some bytes
             → HasRecords R.bytes_left result (records_of bytes) }
-        ensures lent { lent (reader_source result.csv) ≡ lent bounded.entry }
+        ensures borrowed { borrowed (reader_source result.csv) ≡ borrowed bounded.entry }
         // The bound on what is read is measured from the same count, and the cut from the same
         // place.
         ensures whole { reader_source result.csv ≡ bounded.entry }
@@ -55,7 +55,7 @@ impl<'r, R: ByteIn> Records<'r, R> {
     /// The number of calls of the reader that failed.
     #[inline(always)]
     pub(crate) fn failures(&self) -> u64
-        ensures { result ≡ R.failure_count (lent (reader_source self.now.csv)) }
+        ensures { result ≡ R.failure_count (borrowed (reader_source self.now.csv)) }
     {
         self.csv.get_ref().reader.failures()
     }
@@ -63,7 +63,7 @@ impl<'r, R: ByteIn> Records<'r, R> {
     /// What the reader has given, and its calls.
     #[inline(always)]
     pub(crate) fn spent(&self) -> u64
-        ensures { result ≡ R.spent_count (lent (reader_source self.now.csv)) }
+        ensures { result ≡ R.spent_count (borrowed (reader_source self.now.csv)) }
     {
         self.csv.get_ref().reader.spent()
     }

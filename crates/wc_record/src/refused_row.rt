@@ -1,6 +1,6 @@
 ghost use Rattle.std.specs.Prelude.{◌≡◌, [], length, option_map};
 ghost use Rattle.csv.specs.Records.{field_at};
-ghost use Rattle.wc_record.specs.Told.{fields_told};
+ghost use Rattle.wc_record.specs.Reported.{fields_reported};
 
 use csv::ByteRecord;
 use std::alloc::Global;
@@ -15,7 +15,7 @@ pub struct RefusedRow {
 impl RefusedRow {
     /// No row. It takes no memory.
     pub fn new(alloc: Global) -> RefusedRow
-        ensures { fields_told result ≡ [] }
+        ensures { fields_reported result ≡ [] }
     {
         RefusedRow {
             row: ByteRecord::new(alloc),
@@ -30,14 +30,15 @@ impl RefusedRow {
 
     /// The number of fields it has.
     pub fn len(&self) -> usize
-        ensures { result ≡ length (fields_told self.now) }
+        ensures { result ≡ length (fields_reported self.now) }
     {
         self.row.len()
     }
 
     /// The field at a place, counted from 0.
     pub fn field(&self, place: usize) -> Option<&[u8]>
-        ensures { option_map (λ field. field.now) result ≡ field_at (fields_told self.now) place }
+        ensures { option_map (λ field. field.now) result
+            ≡ field_at (fields_reported self.now) place }
     {
         self.row.get(place)
     }

@@ -4,7 +4,7 @@ ghost use Rattle.wc_model.specs.Run.Log as log;
 ghost use Rattle.wc_model.specs.Run.Rows as rows;
 ghost use Rattle.wc_record.specs.Views.{IsDataInRange, SaysData, head_data_view};
 
-use crate::hexadecimal::{inputs_word, line_piece};
+use crate::hexadecimal::{inputs_word, line_chunk};
 use crate::numbers::counts;
 use crate::row_head::HeadKind;
 
@@ -40,12 +40,12 @@ fn sample(text: &[u8]) -> Result<HeadKind, RowFault>
 }
 
 /// Bytes on the line, which are in the buffer then.
-fn line_bytes(room: &mut Vec<u8>, text: &[u8]) -> Result<HeadKind, RowFault>
-    ensures says { SaysData room.new.items result
-        (log.brings_or 606 rows.Bytes (log.line_piece_of text.now)) }
-    ensures range { IfOk result (λ kind. IsDataInRange (head_data_view room.new.items kind)) }
+fn line_bytes(capacity: &mut Vec<u8>, text: &[u8]) -> Result<HeadKind, RowFault>
+    ensures says { SaysData capacity.new.items result
+        (log.brings_or 606 rows.Bytes (log.line_chunk_of text.now)) }
+    ensures range { IfOk result (λ kind. IsDataInRange (head_data_view capacity.new.items kind)) }
 {
-    match line_piece(room, text) {
+    match line_chunk(capacity, text) {
         Ok(true) => Ok(HeadKind::Bytes),
         Ok(false) => Err(refused(606)),
         Err(_) => Err(RowFault::Memory),
@@ -95,13 +95,17 @@ fn change(text: &[u8]) -> Result<HeadKind, RowFault>
 
 /// What a kind and its data bring; bytes are in the buffer then.
 #[inline(always)]
-pub(crate) fn row_data(room: &mut Vec<u8>, kind: &[u8], text: &[u8]) -> Result<HeadKind, RowFault>
-    ensures says { SaysData room.new.items result (row_data_of kind.now text.now) }
-    ensures range { IfOk result (λ kind. IsDataInRange (head_data_view room.new.items kind)) }
+pub(crate) fn row_data(
+    capacity: &mut Vec<u8>,
+    kind: &[u8],
+    text: &[u8],
+) -> Result<HeadKind, RowFault>
+    ensures says { SaysData capacity.new.items result (row_data_of kind.now text.now) }
+    ensures range { IfOk result (λ kind. IsDataInRange (head_data_view capacity.new.items kind)) }
 {
     match kind {
         b"C" => sample(text),
-        b"L" => line_bytes(room, text),
+        b"L" => line_bytes(capacity, text),
         b"I" => inputs(text),
         b"S" => scan(text),
         b"P" => change(text),

@@ -5,12 +5,12 @@ use Rattle.std.proofs.Math.Seq.{take-length}
 use Rattle.std.proofs.Math.ListN.{drop_of_length-le}
 
 -- the buffer is filled whole
-pub filled : (old room digits : List ℕ) (size : ℕ) → take (length old) room ≡ old → length room ≡ length old + length digits → size ≡ length room
-    → take size ((take (length old) room ++ (digits ++ drop (length digits) (drop (length old) room)))
-    ++ drop (length (take (length old) room ++ (digits ++ drop (length digits) (drop (length old) room)))) room) ≡ old ++ digits
-filled old room digits size before whole is =
-    let inner : drop (length digits) (drop (length old) room) ≡ [] = drop_of_length-le (drop (length old) room) (omega (arith, length-drop (length old) room, whole)) in
-    let text : take (length old) room ++ (digits ++ drop (length digits) (drop (length old) room)) ≡ old ++ digits = rw (before, inner) (ap (λ d. old ++ d) (append-nil digits)) in
-    let outer : drop (length (old ++ digits)) room ≡ [] = drop_of_length-le room (omega (arith, length-append old digits, whole)) in
+pub filled : (old capacity digits : List ℕ) (size : ℕ) → take (length old) capacity ≡ old → length capacity ≡ length old + length digits → size ≡ length capacity
+    → take size ((take (length old) capacity ++ (digits ++ drop (length digits) (drop (length old) capacity)))
+    ++ drop (length (take (length old) capacity ++ (digits ++ drop (length digits) (drop (length old) capacity)))) capacity) ≡ old ++ digits
+filled old capacity digits size before whole is =
+    let inner : drop (length digits) (drop (length old) capacity) ≡ [] = drop_of_length-le (drop (length old) capacity) (omega (arith, length-drop (length old) capacity, whole)) in
+    let text : take (length old) capacity ++ (digits ++ drop (length digits) (drop (length old) capacity)) ≡ old ++ digits = rw (before, inner) (ap (λ d. old ++ d) (append-nil digits)) in
+    let outer : drop (length (old ++ digits)) capacity ≡ [] = drop_of_length-le capacity (omega (arith, length-append old digits, whole)) in
     let long : size ≡ length (old ++ digits) = omega (arith, length-append old digits, whole, is) in
     rw (text, outer, append-nil (old ++ digits), long) (take-length (old ++ digits))

@@ -22,29 +22,34 @@ pub fn put_scan_line(
         (text.new.items ≡ text.old.items ++ line_text (ScanLine ms steps.0 outputs.now)) }
     ensures memory { IsOkUnless result Fault.Memory }
 {
-    let mut room = [0; SCAN_ROOM];
-    let start = scan_backward(ms, steps, outputs, &mut room);
-    put_bytes(text, &room[start..])
+    let mut capacity = [0; SCAN_CAPACITY];
+    let start = scan_backward(ms, steps, outputs, &mut capacity);
+    put_bytes(text, &capacity[start..])
 }
 
 /// A size that is enough for each line of a scan.
-const SCAN_ROOM: usize = 144;
+const SCAN_CAPACITY: usize = 144;
 
 /// Writes the line of a scan at the end of its buffer, and returns where it starts.
-fn scan_backward(ms: u64, steps: Steps, outputs: &Outputs, room: &mut [u8; SCAN_ROOM]) -> usize
+fn scan_backward(
+    ms: u64,
+    steps: Steps,
+    outputs: &Outputs,
+    capacity: &mut [u8; SCAN_CAPACITY],
+) -> usize
     ensures within { result ≤ 144 }
-    ensures text { drop result room.new ≡ line_text (ScanLine ms steps.0 outputs.now) }
+    ensures text { drop result capacity.new ≡ line_text (ScanLine ms steps.0 outputs.now) }
 {
     let [first, second, third, fourth] = &outputs.words;
-    let at = backward::put_byte(b'\n', room, SCAN_ROOM);
-    let at = backward::put_signed(fourth, room, at);
-    let at = backward::put_signed(third, room, at);
-    let at = backward::put_signed(second, room, at);
-    let at = backward::put_signed(first, room, at);
-    let at = backward::put_word(outputs.bits, room, at);
-    let at = backward::put_number(u64::from(steps.0), room, at);
-    let at = backward::put_number(ms, room, at);
-    backward::put_byte(b'S', room, at)
+    let at = backward::put_byte(b'\n', capacity, SCAN_CAPACITY);
+    let at = backward::put_signed(fourth, capacity, at);
+    let at = backward::put_signed(third, capacity, at);
+    let at = backward::put_signed(second, capacity, at);
+    let at = backward::put_signed(first, capacity, at);
+    let at = backward::put_word(outputs.bits, capacity, at);
+    let at = backward::put_number(u64::from(steps.0), capacity, at);
+    let at = backward::put_number(ms, capacity, at);
+    backward::put_byte(b'S', capacity, at)
 }
 
 /// Appends the line of an answer to a text: `L`, the moment of its row in milliseconds, and its bytes, two hexadecimal
@@ -55,24 +60,24 @@ pub fn put_answer_line(text: &mut Vec<u8>, ms: u64, bytes: &[u8]) -> Result<(), 
         (text.new.items ≡ text.old.items ++ line_text (AnswerLine ms bytes.now)) }
     ensures memory { IsOkUnless result Fault.Memory }
 {
-    let mut room = [0; HEAD_ROOM];
-    let start = head_backward(ms, &mut room);
-    put_bytes(text, &room[start..])?;
+    let mut capacity = [0; HEAD_CAPACITY];
+    let start = head_backward(ms, &mut capacity);
+    put_bytes(text, &capacity[start..])?;
     put_hex(text, bytes)?;
     put_bytes(text, b"\n")
 }
 
 /// A size that is enough for the start of each line of an answer: its letter, two spaces and 20 digits.
-const HEAD_ROOM: usize = 23;
+const HEAD_CAPACITY: usize = 23;
 
 /// Writes the start of the line of an answer, up to its digits, at the end of its buffer, and returns where it starts.
-fn head_backward(ms: u64, room: &mut [u8; HEAD_ROOM]) -> usize
+fn head_backward(ms: u64, capacity: &mut [u8; HEAD_CAPACITY]) -> usize
     ensures within { result ≤ 23 }
-    ensures text { drop result room.new ≡ 76 ∷ 32 ∷ (decimal ms ++ (32 ∷ [])) }
+    ensures text { drop result capacity.new ≡ 76 ∷ 32 ∷ (decimal ms ++ (32 ∷ [])) }
 {
-    let at = backward::put_byte(b' ', room, HEAD_ROOM);
-    let at = backward::put_number(ms, room, at);
-    backward::put_byte(b'L', room, at)
+    let at = backward::put_byte(b' ', capacity, HEAD_CAPACITY);
+    let at = backward::put_number(ms, capacity, at);
+    backward::put_byte(b'L', capacity, at)
 }
 
 /// The line of a refusal: `refused`, its number and its place, a line or row counted from 1 or 0 for none, with a space

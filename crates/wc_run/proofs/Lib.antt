@@ -1,5 +1,5 @@
 pub mod HandedOn
-pub mod Fronts
+pub mod Prefixes
 pub mod Texts
 pub mod Lines
 pub mod Recording
@@ -9,5 +9,5 @@ pub mod ScaleRows
 pub mod ProgramChanges
 pub mod LeftLines
 pub mod ReaderFailures
-pub mod ToldRows
+pub mod ReportedRows
 pub mod Silence

@@ -13,7 +13,7 @@ use Rattle.wc_model.specs.Run.Rows.{LogRow, Past, answer_of_row}
 use Rattle.wc_model.specs.Run.Log.{LogOf, LogRefusal}
 use Rattle.std.proofs.KnownBytes.{Appends-nil}
 use Rattle.std.specs.Io.KnownBytes.{Appends}
-use Rattle.wc_run.specs.Doing.{IsJudged, WritesBy}
+use Rattle.wc_run.specs.Doing.{IsValidated, WritesBy}
 use Rattle.wc_run.specs.Logics.{lines_of_row, lines_of_rows}
 use Rattle.wc_run.specs.Observing.{onto, text_coming, text_in_all}
 use Rattle.wc_run.specs.Reports.{last_plan, lines_so_far, plan_of, report_plan}
@@ -83,10 +83,10 @@ answers_coming : (number : ℕ) (plate : PlateData) (logic : Option Logic) (past
 answers_coming number plate logic past [] = sym (ap (λ lines. report_text (filter is_answer_line lines)) (no_rows plate logic past))
 answers_coming number plate logic past (row ∷ rows) =
     let here : List ReportLine = lines_of_row plate logic past row in
-    let behind : List ReportLine = lines_of_rows plate logic (row ∷ past) rows in
+    let following : List ReportLine = lines_of_rows plate logic (row ∷ past) rows in
     ap (λ text. report_text (filter is_answer_line here) ++ text) (answers_coming number plate logic (row ∷ past) rows)
-    ∙ sym (flat_map-append line_text (filter is_answer_line here) (filter is_answer_line behind))
-    ∙ ap report_text (sym (filter-append is_answer_line here behind))
+    ∙ sym (flat_map-append line_text (filter is_answer_line here) (filter is_answer_line following))
+    ∙ ap report_text (sym (filter-append is_answer_line here following))
     ∙ ap (λ lines. report_text (filter is_answer_line lines)) (sym (one_row_more plate logic past row rows))
 
 -- what is written as the rows come
@@ -107,10 +107,10 @@ whole_text : (last : Option ℕ) (plate : PlateData) (logic : Option Logic) (ref
     → text_in_all (plan_of last) plate logic refusal rows ≡ report_printing last plate logic rows
 whole_text None plate logic refusal rows = append-nil (text_coming report_plan plate logic [] rows) ∙ coming_text None plate logic rows
 whole_text (Some number) plate None refusal rows =
-    let begun : List ℕ = text_coming (last_plan number) plate None [] rows in
+    let started : List ℕ = text_coming (last_plan number) plate None [] rows in
     let scans : List ReportLine = filter is_scan_line (answer_lines plate [] rows) in
-    ap (λ lines. begun ++ report_text lines) (drop-none (length scans - number) scans (answers_dropped plate [] rows))
-    ∙ append-nil begun ∙ coming_text (Some number) plate None rows
+    ap (λ lines. started ++ report_text lines) (drop-none (length scans - number) scans (answers_dropped plate [] rows))
+    ∙ append-nil started ∙ coming_text (Some number) plate None rows
 whole_text (Some number) plate (Some logic) refusal rows =
     ap (λ text. text ++ report_text (last_items number (filter is_scan_line (lines_of_rows plate (Some logic) [] rows)))) (answers_coming number plate (Some logic) [] rows)
 
@@ -131,7 +131,7 @@ none_coming None plate (Some logic) = refl
 none_coming (Some number) plate logic = refl
 
 -- a run that does not begin has written the report of no rows
-pub none_reported : (last : Option ℕ) (plate : PlateData) (logic : Option Logic) (log : LogOf) (fault : RunFault) (taken : Option (List ℕ)) → IsJudged Memory fault
+pub none_reported : (last : Option ℕ) (plate : PlateData) (logic : Option Logic) (log : LogOf) (fault : RunFault) (taken : Option (List ℕ)) → IsValidated Memory fault
     → Reports last plate logic log (Err fault) taken taken
 none_reported last plate logic log fault taken (inl is) =
     subst (λ f. Reports last plate logic log (Err f) taken taken) (sym is)

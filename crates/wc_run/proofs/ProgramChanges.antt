@@ -7,16 +7,16 @@ use Rattle.wc_model.specs.Language.Views.{text_view}
 use Rattle.wc_model.specs.Run.Log.{LogOf, refused_at, with_row}
 use Rattle.wc_model.specs.Run.Rows.{Change, LogRow, Past}
 use Rattle.wc_model.specs.Say.LogFor.{change_on, log_for, log_while}
-use Rattle.wc_model.specs.Say.ProgramReport.{Logic, change_to, logic_behind}
+use Rattle.wc_model.specs.Say.ProgramReport.{Logic, change_to, logic_following}
 use Rattle.wc_open_scale.proofs.RowCalls.{each_row_is_a_call}
 use Rattle.wc_open_scale.specs.Changing.{IsChangedTo, changed_program}
 use Rattle.wc_open_scale.specs.Rows.{came_by}
-use Rattle.wc_open_scale.specs.Standing.{Running}
-use Rattle.wc_open_scale.specs.Standing as open_scale
+use Rattle.wc_open_scale.specs.Representation.{Running}
+use Rattle.wc_open_scale.specs.Representation as open_scale
 use Rattle.wc_open_scale.specs.declared.open_scale.OpenScale.{OpenScale}
 use Rattle.wc_run.proofs.ScaleRows.{not_none, not_some}
 use Rattle.wc_run.specs.Logics.{text_of_next}
-use Rattle.wc_run.specs.Standing.{IsNext, Stands, program_of}
+use Rattle.wc_run.specs.Representation.{IsNext, Represents, program_of}
 use Rattle.wc_run.specs.Taking.{row_at, RunsRow, StopsAtRow, TakesRow}
 use Rattle.wc_run.specs.declared.fault.RunFault.TheVariants.{Refused}
 use Rattle.wc_run.specs.declared.scale.Scale.{Scale}
@@ -27,22 +27,22 @@ next_text next loaded left is same = subst (λ n. text_of_next n ≡ left) is sa
 
 -- after a change an open scale represents the next text and what is carried over to it
 changed_logic : {S : Type 0} (opened : OpenScale S) (plate : PlateData) (past : Past) (number ms : ℕ) (logic : Logic) (text : Text) (left : Option Text) → Some text ≡ left →
-    open_scale.Stands opened plate (came_by past (Some (changed_program (record { text = logic.text; store = logic.store }) text))) →
-    open_scale.Stands opened plate (came_by (row_at number ms Change ∷ past) (program_of (Some (change_to logic left)))) × IsNext None (Some (change_to logic left))
-changed_logic opened plate past number ms logic text left is stands =
+    open_scale.Represents opened plate (came_by past (Some (changed_program (record { text = logic.text; store = logic.store }) text))) →
+    open_scale.Represents opened plate (came_by (row_at number ms Change ∷ past) (program_of (Some (change_to logic left)))) × IsNext None (Some (change_to logic left))
+changed_logic opened plate past number ms logic text left is represents =
     let program : Running = changed_program (record { text = logic.text; store = logic.store }) text in
-    subst (λ t. open_scale.Stands opened plate (came_by (row_at number ms Change ∷ past) (program_of (Some (change_to logic t)))) × IsNext None (Some (change_to logic t))) is
-    (subst (λ came. open_scale.Stands opened plate came) (each_row_is_a_call.change past (Some program) number ms) stands, refl)
+    subst (λ t. open_scale.Represents opened plate (came_by (row_at number ms Change ∷ past) (program_of (Some (change_to logic t)))) × IsNext None (Some (change_to logic t))) is
+    (subst (λ came. open_scale.Represents opened plate came) (each_row_is_a_call.change past (Some program) number ms) represents, refl)
 
 -- a scale whose program is changed takes the row
 pub takes_change : {S : Type 0} (old : Scale S) (opened : OpenScale S) (loaded : LoadedText) (ms : ℕ) → is_some old.opened.machine ≡ true → old.next ≡ Some loaded →
     IsChangedTo old.opened opened (text_view loaded.source) → TakesRow old (record old { opened = opened; next = None }) ms Change
-takes_change old opened loaded ms there is changed plate None past number stands = absurd (not_none old.opened.machine there stands.opened.program)
-takes_change old opened loaded ms there is changed plate (Some logic) past number stands =
-    let before : Logic = logic_behind plate logic past in
+takes_change old opened loaded ms there is changed plate None past number represents = absurd (not_none old.opened.machine there represents.opened.program)
+takes_change old opened loaded ms there is changed plate (Some logic) past number represents =
+    let before : Logic = logic_following plate logic past in
     let running : Running = record { text = before.text; store = before.store } in
-    let both = changed_logic opened plate past number ms before (text_view loaded.source) before.next (next_text old.next loaded before.next is stands.next)
-    (changed.stands plate (came_by past (Some running)) running refl stands.opened) in
+    let both = changed_logic opened plate past number ms before (text_view loaded.source) before.next (next_text old.next loaded before.next is represents.next)
+    (changed.represents plate (came_by past (Some running)) running refl represents.opened) in
     record { opened = both.0; next = both.1 }
 
 -- if a next text is left, the log goes on after the row
@@ -53,15 +53,15 @@ goes_on logic text left is row rest =
 
 -- and a run with whatever logic it represents takes it
 pub runs_change : {S : Type 0} (old : Scale S) (loaded : LoadedText) (number ms : ℕ) → is_some old.opened.machine ≡ true → old.next ≡ Some loaded → RunsRow old (row_at number ms Change)
-runs_change old loaded number ms there is plate None past stands = absurd (not_none old.opened.machine there stands.opened.program)
-runs_change old loaded number ms there is plate (Some logic) past stands = λ rest.
-    let before : Logic = logic_behind plate logic past in
-    goes_on before (text_view loaded.source) before.next (next_text old.next loaded before.next is stands.next) (row_at number ms Change) rest
+runs_change old loaded number ms there is plate None past represents = absurd (not_none old.opened.machine there represents.opened.program)
+runs_change old loaded number ms there is plate (Some logic) past represents = λ rest.
+    let before : Logic = logic_following plate logic past in
+    goes_on before (text_view loaded.source) before.next (next_text old.next loaded before.next is represents.next) (row_at number ms Change) rest
 
 -- with no program any log takes it
 pub runs_past : {S : Type 0} (old : Scale S) (number ms : ℕ) → is_some old.opened.machine ≡ false → RunsRow old (row_at number ms Change)
-runs_past old number ms none plate None past stands = λ rest. refl
-runs_past old number ms none plate (Some logic) past stands = absurd (not_some old.opened.machine _ none stands.opened.program)
+runs_past old number ms none plate None past represents = λ rest. refl
+runs_past old number ms none plate (Some logic) past represents = absurd (not_some old.opened.machine _ none represents.opened.program)
 
 -- if none is left, the row is refused
 refused_at_row : (left : Option Text) → None ≡ left → (row : LogRow) (rest : LogOf) →
@@ -70,6 +70,6 @@ refused_at_row left is row rest =
     subst (λ t. change_on (is_some t) row (λ more. log_while more rest.rows rest.refusal) ≡ refused_at 609 row.number) is refl
 
 pub stops_change : {S : Type 0} (old : Scale S) (number ms : ℕ) → is_some old.opened.machine ≡ true → old.next ≡ None → StopsAtRow old (row_at number ms Change) (Refused 609 number)
-stops_change old number ms there is plate None past stands = absurd (not_none old.opened.machine there stands.opened.program)
-stops_change old number ms there is plate (Some logic) past stands = λ rest.
-    refused_at_row (logic_behind plate logic past).next (subst (λ n. text_of_next n ≡ (logic_behind plate logic past).next) is stands.next) (row_at number ms Change) rest
+stops_change old number ms there is plate None past represents = absurd (not_none old.opened.machine there represents.opened.program)
+stops_change old number ms there is plate (Some logic) past represents = λ rest.
+    refused_at_row (logic_following plate logic past).next (subst (λ n. text_of_next n ≡ (logic_following plate logic past).next) is represents.next) (row_at number ms Change) rest

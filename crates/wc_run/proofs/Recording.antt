@@ -87,10 +87,10 @@ writes_last answer recorder number plate logic past text old new same holds writ
 pub one_record_more : (scans : List Record) (index : ℕ) (scan : Record) (text line : List ℕ) → slice_get scans index ≡ Some scan
     → text ≡ report_text (lines_of_records (take index scans)) → line ≡ line_text (line_of_record scan)
     → text ++ line ≡ report_text (lines_of_records (take (index + 1) scans))
-one_record_more scans index scan text line there told same =
+one_record_more scans index scan text line there reported same =
     let next : take (index + 1) scans ≡ take index scans ++ scan ∷ [] =
     take_more scans index scan (slice_get_within scans index scan there) ∙ ap (λ r. take index scans ++ r ∷ []) (get_or_from_slice_get scans index scan scan there) in
-    (λ i. told i ++ same i)
+    (λ i. reported i ++ same i)
     ∙ ap (λ t. report_text (lines_of_records (take index scans)) ++ t) (sym (append-nil (line_text (line_of_record scan))))
     ∙ sym (flat_map-append line_text (lines_of_records (take index scans)) (line_of_record scan ∷ []))
     ∙ ap report_text (sym (map-append line_of_record (take index scans) (scan ∷ [])))

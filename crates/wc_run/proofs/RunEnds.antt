@@ -5,8 +5,8 @@ use Rattle.std.specs.Io.KnownBytes.{Appends}
 use Rattle.wc_model.specs.Run.Log.{LogOf}
 use Rattle.wc_model.specs.Instrument.Plates.{PlateData}
 use Rattle.wc_model.specs.Run.Rows.{LogRow, Past}
-use Rattle.wc_run.proofs.Fronts.{front_behind, front_of_more}
-use Rattle.wc_run.specs.Doing.{HasSeenAll, IsCutShort, IsJudged, RunsRows, Seeing, Writes, WritesBy, is_cut_short, refused_in}
+use Rattle.wc_run.proofs.Prefixes.{prefix_after, prefix_of_more}
+use Rattle.wc_run.specs.Doing.{HasSeenAll, IsCutShort, IsValidated, RunsRows, Seeing, Writes, WritesBy, is_cut_short, refused_in}
 use Rattle.wc_model.specs.Say.ProgramReport.{Logic}
 use Rattle.wc_run.specs.Observing.{Plan, onto, refusal_of, text_coming}
 use Rattle.wc_run.specs.Runs.{ReportsBy}
@@ -34,11 +34,11 @@ module _ {O : Type 0} (has_seen : Seeing O) (plan : Plan) (plate : PlateData) (l
       (subst (λ rows. Writes (plan.at_end plate logic rows (refusal_of (refused_in answer))) end mid new) (sym done.seen.1) (writes done.seen.0 done.seen.2))
 
   -- the end is cut short
-  pub cut_at_end : (met : RunFault) → Appends old mid (text_coming plan plate logic [] log.rows)
-      → IsCutShort met mid new (plan.at_end plate logic log.rows log.refusal) → WritesBy plan plate logic log (Err met) old new
-  cut_at_end Write written cut = front_behind old mid new (text_coming plan plate logic [] log.rows) (plan.at_end plate logic log.rows log.refusal) written cut
+  pub cut_at_end : (raised : RunFault) → Appends old mid (text_coming plan plate logic [] log.rows)
+      → IsCutShort raised mid new (plan.at_end plate logic log.rows log.refusal) → WritesBy plan plate logic log (Err raised) old new
+  cut_at_end Write written cut = prefix_after old mid new (text_coming plan plate logic [] log.rows) (plan.at_end plate logic log.rows log.refusal) written cut
   cut_at_end Memory written cut = (log.rows, [], sym (append-nil log.rows), Appends-kept old mid new (text_coming plan plate logic [] log.rows) written cut)
-  cut_at_end met written cut = absurd cut
+  cut_at_end raised written cut = absurd cut
 
   -- the answer stays if the end is written
   pub ends_whole : (observer : O) (answer : Result ℕ RunFault) → is_cut_short answer ≡ false → RunsRows has_seen plan plate logic log observer answer old mid
@@ -55,14 +55,14 @@ module _ {O : Type 0} (has_seen : Seeing O) (plan : Plan) (plate : PlateData) (l
   ends_short observer (Ok count) short runs = absurd (cc)
   ends_short observer (Err (Refused code place)) short runs = absurd (cc)
   ends_short observer (Err Write) short runs =
-      front_of_more old mid (text_coming plan plate logic [] log.rows) (plan.at_end plate logic log.rows log.refusal) runs
+      prefix_of_more old mid (text_coming plan plate logic [] log.rows) (plan.at_end plate logic log.rows log.refusal) runs
   ends_short observer (Err fault) short runs = runs
 
 -- what a fault says is also said by what it is classified as
-pub judged_says : (whole coming : List LogRow → List ℕ) (log : LogOf) (old new : Option (List ℕ)) (fault judged : RunFault)
-    → IsJudged fault judged → ReportsBy whole coming log (Err fault) old new → ReportsBy whole coming log (Err judged) old new
-judged_says whole coming log old new Read judged (inl same) says = subst (λ met. ReportsBy whole coming log (Err met) old new) (sym same) says
-judged_says whole coming log old new Read judged (inr same) says = subst (λ met. ReportsBy whole coming log (Err met) old new) (sym same) says
-judged_says whole coming log old new Memory judged (inl same) says = subst (λ met. ReportsBy whole coming log (Err met) old new) (sym same) says
-judged_says whole coming log old new Memory judged (inr same) says = subst (λ met. ReportsBy whole coming log (Err met) old new) (sym same) says
-judged_says whole coming log old new fault judged same says = subst (λ met. ReportsBy whole coming log (Err met) old new) (sym same) says
+pub validated_says : (whole coming : List LogRow → List ℕ) (log : LogOf) (old new : Option (List ℕ)) (fault validated : RunFault)
+    → IsValidated fault validated → ReportsBy whole coming log (Err fault) old new → ReportsBy whole coming log (Err validated) old new
+validated_says whole coming log old new Read validated (inl same) says = subst (λ raised. ReportsBy whole coming log (Err raised) old new) (sym same) says
+validated_says whole coming log old new Read validated (inr same) says = subst (λ raised. ReportsBy whole coming log (Err raised) old new) (sym same) says
+validated_says whole coming log old new Memory validated (inl same) says = subst (λ raised. ReportsBy whole coming log (Err raised) old new) (sym same) says
+validated_says whole coming log old new Memory validated (inr same) says = subst (λ raised. ReportsBy whole coming log (Err raised) old new) (sym same) says
+validated_says whole coming log old new fault validated same says = subst (λ raised. ReportsBy whole coming log (Err raised) old new) (sym same) says

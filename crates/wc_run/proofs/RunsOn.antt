@@ -11,15 +11,15 @@ use Rattle.wc_record.specs.declared.log.Rows.{Rows}
 use Rattle.wc_record.specs.declared.row_kind.LogFault.{LogFault}
 use Rattle.wc_record.specs.declared.row_kind.LogFault.TheVariants as fault
 use Rattle.wc_record.specs.declared.row_head.RowHead.{RowHead}
-use Rattle.wc_run.proofs.Fronts.{front_behind, front_of_more}
+use Rattle.wc_run.proofs.Prefixes.{prefix_after, prefix_of_more}
 use Rattle.wc_run.specs.Faults.{from_log_fault}
 use Rattle.wc_run.specs.Doing.{Does, HasSeenAll, RunsRows, Seeing, Writes}
 use Rattle.wc_model.specs.Say.LogFor.{log_for}
 use Rattle.wc_model.specs.Say.ProgramReport.{Logic}
 use Rattle.wc_run.specs.Logics.{IsTaken, logic_after}
 use Rattle.wc_run.specs.Observing.{Plan, onto, text_coming}
-use Rattle.wc_run.specs.Runs.{AppendsFirst, AppendsFront}
-use Rattle.wc_run.specs.Standing.{Stands}
+use Rattle.wc_run.specs.Runs.{AppendsFirst, AppendsPrefix}
+use Rattle.wc_run.specs.Representation.{Represents}
 use Rattle.wc_run.specs.Taking.{StopsAtRow}
 use Rattle.wc_run.specs.declared.fault.RunFault.{RunFault}
 use Rattle.wc_run.specs.declared.fault.RunFault.TheVariants.{Refused, Read, Write, Memory}
@@ -36,30 +36,30 @@ pub record Running {R S O : Type 0} (bytes_left : R → Option (List ℕ)) (rows
   pub same_refusal : log.refusal ≡ (log_for (logic_after plate logic past) left).refusal
   pub in_all : log.rows ≡ onto past (log_for (logic_after plate logic past) left).rows
   pub counted : length past ≡ count
-  pub stands : Stands scale plate logic past
+  pub represents : Represents scale plate logic past
   pub seen : has_seen observer plate logic past
   pub written : Appends old new (text_so_far plan plate logic past)
 
 -- a row that is done by the scale, and that the observer is shown
 pub does_row : {S O X : Type 0} (answer : Result X RunFault) (has_seen : Seeing O) (plan : Plan) (plate : PlateData) (logic : Option Logic) (past : Past)
     (row : LogRow) (scale : Scale S) (observer : O) (old new : Option (List ℕ))
-    → IsTaken (logic_after plate logic past) (logic_after plate logic (row ∷ past)) row → Stands scale plate logic (row ∷ past)
+    → IsTaken (logic_after plate logic past) (logic_after plate logic (row ∷ past)) row → Represents scale plate logic (row ∷ past)
     → OnOk answer (has_seen observer plate logic (row ∷ past)) → Writes (plan.at_row plate logic past row) answer old new
     → Does has_seen plan plate logic past row scale observer answer old new
-does_row (Ok x) has_seen plan plate logic past row scale observer old new taken stands seen writes = (taken, stands, seen, writes)
-does_row (Err (Refused code place)) has_seen plan plate logic past row scale observer old new taken stands seen writes = absurd writes
-does_row (Err Read) has_seen plan plate logic past row scale observer old new taken stands seen writes = absurd writes
-does_row (Err Write) has_seen plan plate logic past row scale observer old new taken stands seen writes = (taken, writes)
-does_row (Err Memory) has_seen plan plate logic past row scale observer old new taken stands seen writes = writes
+does_row (Ok x) has_seen plan plate logic past row scale observer old new taken represents seen writes = (taken, represents, seen, writes)
+does_row (Err (Refused code place)) has_seen plan plate logic past row scale observer old new taken represents seen writes = absurd writes
+does_row (Err Read) has_seen plan plate logic past row scale observer old new taken represents seen writes = absurd writes
+does_row (Err Write) has_seen plan plate logic past row scale observer old new taken represents seen writes = (taken, writes)
+does_row (Err Memory) has_seen plan plate logic past row scale observer old new taken represents seen writes = writes
 
 -- a row from which the scale is kept
 pub stops_row : {S O : Type 0} (X : Type 0) (fault : RunFault) (has_seen : Seeing O) (plan : Plan) (plate : PlateData) (logic : Option Logic) (past : Past)
-    (row : LogRow) (old scale : Scale S) (observer : O) (taken : Option (List ℕ)) → StopsAtRow old row fault → Stands old plate logic past
+    (row : LogRow) (old scale : Scale S) (observer : O) (taken : Option (List ℕ)) → StopsAtRow old row fault → Represents old plate logic past
     → has_seen observer plate logic past → Does {X = X} has_seen plan plate logic past row scale observer (Err fault) taken taken
-stops_row X (Refused code place) has_seen plan plate logic past row old scale observer taken stops stands seen = (stops plate logic past stands, seen, Keeps-refl taken)
-stops_row X Read has_seen plan plate logic past row old scale observer taken stops stands seen = absurd stops
-stops_row X Write has_seen plan plate logic past row old scale observer taken stops stands seen = absurd stops
-stops_row X Memory has_seen plan plate logic past row old scale observer taken stops stands seen = Keeps-refl taken
+stops_row X (Refused code place) has_seen plan plate logic past row old scale observer taken stops represents seen = (stops plate logic past represents, seen, Keeps-refl taken)
+stops_row X Read has_seen plan plate logic past row old scale observer taken stops represents seen = absurd stops
+stops_row X Write has_seen plan plate logic past row old scale observer taken stops represents seen = absurd stops
+stops_row X Memory has_seen plan plate logic past row old scale observer taken stops represents seen = Keeps-refl taken
 
 -- before any row the logic is the first one
 logic_at_first : (plate : PlateData) (logic : Option Logic) → logic_after plate logic [] ≡ logic
@@ -78,15 +78,15 @@ refusal_taken (Some logic) code place = refl
 -- before the first row
 pub at_first : {R S O : Type 0} (bytes_left : R → Option (List ℕ)) (rows : Rows R) (scale : Scale S) (has_seen : Seeing O) (observer : O)
     (plan : Plan) (plate : PlateData) (logic : Option Logic) (log : LogOf) (taken : Option (List ℕ)) → HasLeft bytes_left rows log
-    → Stands scale plate logic [] → has_seen observer plate logic [] → Running bytes_left rows scale has_seen observer plan plate logic (log_for logic log) 0 taken taken
-at_first bytes_left rows scale has_seen observer plan plate logic log taken has stands seen = record {
+    → Represents scale plate logic [] → has_seen observer plate logic [] → Running bytes_left rows scale has_seen observer plan plate logic (log_for logic log) 0 taken taken
+at_first bytes_left rows scale has_seen observer plan plate logic log taken has represents seen = record {
   past = [];
   left = log;
   has_left = has;
   same_refusal = ap (λ l. (log_for l log).refusal) (sym (logic_at_first plate logic));
   in_all = ap (λ l. (log_for l log).rows) (sym (logic_at_first plate logic));
   counted = refl;
-  stands = stands;
+  represents = represents;
   seen = seen;
   written = Appends-nil taken;
 }
@@ -113,7 +113,7 @@ module _ {R S O : Type 0} (bytes_left : R → Option (List ℕ)) (rows : Rows R)
         same_refusal = r.same_refusal ∙ ap (λ l. l.refusal) one;
         in_all = r.in_all ∙ ap (λ l. onto r.past l.rows) one;
         counted = omega (arith, r.counted);
-        stands = does.1;
+        represents = does.1;
         seen = does.2;
         written = Appends-trans old mid new (text_so_far plan plate logic r.past) (plan.at_row plate logic r.past (head_view (row_bytes rows') row)) r.written does.3;
       }
@@ -164,34 +164,34 @@ module _ {R S O : Type 0} (bytes_left : R → Option (List ℕ)) (rows : Rows R)
       )
 
   -- the log gives no further row
-  pub at_fault : (rows' : Rows R) (met : LogFault) → Takes (head_view (row_bytes rows')) bytes_left r.left (Err met) rows'
-      → RunsRows has_seen plan plate logic log observer (Err (from_log_fault met)) old mid
+  pub at_fault : (rows' : Rows R) (raised : LogFault) → Takes (head_view (row_bytes rows')) bytes_left r.left (Err raised) rows'
+      → RunsRows has_seen plan plate logic log observer (Err (from_log_fault raised)) old mid
   at_fault rows' (fault.Refused code place) takes =
       at_refusal observer mid code place
       (ap (λ l. log_for (logic_after plate logic r.past) l) takes.0 ∙ refusal_taken (logic_after plate logic r.past) code place) r.seen (Keeps-refl mid)
-  at_fault rows' met takes = first_written
+  at_fault rows' raised takes = first_written
 
   -- a row of which a prefix was written
-  front_of_row : (new : Option (List ℕ)) (row : LogRow) (rest : LogOf) → log_for (logic_after plate logic r.past) r.left ≡ with_row row rest
-      → AppendsFront mid new (plan.at_row plate logic r.past row) → AppendsFront old new (text_coming plan plate logic [] log.rows)
-  front_of_row new row rest one cut =
+  prefix_of_row : (new : Option (List ℕ)) (row : LogRow) (rest : LogOf) → log_for (logic_after plate logic r.past) r.left ≡ with_row row rest
+      → AppendsPrefix mid new (plan.at_row plate logic r.past row) → AppendsPrefix old new (text_coming plan plate logic [] log.rows)
+  prefix_of_row new row rest one cut =
       let done : List ℕ = text_so_far plan plate logic r.past in
       let this : List ℕ = plan.at_row plate logic r.past row in
       let later : List ℕ = text_coming plan plate logic (row ∷ r.past) rest.rows in
       let all : text_coming plan plate logic [] log.rows ≡ done ++ (this ++ later) =
       ap (λ l. text_coming plan plate logic [] l) (r.in_all ∙ ap (λ l. onto r.past l.rows) one) ∙ text_of_all plan plate logic r.past (row ∷ rest.rows) in
-      subst (λ t. AppendsFront old new t) (sym all) (front_behind old mid new done (this ++ later) r.written (front_of_more mid new this later cut))
+      subst (λ t. AppendsPrefix old new t) (sym all) (prefix_after old mid new done (this ++ later) r.written (prefix_of_more mid new this later cut))
 
   -- a row that was refused, or not done to its end
   pub at_row : (rows' : Rows R) (scale' : Scale S) (observer' : O) (new : Option (List ℕ)) (row : RowHead) (X : Type 0)
-      → Takes (head_view (row_bytes rows')) bytes_left r.left (Ok (Some row)) rows' → (met : RunFault)
-      → Does {X = X} has_seen plan plate logic r.past (head_view (row_bytes rows') row) scale' observer' (Err met) mid new
-      → RunsRows has_seen plan plate logic log observer' (Err met) old new
+      → Takes (head_view (row_bytes rows')) bytes_left r.left (Ok (Some row)) rows' → (raised : RunFault)
+      → Does {X = X} has_seen plan plate logic r.past (head_view (row_bytes rows') row) scale' observer' (Err raised) mid new
+      → RunsRows has_seen plan plate logic log observer' (Err raised) old new
   at_row rows' scale' observer' new row X takes (Refused code place) does =
       at_refusal observer' new code place (ap (λ l. log_for (logic_after plate logic r.past) l) takes.1 ∙ does.0 takes.0) does.1 does.2
   at_row rows' scale' observer' new row X takes Read does = absurd does
   at_row rows' scale' observer' new row X takes Write does =
-      front_of_row new (head_view (row_bytes rows') row) (log_for (logic_after plate logic (head_view (row_bytes rows') row ∷ r.past)) takes.0)
+      prefix_of_row new (head_view (row_bytes rows') row) (log_for (logic_after plate logic (head_view (row_bytes rows') row ∷ r.past)) takes.0)
       (row_coming (head_view (row_bytes rows') row) takes.0 takes.1 does.0) does.1
   at_row rows' scale' observer' new row X takes Memory does =
       (first_written.0, first_written.1, first_written.2, Appends-kept old mid new (text_coming plan plate logic [] first_written.0) first_written.3 does)

@@ -4,7 +4,7 @@ use Rattle.wc_laws_instrument.specs.Changes.{IsNoChange}
 use Rattle.wc_cost.specs.LoadedTexts.{LoadedText}
 use Rattle.wc_machine.specs.Machines.{MachineState}
 use Rattle.wc_model.specs.Instrument.Plates.{PlateData}
-use Rattle.wc_model.specs.Say.ProgramReport.{Logic, logic_behind}
+use Rattle.wc_model.specs.Say.ProgramReport.{Logic, logic_following}
 use Rattle.wc_model.specs.Say.Report.{answer_line}
 use Rattle.wc_model.specs.Run.Rows.{RowData, Counts, Bytes, Inputs, Scan, Change, LogRow, Past, answer_of_row}
 use Rattle.wc_open_scale.proofs.RowCalls.{each_row_is_a_call}
@@ -12,17 +12,17 @@ use Rattle.wc_open_scale.specs.Calls.{Answers}
 use Rattle.wc_open_scale.specs.Coming.{with_bytes, with_inputs, with_sample}
 use Rattle.wc_open_scale.specs.Rows.{came_by}
 use Rattle.wc_open_scale.specs.Scanning.{Scans, Sees}
-use Rattle.wc_open_scale.specs.Standing.{Came, Goes, IsRunning, Running}
-use Rattle.wc_open_scale.specs.Standing as open_scale
+use Rattle.wc_open_scale.specs.Representation.{Came, Goes, IsRunning, Running}
+use Rattle.wc_open_scale.specs.Representation as open_scale
 use Rattle.wc_open_scale.specs.declared.open_scale.OpenScale.{OpenScale}
 use Rattle.wc_machine.specs.declared.seen.SeenLine.{SeenLine}
 use Rattle.wc_record.specs.Views.{head_data_view, head_view}
 use Rattle.wc_record.specs.declared.last_scans.Record.{Record}
 use Rattle.wc_record.specs.declared.row_head.RowHead.{RowHead}
-use Rattle.wc_run.specs.Logics.{IsTaken, StandsAt, logic_after}
+use Rattle.wc_run.specs.Logics.{IsTaken, IsAt, logic_after}
 use Rattle.wc_run.specs.Observing.{AreItems, items_of}
 use Rattle.wc_run.specs.Outputs.{line_of_record}
-use Rattle.wc_run.specs.Standing.{IsNext, Stands, program_of}
+use Rattle.wc_run.specs.Representation.{IsNext, Represents, program_of}
 use Rattle.wc_run.specs.Taking.{row_at, Gives, GivesItems, RunsRow, StopsAtRow, TakesRow}
 use Rattle.wc_run.specs.declared.fault.RunFault.{RunFault}
 use Rattle.wc_run.specs.declared.fault.RunFault.TheVariants.{Memory}
@@ -40,32 +40,32 @@ on_ok_of P Q (Ok x) f h = f h
 on_ok_of P Q (Err e) f h = tt
 
 -- a machine that represents the logic runs its program
-runs_program : (plate : PlateData) (machine : Option MachineState) (next : Option LoadedText) (logic : Option Logic) → StandsAt machine next logic →
+runs_program : (plate : PlateData) (machine : Option MachineState) (next : Option LoadedText) (logic : Option Logic) → IsAt machine next logic →
     IsRunning machine (program_of (logic_after plate logic []))
-runs_program plate None next None stands = tt
-runs_program plate None next (Some logic) stands = stands
-runs_program plate (Some machine) next None stands = stands
-runs_program plate (Some machine) next (Some logic) stands = stands.0
+runs_program plate None next None represents = tt
+runs_program plate None next (Some logic) represents = represents
+runs_program plate (Some machine) next None represents = represents
+runs_program plate (Some machine) next (Some logic) represents = represents.0
 
 -- and what is loaded represents the next text
-has_next : (plate : PlateData) (machine : Option MachineState) (next : Option LoadedText) (logic : Option Logic) → StandsAt machine next logic →
+has_next : (plate : PlateData) (machine : Option MachineState) (next : Option LoadedText) (logic : Option Logic) → IsAt machine next logic →
     IsNext next (logic_after plate logic [])
-has_next plate machine next None stands = tt
-has_next plate None next (Some logic) stands = absurd stands
-has_next plate (Some machine) next (Some logic) stands = stands.1
+has_next plate machine next None represents = tt
+has_next plate None next (Some logic) represents = absurd represents
+has_next plate (Some machine) next (Some logic) represents = represents.1
 
 -- an open scale to which nothing has come represents no row
-pub stands_first : {S : Type 0} (alloc : Global) (opened : OpenScale S) (machine : Option MachineState) (next : Option LoadedText) (plate : PlateData) (logic : Option Logic) →
-    ((program : Option Running) → IsRunning machine program → open_scale.Stands opened plate (open_scale.only_program program)) → StandsAt machine next logic →
-    Stands (record { alloc = alloc; opened = opened; next = next }) plate logic []
-stands_first alloc opened machine next plate logic begins stands =
+pub is_first : {S : Type 0} (alloc : Global) (opened : OpenScale S) (machine : Option MachineState) (next : Option LoadedText) (plate : PlateData) (logic : Option Logic) →
+    ((program : Option Running) → IsRunning machine program → open_scale.Represents opened plate (open_scale.only_program program)) → IsAt machine next logic →
+    Represents (record { alloc = alloc; opened = opened; next = next }) plate logic []
+is_first alloc opened machine next plate logic begins represents =
     record {
-      opened = begins (program_of (logic_after plate logic [])) (runs_program plate machine next logic stands);
-      next = has_next plate machine next logic stands;
+      opened = begins (program_of (logic_after plate logic [])) (runs_program plate machine next logic represents);
+      next = has_next plate machine next logic represents;
     }
 
 -- a row that leaves any logic as it was leaves the logic with a scale as it was, if there is one
-still : (ms : ℕ) (brings : RowData) → ((plate : PlateData) (logic : Logic) (past : Past) (number : ℕ) → logic_behind plate logic (row_at number ms brings ∷ past) ≡ logic_behind plate logic past) →
+still : (ms : ℕ) (brings : RowData) → ((plate : PlateData) (logic : Logic) (past : Past) (number : ℕ) → logic_following plate logic (row_at number ms brings ∷ past) ≡ logic_following plate logic past) →
     (plate : PlateData) (logic : Option Logic) (past : Past) (number : ℕ) → logic_after plate logic (row_at number ms brings ∷ past) ≡ logic_after plate logic past
 still ms brings leaves plate None past number = refl
 still ms brings leaves plate (Some logic) past number = ap Some (leaves plate logic past number)
@@ -73,16 +73,16 @@ still ms brings leaves plate (Some logic) past number = ap Some (leaves plate lo
 -- a call that does what such a row brings takes the row
 takes_call : {S : Type 0} (old : Scale S) (opened : OpenScale S) (step : Came → Came) (ms : ℕ) (brings : RowData) → Goes old.opened opened step →
     ((past : Past) (program : Option Running) (number : ℕ) → step (came_by past program) ≡ came_by (row_at number ms brings ∷ past) program) →
-    ((plate : PlateData) (logic : Logic) (past : Past) (number : ℕ) → logic_behind plate logic (row_at number ms brings ∷ past) ≡ logic_behind plate logic past) →
+    ((plate : PlateData) (logic : Logic) (past : Past) (number : ℕ) → logic_following plate logic (row_at number ms brings ∷ past) ≡ logic_following plate logic past) →
     TakesRow old (record old { opened = opened }) ms brings
-takes_call old opened step ms brings goes brought leaves plate logic past number stands =
+takes_call old opened step ms brings goes brought leaves plate logic past number represents =
     let after : Option Logic = logic_after plate logic past in
     let same : logic_after plate logic (row_at number ms brings ∷ past) ≡ after = still ms brings leaves plate logic past number in
-    let went : open_scale.Stands opened plate (came_by (row_at number ms brings ∷ past) (program_of after)) =
-    subst (λ came. open_scale.Stands opened plate came) (brought past (program_of after) number) (goes plate (came_by past (program_of after)) stands.opened) in
+    let went : open_scale.Represents opened plate (came_by (row_at number ms brings ∷ past) (program_of after)) =
+    subst (λ came. open_scale.Represents opened plate came) (brought past (program_of after) number) (goes plate (came_by past (program_of after)) represents.opened) in
     record {
-      opened = subst (λ logic. open_scale.Stands opened plate (came_by (row_at number ms brings ∷ past) (program_of logic))) (sym same) went;
-      next = subst (λ logic. IsNext old.next logic) (sym same) stands.next;
+      opened = subst (λ logic. open_scale.Represents opened plate (came_by (row_at number ms brings ∷ past) (program_of logic))) (sym same) went;
+      next = subst (λ logic. IsNext old.next logic) (sym same) represents.next;
     }
 
 pub takes_sample : {S : Type 0} (old : Scale S) (opened : OpenScale S) (counts : ℤ) → Goes old.opened opened (with_sample counts) → (ms : ℕ) →
@@ -103,10 +103,10 @@ takes_inputs old opened inputs goes ms =
 -- what is answered to bytes is what the report has, with a program or with none
 pub gives_answer : {S : Type 0} (old : Scale S) (bytes before answers : List ℕ) → before ≡ [] → Answers old.opened bytes (Some before) (Some answers) → (ms : ℕ) →
     Gives old ms (Bytes bytes) answers None
-gives_answer old bytes before answers none answered ms plate None past number stands =
-    ap (answer_line ms) (sym (answered plate _ stands.opened ∙ ap (λ b. b ++ answer_of_row plate past (row_at number ms (Bytes bytes))) none)) ∙ sym (append-nil (answer_line ms answers))
-gives_answer old bytes before answers none answered ms plate (Some logic) past number stands =
-    ap (answer_line ms) (sym (answered plate _ stands.opened ∙ ap (λ b. b ++ answer_of_row plate past (row_at number ms (Bytes bytes))) none)) ∙ sym (append-nil (answer_line ms answers))
+gives_answer old bytes before answers none answered ms plate None past number represents =
+    ap (answer_line ms) (sym (answered plate _ represents.opened ∙ ap (λ b. b ++ answer_of_row plate past (row_at number ms (Bytes bytes))) none)) ∙ sym (append-nil (answer_line ms answers))
+gives_answer old bytes before answers none answered ms plate (Some logic) past number represents =
+    ap (answer_line ms) (sym (answered plate _ represents.opened ∙ ap (λ b. b ++ answer_of_row plate past (row_at number ms (Bytes bytes))) none)) ∙ sym (append-nil (answer_line ms answers))
 
 -- a machine that is there runs a program
 pub not_none : (machine : Option MachineState) → is_some machine ≡ true → IsRunning machine None → ⊥
@@ -121,41 +121,41 @@ not_some (Some machine) running none runs = absurd (cc)
 -- with a machine the scan takes the row
 pub takes_scan : {S : Type 0} (old : Scale S) (opened : OpenScale S) (ms : ℕ) (scanned : Record) → is_some old.opened.machine ≡ true → Scans old.opened opened ms scanned →
     TakesRow old (record old { opened = opened }) ms Scan
-takes_scan old opened ms scanned there scans plate None past number stands = absurd (not_none old.opened.machine there stands.opened.program)
-takes_scan old opened ms scanned there scans plate (Some logic) past number stands =
-    let before : Logic = logic_behind plate logic past in
+takes_scan old opened ms scanned there scans plate None past number represents = absurd (not_none old.opened.machine there represents.opened.program)
+takes_scan old opened ms scanned there scans plate (Some logic) past number represents =
+    let before : Logic = logic_following plate logic past in
     record {
-      opened = subst (λ came. open_scale.Stands opened plate came) (each_row_is_a_call.scan past (program_of (logic_after plate (Some logic) (row_at number ms Scan ∷ past))) number ms)
-          (scans plate (came_by past (program_of (Some before))) (record { text = before.text; store = before.store }) refl stands.opened).stands;
-      next = stands.next;
+      opened = subst (λ came. open_scale.Represents opened plate came) (each_row_is_a_call.scan past (program_of (logic_after plate (Some logic) (row_at number ms Scan ∷ past))) number ms)
+          (scans plate (came_by past (program_of (Some before))) (record { text = before.text; store = before.store }) refl represents.opened).represents;
+      next = represents.next;
     }
 
 -- and its record has the line of the report
 pub gives_scan : {S : Type 0} (old : Scale S) (opened : OpenScale S) (ms : ℕ) (scan : ScanSeen) → is_some old.opened.machine ≡ true → Scans old.opened opened ms scan.record →
     Gives old ms Scan [] (Some scan)
-gives_scan old opened ms scan there scans plate None past number stands = absurd (not_none old.opened.machine there stands.opened.program)
-gives_scan old opened ms scan there scans plate (Some logic) past number stands =
-    let before : Logic = logic_behind plate logic past in
-    sym (ap (λ s. line_of_record s ∷ []) (scans plate (came_by past (program_of (Some before))) (record { text = before.text; store = before.store }) refl stands.opened).recorded)
+gives_scan old opened ms scan there scans plate None past number represents = absurd (not_none old.opened.machine there represents.opened.program)
+gives_scan old opened ms scan there scans plate (Some logic) past number represents =
+    let before : Logic = logic_following plate logic past in
+    sym (ap (λ s. line_of_record s ∷ []) (scans plate (came_by past (program_of (Some before))) (record { text = before.text; store = before.store }) refl represents.opened).recorded)
 
 -- if what it executes is looked at, these are its items
 pub gives_items : {S : Type 0} (old : Scale S) (ms : ℕ) (record' : Record) (lines : Vec SeenLine Global) → is_some old.opened.machine ≡ true → Sees old.opened ms (Ok lines) →
     GivesItems old ms Scan (Some (record { «record» = record'; lines = Some lines }))
-gives_items old ms record' lines there sees plate None past number stands = tt
-gives_items old ms record' lines there sees plate (Some logic) past number stands =
-    let before : Logic = logic_behind plate logic past in
-    sees plate (came_by past (program_of (Some before))) (record { text = before.text; store = before.store }) refl stands.opened
+gives_items old ms record' lines there sees plate None past number represents = tt
+gives_items old ms record' lines there sees plate (Some logic) past number represents =
+    let before : Logic = logic_following plate logic past in
+    sees plate (came_by past (program_of (Some before))) (record { text = before.text; store = before.store }) refl represents.opened
 
 -- if it is not, nothing is said
 pub gives_none : {S : Type 0} (old : Scale S) (ms : ℕ) (record' : Record) → GivesItems old ms Scan (Some (record { «record» = record'; lines = None }))
-gives_none old ms record' plate logic past number stands = tt
+gives_none old ms record' plate logic past number represents = tt
 
 -- with no machine a row that brings nothing else is passed over
 passes : {S : Type 0} (old : Scale S) (ms : ℕ) (brings : RowData) → is_some old.opened.machine ≡ false →
     ((past : Past) (program : Option Running) (number : ℕ) → came_by past program ≡ came_by (row_at number ms brings ∷ past) program) → TakesRow old old ms brings
-passes old ms brings none brought plate None past number stands =
-    record { opened = subst (λ came. open_scale.Stands old.opened plate came) (brought past None number) stands.opened; next = tt }
-passes old ms brings none brought plate (Some logic) past number stands = absurd (not_some old.opened.machine _ none stands.opened.program)
+passes old ms brings none brought plate None past number represents =
+    record { opened = subst (λ came. open_scale.Represents old.opened plate came) (brought past None number) represents.opened; next = tt }
+passes old ms brings none brought plate (Some logic) past number represents = absurd (not_some old.opened.machine _ none represents.opened.program)
 
 -- if no machine is said to be, there is none
 none_of : (machine : Option MachineState) → is_some machine ≡ false → machine ≡ None
@@ -173,17 +173,17 @@ passes_change old ms none = passes old ms Change none (λ past program number. e
 
 -- and the report has no line of a scan
 pub gives_no_scan : {S : Type 0} (old : Scale S) (ms : ℕ) → is_some old.opened.machine ≡ false → Gives old ms Scan [] None
-gives_no_scan old ms none plate None past number stands = refl
-gives_no_scan old ms none plate (Some logic) past number stands = absurd (not_some old.opened.machine _ none stands.opened.program)
+gives_no_scan old ms none plate None past number represents = refl
+gives_no_scan old ms none plate (Some logic) past number represents = absurd (not_some old.opened.machine _ none represents.opened.program)
 
 pub gives_no_items : {S : Type 0} (old : Scale S) (ms : ℕ) → GivesItems old ms Scan None
-gives_no_items old ms plate logic past number stands = tt
+gives_no_items old ms plate logic past number represents = tt
 
 -- the scale is as after the row that brings this
 pub takes_row : {S : Type 0} (old new : Scale S) (bytes : List ℕ) (row : RowHead) (brings : RowData) → head_data_view bytes row.kind ≡ brings → TakesRow old new row.ms brings →
-    (plate : PlateData) (logic : Option Logic) (past : Past) → Stands old plate logic past → Stands new plate logic (head_view bytes row ∷ past)
-takes_row old new bytes row brings is takes plate logic past stands =
-    subst (λ kind. Stands new plate logic (row_at row.number row.ms kind ∷ past)) (sym is) (takes plate logic past row.number stands)
+    (plate : PlateData) (logic : Option Logic) (past : Past) → Represents old plate logic past → Represents new plate logic (head_view bytes row ∷ past)
+takes_row old new bytes row brings is takes plate logic past represents =
+    subst (λ kind. Represents new plate logic (row_at row.number row.ms kind ∷ past)) (sym is) (takes plate logic past row.number represents)
 
 -- a run with whatever logic takes a row that changes no program
 taken_with : (plate : PlateData) (logic : Option Logic) (past : Past) (number ms : ℕ) (brings : RowData) → IsNoChange brings →
@@ -197,7 +197,7 @@ taken_with plate (Some logic) past number ms Change none rest = absurd none
 
 -- so of the row that brings this
 pub runs_row : {S : Type 0} (old : Scale S) (bytes : List ℕ) (row : RowHead) (brings : RowData) → head_data_view bytes row.kind ≡ brings → IsNoChange brings → RunsRow old (head_view bytes row)
-runs_row old bytes row brings is none plate logic past stands =
+runs_row old bytes row brings is none plate logic past represents =
     subst (λ kind. IsTaken (logic_after plate logic past) (logic_after plate logic (row_at row.number row.ms kind ∷ past)) (row_at row.number row.ms kind)) (sym is)
     (taken_with plate logic past row.number row.ms brings none)
 
@@ -219,7 +219,7 @@ runs_this old bytes row brings is runs = subst (λ kind. RunsRow old (row_at row
 -- the items of its scan
 pub items_at : {S E : Type 0} (old : Scale S) (bytes : List ℕ) (row : RowHead) (brings : RowData) (answer : Result (Option ScanSeen) E) → head_data_view bytes row.kind ≡ brings →
     IfOk answer (λ scan. GivesItems old row.ms brings scan) →
-    IfOk answer (λ scan. (plate : PlateData) (logic : Option Logic) (past : Past) → Stands old plate logic past → IfSome scan (λ done. AreItems plate logic past (head_view bytes row) (items_of done)))
-items_at old bytes row brings (Ok scan) is gives = λ plate logic past stands.
-    subst (λ kind. IfSome scan (λ done. AreItems plate logic past (row_at row.number row.ms kind) (items_of done))) (sym is) (gives plate logic past row.number stands)
+    IfOk answer (λ scan. (plate : PlateData) (logic : Option Logic) (past : Past) → Represents old plate logic past → IfSome scan (λ done. AreItems plate logic past (head_view bytes row) (items_of done)))
+items_at old bytes row brings (Ok scan) is gives = λ plate logic past represents.
+    subst (λ kind. IfSome scan (λ done. AreItems plate logic past (row_at row.number row.ms kind) (items_of done))) (sym is) (gives plate logic past row.number represents)
 items_at old bytes row brings (Err fault) is gives = tt

@@ -7,8 +7,8 @@ use Rattle.wc_model.specs.Run.Rows.{LogRow, Past}
 use Rattle.wc_model.specs.Say.ProgramReport.{Logic}
 use Rattle.wc_run.specs.Logics.{IsRefusedRow, IsTaken, logic_after}
 use Rattle.wc_run.specs.Observing.{Plan, onto, text_coming, text_in_all}
-use Rattle.wc_run.specs.Runs.{AppendsFirst, AppendsFront, ReportsBy}
-use Rattle.wc_run.specs.Standing.{Stands}
+use Rattle.wc_run.specs.Runs.{AppendsFirst, AppendsPrefix, ReportsBy}
+use Rattle.wc_run.specs.Representation.{Represents}
 use Rattle.wc_run.specs.declared.fault.RunFault.{RunFault}
 use Rattle.wc_run.specs.declared.fault.RunFault.TheVariants.{Refused, Read, Write, Memory}
 use Rattle.wc_run.specs.declared.scale.Scale.{Scale}
@@ -18,7 +18,7 @@ use Rattle.wc_run.specs.declared.scale.Scale.{Scale}
 abbrev pub IsCutShort : RunFault → Option (List ℕ) → Option (List ℕ) → List ℕ → Type 0
 IsCutShort (Refused number place) old new text = ⊥
 IsCutShort Read old new text = ⊥
-IsCutShort Write old new text = AppendsFront old new text
+IsCutShort Write old new text = AppendsPrefix old new text
 IsCutShort Memory old new text = Keeps old new
 
 -- the text is written, or cut short
@@ -35,14 +35,14 @@ Seeing O = O → PlateData → Option Logic → Past → Type 0
 abbrev pub Does : {S O X : Type 0} → Seeing O → Plan → PlateData → Option Logic → Past → LogRow → Scale S → O → Result X RunFault → Option (List ℕ) → Option (List ℕ) → Type 0
 Does has_seen plan plate logic past row scale observer (Ok x) old new =
     IsTaken (logic_after plate logic past) (logic_after plate logic (row ∷ past)) row
-    × Stands scale plate logic (row ∷ past) × has_seen observer plate logic (row ∷ past)
+    × Represents scale plate logic (row ∷ past) × has_seen observer plate logic (row ∷ past)
     × Appends old new (plan.at_row plate logic past row)
 Does has_seen plan plate logic past row scale observer (Err (Refused code place)) old new =
     IsRefusedRow (logic_after plate logic past) row code place × has_seen observer plate logic past × Keeps old new
 Does has_seen plan plate logic past row scale observer (Err Read) old new = ⊥
 Does has_seen plan plate logic past row scale observer (Err Write) old new =
     IsTaken (logic_after plate logic past) (logic_after plate logic (row ∷ past)) row
-    × AppendsFront old new (plan.at_row plate logic past row)
+    × AppendsPrefix old new (plan.at_row plate logic past row)
 Does has_seen plan plate logic past row scale observer (Err Memory) old new = Keeps old new
 
 -- the observer has seen all of these rows
@@ -56,7 +56,7 @@ RunsRows has_seen plan plate logic log observer (Ok count) old new =
     (log.refusal ≡ None) × (count ≡ length log.rows) × HasSeenAll has_seen observer plate logic log.rows × Appends old new (text_coming plan plate logic [] log.rows)
 RunsRows has_seen plan plate logic log observer (Err (Refused code place)) old new =
     (log.refusal ≡ Some (record { number = code; row = place })) × HasSeenAll has_seen observer plate logic log.rows × Appends old new (text_coming plan plate logic [] log.rows)
-RunsRows has_seen plan plate logic log observer (Err Write) old new = AppendsFront old new (text_coming plan plate logic [] log.rows)
+RunsRows has_seen plan plate logic log observer (Err Write) old new = AppendsPrefix old new (text_coming plan plate logic [] log.rows)
 RunsRows has_seen plan plate logic log observer (Err fault) old new = AppendsFirst (text_coming plan plate logic []) log.rows old new
 
 -- whether a fault of a device or of memory cut the rows short
@@ -77,7 +77,7 @@ WritesBy plan plate logic log answer old new = ReportsBy (text_in_all plan plate
 
 -- a refusal and a write fault stay as they are; what else kept the log from being run is
 -- classified by its cause
-abbrev pub IsJudged : RunFault → RunFault → Type 0
-IsJudged Read judged = (judged ≡ Read) ⊎ (judged ≡ Memory)
-IsJudged Memory judged = (judged ≡ Read) ⊎ (judged ≡ Memory)
-IsJudged fault judged = judged ≡ fault
+abbrev pub IsValidated : RunFault → RunFault → Type 0
+IsValidated Read validated = (validated ≡ Read) ⊎ (validated ≡ Memory)
+IsValidated Memory validated = (validated ≡ Read) ⊎ (validated ≡ Memory)
+IsValidated fault validated = validated ≡ fault

@@ -2,7 +2,7 @@ pub mod Faults
 pub mod Logics
 pub mod Outputs
 pub mod Observing
-pub mod Standing
+pub mod Representation
 pub mod Taking
 pub mod Runs
 pub mod Reports

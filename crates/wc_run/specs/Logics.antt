@@ -2,13 +2,13 @@
 -- the next text if one is left; and what a run with it writes.
 use Rattle.std.specs.Prelude.{◌≡◌, ⊤, ℕ, List, Option, Some, None, option_map}
 use Rattle.wc_cost.specs.LoadedTexts.{LoadedText}
-use Rattle.wc_machine.specs.Machines.{MachineState, StandsFor}
+use Rattle.wc_machine.specs.Machines.{MachineState, RepresentsText}
 use Rattle.wc_model.specs.Instrument.Plates.{PlateData}
 use Rattle.wc_model.specs.Language.Tree.{Text}
 use Rattle.wc_model.specs.Language.Views.{text_view}
 use Rattle.wc_model.specs.Run.Log.{LogOf, refused_at, with_row}
 use Rattle.wc_model.specs.Say.LogFor.{log_for}
-use Rattle.wc_model.specs.Say.ProgramReport.{Logic, logic_behind, program_report, program_report_last, programs}
+use Rattle.wc_model.specs.Say.ProgramReport.{Logic, logic_following, program_report, program_report_last, programs}
 use Rattle.wc_model.specs.Say.Report.{ReportLine, answer_line, answer_lines, line_report, lines_with, report_lines}
 use Rattle.wc_model.specs.Run.Rows.{LogRow, Past, answer_of_row}
 
@@ -18,11 +18,11 @@ text_of_next next = option_map (λ loaded. text_view loaded.source) next
 
 -- a machine represents its logic, and what is loaded the next text; no machine represents none,
 -- whatever is loaded
-abbrev pub StandsAt : Option MachineState → Option LoadedText → Option Logic → Type 0
-StandsAt None next None = ⊤
-StandsAt None next (Some logic) = ⊥
-StandsAt (Some machine) next None = ⊥
-StandsAt (Some machine) next (Some logic) = StandsFor machine logic.text logic.store × (text_of_next next ≡ logic.next)
+abbrev pub IsAt : Option MachineState → Option LoadedText → Option Logic → Type 0
+IsAt None next None = ⊤
+IsAt None next (Some logic) = ⊥
+IsAt (Some machine) next None = ⊥
+IsAt (Some machine) next (Some logic) = RepresentsText machine logic.text logic.store × (text_of_next next ≡ logic.next)
 
 -- what a run of rows writes: the report of the program, or with none the answers alone
 abbrev pub run_report : PlateData → Option Logic → List LogRow → List ℕ
@@ -37,7 +37,7 @@ run_report_last number plate (Some logic) rows = program_report_last number plat
 -- the logic after rows, the newest first, that their scans and changes have left
 abbrev pub logic_after : PlateData → Option Logic → Past → Option Logic
 logic_after plate None past = None
-logic_after plate (Some logic) past = Some (logic_behind plate logic past)
+logic_after plate (Some logic) past = Some (logic_following plate logic past)
 
 -- the lines of a row after the rows so far
 abbrev pub lines_of_row : PlateData → Option Logic → Past → LogRow → List ReportLine

@@ -8,7 +8,7 @@ use Rattle.wc_model.specs.Language.Views.{text_view}
 use Rattle.wc_model.specs.Run.Log.{LogRefusal}
 use Rattle.wc_model.specs.Run.ProcessImage.{image_after}
 use Rattle.wc_model.specs.Run.Rows.{LogRow, Past}
-use Rattle.wc_model.specs.Say.ProgramReport.{Logic, first_logic, logic_behind}
+use Rattle.wc_model.specs.Say.ProgramReport.{Logic, first_logic, logic_following}
 use Rattle.wc_model.specs.Say.Report.{ReportLine, answer_line}
 use Rattle.wc_record.specs.Views.{head_view}
 use Rattle.wc_run.specs.Logics.{lines_of_row, text_of_next}
@@ -70,7 +70,7 @@ abbrev pub AreItems : PlateData → Option Logic → Past → LogRow → Option 
 AreItems plate logic past row None = ⊤
 AreItems plate None past row (Some lines) = ⊤
 AreItems plate (Some logic) past row (Some lines) =
-    IsSeen (logic_behind plate logic past).text (logic_behind plate logic past).store (image_after plate past) row.ms lines
+    IsSeen (logic_following plate logic past).text (logic_following plate logic past).store (image_after plate past) row.ms lines
 
 -- what is looked at in a scan that was done
 abbrev pub items_of : ScanSeen → Option (List SeenLine)

@@ -8,15 +8,15 @@ use Rattle.wc_model.specs.Run.Writing.{HasFailedSince}
 use Rattle.wc_model.specs.Say.Report.{line_report}
 use Rattle.wc_laws_instrument.specs.WrittenLines.{without_scan_lines}
 use Rattle.wc_model.specs.Say.ProgramReport.{Logic}
-use Rattle.wc_record.specs.Told.{record_at, records_read}
+use Rattle.wc_record.specs.Reported.{record_at, records_read}
 use Rattle.wc_run.specs.Logics.{run_report, run_report_last}
 use Rattle.wc_run.specs.Observing.{Written}
 use Rattle.wc_run.specs.declared.fault.RunFault.{RunFault}
 use Rattle.wc_run.specs.declared.fault.RunFault.TheVariants.{Refused, Write}
 
 -- a prefix of the text was written
-abbrev pub AppendsFront : Option (List ℕ) → Option (List ℕ) → List ℕ → Type 0
-AppendsFront old new text = (front : List ℕ) × (rest : List ℕ) × (text ≡ front ++ rest) × Appends old new front
+abbrev pub AppendsPrefix : Option (List ℕ) → Option (List ℕ) → List ℕ → Type 0
+AppendsPrefix old new text = (prefix : List ℕ) × (rest : List ℕ) × (text ≡ prefix ++ rest) × Appends old new prefix
 
 -- the text of the first of these rows was written
 abbrev pub AppendsFirst : (List LogRow → List ℕ) → List LogRow → Option (List ℕ) → Option (List ℕ) → Type 0
@@ -28,7 +28,7 @@ AppendsFirst text rows old new = (first : List LogRow) × (left : List LogRow) �
 abbrev pub ReportsBy : (List LogRow → List ℕ) → (List LogRow → List ℕ) → LogOf → Result ℕ RunFault → Option (List ℕ) → Option (List ℕ) → Type 0
 ReportsBy whole coming log (Ok count) old new = (log.refusal ≡ None) × (count ≡ length log.rows) × Appends old new (whole log.rows)
 ReportsBy whole coming log (Err (Refused number place)) old new = (log.refusal ≡ Some (record { number = number; row = place })) × Appends old new (whole log.rows)
-ReportsBy whole coming log (Err Write) old new = AppendsFront old new (whole log.rows)
+ReportsBy whole coming log (Err Write) old new = AppendsPrefix old new (whole log.rows)
 ReportsBy whole coming log (Err fault) old new = AppendsFirst coming log.rows old new
 
 -- what a run of rows writes that prints every scan, or the last n alone
@@ -75,28 +75,28 @@ HasNotFailed (Err (Refused number place)) old new = new ≤ old
 HasNotFailed (Err fault) old new = Unit {0}
 
 -- at a refusal these are the fields of the refused row: the record of that number
-abbrev pub TellsFault : List Record → Record → RunFault → Type 0
-TellsFault records fields (Refused number place) = fields ≡ record_at records place
-TellsFault records fields fault = Unit {0}
+abbrev pub ReportsFault : List Record → Record → RunFault → Type 0
+ReportsFault records fields (Refused number place) = fields ≡ record_at records place
+ReportsFault records fields fault = Unit {0}
 
 -- likewise for whatever a run answers
-abbrev pub TellsRow : {X : Type 0} → List Record → Record → Result X RunFault → Type 0
-TellsRow records fields (Ok x) = Unit {0}
-TellsRow records fields (Err fault) = TellsFault records fields fault
+abbrev pub ReportsRow : {X : Type 0} → List Record → Record → Result X RunFault → Type 0
+ReportsRow records fields (Ok x) = Unit {0}
+ReportsRow records fields (Err fault) = ReportsFault records fields fault
 
 -- of a log whose bytes are known the refused row is reported
-abbrev pub TellsRefused : {X : Type 0} → Option (List ℕ) → Record → Result X RunFault → Type 0
-TellsRefused known fields answer = IfSome known (λ bytes. TellsRow (records_read bytes) fields answer)
+abbrev pub ReportsRefused : {X : Type 0} → Option (List ℕ) → Record → Result X RunFault → Type 0
+ReportsRefused known fields answer = IfSome known (λ bytes. ReportsRow (records_read bytes) fields answer)
 
 -- a write fault is reported if the writer's failed calls rose, and only then
-abbrev pub TellsWrite : RunFault → ℕ → ℕ → Type 0
-TellsWrite Write old new = HasFailedSince old new
-TellsWrite fault old new = new ≡ old
+abbrev pub ReportsWrite : RunFault → ℕ → ℕ → Type 0
+ReportsWrite Write old new = HasFailedSince old new
+ReportsWrite fault old new = new ≡ old
 
 -- likewise for whatever a run answers
-abbrev pub TellsWrites : {X : Type 0} → Result X RunFault → ℕ → ℕ → Type 0
-TellsWrites (Ok x) old new = new ≡ old
-TellsWrites (Err fault) old new = TellsWrite fault old new
+abbrev pub ReportsWrites : {X : Type 0} → Result X RunFault → ℕ → ℕ → Type 0
+ReportsWrites (Ok x) old new = new ≡ old
+ReportsWrites (Err fault) old new = ReportsWrite fault old new
 
 -- a fault at a row is a refusal of that row, or of a device or memory
 abbrev pub IsFaultAt : ℕ → RunFault → Type 0

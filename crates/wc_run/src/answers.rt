@@ -27,13 +27,13 @@ impl ByteOut for Answers {
 
     ghost failure_count = { λ answers. answers.failures };
 
-    fn write(&mut self, piece: &[u8]) -> io::Result<usize> {
-        match self.bytes.extend_from_slice(piece) {
+    fn write(&mut self, chunk: &[u8]) -> io::Result<usize> {
+        match self.bytes.extend_from_slice(chunk) {
             Ok(()) => {
-                if piece.is_empty() {
+                if chunk.is_empty() {
                     return Ok(0);
                 }
-                Ok(piece.len())
+                Ok(chunk.len())
             }
             Err(_) => {
                 self.failures = self.failures.saturating_add(1);

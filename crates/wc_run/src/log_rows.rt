@@ -4,14 +4,14 @@ ghost use Rattle.wc_model.specs.Instrument.Plates.{PlateData};
 ghost use Rattle.wc_model.specs.Run.Rows.{Past};
 ghost use Rattle.wc_record.specs.Left.{HasLeft, last_ms, rows_read};
 ghost use Rattle.wc_record.specs.Reading.{records_of};
-ghost use Rattle.wc_record.specs.Told.{Reads, at_hand, fields_told};
+ghost use Rattle.wc_record.specs.Reported.{Reads, at_hand, fields_reported};
 ghost use Rattle.wc_record.specs.Views.{IsDataInRange, head_data_view, head_view};
 ghost use Rattle.wc_run.specs.Doing.{Does, RunsRows};
 ghost use Rattle.wc_run.specs.Observing.{said};
 ghost use Rattle.wc_model.specs.Say.LogFor.{log_for};
 ghost use Rattle.wc_model.specs.Say.ProgramReport.{Logic};
-ghost use Rattle.wc_run.specs.Runs.{IsFaultAt, TellsRefused, TellsRow, TellsWrites};
-ghost use Rattle.wc_run.specs.Standing.{IsNotBehind, Stands};
+ghost use Rattle.wc_run.specs.Runs.{IsFaultAt, ReportsRefused, ReportsRow, ReportsWrites};
+ghost use Rattle.wc_run.specs.Representation.{IsNotAfter, Represents};
 
 use crate::answers::Answers;
 use crate::fault::RunFault;
@@ -35,17 +35,17 @@ fn run_row<S: Store, W: ByteOut, O: Observer<S, W>>(
 ) -> Result<(), RunFault>
     requires in_range { IsDataInRange (head_data_view bytes.now row.kind) }
     requires early { row.ms < 2 ^ 40 }
-    requires in_order { IsNotBehind scale.old row.ms }
+    requires in_order { IsNotAfter scale.old row.ms }
     ensures plan { O.plan observer.new ≡ O.plan observer.old }
     ensures does { (plate : PlateData) (logic : Option Logic) (past : Past)
-        → Stands scale.old plate logic past → O.has_seen observer.old plate logic past
+        → Represents scale.old plate logic past → O.has_seen observer.old plate logic past
         → Does O.has_seen (O.plan observer.old) plate logic past (head_view bytes.now row)
         scale.new observer.new result
         (said O.speaks (W.bytes_taken writer.old))
         (said O.speaks (W.bytes_taken writer.new)) }
     ensures place { IfErr result (IsFaultAt row.number) }
-    ensures in_order { OnOk result (IsNotBehind scale.new row.ms) }
-    ensures failures { TellsWrites result (W.failure_count writer.old)
+    ensures in_order { OnOk result (IsNotAfter scale.new row.ms) }
+    ensures failures { ReportsWrites result (W.failure_count writer.old)
         (W.failure_count writer.new) }
 {
     let looks = observer.looks_at(row.ms);
@@ -68,17 +68,17 @@ fn run_rows<S: Store, W: ByteOut, O: Observer<S, W>, R: ByteIn>(
     writer: &mut W,
 ) -> Result<u32, RunFault>
     requires unread { rows_read rows.old ≡ 0 }
-    requires in_order { IsNotBehind scale.old (last_ms rows.old) }
+    requires in_order { IsNotAfter scale.old (last_ms rows.old) }
     ensures plan { O.plan observer.new ≡ O.plan observer.old }
     ensures runs { (log : LogOf) → HasLeft R.bytes_left rows.old log
         → (plate : PlateData) (logic : Option Logic)
-        → Stands scale.old plate logic [] → O.has_seen observer.old plate logic []
+        → Represents scale.old plate logic [] → O.has_seen observer.old plate logic []
         → RunsRows O.has_seen (O.plan observer.old) plate logic (log_for logic log)
         observer.new result (said O.speaks (W.bytes_taken writer.old))
         (said O.speaks (W.bytes_taken writer.new)) }
-    ensures told { (records : List Record) → Reads R.bytes_left rows.old records
-        → TellsRow records (at_hand rows.new) result }
-    ensures failures { TellsWrites result (W.failure_count writer.old)
+    ensures reported { (records : List Record) → Reads R.bytes_left rows.old records
+        → ReportsRow records (at_hand rows.new) result }
+    ensures failures { ReportsWrites result (W.failure_count writer.old)
         (W.failure_count writer.new) }
 {
     let mut count = 0;
@@ -98,25 +98,26 @@ pub(crate) fn run_log<S: Store, W: ByteOut, O: Observer<S, W>, R: ByteIn>(
     scale: &mut Scale<'_, S>,
     reader: &mut R,
     writer: &mut W,
-    told: &mut RefusedRow,
+    reported: &mut RefusedRow,
 ) -> Result<u32, RunFault>
-    requires { IsNotBehind scale.old 0 }
+    requires { IsNotAfter scale.old 0 }
     ensures plan { O.plan observer.new ≡ O.plan observer.old }
     ensures runs { IfSome (R.bytes_left reader.old)
         (λ bytes. (plate : PlateData) (logic : Option Logic)
-        → Stands scale.old plate logic [] → O.has_seen observer.old plate logic []
+        → Represents scale.old plate logic [] → O.has_seen observer.old plate logic []
         → RunsRows O.has_seen (O.plan observer.old) plate logic
         (log_for logic (log_of (records_of bytes)))
         observer.new result (said O.speaks (W.bytes_taken writer.old))
         (said O.speaks (W.bytes_taken writer.new))) }
-    ensures told { TellsRefused (R.bytes_left reader.old) (fields_told told.new) result }
-    ensures failures { TellsWrites result (W.failure_count writer.old)
+    ensures reported { ReportsRefused (R.bytes_left reader.old)
+        (fields_reported reported.new) result }
+    ensures failures { ReportsWrites result (W.failure_count writer.old)
         (W.failure_count writer.new) }
 {
     let mut answers = Answers::new(alloc);
     let mut rows = Rows::new(alloc, reader);
     let answer = run_rows(observer, scale, &mut answers, &mut rows, writer);
-    rows.tell(alloc, told);
+    rows.report(alloc, reported);
     drop(rows);
     answer
 }

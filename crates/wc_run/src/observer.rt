@@ -4,8 +4,8 @@ ghost use Rattle.wc_model.specs.Run.Rows.{Past};
 ghost use Rattle.wc_model.specs.Say.ProgramReport.{Logic};
 ghost use Rattle.wc_run.specs.Doing.{Writes};
 ghost use Rattle.wc_run.specs.Observing.{IsShown, Plan, RefusesToBegin, loaded_of, logic_of, onto, refusal_of, row_of, said};
-ghost use Rattle.wc_run.specs.Runs.{IsNoRefusal, TellsWrites};
-ghost use Rattle.wc_run.specs.Standing.{Stands};
+ghost use Rattle.wc_run.specs.Runs.{IsNoRefusal, ReportsWrites};
+ghost use Rattle.wc_run.specs.Representation.{Represents};
 
 use crate::fault::RunFault;
 use crate::program::Program;
@@ -45,7 +45,8 @@ pub trait Observer<S: Store, W: ByteOut> {
         requires { is_new self.old }
         ensures plan { plan self.new ≡ plan self.old }
         ensures seen { OnOk result ((plate : PlateData)
-            → has_seen self.new plate (logic_of (loaded_of first.entry) (loaded_of next.entry)) []) }
+            → has_seen self.new plate (logic_of (loaded_of first.entry)
+            (loaded_of next.entry)) []) }
         ensures begins { OnOk result
             (begins self.old (logic_of (loaded_of first.entry) (loaded_of next.entry)) ≡ true) }
         ensures refused { IfErr result (RefusesToBegin
@@ -67,17 +68,17 @@ pub trait Observer<S: Store, W: ByteOut> {
         ensures plan { plan self.new ≡ plan self.old }
         ensures writes { (plate : PlateData) (logic : Option Logic) (past : Past)
             → IsShown seen.now plate logic past
-            → Stands scale.now plate logic (row_of seen.now ∷ past)
+            → Represents scale.now plate logic (row_of seen.now ∷ past)
             → has_seen self.old plate logic past
             → Writes ((plan self.old).at_row plate logic past (row_of seen.now)) result
             (said speaks (W.bytes_taken writer.old)) (said speaks (W.bytes_taken writer.new)) }
         ensures seen { OnOk result ((plate : PlateData) (logic : Option Logic) (past : Past)
             → IsShown seen.now plate logic past
-            → Stands scale.now plate logic (row_of seen.now ∷ past)
+            → Represents scale.now plate logic (row_of seen.now ∷ past)
             → has_seen self.old plate logic past
             → has_seen self.new plate logic (row_of seen.now ∷ past)) }
         ensures held { IfErr result IsNoRefusal }
-        ensures failures { TellsWrites result (W.failure_count writer.old)
+        ensures failures { ReportsWrites result (W.failure_count writer.old)
             (W.failure_count writer.new) };
 
     /// Is informed that the rows are over: all were done, or those before a refused row, by its number and the row.
@@ -88,6 +89,6 @@ pub trait Observer<S: Store, W: ByteOut> {
             result (said speaks (W.bytes_taken writer.old))
             (said speaks (W.bytes_taken writer.new)) }
         ensures held { IfErr result IsNoRefusal }
-        ensures failures { TellsWrites result (W.failure_count writer.old)
+        ensures failures { ReportsWrites result (W.failure_count writer.old)
             (W.failure_count writer.new) };
 }

@@ -3,13 +3,13 @@ ghost use Rattle.wc_model.specs.Run.Log.{log_of};
 ghost use Rattle.wc_model.specs.Instrument.Plates.{PlateData};
 ghost use Rattle.wc_record.specs.Left.{HasCause};
 ghost use Rattle.wc_record.specs.Reading.{records_of};
-ghost use Rattle.wc_record.specs.Told.{fields_told};
-ghost use Rattle.wc_run.specs.Doing.{IsJudged, WritesBy, is_cut_short, refused_in};
+ghost use Rattle.wc_record.specs.Reported.{fields_reported};
+ghost use Rattle.wc_run.specs.Doing.{IsValidated, WritesBy, is_cut_short, refused_in};
 ghost use Rattle.wc_model.specs.Say.LogFor.{log_for};
 ghost use Rattle.wc_model.specs.Say.ProgramReport.{Logic};
 ghost use Rattle.wc_run.specs.Observing.{said};
-ghost use Rattle.wc_run.specs.Runs.{HasNotFailed, TellsRefused, TellsWrites};
-ghost use Rattle.wc_run.specs.Standing.{IsNotBehind, Stands};
+ghost use Rattle.wc_run.specs.Runs.{HasNotFailed, ReportsRefused, ReportsWrites};
+ghost use Rattle.wc_run.specs.Representation.{IsNotAfter, Represents};
 
 use crate::fault::RunFault;
 use crate::log_rows::run_log;
@@ -17,7 +17,7 @@ use crate::observer::Observer;
 use crate::scale::Scale;
 use std::alloc::Global;
 use wc_model::{ByteIn, ByteOut};
-use wc_record::{RefusedRow, is_used_up};
+use wc_record::{RefusedRow, is_exhausted};
 use wc_store::Store;
 
 /// Whether a device failed or memory was refused before a log came to its end or to a refused row.
@@ -55,23 +55,24 @@ fn run_to_end<S: Store, W: ByteOut, O: Observer<S, W>, R: ByteIn>(
     scale: &mut Scale<'_, S>,
     reader: &mut R,
     writer: &mut W,
-    told: &mut RefusedRow,
+    reported: &mut RefusedRow,
 ) -> Result<u32, RunFault>
-    requires { IsNotBehind scale.old 0 }
+    requires { IsNotAfter scale.old 0 }
     ensures writes { IfSome (R.bytes_left reader.old)
         (λ bytes. (plate : PlateData) (logic : Option Logic)
-        → Stands scale.old plate logic [] → O.has_seen observer.old plate logic []
+        → Represents scale.old plate logic [] → O.has_seen observer.old plate logic []
         → WritesBy (O.plan observer.old) plate logic (log_for logic (log_of (records_of bytes)))
         result (said O.speaks (W.bytes_taken writer.old))
         (said O.speaks (W.bytes_taken writer.new))) }
-    ensures told { TellsRefused (R.bytes_left reader.old) (fields_told told.new) result }
-    ensures failures { TellsWrites result (W.failure_count writer.old)
+    ensures reported { ReportsRefused (R.bytes_left reader.old)
+        (fields_reported reported.new) result }
+    ensures failures { ReportsWrites result (W.failure_count writer.old)
         (W.failure_count writer.new) }
     ensures reader { HasNotFailed result (R.failure_count reader.old)
         (R.failure_count reader.new) }
 {
     let before = reader.failures();
-    let answer = run_log(alloc, observer, scale, reader, writer, told);
+    let answer = run_log(alloc, observer, scale, reader, writer, reported);
     if is_cut_short(&answer) {
         return answer;
     }
@@ -84,8 +85,8 @@ fn run_to_end<S: Store, W: ByteOut, O: Observer<S, W>, R: ByteIn>(
 
 /// A read fault if the reader has failed since, or as much was read as may be; else out of
 /// memory. A refusal and a write fault stay what they are.
-pub fn judged<R: ByteIn>(fault: RunFault, reader: &R, failures: u64, spent: u64) -> RunFault
-    ensures judged { IsJudged fault result }
+pub fn validated<R: ByteIn>(fault: RunFault, reader: &R, failures: u64, spent: u64) -> RunFault
+    ensures validated { IsValidated fault result }
     ensures read { result ≡ RunFault.Read
         → HasCause failures (R.failure_count reader.now) spent (R.spent_count reader.now) }
     ensures memory { result ≡ RunFault.Memory
@@ -96,7 +97,7 @@ pub fn judged<R: ByteIn>(fault: RunFault, reader: &R, failures: u64, spent: u64)
     }
     if reader.failures() > failures
         || reader.failures() == u64::MAX
-        || is_used_up(spent, reader.spent())
+        || is_exhausted(spent, reader.spent())
     {
         RunFault::Read
     } else {
@@ -124,16 +125,17 @@ pub fn run<S: Store, W: ByteOut, O: Observer<S, W>, R: ByteIn>(
     scale: &mut Scale<'_, S>,
     reader: &mut R,
     writer: &mut W,
-    told: &mut RefusedRow,
+    reported: &mut RefusedRow,
 ) -> Result<u32, RunFault>
-    requires first { IsNotBehind scale.old 0 }
+    requires first { IsNotAfter scale.old 0 }
     ensures writes { IfSome (R.bytes_left reader.old)
         (λ bytes. (plate : PlateData) (logic : Option Logic)
-        → Stands scale.old plate logic [] → O.has_seen observer.old plate logic []
+        → Represents scale.old plate logic [] → O.has_seen observer.old plate logic []
         → WritesBy (O.plan observer.old) plate logic (log_for logic (log_of (records_of bytes)))
         result (said O.speaks (W.bytes_taken writer.old))
         (said O.speaks (W.bytes_taken writer.new))) }
-    ensures told { TellsRefused (R.bytes_left reader.old) (fields_told told.new) result }
+    ensures reported { ReportsRefused (R.bytes_left reader.old)
+        (fields_reported reported.new) result }
     ensures read { IsErrOf result RunFault.Read
         → HasCause (R.failure_count reader.old) (R.failure_count reader.new)
         (R.spent_count reader.old) (R.spent_count reader.new) }
@@ -142,7 +144,7 @@ pub fn run<S: Store, W: ByteOut, O: Observer<S, W>, R: ByteIn>(
         → ¬ HasCause (R.failure_count reader.old) (R.failure_count reader.new)
         (R.spent_count reader.old) (R.spent_count reader.new) }
     // A write fault is reported if the observer's writer failed, and only then.
-    ensures failures { TellsWrites result (W.failure_count writer.old)
+    ensures failures { ReportsWrites result (W.failure_count writer.old)
         (W.failure_count writer.new) }
     // After the last row, or a refused one, its reader has not failed.
     ensures reader { HasNotFailed result (R.failure_count reader.old)
@@ -150,8 +152,8 @@ pub fn run<S: Store, W: ByteOut, O: Observer<S, W>, R: ByteIn>(
 {
     let failures = reader.failures();
     let spent = reader.spent();
-    match run_to_end(alloc, observer, scale, reader, writer, told) {
+    match run_to_end(alloc, observer, scale, reader, writer, reported) {
         Ok(count) => Ok(count),
-        Err(fault) => Err(judged(fault, reader, failures, spent)),
+        Err(fault) => Err(validated(fault, reader, failures, spent)),
     }
 }

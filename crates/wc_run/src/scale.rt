@@ -4,10 +4,10 @@ ghost use Rattle.wc_model.specs.Run.Rows.{Past, Counts, Bytes, Inputs, Scan, Cha
 ghost use Rattle.wc_record.specs.Views.{IsDataInRange, head_data_view, head_view};
 ghost use Rattle.wc_model.specs.Say.ProgramReport.{Logic};
 ghost use Rattle.wc_model.specs.Say.Report.{answer_line};
-ghost use Rattle.wc_run.specs.Logics.{StandsAt, lines_of_row};
+ghost use Rattle.wc_run.specs.Logics.{IsAt, lines_of_row};
 ghost use Rattle.wc_run.specs.Observing.{AreItems, items_of, lines_of_scan};
 ghost use Rattle.wc_run.specs.Runs.{IsFaultAt};
-ghost use Rattle.wc_run.specs.Standing.{IsNotBehind, Stands};
+ghost use Rattle.wc_run.specs.Representation.{IsNotAfter, Represents};
 ghost use Rattle.wc_run.specs.Taking.{Gives, GivesItems, RunsRow, StopsAtRow, TakesRow, row_at};
 
 use crate::answers::Answers;
@@ -39,9 +39,9 @@ impl<'a, S: Store> Scale<'a, S> {
         machine: Option<Machine<'a, S>>,
         next: Option<Loaded<'a>>,
     ) -> Result<Scale<'a, S>, RunFault>
-        ensures stands { IfOk result
-            (λ scale. (logic : Option Logic) → StandsAt machine.entry next.entry logic
-            → Stands scale plate.now logic []) }
+        ensures represents { IfOk result
+            (λ scale. (logic : Option Logic) → IsAt machine.entry next.entry logic
+            → Represents scale plate.now logic []) }
         ensures machine { IfOk result (λ scale. scale.opened.machine ≡ machine.entry) }
         ensures memory { IsOkUnless result RunFault.Memory }
     {
@@ -86,26 +86,26 @@ impl<'a, S: Store> Scale<'a, S> {
     ) -> Result<Option<ScanSeen>, RunFault>
         requires in_range { IsDataInRange (head_data_view bytes.now row.kind) }
         requires early { row.ms < 2 ^ 40 }
-        requires in_order { IsNotBehind self.old row.ms }
-        ensures stands { OnOk result
+        requires in_order { IsNotAfter self.old row.ms }
+        ensures represents { OnOk result
             ((plate : PlateData) (logic : Option Logic) (past : Past)
-            → Stands self.old plate logic past
-            → Stands self.new plate logic (head_view bytes.now row ∷ past)) }
+            → Represents self.old plate logic past
+            → Represents self.new plate logic (head_view bytes.now row ∷ past)) }
         ensures lines { IfOk result
             (λ scan. (plate : PlateData) (logic : Option Logic) (past : Past)
-            → Stands self.old plate logic past
+            → Represents self.old plate logic past
             → lines_of_row plate logic past (head_view bytes.now row)
             ≡ answer_line row.ms answers.new.bytes.items ++ lines_of_scan scan) }
         ensures items { IfOk result
             (λ scan. (plate : PlateData) (logic : Option Logic) (past : Past)
-            → Stands self.old plate logic past
+            → Represents self.old plate logic past
             → IfSome scan (λ done. AreItems plate logic past (head_view bytes.now row)
             (items_of done))) }
         ensures runs { OnOk result (RunsRow self.old (head_view bytes.now row)) }
         ensures place { IfErr result (IsFaultAt row.number) }
         ensures stops { IfErr result
             (λ fault. StopsAtRow self.old (head_view bytes.now row) fault) }
-        ensures in_order { OnOk result (IsNotBehind self.new row.ms) }
+        ensures in_order { OnOk result (IsNotAfter self.new row.ms) }
     {
         answers.bytes.clear();
         match row.kind {
@@ -133,7 +133,7 @@ impl<'a, S: Store> Scale<'a, S> {
     #[inline(always)]
     fn take_sample(&mut self, counts: i32)
         requires { IsDataInRange (Counts counts) }
-        ensures stands { (ms : ℕ) → TakesRow self.old self.new ms (Counts counts) }
+        ensures represents { (ms : ℕ) → TakesRow self.old self.new ms (Counts counts) }
         ensures machine { self.new.opened.machine ≡ self.old.opened.machine }
     {
         self.opened.sample(counts);
@@ -143,7 +143,8 @@ impl<'a, S: Store> Scale<'a, S> {
     #[inline(always)]
     fn take_bytes(&mut self, answers: &mut Answers, bytes: &[u8]) -> Result<(), RunFault>
         requires empty { answers.old.bytes.items ≡ [] }
-        ensures stands { OnOk result ((ms : ℕ) → TakesRow self.old self.new ms (Bytes bytes.now)) }
+        ensures represents { OnOk result ((ms : ℕ)
+            → TakesRow self.old self.new ms (Bytes bytes.now)) }
         ensures lines { OnOk result
             ((ms : ℕ) → Gives self.old ms (Bytes bytes.now) answers.new.bytes.items None) }
         ensures machine { self.new.opened.machine ≡ self.old.opened.machine }
@@ -158,7 +159,7 @@ impl<'a, S: Store> Scale<'a, S> {
     /// Takes the inputs from now on.
     #[inline(always)]
     fn take_inputs(&mut self, inputs: u16)
-        ensures stands { (ms : ℕ) → TakesRow self.old self.new ms (Inputs inputs) }
+        ensures represents { (ms : ℕ) → TakesRow self.old self.new ms (Inputs inputs) }
         ensures machine { self.new.opened.machine ≡ self.old.opened.machine }
     {
         self.opened.inputs(inputs);
@@ -168,11 +169,11 @@ impl<'a, S: Store> Scale<'a, S> {
     #[inline(always)]
     fn take_scan(&mut self, looks: bool, ms: u64) -> Result<Option<ScanSeen>, RunFault>
         requires early { ms < 2 ^ 40 }
-        requires in_order { IsNotBehind self.old ms }
-        ensures stands { TakesRow self.old self.new ms Scan }
+        requires in_order { IsNotAfter self.old ms }
+        ensures represents { TakesRow self.old self.new ms Scan }
         ensures lines { IfOk result (λ scan. Gives self.old ms Scan [] scan) }
         ensures items { IfOk result (λ scan. GivesItems self.old ms Scan scan) }
-        ensures in_order { IsNotBehind self.new ms }
+        ensures in_order { IsNotAfter self.new ms }
         ensures memory { IsOkUnless result RunFault.Memory }
     {
         if looks {
@@ -192,11 +193,11 @@ impl<'a, S: Store> Scale<'a, S> {
     #[inline(never)]
     fn look_at(&mut self, ms: u64) -> Result<Option<ScanSeen>, RunFault>
         requires early { ms < 2 ^ 40 }
-        requires in_order { IsNotBehind self.old ms }
-        ensures stands { TakesRow self.old self.new ms Scan }
+        requires in_order { IsNotAfter self.old ms }
+        ensures represents { TakesRow self.old self.new ms Scan }
         ensures lines { IfOk result (λ scan. Gives self.old ms Scan [] scan) }
         ensures items { IfOk result (λ scan. GivesItems self.old ms Scan scan) }
-        ensures in_order { IsNotBehind self.new ms }
+        ensures in_order { IsNotAfter self.new ms }
         ensures memory { IsOkUnless result RunFault.Memory }
     {
         match self.opened.trace(self.alloc, ms) {
@@ -215,13 +216,13 @@ impl<'a, S: Store> Scale<'a, S> {
     #[cold]
     #[inline(never)]
     fn take_change(&mut self, number: u32) -> Result<(), RunFault>
-        ensures stands { OnOk result ((ms : ℕ) → TakesRow self.old self.new ms Change) }
+        ensures represents { OnOk result ((ms : ℕ) → TakesRow self.old self.new ms Change) }
         ensures runs { OnOk result ((ms : ℕ) → RunsRow self.old (row_at number ms Change)) }
         ensures place { IfErr result (IsFaultAt number) }
         ensures stops { IfErr result
             (λ fault. (ms : ℕ) → StopsAtRow self.old (row_at number ms Change) fault) }
         ensures in_order { OnOk result
-            ((ms : ℕ) → IsNotBehind self.old ms → IsNotBehind self.new ms) }
+            ((ms : ℕ) → IsNotAfter self.old ms → IsNotAfter self.new ms) }
     {
         if !self.opened.has_program() {
             return Ok(());

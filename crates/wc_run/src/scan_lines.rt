@@ -2,7 +2,7 @@ ghost use Rattle.std.specs.Prelude.{◌≡◌, ◌<◌, ◌+◌, ◌++◌, IfErr
 ghost use Rattle.wc_model.specs.Say.Report.{line_text, report_text};
 ghost use Rattle.wc_run.specs.Doing.{Writes};
 ghost use Rattle.wc_run.specs.Outputs.{line_of_record, lines_of_records};
-ghost use Rattle.wc_run.specs.Runs.{IsNoRefusal, TellsWrites};
+ghost use Rattle.wc_run.specs.Runs.{IsNoRefusal, ReportsWrites};
 
 use crate::fault::RunFault;
 use std::alloc::Global;
@@ -42,7 +42,7 @@ pub(crate) fn last_text(alloc: Global, recorder: &Recorder) -> Result<Vec<u8>, R
 pub fn write_text<W: ByteOut>(text: &[u8], writer: &mut W) -> Result<(), RunFault>
     ensures writes { Writes text.now result (W.bytes_taken writer.old) (W.bytes_taken writer.new) }
     ensures held { IfErr result IsNoRefusal }
-    ensures failures { TellsWrites result (W.failure_count writer.old)
+    ensures failures { ReportsWrites result (W.failure_count writer.old)
         (W.failure_count writer.new) }
 {
     write_whole(writer, text)?;

@@ -11,9 +11,9 @@ use Rattle.wc_model.specs.Instrument.Requests.{carriage_return, open_request, re
 use Rattle.wc_model.specs.Instrument.WeighingHistories.{ClearTare, History, SetTare, SetZero}
 use Rattle.wc_model.specs.Run.Writing.{HasFailedSince}
 use Rattle.wc_open_scale.specs.Calls.{HasLineFailed, IsCutShortAt}
-use Rattle.wc_open_scale.specs.Standing.{Came, Stands}
+use Rattle.wc_open_scale.specs.Representation.{Came, Represents}
 use Rattle.wc_open_scale.specs.declared.open_scale.OpenScale.{OpenScale}
-use Rattle.wc_scale.specs.declared.answer_room.AnswerRoom.{AnswerRoom}
+use Rattle.wc_scale.specs.declared.answer_buffer.AnswerBuffer.{AnswerBuffer}
 use Rattle.wc_sma.specs.Feeding.{IsCutShort}
 
 -- no answer has more than twenty bytes
@@ -26,10 +26,10 @@ answer_short p Clear history is = omega (arith, length_answer p (ClearTare ∷ h
 answer_short p Unknown history is = omega arith
 
 -- one byte completes one request or none
-few : (closes : Bool) (begun : Option (List ℕ)) → length (if closes then option_to_list begun else []) ≤ 1
+few : (closes : Bool) (started : Option (List ℕ)) → length (if closes then option_to_list started else []) ≤ 1
 few true None = omega arith
 few true (Some text) = omega arith
-few false begun = omega arith
+few false started = omega arith
 
 one_request : (before : List ℕ) (byte : ℕ) → length (requests_in before (byte ∷ [])) ≤ 1
 one_request before byte = subst (λ texts. length texts ≤ 1) (sym (is_cut_anywhere.byte before byte)) (few (byte == carriage_return) (open_request before))
@@ -49,24 +49,24 @@ never_cut p before byte history indicator bytes is whole cut =
     subst (λ done. answer_to p (command_of cut.next) (after_requests done history) ≡ cut.written ++ cut.unwritten) none cut.in_parts in
     let taken : bytes ≡ cut.written = subst (λ done. bytes ≡ answers_to p done history ++ cut.written) none cut.answers in
     let all : length (answer_to p (command_of cut.next) history) ≡ length (cut.written ++ cut.unwritten) = ap length parts in
-    let front : length bytes ≡ length cut.written = ap length taken in
-    omega (arith, answer_short p (command_of cut.next) history is, all, front, length-append cut.written cut.unwritten, whole, cut.short)
+    let prefix : length bytes ≡ length cut.written = ap length taken in
+    omega (arith, answer_short p (command_of cut.next) history is, all, prefix, length-append cut.written cut.unwritten, whole, cut.short)
 
 -- a write failed, so the buffer is full
-is_full : (room : AnswerRoom) → HasFailedSince 0 room.failures → length (take room.taken room.bytes) ≡ 20
-is_full room failed =
-    let some : 0 < room.failures = elim failed [ inl more ↦ more | inr most ↦ omega (arith, most) ] in
-    let full : room.taken ≡ 20 = room.full some in
-    omega (arith, length-take room.taken room.bytes, full, room.whole)
+is_full : (capacity : AnswerBuffer) → HasFailedSince 0 capacity.failures → length (take capacity.taken capacity.bytes) ≡ 20
+is_full capacity failed =
+    let some : 0 < capacity.failures = elim failed [ inl more ↦ more | inr most ↦ omega (arith, most) ] in
+    let full : capacity.taken ≡ 20 = capacity.full some in
+    omega (arith, length-take capacity.taken capacity.bytes, full, capacity.whole)
 
 -- a line of a scale that is open takes each byte
-pub never_fails : {S : Type 0} (opened new : OpenScale S) (empty room : AnswerRoom) (byte : ℕ) (plate : PlateData) (came : Came) →
-    Stands opened plate came → empty.taken ≡ 0 → empty.failures ≡ 0 →
-    IsCutShortAt opened new (byte ∷ []) (Some (take empty.taken empty.bytes)) (Some (take room.taken room.bytes)) →
-    (HasLineFailed opened ⊎ HasFailedSince empty.failures room.failures) → ⊥
-never_fails opened new empty room byte plate came stands none works fails (inl failed) = absurd (cc)
-never_fails opened new empty room byte plate came stands none works fails (inr failed) =
-    never_cut plate came.bytes byte came.history new.indicator (take room.taken room.bytes) stands.is_plate
-    (is_full room (subst (λ n. HasFailedSince n room.failures) works failed))
-    (subst (λ n. IsCutShort plate (requests_in came.bytes (byte ∷ [])) came.history new.indicator (Some (take n empty.bytes)) (Some (take room.taken room.bytes))) none
-    (fails.cut plate came stands))
+pub never_fails : {S : Type 0} (opened new : OpenScale S) (empty capacity : AnswerBuffer) (byte : ℕ) (plate : PlateData) (came : Came) →
+    Represents opened plate came → empty.taken ≡ 0 → empty.failures ≡ 0 →
+    IsCutShortAt opened new (byte ∷ []) (Some (take empty.taken empty.bytes)) (Some (take capacity.taken capacity.bytes)) →
+    (HasLineFailed opened ⊎ HasFailedSince empty.failures capacity.failures) → ⊥
+never_fails opened new empty capacity byte plate came represents none works fails (inl failed) = absurd (cc)
+never_fails opened new empty capacity byte plate came represents none works fails (inr failed) =
+    never_cut plate came.bytes byte came.history new.indicator (take capacity.taken capacity.bytes) represents.is_plate
+    (is_full capacity (subst (λ n. HasFailedSince n capacity.failures) works failed))
+    (subst (λ n. IsCutShort plate (requests_in came.bytes (byte ∷ [])) came.history new.indicator (Some (take n empty.bytes)) (Some (take capacity.taken capacity.bytes))) none
+    (fails.cut plate came represents))

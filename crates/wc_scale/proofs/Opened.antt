@@ -1,34 +1,34 @@
 -- A call of what is open in a scale is a call of the scale.
 use Rattle.std.proofs.Common.{◌≡◌, ◌≤◌, ℕ, List, Option, Some, IfSome, sym, subst}
 use Rattle.wc_controller.specs.Loads.{IsNeverRefused}
-use Rattle.wc_machine.specs.Machines.{MachineState, StandsFor}
+use Rattle.wc_machine.specs.Machines.{MachineState, RepresentsText}
 use Rattle.wc_model.specs.Instrument.Plates.{PlateData}
 use Rattle.wc_model.specs.Language.Tree.{Text}
 use Rattle.wc_open_scale.specs.Changing.{IsChangedTo as IsOpenChangedTo}
 use Rattle.wc_open_scale.specs.Coming.{with_program}
-use Rattle.wc_open_scale.specs.Standing.{Came, Goes, Running, Stands as OpenStands, begun}
+use Rattle.wc_open_scale.specs.Representation.{Came, Goes, Running, Represents as OpenRepresents, started}
 use Rattle.wc_open_scale.specs.declared.open_scale.OpenScale.{OpenScale}
 use Rattle.wc_scale.specs.Beginning.{Begins}
-use Rattle.wc_scale.specs.Programs.{IsBegun, IsChangedTo}
-use Rattle.wc_scale.specs.Standing.{IsOpenAt, machine_in}
+use Rattle.wc_scale.specs.Programs.{IsStarted, IsChangedTo}
+use Rattle.wc_scale.specs.Representation.{IsOpenAt, machine_in}
 use Rattle.wc_scale.specs.declared.scale.Scale.{Scale}
 use Rattle.wc_store.specs.declared.slot_store.SlotStore.{SlotStore}
 
 -- what is open represents what the scale represents
-pub stands_in : {S : Type 0} (kept : Option (OpenScale S)) (opened : OpenScale S) (plate : PlateData) (came : Came) → kept ≡ Some opened → IsOpenAt kept plate came →
-    OpenStands opened plate came
-stands_in kept opened plate came is stands = subst (λ held. IsOpenAt held plate came) is stands
+pub is_allowed_in : {S : Type 0} (kept : Option (OpenScale S)) (opened : OpenScale S) (plate : PlateData) (came : Came) → kept ≡ Some opened → IsOpenAt kept plate came →
+    OpenRepresents opened plate came
+is_allowed_in kept opened plate came is represents = subst (λ held. IsOpenAt held plate came) is represents
 
 -- a scale has the program that what is open in it has
-pub is_begun : (old : Scale) (opened new : OpenScale SlotStore) (bytes : List ℕ) (machine : MachineState) → old.opened ≡ Some opened → Begins bytes machine → IsNeverRefused bytes →
-    ((running : Running) → StandsFor machine running.text running.store → Goes opened new (with_program running)) → new.machine ≡ Some machine →
-    IsBegun old (record old { opened = Some new }) bytes
-is_begun old opened new bytes machine is begins accepted stands has =
+pub is_started : (old : Scale) (opened new : OpenScale SlotStore) (bytes : List ℕ) (machine : MachineState) → old.opened ≡ Some opened → Begins bytes machine → IsNeverRefused bytes →
+    ((running : Running) → RepresentsText machine running.text running.store → Goes opened new (with_program running)) → new.machine ≡ Some machine →
+    IsStarted old (record old { opened = Some new }) bytes
+is_started old opened new bytes machine is begins accepted represents has =
     record {
       text = begins.text;
       loaded = begins.loaded;
       accepted = accepted;
-      stands = λ plate came at. stands (begun begins.text) begins.stands plate came (stands_in old.opened opened plate came is at);
+      represents = λ plate came at. represents (started begins.text) begins.represents plate came (is_allowed_in old.opened opened plate came is at);
       last = subst (λ held. IfSome held (λ m. m.last ≡ 0)) (sym has) begins.last;
     }
 
@@ -37,7 +37,7 @@ pub is_changed : (old : Scale) (opened new : OpenScale SlotStore) (text : Text) 
     IsChangedTo old (record old { opened = Some new }) text
 is_changed old opened new text is changed =
     record {
-      stands = λ plate came running runs at. changed.stands plate came running runs (stands_in old.opened opened plate came is at);
+      represents = λ plate came running runs at. changed.represents plate came running runs (is_allowed_in old.opened opened plate came is at);
       last = λ ms early. changed.last ms (subst (λ held. IfSome (machine_in held) (λ machine. machine.last ≤ ms)) is early);
       stays = λ ms late. subst (λ held. IfSome (machine_in held) (λ machine. machine.last ≤ ms)) (sym is) (changed.stays ms late);
     }

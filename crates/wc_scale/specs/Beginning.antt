@@ -1,6 +1,6 @@
 -- What comes of a program's text.
 use Rattle.std.specs.Prelude.{◌≡◌, ℕ, List}
-use Rattle.wc_machine.specs.Machines.{MachineState, StandsFor}
+use Rattle.wc_machine.specs.Machines.{MachineState, RepresentsText}
 use Rattle.wc_model.specs.Language.Loading.{IsLoaded, IsRefused}
 use Rattle.wc_model.specs.Language.Scans.{initial_of}
 use Rattle.wc_model.specs.Language.Tree.{Text}
@@ -9,7 +9,7 @@ use Rattle.wc_model.specs.Language.Tree.{Text}
 pub record Begins (bytes : List ℕ) (machine : MachineState) : Type 0 where
   pub text : Text
   pub loaded : IsLoaded bytes text
-  pub stands : StandsFor machine text (initial_of text)
+  pub represents : RepresentsText machine text (initial_of text)
   pub last : machine.last ≡ 0
 
 -- the bytes are refused under this number at this line; they are loaded as nothing and have no other refusal

@@ -4,6 +4,6 @@ pub mod Calls
 pub mod Opening
 pub mod Programs
 pub mod Refusals
-pub mod Standing
+pub mod Representation
 pub mod Preludes
 pub mod Values

@@ -4,7 +4,7 @@ use Rattle.wc_model.specs.Instrument.PlateTable.{plate_of}
 use Rattle.wc_model.specs.Instrument.Plates.{PlateData, IsPlate}
 use Rattle.wc_model.specs.declared.fault.Fault.{Fault}
 use Rattle.wc_model.specs.declared.fault.Fault.TheVariants.{Refused, Memory}
-use Rattle.wc_open_scale.specs.Standing.{Stands, nothing_yet}
+use Rattle.wc_open_scale.specs.Representation.{Represents, nothing_yet}
 use Rattle.wc_open_scale.specs.declared.open_scale.OpenScale.{OpenScale}
 use Rattle.wc_plate.specs.TomlTable.{table_read}
 
@@ -20,7 +20,7 @@ RefusesPlate text number place = (plate_of (table_read text) ≡ Err number) × 
 pub record HasPlate {S : Type 0} (text : List ℕ) (opened : OpenScale S) : Type 0 where
   pub plate : PlateData
   pub given : GivesPlate text plate
-  pub stands : Stands opened plate nothing_yet
+  pub represents : Represents opened plate nothing_yet
 
 -- why there is none; out of memory says nothing
 abbrev pub IsRefusedPlate : List ℕ → Fault → Type 0

@@ -6,40 +6,40 @@ use Rattle.wc_model.specs.Language.Loading.{IsLoaded}
 use Rattle.wc_model.specs.Language.Tree.{Text}
 use Rattle.wc_open_scale.specs.Changing.{changed_program}
 use Rattle.wc_open_scale.specs.Coming.{with_program}
-use Rattle.wc_open_scale.specs.Standing.{Came, Running, begun}
+use Rattle.wc_open_scale.specs.Representation.{Came, Running, started}
 use Rattle.wc_open_scale.specs.declared.change_fault.ChangeFault.{ChangeFault}
 use Rattle.wc_open_scale.specs.declared.change_fault.ChangeFault.TheVariants.{Memory, NoProgram}
 use Rattle.wc_scale.specs.Beginning.{IsRefusedAt}
 use Rattle.wc_scale.specs.Refusals.{IsBare}
-use Rattle.wc_scale.specs.Standing.{HasNoProgram, IsClosed, IsKept, IsNotBehind, Stands, machine_in}
+use Rattle.wc_scale.specs.Representation.{HasNoProgram, IsClosed, IsKept, IsNotAfter, Represents, machine_in}
 use Rattle.wc_scale.specs.declared.results.Refusal.{Refusal}
 use Rattle.wc_scale.specs.declared.scale.Scale.{Scale}
 
 -- the bytes are loaded as a text, which starts from its declarations, and no time is before its first scan
-pub record IsBegun (old new : Scale) (bytes : List ℕ) : Type 0 where
+pub record IsStarted (old new : Scale) (bytes : List ℕ) : Type 0 where
   pub text : Text
   pub loaded : IsLoaded bytes text
   pub accepted : IsNeverRefused bytes
-  pub stands : (plate : PlateData) (came : Came) → Stands old plate came → Stands new plate (with_program (begun text) came)
+  pub represents : (plate : PlateData) (came : Came) → Represents old plate came → Represents new plate (with_program (started text) came)
   pub last : IfSome (machine_in new.opened) (λ machine. machine.last ≡ 0)
 
 abbrev pub TakesLoad : Scale → Scale → List ℕ → Refusal → Type 0
-TakesLoad old new bytes told = told.status ≡ 0 → IsBegun old new bytes
+TakesLoad old new bytes reported = reported.status ≡ 0 → IsStarted old new bytes
 
 -- the program stays if the text is refused or there is no memory
-pub record RefusesLoad (old new : Scale) (bytes : List ℕ) (told : Refusal) : Type 0 where
-  pub kept : IsKept old new told.status
-  pub closed : IsClosed old → told.status ≡ 3
-  pub says : told.status ≡ 1 → IsRefusedAt bytes told.number told.place
-  pub bare : IsBare told
-  pub else : ¬ (IsClosed old) → told.status ≤ 2
+pub record RefusesLoad (old new : Scale) (bytes : List ℕ) (reported : Refusal) : Type 0 where
+  pub kept : IsKept old new reported.status
+  pub closed : IsClosed old → reported.status ≡ 3
+  pub says : reported.status ≡ 1 → IsRefusedAt bytes reported.number reported.place
+  pub bare : IsBare reported
+  pub else : ¬ (IsClosed old) → reported.status ≤ 2
 
 -- the store of the new text is what is carried over to it, and the moment of the last scan stays
 pub record IsChangedTo (old new : Scale) (text : Text) : Type 0 where
-  pub stands : (plate : PlateData) (came : Came) (running : Running) → came.program ≡ Some running → Stands old plate came →
-      Stands new plate (with_program (changed_program running text) came)
-  pub last : (ms : ℕ) → IsNotBehind old ms → IsNotBehind new ms
-  pub stays : (ms : ℕ) → IsNotBehind new ms → IsNotBehind old ms
+  pub represents : (plate : PlateData) (came : Came) (running : Running) → came.program ≡ Some running → Represents old plate came →
+      Represents new plate (with_program (changed_program running text) came)
+  pub last : (ms : ℕ) → IsNotAfter old ms → IsNotAfter new ms
+  pub stays : (ms : ℕ) → IsNotAfter new ms → IsNotAfter old ms
 
 -- why a change was not made, as a status
 abbrev pub IsChangeStatus : ChangeFault → ℕ → Type 0
@@ -54,12 +54,12 @@ pub record IsChanged (old new : Scale) (bytes : List ℕ) : Type 0 where
   pub changed : IsChangedTo old new text
 
 abbrev pub TakesChange : Scale → Scale → List ℕ → Refusal → Type 0
-TakesChange old new bytes told = told.status ≡ 0 → IsChanged old new bytes
+TakesChange old new bytes reported = reported.status ≡ 0 → IsChanged old new bytes
 
-pub record RefusesChange (old new : Scale) (bytes : List ℕ) (told : Refusal) : Type 0 where
-  pub kept : IsKept old new told.status
-  pub closed : IsClosed old → told.status ≡ 3
-  pub program : ¬ (IsClosed old) → HasNoProgram old → told.status ≡ 5
-  pub says : told.status ≡ 1 → IsRefusedAt bytes told.number told.place
-  pub bare : IsBare told
-  pub else : ¬ (IsClosed old) → ¬ (HasNoProgram old) → told.status ≤ 2
+pub record RefusesChange (old new : Scale) (bytes : List ℕ) (reported : Refusal) : Type 0 where
+  pub kept : IsKept old new reported.status
+  pub closed : IsClosed old → reported.status ≡ 3
+  pub program : ¬ (IsClosed old) → HasNoProgram old → reported.status ≡ 5
+  pub says : reported.status ≡ 1 → IsRefusedAt bytes reported.number reported.place
+  pub bare : IsBare reported
+  pub else : ¬ (IsClosed old) → ¬ (HasNoProgram old) → reported.status ≤ 2

@@ -7,8 +7,8 @@ use Rattle.wc_model.specs.Language.Store.{Location, Plain}
 use Rattle.wc_model.specs.declared.kind.Kind.{Kind}
 use Rattle.wc_model.specs.declared.kind.Kind.TheVariants as kinds
 use Rattle.wc_model.specs.declared.value.Value.{Value}
-use Rattle.wc_open_scale.specs.Standing.{Came, Running}
-use Rattle.wc_scale.specs.Standing.{HasNoProgram, IsClosed, Stands}
+use Rattle.wc_open_scale.specs.Representation.{Came, Running}
+use Rattle.wc_scale.specs.Representation.{HasNoProgram, IsClosed, Represents}
 use Rattle.wc_scale.specs.declared.results.VariableRead.{VariableRead}
 use Rattle.wc_scale.specs.declared.scale.Scale.{Scale}
 use Rattle.wc_text_variables.specs.Names.{named_location}
@@ -30,10 +30,10 @@ pub record IsValueOf (read : VariableRead) (running : Running) (name : List ℕ)
 
 -- of whatever program the scale has
 abbrev pub OfProgram : Scale → (Running → Type 0) → Type 0
-OfProgram scale Holds = (plate : PlateData) (came : Came) (running : Running) → came.program ≡ Some running → Stands scale plate came → Holds running
+OfProgram scale Holds = (plate : PlateData) (came : Came) (running : Running) → came.program ≡ Some running → Represents scale plate came → Holds running
 
-abbrev pub TellsValue : Scale → List ℕ → VariableRead → Type 0
-TellsValue scale name read = read.status ≡ 0 → OfProgram scale (λ running. IsValueOf read running name)
+abbrev pub ReportsValue : Scale → List ℕ → VariableRead → Type 0
+ReportsValue scale name read = read.status ≡ 0 → OfProgram scale (λ running. IsValueOf read running name)
 
 -- why there is no value
 pub record RefusesValue (scale : Scale) (name : List ℕ) (read : VariableRead) : Type 0 where

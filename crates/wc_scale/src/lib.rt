@@ -3,12 +3,12 @@
 //! and changes nothing.
 #![tactic(auto)]
 
-mod answer_room;
+mod answer_buffer;
 mod beginning;
 mod changing;
 mod line;
 mod opening;
-mod prelude_told;
+mod prelude_answer;
 mod reading;
 mod results;
 mod scale;
@@ -18,11 +18,12 @@ mod units;
 mod values;
 
 pub use results::{
-    Answer, Engraved, PathTold, PreludeTold, Reading, Refusal, Scanned, UnitTold, VariableRead,
+    Answer, Engraved, PathAnswer, PreludeAnswer, Reading, Refusal, Scanned, UnitAnswer,
+    VariableRead,
 };
 pub use scale::Scale;
 pub use statuses::{
     ALREADY_OPEN, CLOSED, COUNTS_OUT_OF_RANGE, DONE, LINE_FAILED, MOMENT_BACK, MOMENT_OUT_OF_RANGE,
-    NO_MEMORY, NO_PROGRAM, NO_ROOM, NO_UNIT, NO_VARIABLE, REFUSED,
+    NO_MEMORY, NO_PROGRAM, NO_UNIT, NO_VARIABLE, REFUSED, TOO_SMALL,
 };
 pub use units::{about, path};

@@ -1,7 +1,7 @@
 ghost use Rattle.std.specs.Prelude.{◌≡◌, replicate};
 ghost use Rattle.wc_scale.specs.Calls.{RefusesByte, TakesByte};
 
-use crate::answer_room::AnswerRoom;
+use crate::answer_buffer::AnswerBuffer;
 use crate::results::Answer;
 use crate::scale::Scale;
 use crate::statuses::{CLOSED, DONE, LINE_FAILED};
@@ -18,15 +18,15 @@ fn no_answer(status: u32) -> Answer
 }
 
 /// The answer that is in the buffer.
-fn answer_in(room: &AnswerRoom) -> Answer
+fn answer_in(capacity: &AnswerBuffer) -> Answer
     ensures status { result.status ≡ 0 }
-    ensures length { result.length ≡ room.now.taken }
-    ensures bytes { result.bytes ≡ room.now.bytes }
+    ensures length { result.length ≡ capacity.now.taken }
+    ensures bytes { result.bytes ≡ capacity.now.bytes }
 {
-    let bytes = room.bytes;
+    let bytes = capacity.bytes;
     Answer {
         status: DONE,
-        length: room.taken as u32,
+        length: capacity.taken as u32,
         bytes,
     }
 }
@@ -39,9 +39,9 @@ impl Scale {
     {
         match &mut self.opened {
             Some(opened) => {
-                let mut room = AnswerRoom::new();
-                match opened.feed(&[byte], &mut room) {
-                    Ok(()) => answer_in(&room),
+                let mut capacity = AnswerBuffer::new();
+                match opened.feed(&[byte], &mut capacity) {
+                    Ok(()) => answer_in(&capacity),
                     Err(_) => no_answer(LINE_FAILED),
                 }
             }

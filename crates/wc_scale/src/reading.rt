@@ -1,5 +1,5 @@
-ghost use Rattle.wc_scale.specs.Calls.{ShowsNoPlate, ShowsNothing, TellsEngraved, TellsReading};
-ghost use Rattle.wc_scale.specs.Standing.{IsClosed};
+ghost use Rattle.wc_scale.specs.Calls.{ShowsNoPlate, ShowsNothing, ReportsEngraved, ReportsReading};
+ghost use Rattle.wc_scale.specs.Representation.{IsClosed};
 
 use crate::results::{Engraved, Reading};
 use crate::scale::Scale;
@@ -8,7 +8,7 @@ use crate::statuses::{CLOSED, DONE};
 impl Scale {
     /// What the indicator shows. It takes no memory.
     pub fn reading(&self) -> Reading
-        ensures shows { TellsReading self.now result }
+        ensures shows { ReportsReading self.now result }
         ensures closed { IsClosed self.now → ShowsNothing result }
     {
         match &self.opened {
@@ -31,7 +31,7 @@ impl Scale {
 
     /// What is engraved on the scale: the unit, the point and the range of what it shows. It takes no memory.
     pub fn engraved(&self) -> Engraved
-        ensures shows { TellsEngraved self.now result }
+        ensures shows { ReportsEngraved self.now result }
         ensures closed { IsClosed self.now → ShowsNoPlate result }
     {
         match &self.opened {

@@ -1,5 +1,5 @@
 ghost use Rattle.std.specs.Prelude.{◌≡◌};
-ghost use Rattle.wc_scale.specs.Refusals.{TellsFault};
+ghost use Rattle.wc_scale.specs.Refusals.{ReportsFault};
 
 use crate::statuses::{NO_MEMORY, REFUSED};
 use wc_model::Fault;
@@ -58,7 +58,7 @@ pub struct Reading {
 /// do it.
 #[repr(C)]
 #[derive(Clone, Copy)]
-pub struct PreludeTold {
+pub struct PreludeAnswer {
     /// The status.
     pub status: u32,
     /// The number of samples the window holds, 2 to 16.
@@ -114,7 +114,7 @@ pub struct VariableRead {
 /// What is reported about one unit of a program's text.
 #[repr(C)]
 #[derive(Clone, Copy)]
-pub struct UnitTold {
+pub struct UnitAnswer {
     /// What comes of the text.
     pub text: Refusal,
     /// The number of units the text has; the program is the last.
@@ -130,7 +130,7 @@ pub struct UnitTold {
 /// What is reported about the worst path of a unit.
 #[repr(C)]
 #[derive(Clone, Copy)]
-pub struct PathTold {
+pub struct PathAnswer {
     /// What comes of the text.
     pub text: Refusal,
     /// The number of lines the path has.
@@ -152,7 +152,7 @@ pub(crate) fn only(status: u32) -> Refusal
 
 /// What a fault says of a text.
 pub(crate) fn of_fault(fault: Fault) -> Refusal
-    ensures { TellsFault fault result }
+    ensures { ReportsFault fault result }
 {
     match fault {
         Fault::Refused { number, place } => Refusal {

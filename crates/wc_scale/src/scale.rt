@@ -1,5 +1,5 @@
 ghost use Rattle.std.specs.Prelude.{◌≡◌};
-ghost use Rattle.wc_scale.specs.Standing.{IsClosed, IsEmptied};
+ghost use Rattle.wc_scale.specs.Representation.{IsClosed, IsEmptied};
 ghost use Rattle.wc_scale.specs.Calls.{RefusesSample, TakesSample, RefusesInputs, TakesInputs};
 
 use crate::statuses::{CLOSED, COUNTS_OUT_OF_RANGE, DONE};

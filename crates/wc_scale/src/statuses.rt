@@ -23,6 +23,6 @@ pub const LINE_FAILED: u32 = 9;
 /// The text has no unit of this number.
 pub const NO_UNIT: u32 = 10;
 /// The buffer is too small for all lines of a path.
-pub const NO_ROOM: u32 = 11;
+pub const TOO_SMALL: u32 = 11;
 /// The program has no variable of this name.
 pub const NO_VARIABLE: u32 = 12;

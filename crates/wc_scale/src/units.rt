@@ -1,18 +1,18 @@
 ghost use Rattle.std.specs.Prelude.{◌≡◌, ◌<◌, ◌⊎◌, length, min, take};
 ghost use Rattle.wc_model.specs.Language.Views.{text_view};
-ghost use Rattle.wc_scale.specs.About.{HasNoUnit, IsPathStatus, IsPathTold, IsTooLong, IsUnitStatus, IsUnitTold, RefusesText, TellsNoRoom, TellsNoUnit, TellsPath, TellsUnit};
+ghost use Rattle.wc_scale.specs.About.{HasNoUnit, IsPathStatus, IsPathReported, IsTooLong, IsUnitStatus, IsUnitReported, RefusesText, ReportsTooSmall, ReportsNoUnit, ReportsPath, ReportsUnit};
 
-use crate::results::{PathTold, Refusal, UnitTold, of_fault, only};
-use crate::statuses::{DONE, NO_MEMORY, NO_ROOM, NO_UNIT};
+use crate::results::{PathAnswer, Refusal, UnitAnswer, of_fault, only};
+use crate::statuses::{DONE, NO_MEMORY, NO_UNIT, TOO_SMALL};
 use std::alloc::Global;
 use wc_controller::load;
 use wc_cost::Loaded;
 
 /// Nothing of a unit.
-fn no_unit(text: Refusal) -> UnitTold
+fn no_unit(text: Refusal) -> UnitAnswer
     ensures { result.text ≡ text }
 {
-    UnitTold {
+    UnitAnswer {
         text,
         units: 0,
         bound: 0,
@@ -22,18 +22,19 @@ fn no_unit(text: Refusal) -> UnitTold
 }
 
 /// The first 32 bytes of a name, and zeros after them.
-fn name_room(name: &[u8]) -> [u8; 32]
+fn name_buffer(name: &[u8]) -> [u8; 32]
     ensures { take (min 32 (length name.now)) result ≡ take 32 name.now }
 {
-    let mut room = [0; 32];
+    let mut capacity = [0; 32];
     let count = 32_usize.min(name.len());
-    room[..count].copy_from_slice(&name[..count]);
-    room
+    capacity[..count].copy_from_slice(&name[..count]);
+    capacity
 }
 
 /// What is reported about a unit of a loaded text.
-fn unit_told(loaded: &Loaded<'_>, unit: u32) -> UnitTold
-    ensures told { result.text.status ≡ 0 → IsUnitTold (text_view loaded.now.source) unit result }
+fn unit_answer(loaded: &Loaded<'_>, unit: u32) -> UnitAnswer
+    ensures reported { result.text.status ≡ 0
+        → IsUnitReported (text_view loaded.now.source) unit result }
     ensures no_unit { result.text.status ≡ 10 → HasNoUnit (text_view loaded.now.source) unit }
     ensures status { (result.text.status ≡ 0) ⊎ (result.text.status ≡ 10) }
 {
@@ -43,8 +44,8 @@ fn unit_told(loaded: &Loaded<'_>, unit: u32) -> UnitTold
         return no_unit(only(NO_UNIT));
     }
     let spelled = loaded.name(at).as_bytes();
-    let name = name_room(spelled);
-    UnitTold {
+    let name = name_buffer(spelled);
+    UnitAnswer {
         text: only(DONE),
         units: units.min(4294967295) as u32,
         bound: loaded.bound(at),
@@ -55,34 +56,34 @@ fn unit_told(loaded: &Loaded<'_>, unit: u32) -> UnitTold
 
 /// What is reported about a unit of a program's text, counted in text order from 0: its name, its bound, and the number of
 /// units. The text is freed again.
-pub fn about(alloc: Global, text: &[u8], unit: u32) -> UnitTold
-    ensures told { TellsUnit text.now unit result }
-    ensures no_unit { TellsNoUnit text.now unit result.text }
+pub fn about(alloc: Global, text: &[u8], unit: u32) -> UnitAnswer
+    ensures reported { ReportsUnit text.now unit result }
+    ensures no_unit { ReportsNoUnit text.now unit result.text }
     ensures status { IsUnitStatus result.text.status }
     ensures refused { RefusesText text.now result.text }
 {
     match load(alloc, text) {
-        Ok(loaded) => unit_told(&loaded, unit),
+        Ok(loaded) => unit_answer(&loaded, unit),
         Err(fault) => no_unit(of_fault(fault)),
     }
 }
 
 /// Nothing of a path, but the number of lines it has.
-fn no_path(text: Refusal, length: u32) -> PathTold
+fn no_path(text: Refusal, length: u32) -> PathAnswer
     ensures text { result.text ≡ text }
     ensures length { result.length ≡ length }
 {
-    PathTold { text, length }
+    PathAnswer { text, length }
 }
 
 /// Puts the worst path of a unit of a loaded text into the buffer, if it fits.
-fn path_told(alloc: Global, loaded: &Loaded<'_>, unit: u32, room: &mut [u32]) -> PathTold
-    ensures told { result.text.status ≡ 0
-        → IsPathTold (text_view loaded.now.source) unit room.new result }
-    ensures kept { ¬ (result.text.status ≡ 0) → room.new ≡ room.old }
+fn path_answer(alloc: Global, loaded: &Loaded<'_>, unit: u32, capacity: &mut [u32]) -> PathAnswer
+    ensures reported { result.text.status ≡ 0
+        → IsPathReported (text_view loaded.now.source) unit capacity.new result }
+    ensures kept { ¬ (result.text.status ≡ 0) → capacity.new ≡ capacity.old }
     ensures no_unit { result.text.status ≡ 10 → HasNoUnit (text_view loaded.now.source) unit }
-    ensures no_room { result.text.status ≡ 11
-        → IsTooLong (text_view loaded.now.source) unit room.old result }
+    ensures too_small { result.text.status ≡ 11
+        → IsTooLong (text_view loaded.now.source) unit capacity.old result }
     ensures status { ¬ (result.text.status ≡ 1) }
     ensures statuses { IsPathStatus result.text.status }
 {
@@ -93,10 +94,10 @@ fn path_told(alloc: Global, loaded: &Loaded<'_>, unit: u32, room: &mut [u32]) ->
     match loaded.worst_path(alloc, at) {
         Ok(lines) => {
             let length = lines.len().min(4294967295) as u32;
-            if lines.len() > room.len() || lines.len() > 4294967295 {
-                return no_path(only(NO_ROOM), length);
+            if lines.len() > capacity.len() || lines.len() > 4294967295 {
+                return no_path(only(TOO_SMALL), length);
             }
-            room[..lines.len()].copy_from_slice(lines.as_slice());
+            capacity[..lines.len()].copy_from_slice(lines.as_slice());
             no_path(only(DONE), length)
         }
         Err(_) => no_path(only(NO_MEMORY), 0),
@@ -104,16 +105,16 @@ fn path_told(alloc: Global, loaded: &Loaded<'_>, unit: u32, room: &mut [u32]) ->
 }
 
 /// The lines of a unit's worst path, put into the buffer, and their number. The text is freed again.
-pub fn path(alloc: Global, text: &[u8], unit: u32, room: &mut [u32]) -> PathTold
-    ensures told { TellsPath text.now unit room.new result }
-    ensures kept { ¬ (result.text.status ≡ 0) → room.new ≡ room.old }
-    ensures no_unit { TellsNoUnit text.now unit result.text }
-    ensures no_room { TellsNoRoom text.now unit room.old result }
+pub fn path(alloc: Global, text: &[u8], unit: u32, capacity: &mut [u32]) -> PathAnswer
+    ensures reported { ReportsPath text.now unit capacity.new result }
+    ensures kept { ¬ (result.text.status ≡ 0) → capacity.new ≡ capacity.old }
+    ensures no_unit { ReportsNoUnit text.now unit result.text }
+    ensures too_small { ReportsTooSmall text.now unit capacity.old result }
     ensures status { IsPathStatus result.text.status }
     ensures refused { RefusesText text.now result.text }
 {
     match load(alloc, text) {
-        Ok(loaded) => path_told(alloc, &loaded, unit, room),
+        Ok(loaded) => path_answer(alloc, &loaded, unit, capacity),
         Err(fault) => no_path(of_fault(fault), 0),
     }
 }

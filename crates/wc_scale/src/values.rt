@@ -1,5 +1,5 @@
 ghost use Rattle.std.specs.Prelude.{◌≡◌, pos};
-ghost use Rattle.wc_scale.specs.Values.{RefusesValue, TellsValue, kind_number};
+ghost use Rattle.wc_scale.specs.Values.{RefusesValue, ReportsValue, kind_number};
 ghost use Rattle.wc_text_variables.specs.Numbered.{variable_named};
 
 use crate::results::VariableRead;
@@ -34,7 +34,7 @@ impl Scale {
     /// The value that a variable of the program has between two scans, by its name: `fill`, `dose.timer.ET` through instances of
     /// blocks, or a directly represented variable as `%QX0.3`, in letters of either case. The name may need a little memory.
     pub fn value(&self, name: &[u8]) -> VariableRead
-        ensures tells { TellsValue self.now name.now result }
+        ensures reports { ReportsValue self.now name.now result }
         ensures refused { RefusesValue self.now name.now result }
     {
         let Some(opened) = &self.opened else {

@@ -1,5 +1,5 @@
 pub mod Digits
 pub mod Joining
 pub mod Stepping
-pub mod Pieces
+pub mod Chunks
 pub mod AnswerLetters

@@ -7,15 +7,15 @@ use Rattle.std.proofs.KnownBytes.{Appends-nil}
 use Rattle.wc_model.specs.Instrument.Plates.{PlateData}
 use Rattle.wc_model.specs.Instrument.WeighingHistories.{History}
 use Rattle.wc_model.specs.Instrument.Requests.{carriage_return, open_request, requests_in, completed_by, opened_by}
-use Rattle.wc_model.specs.Instrument.Answers as told
+use Rattle.wc_model.specs.Instrument.Answers as reported
 use Rattle.wc_laws_instrument.proofs.Requests.{requests_in_byte, open_request_after}
-use Rattle.wc_indicator.specs.Kept.{IndicatorState, StandsForHistory}
+use Rattle.wc_indicator.specs.Kept.{IndicatorState, RepresentsHistory}
 use Rattle.wc_sma.specs.declared.command.Seen.{Seen}
 use Rattle.wc_sma.specs.declared.command.Command.{Command}
 use Rattle.wc_sma.specs.declared.line.Line.{Line}
-use Rattle.wc_sma.specs.Seen.{seen_in, command_told, completes}
-use Rattle.wc_sma.specs.Standing.{StandsAfter}
-use Rattle.wc_model.specs.Run.Writing.{TakesFront}
+use Rattle.wc_sma.specs.Seen.{seen_in, command_view, completes}
+use Rattle.wc_sma.specs.Representation.{RepresentsBytes}
+use Rattle.wc_model.specs.Run.Writing.{TakesPrefix}
 use Rattle.wc_sma.specs.Feeding.{Feeds, Fails}
 
 -- what is seen is seen of a text
@@ -37,82 +37,82 @@ completed_list byte o = go (byte == carriage_return)
     go false = refl
 
 -- the same after what has come
-completed_behind : (before : List ℕ) (byte : ℕ) (o : Option (List ℕ)) → completes byte (open_request before) ≡ o →
+completed_after : (before : List ℕ) (byte : ℕ) (o : Option (List ℕ)) → completes byte (open_request before) ≡ o →
     requests_in before (byte ∷ []) ≡ option_to_list o
-completed_behind before byte o e = requests_in_byte before byte ∙ completed_list byte (open_request before) ∙ ap option_to_list e
+completed_after before byte o e = requests_in_byte before byte ∙ completed_list byte (open_request before) ∙ ap option_to_list e
 
 -- the command of the request that a byte completes
-pub command_behind : (before : List ℕ) (byte : ℕ) (seen : Seen) (command : Command) → Some seen ≡ option_map seen_in (completes byte (open_request before)) →
-    ((text : List ℕ) → seen ≡ seen_in text → command_told command ≡ told.command_of text) →
-    command_told command ∷ [] ≡ map told.command_of (requests_in before (byte ∷ []))
-command_behind before byte seen command was asks =
+pub command_after : (before : List ℕ) (byte : ℕ) (seen : Seen) (command : Command) → Some seen ≡ option_map seen_in (completes byte (open_request before)) →
+    ((text : List ℕ) → seen ≡ seen_in text → command_view command ≡ reported.command_of text) →
+    command_view command ∷ [] ≡ map reported.command_of (requests_in before (byte ∷ []))
+command_after before byte seen command was asks =
     let found = seen_text (completes byte (open_request before)) seen was in
-    ap (λ k. k ∷ []) (asks found.0 found.2) ∙ ap (map told.command_of) (sym (completed_behind before byte (Some found.0) found.1))
+    ap (λ k. k ∷ []) (asks found.0 found.2) ∙ ap (map reported.command_of) (sym (completed_after before byte (Some found.0) found.1))
 
 -- and none if it completes none
-pub no_command_behind : (before : List ℕ) (byte : ℕ) → None ≡ option_map seen_in (completes byte (open_request before)) →
-    [] ≡ map told.command_of (requests_in before (byte ∷ []))
-no_command_behind before byte was =
-    ap (map told.command_of) (sym (completed_behind before byte None (unseen_text (completes byte (open_request before)) was)))
+pub no_command_after : (before : List ℕ) (byte : ℕ) → None ≡ option_map seen_in (completes byte (open_request before)) →
+    [] ≡ map reported.command_of (requests_in before (byte ∷ []))
+no_command_after before byte was =
+    ap (map reported.command_of) (sym (completed_after before byte None (unseen_text (completes byte (open_request before)) was)))
 
 module _ (line line' : Line) (indicator indicator' : IndicatorState) (taken taken' : Option (List ℕ)) (byte : ℕ) where
   -- what the line sees of a request is carried over a byte
   abbrev pub Carries : Type 0
-  Carries = (text : Option (List ℕ)) → line.begun ≡ option_map seen_in text → line'.begun ≡ option_map seen_in (opened_by byte text)
+  Carries = (text : Option (List ℕ)) → line.started ≡ option_map seen_in text → line'.started ≡ option_map seen_in (opened_by byte text)
 
   -- the line after a byte
-  stands_on : Carries → line'.failed ≡ false → (before : List ℕ) → StandsAfter line before → StandsAfter line' (before ++ (byte ∷ []))
-  stands_on now works before s = (now (open_request before) s.0 ∙ ap (option_map seen_in) (sym (open_request_after before byte)), works)
+  still_represents : Carries → line'.failed ≡ false → (before : List ℕ) → RepresentsBytes line before → RepresentsBytes line' (before ++ (byte ∷ []))
+  still_represents now works before s = (now (open_request before) s.0 ∙ ap (option_map seen_in) (sym (open_request_after before byte)), works)
 
   -- a byte that completes nothing
   pub feeds_without : Carries → line'.failed ≡ false →
-      ((text : Option (List ℕ)) → line.begun ≡ option_map seen_in text → None ≡ option_map seen_in (completes byte text)) →
+      ((text : Option (List ℕ)) → line.started ≡ option_map seen_in text → None ≡ option_map seen_in (completes byte text)) →
       Feeds line indicator taken line' indicator taken (byte ∷ [])
   feeds_without now works was = record {
-    stands = stands_on now works;
-    acts = λ before p history s st. subst (λ r. StandsForHistory indicator p (told.after_requests r history)) (sym (none before s)) st;
-    answers = λ before p history s st. subst (λ r. Appends taken taken (told.answers_to p r history)) (sym (none before s)) (Appends-nil taken);
+    represents = still_represents now works;
+    acts = λ before p history s st. subst (λ r. RepresentsHistory indicator p (reported.after_requests r history)) (sym (none before s)) st;
+    answers = λ before p history s st. subst (λ r. Appends taken taken (reported.answers_to p r history)) (sym (none before s)) (Appends-nil taken);
   }
     where
-      none : (before : List ℕ) → StandsAfter line before → requests_in before (byte ∷ []) ≡ []
-      none before s = completed_behind before byte None (unseen_text (completes byte (open_request before)) (was (open_request before) s.0))
+      none : (before : List ℕ) → RepresentsBytes line before → requests_in before (byte ∷ []) ≡ []
+      none before s = completed_after before byte None (unseen_text (completes byte (open_request before)) (was (open_request before) s.0))
 
   module _ (seen : Seen) (command : Command)
-      (was : (text : Option (List ℕ)) → line.begun ≡ option_map seen_in text → Some seen ≡ option_map seen_in (completes byte text))
-      (asks : (text : List ℕ) → seen ≡ seen_in text → command_told command ≡ told.command_of text)
-      (acted : (p : PlateData) (history : History) → StandsForHistory indicator p history → StandsForHistory indicator' p (told.after_command (command_told command) history)) where
+      (was : (text : Option (List ℕ)) → line.started ≡ option_map seen_in text → Some seen ≡ option_map seen_in (completes byte text))
+      (asks : (text : List ℕ) → seen ≡ seen_in text → command_view command ≡ reported.command_of text)
+      (acted : (p : PlateData) (history : History) → RepresentsHistory indicator p history → RepresentsHistory indicator' p (reported.after_command (command_view command) history)) where
     -- the text of the request that is completed
-    found : (before : List ℕ) → StandsAfter line before →
+    found : (before : List ℕ) → RepresentsBytes line before →
         (text : List ℕ) × (completes byte (open_request before) ≡ Some text) × (seen ≡ seen_in text)
     found before s = seen_text (completes byte (open_request before)) seen (was (open_request before) s.0)
 
     -- it is the one request
-    one : (before : List ℕ) (s : StandsAfter line before) → requests_in before (byte ∷ []) ≡ (found before s).0 ∷ []
-    one before s = completed_behind before byte (Some (found before s).0) (found before s).1
+    one : (before : List ℕ) (s : RepresentsBytes line before) → requests_in before (byte ∷ []) ≡ (found before s).0 ∷ []
+    one before s = completed_after before byte (Some (found before s).0) (found before s).1
 
     -- what it asks is acted on
-    acts_on : (before : List ℕ) (p : PlateData) (history : History) (s : StandsAfter line before) → StandsForHistory indicator p history →
-        StandsForHistory indicator' p (told.after_command (told.command_of (found before s).0) history)
+    acts_on : (before : List ℕ) (p : PlateData) (history : History) (s : RepresentsBytes line before) → RepresentsHistory indicator p history →
+        RepresentsHistory indicator' p (reported.after_command (reported.command_of (found before s).0) history)
     acts_on before p history s st =
-        subst (λ k. StandsForHistory indicator' p (told.after_command k history)) (asks (found before s).0 (found before s).2) (acted p history st)
+        subst (λ k. RepresentsHistory indicator' p (reported.after_command k history)) (asks (found before s).0 (found before s).2) (acted p history st)
 
     -- a byte that completes a request, if its answer is written in full
     pub feeds_with : Carries → line'.failed ≡ false →
-        ((p : PlateData) (history : History) → StandsForHistory indicator p history → Appends taken taken' (told.answer_to p (command_told command) history)) →
+        ((p : PlateData) (history : History) → RepresentsHistory indicator p history → Appends taken taken' (reported.answer_to p (command_view command) history)) →
         Feeds line indicator taken line' indicator' taken' (byte ∷ [])
     feeds_with now works whole = record {
-      stands = stands_on now works;
+      represents = still_represents now works;
       acts = λ before p history s st.
-          subst (λ r. StandsForHistory indicator' p (told.after_requests r history)) (sym (one before s)) (acts_on before p history s st);
+          subst (λ r. RepresentsHistory indicator' p (reported.after_requests r history)) (sym (one before s)) (acts_on before p history s st);
       answers = λ before p history s st.
-          subst (λ r. Appends taken taken' (told.answers_to p r history)) (sym (one before s))
-          (subst (λ t. Appends taken taken' t) (sym (append-nil (told.answer_to p (told.command_of (found before s).0) history)))
-          (subst (λ k. Appends taken taken' (told.answer_to p k history)) (asks (found before s).0 (found before s).2) (whole p history st)));
+          subst (λ r. Appends taken taken' (reported.answers_to p r history)) (sym (one before s))
+          (subst (λ t. Appends taken taken' t) (sym (append-nil (reported.answer_to p (reported.command_of (found before s).0) history)))
+          (subst (λ k. Appends taken taken' (reported.answer_to p k history)) (asks (found before s).0 (found before s).2) (whole p history st)));
     }
 
     -- and if it is not
     pub fails_with : line'.failed ≡ true →
-        ((p : PlateData) (history : History) → StandsForHistory indicator p history → TakesFront taken taken' (told.answer_to p (command_told command) history)) →
+        ((p : PlateData) (history : History) → RepresentsHistory indicator p history → TakesPrefix taken taken' (reported.answer_to p (command_view command) history)) →
         Fails line indicator taken line' indicator' taken' (byte ∷ [])
     fails_with failed part = record {
       failed = failed;
@@ -122,9 +122,9 @@ module _ (line line' : Line) (indicator indicator' : IndicatorState) (taken take
         left = [];
         in_order = one before s;
         acts = acts_on before p history s st;
-        written = (part p history st).front;
+        written = (part p history st).prefix;
         unwritten = (part p history st).rest;
-        in_parts = ap (λ k. told.answer_to p k history) (sym (asks (found before s).0 (found before s).2)) ∙ (part p history st).cut;
+        in_parts = ap (λ k. reported.answer_to p k history) (sym (asks (found before s).0 (found before s).2)) ∙ (part p history st).cut;
         short = (part p history st).short;
         answers = (part p history st).taken;
       };

@@ -6,18 +6,18 @@ use Rattle.wc_model.specs.Instrument.Plates.{PlateData}
 use Rattle.wc_model.specs.Instrument.WeighingHistories.{History}
 use Rattle.wc_model.specs.Instrument.Requests.{requests_in}
 use Rattle.wc_model.specs.Instrument.Answers.{after_requests, answers_to, answer_to, command_of}
-use Rattle.wc_indicator.specs.Kept.{IndicatorState, StandsForHistory}
+use Rattle.wc_indicator.specs.Kept.{IndicatorState, RepresentsHistory}
 use Rattle.wc_sma.specs.declared.line.Line.{Line}
-use Rattle.wc_sma.specs.Standing.{StandsAfter, HasFailed}
+use Rattle.wc_sma.specs.Representation.{RepresentsBytes, HasFailed}
 
 -- The chunk is taken: the requests that it completes are acted on, and the writer has taken their answers, in order.
 pub record Feeds (line : Line) (indicator : IndicatorState) (taken : Option (List ℕ)) (line' : Line) (indicator' : IndicatorState) (taken' : Option (List ℕ))
-    (piece : List ℕ) : Type 0 where
-  pub stands : (before : List ℕ) → StandsAfter line before → StandsAfter line' (before ++ piece)
-  pub acts : (before : List ℕ) (p : PlateData) (history : History) → StandsAfter line before → StandsForHistory indicator p history →
-      StandsForHistory indicator' p (after_requests (requests_in before piece) history)
-  pub answers : (before : List ℕ) (p : PlateData) (history : History) → StandsAfter line before → StandsForHistory indicator p history →
-      Appends taken taken' (answers_to p (requests_in before piece) history)
+    (chunk : List ℕ) : Type 0 where
+  pub represents : (before : List ℕ) → RepresentsBytes line before → RepresentsBytes line' (before ++ chunk)
+  pub acts : (before : List ℕ) (p : PlateData) (history : History) → RepresentsBytes line before → RepresentsHistory indicator p history →
+      RepresentsHistory indicator' p (after_requests (requests_in before chunk) history)
+  pub answers : (before : List ℕ) (p : PlateData) (history : History) → RepresentsBytes line before → RepresentsHistory indicator p history →
+      Appends taken taken' (answers_to p (requests_in before chunk) history)
 
 -- Of these requests those up to `next` are acted on and no more. The writer has taken the answers of those before it, and of
 -- its answer a prefix that is not all of it.
@@ -26,7 +26,7 @@ pub record IsCutShort (p : PlateData) (texts : List (List ℕ)) (history : Histo
   pub next : List ℕ
   pub left : List (List ℕ)
   pub in_order : texts ≡ done ++ (next ∷ left)
-  pub acts : StandsForHistory indicator' p (after_requests (done ++ (next ∷ [])) history)
+  pub acts : RepresentsHistory indicator' p (after_requests (done ++ (next ∷ [])) history)
   pub written : List ℕ
   pub unwritten : List ℕ
   pub in_parts : answer_to p (command_of next) (after_requests done history) ≡ written ++ unwritten
@@ -35,7 +35,7 @@ pub record IsCutShort (p : PlateData) (texts : List (List ℕ)) (history : Histo
 
 -- The chunk is not taken to its end, and the line has failed.
 pub record Fails (line : Line) (indicator : IndicatorState) (taken : Option (List ℕ)) (line' : Line) (indicator' : IndicatorState) (taken' : Option (List ℕ))
-    (piece : List ℕ) : Type 0 where
+    (chunk : List ℕ) : Type 0 where
   pub failed : HasFailed line'
-  pub cut : (before : List ℕ) (p : PlateData) (history : History) → StandsAfter line before → StandsForHistory indicator p history →
-      IsCutShort p (requests_in before piece) history indicator' taken taken'
+  pub cut : (before : List ℕ) (p : PlateData) (history : History) → RepresentsBytes line before → RepresentsHistory indicator p history →
+      IsCutShort p (requests_in before chunk) history indicator' taken taken'

@@ -2,6 +2,6 @@ pub mod Fields
 pub mod Asking
 pub mod Seen
 pub mod Replies
-pub mod Standing
+pub mod Representation
 pub mod Feeding
 pub mod Letters

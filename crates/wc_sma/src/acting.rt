@@ -1,10 +1,10 @@
 ghost use Rattle.std.specs.Prelude.{◌≡◌, ◌∷◌};
 ghost use Rattle.wc_model.specs.Instrument.Plates.{PlateData};
 ghost use Rattle.wc_model.specs.Instrument.WeighingHistories.{SetZero, SetTare, History};
-ghost use Rattle.wc_model.specs.Instrument.Answers as told;
-ghost use Rattle.wc_indicator.specs.Kept.{StandsForHistory, Tells};
+ghost use Rattle.wc_model.specs.Instrument.Answers as reported;
+ghost use Rattle.wc_indicator.specs.Kept.{RepresentsHistory, Reports};
 ghost use Rattle.wc_sma.specs.Asking.{asked_view};
-ghost use Rattle.wc_sma.specs.Seen.{command_told};
+ghost use Rattle.wc_sma.specs.Seen.{command_view};
 ghost use Rattle.wc_sma.specs.Replies.{reply_bytes};
 
 use crate::answers::{Asked, Mode};
@@ -22,9 +22,10 @@ pub(crate) enum Reply {
 
 /// Sets zero, and says what the answer is to.
 fn set_zero(indicator: &mut Indicator) -> Asked
-    ensures stands { (p : PlateData) (history : History) → StandsForHistory indicator.old p history
-        → StandsForHistory indicator.new p (SetZero ∷ history) }
-    ensures asked { Tells told.asked_zero indicator.old (asked_view result) }
+    ensures represents { (p : PlateData) (history : History)
+        → RepresentsHistory indicator.old p history
+        → RepresentsHistory indicator.new p (SetZero ∷ history) }
+    ensures asked { Reports reported.asked_zero indicator.old (asked_view result) }
 {
     match indicator.set_zero() {
         Ok(()) => Asked::Plain,
@@ -34,9 +35,10 @@ fn set_zero(indicator: &mut Indicator) -> Asked
 
 /// Takes a tare, and says what the answer is to.
 fn take_tare(indicator: &mut Indicator) -> Asked
-    ensures stands { (p : PlateData) (history : History) → StandsForHistory indicator.old p history
-        → StandsForHistory indicator.new p (SetTare ∷ history) }
-    ensures asked { Tells told.asked_tare indicator.old (asked_view result) }
+    ensures represents { (p : PlateData) (history : History)
+        → RepresentsHistory indicator.old p history
+        → RepresentsHistory indicator.new p (SetTare ∷ history) }
+    ensures asked { Reports reported.asked_tare indicator.old (asked_view result) }
 {
     match indicator.set_tare() {
         Ok(()) => Asked::Plain,
@@ -46,11 +48,13 @@ fn take_tare(indicator: &mut Indicator) -> Asked
 
 /// Acts on a request, and gives the reply, which gives the indication after it.
 pub(crate) fn act(command: Command, indicator: &mut Indicator) -> Reply
-    ensures stands { (p : PlateData) (history : History) → StandsForHistory indicator.old p history
-        → StandsForHistory indicator.new p (told.after_command (command_told command) history) }
-    ensures answer { (p : PlateData) (history : History) → StandsForHistory indicator.old p history
-        → reply_bytes p (told.after_command (command_told command) history) result
-        ≡ told.answer_to p (command_told command) history }
+    ensures represents { (p : PlateData) (history : History)
+        → RepresentsHistory indicator.old p history
+        → RepresentsHistory indicator.new p (reported.after_command
+        (command_view command) history) }
+    ensures answer { (p : PlateData) (history : History) → RepresentsHistory indicator.old p history
+        → reply_bytes p (reported.after_command (command_view command) history) result
+        ≡ reported.answer_to p (command_view command) history }
 {
     match command {
         Command::AskWeight => Reply::Weight(Mode::Shown, Asked::Plain),

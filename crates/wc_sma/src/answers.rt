@@ -1,6 +1,6 @@
 ghost use Rattle.std.specs.Prelude.{◌∷◌, []};
-ghost use Rattle.wc_model.specs.Instrument.Answers as told;
-ghost use Rattle.wc_indicator.specs.Kept.{Tells};
+ghost use Rattle.wc_model.specs.Instrument.Answers as reported;
+ghost use Rattle.wc_indicator.specs.Kept.{Reports};
 ghost use Rattle.wc_sma.specs.Asking.{mode_view, asked_view};
 
 use crate::weight::weight_field;
@@ -28,7 +28,7 @@ pub enum Asked {
 
 /// The status of the scale.
 fn scale_status(indicator: &Indicator) -> u8
-    ensures { Tells told.scale_status indicator.now (result ∷ []) }
+    ensures { Reports reported.scale_status indicator.now (result ∷ []) }
 {
     if indicator.over() {
         b'O'
@@ -45,7 +45,7 @@ fn scale_status(indicator: &Indicator) -> u8
 
 /// The status of an answer.
 fn status_byte(indicator: &Indicator, asked: Asked) -> u8
-    ensures { Tells (λ p history. told.status_byte p history (asked_view asked)) indicator.now
+    ensures { Reports (λ p history. reported.status_byte p history (asked_view asked)) indicator.now
         (result ∷ []) }
 {
     match asked {
@@ -57,7 +57,7 @@ fn status_byte(indicator: &Indicator, asked: Asked) -> u8
 
 /// Gross, net or tare.
 fn mode_byte(indicator: &Indicator, mode: Mode) -> u8
-    ensures { Tells (λ p history. told.mode_byte p history (mode_view mode)) indicator.now
+    ensures { Reports (λ p history. reported.mode_byte p history (mode_view mode)) indicator.now
         (result ∷ []) }
 {
     match mode {
@@ -69,15 +69,15 @@ fn mode_byte(indicator: &Indicator, mode: Mode) -> u8
 
 /// In motion, or not.
 fn motion_byte(indicator: &Indicator) -> u8
-    ensures { Tells told.motion_byte indicator.now (result ∷ []) }
+    ensures { Reports reported.motion_byte indicator.now (result ∷ []) }
 {
     if indicator.stable() { b' ' } else { b'M' }
 }
 
 /// The weight that is asked for, if there is an indication.
 fn weight_asked(indicator: &Indicator, mode: Mode) -> Option<i32>
-    ensures { Tells
-        (λ p history. told.weight_asked p history (mode_view mode)) indicator.now result }
+    ensures { Reports
+        (λ p history. reported.weight_asked p history (mode_view mode)) indicator.now result }
 {
     match mode {
         Mode::Shown => indicator.shown(),
@@ -89,8 +89,8 @@ fn weight_asked(indicator: &Indicator, mode: Mode) -> Option<i32>
 /// The twenty bytes of an answer: line feed, status, `1`, mode, motion, space, ten of weight, three of unit, carriage
 /// return.
 pub fn answer(indicator: &Indicator, mode: Mode, asked: Asked) -> [u8; 20]
-    ensures { Tells
-        (λ p history. told.answer p history (mode_view mode) (asked_view asked))
+    ensures { Reports
+        (λ p history. reported.answer p history (mode_view mode) (asked_view asked))
         indicator.now result }
 {
     let weight = weight_field(

@@ -1,7 +1,7 @@
 ghost use Rattle.std.specs.Prelude.{◌≡◌, ℕ, List, [], ◌∷◌, ◌++◌, Option, option_map};
 ghost use Rattle.wc_model.specs.Instrument.Requests.{opened_by};
-ghost use Rattle.wc_model.specs.Instrument.Answers as told;
-ghost use Rattle.wc_sma.specs.Seen.{seen_in, asked_by, command_told};
+ghost use Rattle.wc_model.specs.Instrument.Answers as reported;
+ghost use Rattle.wc_sma.specs.Seen.{seen_in, asked_by, command_view};
 
 /// What the line knows of a request's text so far.
 #[derive(Clone, Copy, PartialEq, Eq)]
@@ -42,14 +42,14 @@ fn with_byte(seen: Seen, byte: u8) -> Seen
 }
 
 /// What one more byte makes of the request that is open.
-pub(crate) fn after_byte(begun: Option<Seen>, byte: u8) -> Option<Seen>
-    ensures { (text : Option (List ℕ)) → begun ≡ option_map seen_in text
+pub(crate) fn after_byte(started: Option<Seen>, byte: u8) -> Option<Seen>
+    ensures { (text : Option (List ℕ)) → started ≡ option_map seen_in text
         → result ≡ option_map seen_in (opened_by byte text) }
 {
     match byte {
         b'\n' => Some(Seen::Nothing),
         b'\r' | 0x1b => None,
-        _ => match begun {
+        _ => match started {
             Some(seen) => Some(with_byte(seen, byte)),
             None => None,
         },
@@ -58,7 +58,7 @@ pub(crate) fn after_byte(begun: Option<Seen>, byte: u8) -> Option<Seen>
 
 /// The command that a letter represents.
 fn command_of_letter(letter: u8) -> Command
-    ensures { command_told result ≡ asked_by (Seen.One letter) }
+    ensures { command_view result ≡ asked_by (Seen.One letter) }
 {
     match letter {
         b'W' => Command::AskWeight,
@@ -72,7 +72,8 @@ fn command_of_letter(letter: u8) -> Command
 
 /// The command that a request's text spells.
 pub(crate) fn command_of(seen: Seen) -> Command
-    ensures { (text : List ℕ) → seen ≡ seen_in text → command_told result ≡ told.command_of text }
+    ensures { (text : List ℕ) → seen ≡ seen_in text → command_view result
+        ≡ reported.command_of text }
 {
     match seen {
         Seen::One(letter) => command_of_letter(letter),

@@ -1,8 +1,8 @@
 // The fields of an answer, read back from their letters.
 ghost use Rattle.std.specs.Prelude.{◌≡◌, ◌↔◌, Bool, Some, [], ◌∷◌};
-ghost use Rattle.wc_model.specs.Instrument.Answers as told;
+ghost use Rattle.wc_model.specs.Instrument.Answers as reported;
 ghost use Rattle.wc_sma.specs.Letters.{LettersAreAnswers, kind_letter, motion_letter, status_letter, unit_letters};
-ghost use Rattle.wc_sma.specs.Seen.{command_told};
+ghost use Rattle.wc_sma.specs.Seen.{command_view};
 ghost use Rattle.wc_sma.specs.declared.command.Command.TheVariants.{Unknown};
 ghost use Rattle.wc_sma.specs.declared.letters.MassUnit.{MassUnit};
 ghost use Rattle.wc_sma.specs.declared.letters.Status.{Status};
@@ -105,7 +105,7 @@ pub fn stable_of_letter(letter: u8) -> Option<bool>
 impl Command {
     /// The letter of the command; `?` for a request that asks for none.
     pub fn letter(self) -> u8
-        ensures command { told.command_of (result ∷ []) ≡ command_told self }
+        ensures command { reported.command_of (result ∷ []) ≡ command_view self }
         ensures unknown { self ≡ Unknown → result ≡ 63 }
     {
         match self {

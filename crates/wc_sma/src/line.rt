@@ -1,12 +1,12 @@
 ghost use Rattle.std.specs.Prelude.{◌≡◌, ◌⊎◌, ℕ, List, [], ◌∷◌, false, Option, option_map, IfOk, IfErr, IsErr};
 ghost use Rattle.wc_model.specs.Instrument.Plates.{PlateData};
 ghost use Rattle.wc_model.specs.Instrument.WeighingHistories.{History};
-ghost use Rattle.wc_model.specs.Instrument.Answers as told;
+ghost use Rattle.wc_model.specs.Instrument.Answers as reported;
 ghost use Rattle.std.specs.Io.KnownBytes.{Appends};
-ghost use Rattle.wc_indicator.specs.Kept.{StandsForHistory};
-ghost use Rattle.wc_sma.specs.Seen.{seen_in, command_told, completes};
-ghost use Rattle.wc_model.specs.Run.Writing.{HasFailedSince, TakesFront};
-ghost use Rattle.wc_sma.specs.Standing.{StandsAfter, HasFailed};
+ghost use Rattle.wc_indicator.specs.Kept.{RepresentsHistory};
+ghost use Rattle.wc_sma.specs.Seen.{seen_in, command_view, completes};
+ghost use Rattle.wc_model.specs.Run.Writing.{HasFailedSince, TakesPrefix};
+ghost use Rattle.wc_sma.specs.Representation.{RepresentsBytes, HasFailed};
 ghost use Rattle.wc_sma.specs.Feeding.{Feeds, Fails};
 
 use crate::acting::{Reply, act};
@@ -18,16 +18,16 @@ use wc_model::{ByteOut, WriteFault, write_whole};
 /// The line: what it knows of the request that is open, and whether it has failed.
 #[derive(Drop)]
 pub struct Line {
-    pub(crate) begun: Option<Seen>,
+    pub(crate) started: Option<Seen>,
     failed: bool,
 }
 
 /// The request that a byte completes.
-pub(crate) fn completed(begun: Option<Seen>, byte: u8) -> Option<Seen>
-    ensures { (text : Option (List ℕ)) → begun ≡ option_map seen_in text
+pub(crate) fn completed(started: Option<Seen>, byte: u8) -> Option<Seen>
+    ensures { (text : Option (List ℕ)) → started ≡ option_map seen_in text
         → result ≡ option_map seen_in (completes byte text) }
 {
-    if byte == b'\r' { begun } else { None }
+    if byte == b'\r' { started } else { None }
 }
 
 /// Acts on a request and writes its answer.
@@ -36,17 +36,19 @@ fn serve<W: ByteOut>(
     indicator: &mut Indicator,
     writer: &mut W,
 ) -> Result<(), WriteFault>
-    ensures stands { (p : PlateData) (history : History) → StandsForHistory indicator.old p history
-        → StandsForHistory indicator.new p (told.after_command (command_told command) history) }
+    ensures represents { (p : PlateData) (history : History)
+        → RepresentsHistory indicator.old p history
+        → RepresentsHistory indicator.new p (reported.after_command
+        (command_view command) history) }
     ensures whole { IfOk result
-        (λ done. (p : PlateData) (history : History) → StandsForHistory indicator.old p history
+        (λ done. (p : PlateData) (history : History) → RepresentsHistory indicator.old p history
         → Appends (W.bytes_taken writer.old) (W.bytes_taken writer.new)
-        (told.answer_to p (command_told command) history)) }
+        (reported.answer_to p (command_view command) history)) }
     ensures steady { IfOk result (λ done. W.failure_count writer.new ≡ W.failure_count writer.old) }
-    ensures front { IfErr result
-        (λ e. (p : PlateData) (history : History) → StandsForHistory indicator.old p history
-        → TakesFront (W.bytes_taken writer.old) (W.bytes_taken writer.new)
-        (told.answer_to p (command_told command) history)) }
+    ensures prefix { IfErr result
+        (λ e. (p : PlateData) (history : History) → RepresentsHistory indicator.old p history
+        → TakesPrefix (W.bytes_taken writer.old) (W.bytes_taken writer.new)
+        (reported.answer_to p (command_view command) history)) }
     ensures device { IfErr result
         (λ e. HasFailedSince (W.failure_count writer.old) (W.failure_count writer.new)) }
 {
@@ -59,10 +61,10 @@ fn serve<W: ByteOut>(
 impl Line {
     /// A line on which nothing has come.
     pub fn new() -> Line
-        ensures { StandsAfter result [] }
+        ensures { RepresentsBytes result [] }
     {
         Line {
-            begun: None,
+            started: None,
             failed: false,
         }
     }
@@ -89,8 +91,8 @@ impl Line {
         ensures device { IfErr result
             (λ e. HasFailedSince (W.failure_count writer.old) (W.failure_count writer.new)) }
     {
-        let request = completed(self.begun, byte);
-        self.begun = after_byte(self.begun, byte);
+        let request = completed(self.started, byte);
+        self.started = after_byte(self.started, byte);
         match request {
             Some(seen) => match serve(command_of(seen), indicator, writer) {
                 Ok(()) => Ok(()),
@@ -108,18 +110,18 @@ impl Line {
     /// each later call answers `WriteFault` and does nothing.
     pub fn feed<W: ByteOut>(
         &mut self,
-        piece: &[u8],
+        chunk: &[u8],
         indicator: &mut Indicator,
         writer: &mut W,
     ) -> Result<(), WriteFault>
         ensures feeds { IfOk result
             (λ done.
             Feeds self.old indicator.old (W.bytes_taken writer.old) self.new indicator.new
-            (W.bytes_taken writer.new) piece.now) }
+            (W.bytes_taken writer.new) chunk.now) }
         ensures fails { IfErr result
             (λ e.
             Fails self.old indicator.old (W.bytes_taken writer.old) self.new indicator.new
-            (W.bytes_taken writer.new) piece.now) }
+            (W.bytes_taken writer.new) chunk.now) }
         ensures steady { IfOk result
             (λ done. W.failure_count writer.new ≡ W.failure_count writer.old) }
         // A line that has failed changes nothing.
@@ -133,7 +135,7 @@ impl Line {
         if self.failed {
             return Err(WriteFault);
         }
-        for byte in piece {
+        for byte in chunk {
             self.take_byte(*byte, indicator, writer)?;
         }
         Ok(())

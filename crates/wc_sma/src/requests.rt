@@ -2,8 +2,8 @@ ghost use Rattle.std.specs.Prelude.{◌≡◌, ℕ, List, [], ◌∷◌, ◌++�
 ghost use Rattle.std.specs.Option.{option_to_list};
 ghost use Rattle.wc_model.specs.Instrument.Answers.{command_of};
 ghost use Rattle.wc_model.specs.Instrument.Requests.{requests_in};
-ghost use Rattle.wc_sma.specs.Seen.{command_told};
-ghost use Rattle.wc_sma.specs.Standing.{HasRead};
+ghost use Rattle.wc_sma.specs.Seen.{command_view};
+ghost use Rattle.wc_sma.specs.Representation.{HasRead};
 
 use crate::command::{Command, Seen, after_byte, command_of};
 use crate::line::completed;
@@ -11,7 +11,7 @@ use crate::line::completed;
 /// Follows the bytes of a line and acts on nothing: it says which requests they complete, as the line does that is fed them.
 #[derive(Clone, Copy)]
 pub struct RequestReader {
-    begun: Option<Seen>,
+    started: Option<Seen>,
 }
 
 impl RequestReader {
@@ -19,17 +19,19 @@ impl RequestReader {
     pub fn new() -> RequestReader
         ensures { HasRead result [] }
     {
-        RequestReader { begun: None }
+        RequestReader { started: None }
     }
 
     /// Takes one byte: the command of the request that it completes, if it completes one.
     pub fn take(&mut self, byte: u8) -> Option<Command>
-        ensures read { (before : List ℕ) → HasRead self.old before → HasRead self.new (before ++ (byte ∷ [])) }
+        ensures read { (before : List ℕ) → HasRead self.old before → HasRead self.new (before
+            ++ (byte ∷ [])) }
         ensures command { (before : List ℕ) → HasRead self.old before
-            → option_to_list (option_map command_told result) ≡ map command_of (requests_in before (byte ∷ [])) }
+            → option_to_list (option_map command_view result)
+            ≡ map command_of (requests_in before (byte ∷ [])) }
     {
-        let request = completed(self.begun, byte);
-        self.begun = after_byte(self.begun, byte);
+        let request = completed(self.started, byte);
+        self.started = after_byte(self.started, byte);
         match request {
             Some(seen) => Some(command_of(seen)),
             None => None,

@@ -15,9 +15,9 @@ abbrev pub is_place : ℕ → ℕ → Bool
 is_place at place = eqb at place
 
 -- a test holds, or does not
-met : {A : Type 0} (test : Bool) (x y z : A) → test ≡ true → x ≡ z → cond test x y ≡ z
-met true x y z e same = same
-met false x y z e same = absurd (cc)
+raised : {A : Type 0} (test : Bool) (x y z : A) → test ≡ true → x ≡ z → cond test x y ≡ z
+raised true x y z e same = same
+raised false x y z e same = absurd (cc)
 
 unmet : {A : Type 0} (test : Bool) (x y z : A) → test ≡ false → y ≡ z → cond test x y ≡ z
 unmet true x y z e same = absurd (cc)
@@ -29,7 +29,7 @@ pub found : {B : Type 0} (f : TaggedNumber → B) (at first index : ℕ) (entrie
 found f at first index [] e h = refl
 found f at first zero (entry ∷ entries) e h =
     let here : at ≡ entry.0 = omega (arith, h.0) in
-    sym (ap (option_map f) (met (is_place at entry.0) (Some entry.1) (lookup (is_place at) entries) (Some entry.1) (eq-eqb _ _ here) refl))
+    sym (ap (option_map f) (raised (is_place at entry.0) (Some entry.1) (lookup (is_place at) entries) (Some entry.1) (eq-eqb _ _ here) refl))
 found f at first (suc index) (entry ∷ entries) e h =
     let apart : at ≢ entry.0 = omega (arith, h.0) in
     found f at (first + 1) index entries (omega arith) h.1
@@ -41,7 +41,7 @@ pub written : {B : Type 0} (f : TaggedNumber → B) (at first index : ℕ) (entr
 written f at first index [] w e h = refl
 written f at first zero (entry ∷ entries) w e h =
     let here : at ≡ entry.0 = omega (arith, h.0) in
-    ap (map (λ e. f e.1)) (met (is_place at entry.0) ((entry.0, w) ∷ entries) (entry ∷ set_value (is_place at) entries w) ((entry.0, w) ∷ entries) (eq-eqb _ _ here) refl)
+    ap (map (λ e. f e.1)) (raised (is_place at entry.0) ((entry.0, w) ∷ entries) (entry ∷ set_value (is_place at) entries w) ((entry.0, w) ∷ entries) (eq-eqb _ _ here) refl)
 written f at first (suc index) (entry ∷ entries) w e h =
     let apart : at ≢ entry.0 = omega (arith, h.0) in
     ap (map (λ e. f e.1)) (unmet (is_place at entry.0) ((entry.0, w) ∷ entries) (entry ∷ set_value (is_place at) entries w) (entry ∷ set_value (is_place at) entries w) (ne_eqb _ _ apart) refl)

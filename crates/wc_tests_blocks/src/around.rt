@@ -2,7 +2,7 @@
 use std::alloc::{AllocError, Global};
 use std::io;
 use std::io::{Read, Write};
-use wc_devices::{Gathering, Keeping, Noting};
+use wc_devices::{OutputBuffer, RetryReader, TeeReader};
 
 /// A reader and writer that is interrupted three times, and then fails.
 #[derive(Drop)]
@@ -26,7 +26,7 @@ impl Read for Interrupted {
 }
 
 impl Write for Interrupted {
-    fn write(&mut self, _piece: &[u8]) -> io::Result<usize> {
+    fn write(&mut self, _chunk: &[u8]) -> io::Result<usize> {
         Err(next_error(self))
     }
 
@@ -62,22 +62,22 @@ fn has_kept(kept: Option<&[u8]>, wanted: &[u8]) -> bool {
 #[test]
 fn a_reader_keeps_what_it_reads(rt: HostRuntime) {
     let bytes: &[u8] = b"abc";
-    let mut reader = Keeping::new(rt.alloc(), bytes);
-    let mut room = [0_u8; 2];
+    let mut reader = TeeReader::new(rt.alloc(), bytes);
+    let mut capacity = [0_u8; 2];
     assert!(rt; has_kept(reader.bytes_read(), b""));
-    assert!(rt; moved(reader.read(&mut room)) == Some(2));
-    assert!(rt; moved(reader.read(&mut room)) == Some(1));
-    assert!(rt; moved(reader.read(&mut room)) == Some(0));
+    assert!(rt; moved(reader.read(&mut capacity)) == Some(2));
+    assert!(rt; moved(reader.read(&mut capacity)) == Some(1));
+    assert!(rt; moved(reader.read(&mut capacity)) == Some(0));
     assert!(rt; has_kept(reader.bytes_read(), b"abc"));
     assert!(rt; reader.get_ref().is_empty());
 }
 
 #[test]
 fn calls_are_tried_again(rt: HostRuntime) {
-    let mut calls = Noting::new(Interrupted { left: 3 });
-    let mut room = [0_u8; 2];
+    let mut calls = RetryReader::new(Interrupted { left: 3 });
+    let mut capacity = [0_u8; 2];
     assert!(rt; !is_broken(calls.cause()));
-    assert!(rt; moved(calls.read(&mut room)).is_none());
+    assert!(rt; moved(calls.read(&mut capacity)).is_none());
     assert!(rt; is_broken(calls.cause()));
     assert!(rt; moved(calls.write(b"abc")).is_none());
     assert!(rt; is_broken(calls.cause()));
@@ -85,20 +85,20 @@ fn calls_are_tried_again(rt: HostRuntime) {
 
 #[test]
 fn interruptions_have_a_bound(rt: HostRuntime) {
-    let mut room = [0_u8; 2];
-    let mut calls = Noting::new(Interrupted { left: 16 });
-    assert!(rt; moved(calls.read(&mut room)).is_none());
+    let mut capacity = [0_u8; 2];
+    let mut calls = RetryReader::new(Interrupted { left: 16 });
+    assert!(rt; moved(calls.read(&mut capacity)).is_none());
     assert!(rt; is_broken(calls.cause()));
-    let mut more_calls = Noting::new(Interrupted { left: 17 });
-    assert!(rt; moved(more_calls.read(&mut room)).is_none());
+    let mut more_calls = RetryReader::new(Interrupted { left: 17 });
+    assert!(rt; moved(more_calls.read(&mut capacity)).is_none());
     assert!(rt; !is_broken(more_calls.cause()));
-    assert!(rt; moved(more_calls.read(&mut room)).is_none());
+    assert!(rt; moved(more_calls.read(&mut capacity)).is_none());
     assert!(rt; is_broken(more_calls.cause()));
 }
 
 /// Whether a writer with a buffer of four bytes hands bytes on when it has no more space, and when it is flushed.
 fn gathers(alloc: Global) -> Result<bool, AllocError> {
-    let mut writer = Gathering::new(alloc, Vec::new(alloc), 4)?;
+    let mut writer = OutputBuffer::new(alloc, Vec::new(alloc), 4)?;
     let first = moved(writer.write(b"abc")) == Some(3) && writer.get_ref().is_empty();
     let second = moved(writer.write(b"de")) == Some(2) && has_taken(&writer, b"abc");
     let flushed = writer.flush().is_ok() && has_taken(&writer, b"abcde");
@@ -107,13 +107,13 @@ fn gathers(alloc: Global) -> Result<bool, AllocError> {
 }
 
 /// Whether the writer inside has taken these bytes, and no others.
-fn has_taken(writer: &Gathering<Vec<u8>>, wanted: &[u8]) -> bool {
+fn has_taken(writer: &OutputBuffer<Vec<u8>>, wanted: &[u8]) -> bool {
     writer.get_ref().as_slice() == wanted
 }
 
 /// Whether a writer that could not hand its bytes on takes no more.
 fn stays_failed(alloc: Global) -> Result<bool, AllocError> {
-    let mut writer = Gathering::new(alloc, Interrupted { left: 0 }, 4)?;
+    let mut writer = OutputBuffer::new(alloc, Interrupted { left: 0 }, 4)?;
     let taken = moved(writer.write(b"abc")) == Some(3);
     let failed = writer.flush().is_err() && writer.empty().is_err();
     Ok(taken && failed && moved(writer.write(b"d")).is_none())
@@ -131,12 +131,12 @@ fn nothing_is_taken_after_a_failure(rt: HostRuntime) {
 
 #[test]
 fn bytes_are_handed_on(rt: HostRuntime) {
-    let mut writer = Noting::new(Vec::new(rt.alloc()));
+    let mut writer = RetryReader::new(Vec::new(rt.alloc()));
     assert!(rt; moved(writer.write(b"abc")) == Some(3));
     assert!(rt; writer.cause().is_none());
     let bytes: &[u8] = b"abc";
-    let mut reader = Noting::new(bytes);
-    let mut room = [0_u8; 2];
-    assert!(rt; moved(reader.read(&mut room)) == Some(2));
-    assert!(rt; room == *b"ab");
+    let mut reader = RetryReader::new(bytes);
+    let mut capacity = [0_u8; 2];
+    assert!(rt; moved(reader.read(&mut capacity)) == Some(2));
+    assert!(rt; capacity == *b"ab");
 }

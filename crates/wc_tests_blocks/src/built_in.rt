@@ -6,7 +6,7 @@ use wc_built_in::{
 use wc_model::{Condition, Kind, Operator, Section, SlotKind, StandardBlock, UnitKind};
 
 #[test]
-fn reserved_words_stand_for_what_they_are(rt: HostRuntime) {
+fn reserved_words_represent_what_they_are(rt: HostRuntime) {
     assert!(rt; matches!(keyword_named(b"Orn"), Some(Keyword::Apply(Operator::Orn))));
     assert!(rt; matches!(keyword_named(b"ldn"), Some(Keyword::Load(true))));
     assert!(rt;
@@ -27,7 +27,7 @@ fn reserved_words_stand_for_what_they_are(rt: HostRuntime) {
 }
 
 #[test]
-fn type_words_stand_for_types(rt: HostRuntime) {
+fn type_words_represent_types(rt: HostRuntime) {
     assert!(rt; elementary_type(b"Time") == Some(Kind::Time) && elementary_type(b"ton").is_none());
     assert!(rt; standard_block(b"Rs") == Some(StandardBlock::Rs) && standard_block(b"r").is_none());
     assert!(rt; is_type_word(b"DINT") && is_type_word(b"tp") && !is_type_word(b"true"));

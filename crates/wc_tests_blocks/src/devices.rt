@@ -15,7 +15,7 @@ impl Read for Broken {
 }
 
 impl Write for Broken {
-    fn write(&mut self, _piece: &[u8]) -> io::Result<usize> {
+    fn write(&mut self, _chunk: &[u8]) -> io::Result<usize> {
         Err(io::Error::from(io::ErrorKind::BrokenPipe))
     }
 
@@ -29,7 +29,7 @@ impl Write for Broken {
 struct Full;
 
 impl Write for Full {
-    fn write(&mut self, _piece: &[u8]) -> io::Result<usize> {
+    fn write(&mut self, _chunk: &[u8]) -> io::Result<usize> {
         Ok(0)
     }
 
@@ -39,16 +39,16 @@ impl Write for Full {
 }
 
 /// The number of bytes a read gives; nothing if it fails.
-fn given<R: ByteIn>(reader: &mut R, room: &mut [u8]) -> Option<usize> {
-    match reader.read(room) {
+fn given<R: ByteIn>(reader: &mut R, capacity: &mut [u8]) -> Option<usize> {
+    match reader.read(capacity) {
         Ok(count) => Some(count),
         Err(_) => None,
     }
 }
 
 /// The number of bytes of a chunk a write takes; nothing if it fails.
-fn taken<W: ByteOut>(writer: &mut W, piece: &[u8]) -> Option<usize> {
-    match writer.write(piece) {
+fn taken<W: ByteOut>(writer: &mut W, chunk: &[u8]) -> Option<usize> {
+    match writer.write(chunk) {
         Ok(count) => Some(count),
         Err(_) => None,
     }
@@ -58,17 +58,19 @@ fn taken<W: ByteOut>(writer: &mut W, piece: &[u8]) -> Option<usize> {
 fn are_read_and_counted() -> bool {
     let text: &[u8] = b"abc";
     let mut device = Device::new(text);
-    let mut room = [0; 2];
-    let first = given(&mut device, &mut room) == Some(2) && room == [97, 98];
-    let rest = given(&mut device, &mut room) == Some(1) && given(&mut device, &mut room) == Some(0);
+    let mut capacity = [0; 2];
+    let first = given(&mut device, &mut capacity) == Some(2) && capacity == [97, 98];
+    let rest = given(&mut device, &mut capacity) == Some(1)
+        && given(&mut device, &mut capacity) == Some(0);
     first && rest && device.spent() == 6 && ByteIn::failures(&device) == 0
 }
 
 /// A reader that fails twice has failed twice.
-fn failed_reads_are_told() -> bool {
+fn failed_reads_are_reported() -> bool {
     let mut device = Device::new(Broken);
-    let mut room = [0; 2];
-    let failed = given(&mut device, &mut room).is_none() && given(&mut device, &mut room).is_none();
+    let mut capacity = [0; 2];
+    let failed = given(&mut device, &mut capacity).is_none()
+        && given(&mut device, &mut capacity).is_none();
     failed && ByteIn::failures(&device) == 2 && device.spent() == 2
 }
 
@@ -80,7 +82,7 @@ fn are_written(alloc: Global) -> bool {
 }
 
 /// A writer that fails, and one that takes none of a byte, have failed; to take nothing of nothing is not a failure.
-fn failed_writes_are_told() -> bool {
+fn failed_writes_are_reported() -> bool {
     let mut broken = Device::new(Broken);
     let failed = taken(&mut broken, b"a").is_none() && ByteOut::failures(&broken) == 1;
     let mut full = Device::new(Full);
@@ -141,7 +143,7 @@ fn bytes_are_read_and_counted(rt: HostRuntime) {
 
 #[test]
 fn failed_reads_are_counted(rt: HostRuntime) {
-    assert!(rt; failed_reads_are_told());
+    assert!(rt; failed_reads_are_reported());
 }
 
 #[test]
@@ -151,5 +153,5 @@ fn bytes_are_written(rt: HostRuntime) {
 
 #[test]
 fn failed_writes_are_counted(rt: HostRuntime) {
-    assert!(rt; failed_writes_are_told());
+    assert!(rt; failed_writes_are_reported());
 }

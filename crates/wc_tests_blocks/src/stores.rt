@@ -98,8 +98,8 @@ fn each_call<S: Store>(alloc: Global, kinds: &[SlotKind]) -> Result<bool, Fault>
     let last = put(&mut store, kinds, 9, 1) && holds(&store, 9, 1) && !holds(&store, 10, 0);
     let kept = holds(&store, 1, -2147483648) && holds(&store, 2, 0);
     let four = put_four(&mut store, kinds, &[1, -5, 6, 7]) && holds(&store, 0, 1);
-    let behind = holds(&store, 1, -5) && holds(&store, 2, 6) && holds(&store, 3, 7);
-    Ok(zero && dint && moment && last && kept && four && behind && holds(&store, 9, 1))
+    let following = holds(&store, 1, -5) && holds(&store, 2, 6) && holds(&store, 3, 7);
+    Ok(zero && dint && moment && last && kept && four && following && holds(&store, 9, 1))
 }
 
 #[test]
@@ -151,7 +151,7 @@ fn agree<A: Store, B: Store>(one: &A, other: &B, places: u16) -> bool {
 }
 
 /// Both stores hold the same numbers after n writes.
-fn agree_behind(alloc: Global, writes: u32) -> bool {
+fn agree_after(alloc: Global, writes: u32) -> bool {
     let Ok((named, all)) = after_writes::<NamedStore>(alloc, &KINDS, writes) else {
         return false;
     };
@@ -164,6 +164,6 @@ fn agree_behind(alloc: Global, writes: u32) -> bool {
 #[test]
 fn both_stores_agree(rt: HostRuntime) {
     for writes in [0, 1, 2, 10, 100, 5000] {
-        assert!(rt; agree_behind(rt.alloc(), writes));
+        assert!(rt; agree_after(rt.alloc(), writes));
     }
 }

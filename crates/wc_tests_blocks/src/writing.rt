@@ -17,21 +17,21 @@ fn is_written(
 }
 
 /// Whether the next read gives this chunk.
-fn gives(reader: &mut FuseIn<'_>, piece: &[u8]) -> bool {
-    let mut room = [0; 2];
-    match reader.read(&mut room) {
-        Ok(count) => room.get(..count) == Some(piece),
+fn gives(reader: &mut FuseIn<'_>, chunk: &[u8]) -> bool {
+    let mut capacity = [0; 2];
+    match reader.read(&mut capacity) {
+        Ok(count) => capacity.get(..count) == Some(chunk),
         Err(_) => false,
     }
 }
 
 /// A reader of a head and of two chunks, which then fails, twice as it is asked twice.
-fn gives_its_pieces_and_fails() -> bool {
+fn gives_its_chunks_and_fails() -> bool {
     let mut reader = FuseIn::new(b"ab", b"xyz", 2, true);
     let first = gives(&mut reader, b"ab") && gives(&mut reader, b"xy") && gives(&mut reader, b"z");
     let second = gives(&mut reader, b"xy") && gives(&mut reader, b"z") && reader.failures() == 0;
-    let mut room = [0; 2];
-    let failed = reader.read(&mut room).is_err() && reader.read(&mut room).is_err();
+    let mut capacity = [0; 2];
+    let failed = reader.read(&mut capacity).is_err() && reader.read(&mut capacity).is_err();
     first && second && failed && reader.failures() == 2 && reader.spent() == 15
 }
 
@@ -47,14 +47,14 @@ fn all_of_a_text_is_written(rt: HostRuntime) {
 }
 
 #[test]
-fn a_front_is_written_before_a_fault(rt: HostRuntime) {
+fn a_prefix_is_written_before_a_fault(rt: HostRuntime) {
     assert!(rt; is_written(rt.alloc(), 2, 5, Err(WriteFault), b"S 0 2") == Ok(true));
     assert!(rt; is_written(rt.alloc(), 0, 5, Err(WriteFault), b"") == Ok(true));
 }
 
 #[test]
-fn a_fuse_gives_its_pieces_and_fails(rt: HostRuntime) {
-    assert!(rt; gives_its_pieces_and_fails());
+fn a_fuse_gives_its_chunks_and_fails(rt: HostRuntime) {
+    assert!(rt; gives_its_chunks_and_fails());
 }
 
 #[test]

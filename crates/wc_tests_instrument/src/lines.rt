@@ -9,7 +9,7 @@ fn outputs(bits: u16, words: [i32; 4]) -> Outputs {
 }
 
 #[test]
-fn lines_stand_behind_a_text(rt: HostRuntime) -> Result<(), Fail> {
+fn lines_come_after_a_text(rt: HostRuntime) -> Result<(), Fail> {
     let alloc = rt.alloc();
     let mut text = Vec::from_slice(alloc, b"L 1 0a\n")?;
     let longest = outputs(0xa0f5, [-2147483648; 4]);

@@ -5,7 +5,7 @@ use std::io::Read;
 use wc_indicator::Indicator;
 use wc_model::{ByteIn, Device, Fault, FuseIn, Image};
 use wc_plate::plate;
-use wc_record::{LogFault, RowKind, Rows, image, is_used_up};
+use wc_record::{LogFault, RowKind, Rows, image, is_exhausted};
 
 /// The number of rows left, up to n, and the fault that ends them, if one does.
 pub(crate) fn rows_left<R: ByteIn>(rows: &mut Rows<'_, R>, most: u32) -> (u32, Option<LogFault>) {
@@ -27,10 +27,10 @@ pub(crate) fn ends_so<R: ByteIn>(
     fault: Option<LogFault>,
 ) -> bool {
     let mut rows = Rows::new(alloc, reader);
-    let (first, met) = rows_left(&mut rows, 2000000);
+    let (first, raised) = rows_left(&mut rows, 2000000);
     let (second, again) = rows_left(&mut rows, 2000000);
     drop(rows);
-    first == count && met == fault && second == 0 && again == fault
+    first == count && raised == fault && second == 0 && again == fault
 }
 
 /// A refusal.
@@ -44,7 +44,7 @@ fn log_ends(alloc: Global, text: &[u8], count: u32, fault: Option<LogFault>) -> 
 }
 
 /// A reader that fails after these bytes gives n rows; it is asked no further than its fault.
-fn fails_behind(alloc: Global, head: &[u8], count: u32) -> bool {
+fn fails_after(alloc: Global, head: &[u8], count: u32) -> bool {
     let mut device = FuseIn::new(head, b"", 0, true);
     ends_so(alloc, &mut device, count, Some(LogFault::Read)) && device.failures() == 1
 }
@@ -52,10 +52,10 @@ fn fails_behind(alloc: Global, head: &[u8], count: u32) -> bool {
 #[test]
 fn a_reader_that_fails(rt: HostRuntime) {
     let alloc = rt.alloc();
-    assert!(rt; fails_behind(alloc, b"", 0));
-    assert!(rt; fails_behind(alloc, b"ms,kind", 0));
-    assert!(rt; fails_behind(alloc, b"ms,kind,data\n", 0));
-    assert!(rt; fails_behind(alloc, b"ms,kind,data\n0,S,\n5,C,1", 1));
+    assert!(rt; fails_after(alloc, b"", 0));
+    assert!(rt; fails_after(alloc, b"ms,kind", 0));
+    assert!(rt; fails_after(alloc, b"ms,kind,data\n", 0));
+    assert!(rt; fails_after(alloc, b"ms,kind,data\n0,S,\n5,C,1", 1));
 }
 
 /// A log of one row that brings n bytes to the line.
@@ -144,10 +144,10 @@ fn blank_lines_until_the_count_ends(rt: HostRuntime) {
 
 #[test]
 fn the_bound_on_what_is_read(rt: HostRuntime) {
-    assert!(rt; !is_used_up(5, 5));
-    assert!(rt; !is_used_up(5, 134217732));
-    assert!(rt; is_used_up(5, 134217733));
-    assert!(rt; is_used_up(u64::MAX, u64::MAX));
+    assert!(rt; !is_exhausted(5, 5));
+    assert!(rt; !is_exhausted(5, 134217732));
+    assert!(rt; is_exhausted(5, 134217733));
+    assert!(rt; is_exhausted(u64::MAX, u64::MAX));
 }
 
 /// A plate of 15 kg in steps of 5 g.

@@ -8,26 +8,26 @@ use wc_record::{LogFault, Rows};
 fn ends_with(
     alloc: Global,
     head: &[u8],
-    piece: &[u8],
+    chunk: &[u8],
     times: u32,
     count: u32,
     fault: Option<LogFault>,
 ) -> bool {
-    let mut device = FuseIn::new(head, piece, times, true);
+    let mut device = FuseIn::new(head, chunk, times, true);
     let mut rows = Rows::new(alloc, &mut device);
-    let (found, met) = rows_left(&mut rows, 100);
+    let (found, raised) = rows_left(&mut rows, 100);
     drop(rows);
     let failures = if fault == Some(LogFault::Read) { 1 } else { 0 };
-    found == count && met == fault && device.failures() == failures
+    found == count && raised == fault && device.failures() == failures
 }
 
 /// How much of a log is read until it is refused at that row; 0 if it is not.
-fn spent_until(alloc: Global, head: &[u8], piece: &[u8], fault: Option<LogFault>) -> u64 {
-    let mut device = FuseIn::new(head, piece, 1000000, false);
+fn spent_until(alloc: Global, head: &[u8], chunk: &[u8], fault: Option<LogFault>) -> u64 {
+    let mut device = FuseIn::new(head, chunk, 1000000, false);
     let mut rows = Rows::new(alloc, &mut device);
-    let (_, met) = rows_left(&mut rows, 100);
+    let (_, raised) = rows_left(&mut rows, 100);
     drop(rows);
-    if met == fault { device.spent() } else { 0 }
+    if raised == fault { device.spent() } else { 0 }
 }
 
 /// A log's heading row, blank lines, and at that byte the start of a row that ends three fields.
@@ -56,7 +56,7 @@ fn a_row_of_commas(rt: HostRuntime) {
 }
 
 #[test]
-fn a_fault_behind_what_is_read(rt: HostRuntime) {
+fn a_fault_after_what_is_read(rt: HostRuntime) {
     assert!(rt;
         ends_with(
             rt.alloc(),
@@ -93,7 +93,7 @@ fn commas_in_quotes(rt: HostRuntime) {
 }
 
 #[test]
-fn commas_behind_quotes(rt: HostRuntime) {
+fn commas_after_quotes(rt: HostRuntime) {
     let head = b"ms,kind,data\n0,\"S,\",\"a\"\",\",";
     assert!(rt; ends_with(rt.alloc(), head, b"x", 90000, 0, refused(601, 2)));
 }
@@ -111,7 +111,7 @@ fn rows_that_end_in_two_bytes(rt: HostRuntime) {
 }
 
 #[test]
-fn quotes_behind_a_mark(rt: HostRuntime) {
+fn quotes_after_a_mark(rt: HostRuntime) {
     let fault = Some(LogFault::Read);
     assert!(rt;
         ends_with(
@@ -131,6 +131,6 @@ fn a_row_that_is_cut_at_the_buffers_end(rt: HostRuntime) {
 }
 
 #[test]
-fn a_row_that_is_cut_behind_the_buffers_end(rt: HostRuntime) {
+fn a_row_that_is_cut_after_the_buffers_end(rt: HostRuntime) {
     assert!(rt; is_cut_at(rt.alloc(), 8193));
 }

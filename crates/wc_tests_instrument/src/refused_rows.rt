@@ -6,29 +6,29 @@ use wc_record::{RefusedRow, Rows};
 
 /// The row at which a log ends.
 fn last_row(alloc: Global, text: &[u8]) -> RefusedRow {
-    let mut told = RefusedRow::new(alloc);
+    let mut reported = RefusedRow::new(alloc);
     let mut device = Device::new(text);
     let mut rows = Rows::new(alloc, &mut device);
     let _left = rows_left(&mut rows, 100);
-    rows.tell(alloc, &mut told);
+    rows.report(alloc, &mut reported);
     drop(rows);
-    told
+    reported
 }
 
 /// It starts on that line, has n fields, and its last field is this.
-fn is_told(alloc: Global, text: &[u8], line: u32, count: usize, last: &[u8]) -> bool {
-    let told = last_row(alloc, text);
-    let field = told.field(count.saturating_sub(1)).unwrap_or_default();
-    told.line() == line && told.len() == count && field == last
+fn is_reported(alloc: Global, text: &[u8], line: u32, count: usize, last: &[u8]) -> bool {
+    let reported = last_row(alloc, text);
+    let field = reported.field(count.saturating_sub(1)).unwrap_or_default();
+    reported.line() == line && reported.len() == count && field == last
 }
 
 #[test]
-fn a_refused_row_is_told(rt: HostRuntime) {
+fn a_refused_row_is_reported(rt: HostRuntime) {
     let alloc = rt.alloc();
-    assert!(rt; is_told(alloc, b"", 1, 0, b""));
-    assert!(rt; is_told(alloc, b"ms,kind,data\n\n0,S\n", 3, 2, b"S"));
-    assert!(rt; is_told(alloc, b"ms,kind,data\r\n\r\n0,S,x\r\n1,S,\r\n", 3, 3, b"x"));
-    assert!(rt; is_told(alloc, b"ms,kind,data\n0,S,\"x\ny\"\n", 2, 3, b"x\ny"));
-    assert!(rt; is_told(alloc, b"ms,kind,data\n0,S,\"x\n", 2, 3, b"x\n"));
-    assert!(rt; is_told(alloc, b"ms,kind,data\n0,X,", 2, 3, b""));
+    assert!(rt; is_reported(alloc, b"", 1, 0, b""));
+    assert!(rt; is_reported(alloc, b"ms,kind,data\n\n0,S\n", 3, 2, b"S"));
+    assert!(rt; is_reported(alloc, b"ms,kind,data\r\n\r\n0,S,x\r\n1,S,\r\n", 3, 3, b"x"));
+    assert!(rt; is_reported(alloc, b"ms,kind,data\n0,S,\"x\ny\"\n", 2, 3, b"x\ny"));
+    assert!(rt; is_reported(alloc, b"ms,kind,data\n0,S,\"x\n", 2, 3, b"x\n"));
+    assert!(rt; is_reported(alloc, b"ms,kind,data\n0,X,", 2, 3, b""));
 }

@@ -26,9 +26,9 @@ pub(crate) fn at_rest(alloc: Global, counts: i32) -> Result<Indicator, Fault> {
 }
 
 /// Appends to `out` what the line answers to a chunk, and says whether it could.
-fn answers(line: &mut Line, indicator: &mut Indicator, piece: &[u8], out: &mut Vec<u8>) -> bool {
+fn answers(line: &mut Line, indicator: &mut Indicator, chunk: &[u8], out: &mut Vec<u8>) -> bool {
     let mut device = Device::new(out);
-    line.feed(piece, indicator, &mut device).is_ok()
+    line.feed(chunk, indicator, &mut device).is_ok()
 }
 
 /// What the line answers to the stream if it comes in two chunks, the first of n bytes; nothing if it can't.
@@ -70,7 +70,7 @@ fn is_answer(alloc: Global, mode: Mode, asked: Asked, wanted: &[u8; 20]) -> bool
 }
 
 /// After a zero at 11000 counts, a tare at 71000 and a request that is open, the indicator and the line say so.
-fn is_state_told(alloc: Global) -> bool {
+fn is_state_reported(alloc: Global) -> bool {
     let Ok(mut indicator) = at_rest(alloc, 11000) else {
         return false;
     };
@@ -90,8 +90,8 @@ fn is_state_told(alloc: Global) -> bool {
 }
 
 #[test]
-fn a_state_is_told(rt: HostRuntime) {
-    assert!(rt; is_state_told(rt.alloc()));
+fn a_state_is_reported(rt: HostRuntime) {
+    assert!(rt; is_state_reported(rt.alloc()));
 }
 
 #[test]

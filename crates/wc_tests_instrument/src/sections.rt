@@ -16,17 +16,17 @@ fn is_read(alloc: Global, text: &[u8]) -> bool {
 static LETTERS: [u8; 5000] = [b'x'; 5000];
 
 /// A reader of a head of n letters, then n times a chunk of n, which then ends or fails.
-fn letters(head: usize, piece: usize, times: u32, fails: bool) -> Option<FuseIn<'static>> {
-    match (LETTERS.get(..head), LETTERS.get(..piece)) {
-        (Some(head), Some(piece)) => Some(FuseIn::new(head, piece, times, fails)),
+fn letters(head: usize, chunk: usize, times: u32, fails: bool) -> Option<FuseIn<'static>> {
+    match (LETTERS.get(..head), LETTERS.get(..chunk)) {
+        (Some(head), Some(chunk)) => Some(FuseIn::new(head, chunk, times, fails)),
         _ => None,
     }
 }
 
 /// The number of bytes a reader still gives.
-fn bytes_behind(reader: &mut FuseIn<'_>) -> usize {
-    let mut room = [0; 16];
-    match reader.read(&mut room) {
+fn bytes_after(reader: &mut FuseIn<'_>) -> usize {
+    let mut capacity = [0; 16];
+    match reader.read(&mut capacity) {
         Ok(count) => count,
         Err(_) => 0,
     }
@@ -40,7 +40,7 @@ fn reads(alloc: Global, reader: Option<FuseIn<'_>>, count: usize) -> bool {
     match read_whole(alloc, &mut reader) {
         Ok(bytes) => bytes.len() == count
             && reader.failures() == 0
-            && bytes_behind(&mut reader) == 0,
+            && bytes_after(&mut reader) == 0,
         Err(_) => false,
     }
 }
@@ -60,16 +60,16 @@ fn refuses(
     reader: Option<FuseIn<'_>>,
     fault: &str,
     failures: u64,
-    behind: usize,
+    following: usize,
 ) -> bool {
     let Some(mut reader) = reader else {
         return false;
     };
     match read_whole(alloc, &mut reader) {
         Ok(_) => false,
-        Err(met) => called(met) == fault
+        Err(raised) => called(raised) == fault
             && reader.failures() == failures
-            && bytes_behind(&mut reader) == behind,
+            && bytes_after(&mut reader) == following,
     }
 }
 
@@ -81,7 +81,7 @@ fn known_bytes(rt: HostRuntime) {
 }
 
 #[test]
-fn pieces_up_to_the_longest(rt: HostRuntime) {
+fn chunks_up_to_the_longest(rt: HostRuntime) {
     assert!(rt; reads(rt.alloc(), letters(4, 7, 1428, false), 10000));
     assert!(rt; reads(rt.alloc(), letters(0, 5000, 2, false), 10000));
     assert!(rt; reads(rt.alloc(), letters(3576, 5000, 209, false), 1048576));
@@ -126,10 +126,10 @@ fn three_sections(rt: HostRuntime) {
     let again = b"@plate\n@log\n@plate\n@program\r\n@program\n@log\n@log\n@program\n";
     assert!(rt; are_sections(again, b"@log\n@plate\n", b"@program\n", b"@log\n@program\n"));
     assert!(rt; are_sections(b"@plate\n@program\n@log\n", b"", b"", b""));
-    let beside = b"@plate\n @program\n@program \n@program\r\r\n@program\n\n@log\n@log";
+    let alongside = b"@plate\n @program\n@program \n@program\r\r\n@program\n\n@log\n@log";
     assert!(rt;
         are_sections(
-            beside,
+            alongside,
             b" @program\n@program \n@program\r\r\n",
             b"\n",
             b"@log"
@@ -151,6 +151,6 @@ fn next_section(rt: HostRuntime) {
     assert!(rt; are_programs(plain, b"P\n", Some(b"Q\n"), b"ms\n"));
     let twice = b"@plate\n@next\n@program\n@next\r\n@next\n@log\n@next\n";
     assert!(rt; are_programs(twice, b"", Some(b"@next\n"), b"@next\n"));
-    let beside = b"@plate\n@program\n @next\n@next \n@log\n@next\n";
-    assert!(rt; are_programs(beside, b" @next\n@next \n", None, b"@next\n"));
+    let alongside = b"@plate\n@program\n @next\n@next \n@log\n@next\n";
+    assert!(rt; are_programs(alongside, b" @next\n@next \n", None, b"@next\n"));
 }

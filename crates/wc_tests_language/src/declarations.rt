@@ -94,7 +94,7 @@ fn begin_somewhere(tables: &Tables<'_>) -> bool {
 }
 
 /// What is at a place of the program, and is of this kind.
-fn standing(kind: Kind, readable: bool, writable: bool, place: u16) -> Option<Entity> {
+fn entity_at(kind: Kind, readable: bool, writable: bool, place: u16) -> Option<Entity> {
     Some(Entity {
         kind: Some(kind),
         readable,
@@ -112,7 +112,7 @@ fn are_named(tables: &Tables<'_>) -> bool {
         writable: true,
         place: None,
     };
-    let own = tables.entity(1, &Operand::Name(b"N")) == standing(Kind::Dint, true, true, 72);
+    let own = tables.entity(1, &Operand::Name(b"N")) == entity_at(Kind::Dint, true, true, 72);
     let timer = tables.entity(1, &Operand::Name(b"t")) == Some(instance);
     own && timer && tables.entity(1, &Operand::Name(b"x")) == None
 }
@@ -131,9 +131,9 @@ fn are_guarded(tables: &Tables<'_>) -> bool {
         text: b"%ix0.3",
         line: 1,
     };
-    let input = tables.entity(1, &x) == standing(Kind::Bool, false, true, 62);
-    let output = tables.entity(1, &z) == standing(Kind::Time, true, false, 54);
-    let bit = tables.entity(1, &Operand::Address(address)) == standing(Kind::Bool, true, false, 3);
+    let input = tables.entity(1, &x) == entity_at(Kind::Bool, false, true, 62);
+    let output = tables.entity(1, &z) == entity_at(Kind::Time, true, false, 54);
+    let bit = tables.entity(1, &Operand::Address(address)) == entity_at(Kind::Bool, true, false, 3);
     input && output && bit
 }
 
@@ -179,7 +179,7 @@ fn are_right(alloc: Global) -> bool {
 }
 
 #[test]
-fn names_stand_for_what_is_declared(rt: HostRuntime) {
+fn names_represent_what_is_declared(rt: HostRuntime) {
     assert!(rt; are_right(rt.alloc()));
 }
 

@@ -70,6 +70,6 @@ fn is_flat(alloc: Global, text: &[u8]) -> bool {
 }
 
 #[test]
-fn calls_are_laid_flat(rt: HostRuntime) {
+fn calls_are_lowered(rt: HostRuntime) {
     assert!(rt; is_flat(rt.alloc(), PLANT));
 }

@@ -120,6 +120,6 @@ fn is_seen(alloc: Global) -> bool {
 }
 
 #[test]
-fn the_image_stands_before_the_scan(rt: HostRuntime) {
+fn the_image_is_there_before_the_scan(rt: HostRuntime) {
     assert!(rt; is_seen(rt.alloc()));
 }

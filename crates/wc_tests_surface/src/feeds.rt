@@ -8,11 +8,11 @@ use wc_sma::{Line, WriteFault};
 /// Feeds a chunk to the line.
 fn fed<W: ByteOut>(
     line: &mut Line,
-    piece: &[u8],
+    chunk: &[u8],
     indicator: &mut Indicator,
     writer: &mut W,
 ) -> Result<(), WriteFault> {
-    line.feed(piece, indicator, writer)
+    line.feed(chunk, indicator, writer)
 }
 
 /// The zero is set and answered, and 5 bytes of the answer to `W` are out; then the line has failed.

@@ -20,9 +20,9 @@ pub(crate) fn plate_of(alloc: Global, text: &[u8]) -> Result<Plate, Fault> {
 /// The readers of a plate.
 fn has_its_keys(plate: &Plate) -> bool {
     let unit: [u8; 3] = plate.unit();
-    let form: (i32, i32, i32, i32) = (plate.decimals(), plate.max(), plate.e(), plate.n());
+    let format: (i32, i32, i32, i32) = (plate.decimals(), plate.max(), plate.e(), plate.n());
     let counts: (i32, i32, i32) = (plate.zero_counts(), plate.span_counts(), plate.window());
-    unit == *b"kg " && form == (3, 15000, 5, 3000) && counts == (10000, 600000, 4)
+    unit == *b"kg " && format == (3, 15000, 5, 3000) && counts == (10000, 600000, 4)
 }
 
 /// An indicator of the plate with four samples of these counts.
@@ -62,9 +62,9 @@ fn reads(indicator: &Indicator) -> bool {
 fn is_seen(indicator: &Indicator) -> bool {
     let seen: Image = image(indicator, 3);
     let bytes: [u8; 20] = answer(indicator, Mode::Shown, Asked::Plain);
-    let form = *b"\n 1G       1.250kg \r";
+    let format = *b"\n 1G       1.250kg \r";
     let plate: &Plate = indicator.plate();
-    seen.inputs == 3 && seen.weights == [1250, 1250, 0] && bytes == form && plate.e() == 5
+    seen.inputs == 3 && seen.weights == [1250, 1250, 0] && bytes == format && plate.e() == 5
 }
 
 /// Zero is too far away, the tare is set and cleared.

@@ -1,4 +1,4 @@
 mod Counting
 pub mod LineLists
-mod MetIf
+mod RaisedIf
 pub mod Openings

@@ -1,6 +1,6 @@
 -- What the body that is read represents, and what is wrong with it.
 use Rattle.std.specs.Prelude.{◌≡◌, ◌==◌, min, List, [], ◌∷◌, length, option_map}
-use Rattle.wc_laws_grammar.specs.Moves.{Met, are_no_lines}
+use Rattle.wc_laws_grammar.specs.Moves.{Raised, are_no_lines}
 use Rattle.wc_model.specs.Text.Limits.{lines_before, most_lines}
 use Rattle.wc_model.specs.Text.Positions as positions
 use Rattle.wc_model.specs.Text.Positions.{Position}
@@ -13,15 +13,15 @@ use Rattle.wc_text_bodies.specs.declared.bodies.Body.{Body}
 use Rattle.wc_text_bodies.specs.declared.bodies.Opening.{Opening}
 
 -- a fault as the library reports it
-abbrev pub fault_of : Met → Fault
-fault_of met = Refused (number_of met.fault) met.line
+abbrev pub fault_of : Raised → Fault
+fault_of raised = Refused (number_of raised.fault) raised.line
 
 -- a parenthesis that is open
 abbrev pub opening_view : Opening → positions.Opening
 opening_view o = record {
   before = lines_view o.before.items;
-  label = option_map word_view o.begun.label;
-  line = o.begun.line;
+  label = option_map word_view o.started.label;
+  line = o.started.line;
   operator = o.operator;
   operand = option_map term_view o.operand;
 }

@@ -6,14 +6,14 @@ ghost use Rattle.wc_model.specs.Text.Positions as positions;
 ghost use Rattle.wc_model.specs.Language.Tree as tree;
 ghost use Rattle.wc_model.specs.Language.Tree.{ProgramUnit};
 ghost use Rattle.wc_model.specs.Language.Views.{lines_view, term_view, unit_view, word_view};
-ghost use Rattle.wc_text_lines.specs.LineViews.{begun_view, form_view, step_view};
+ghost use Rattle.wc_text_lines.specs.LineViews.{started_view, shape_view, step_view};
 ghost use Rattle.wc_text_bodies.specs.BodyViews.{IsCounted, position_view, opening_view, openings_view};
 
 use crate::tree_lines::{label_line, nested_line, step_line};
 use std::alloc::{AllocError, Global};
 use std::mem;
 use wc_model::{Line, MOST_LINES, Operand, Operator, Unit, Word};
-use wc_text_lines::{Begun, LineForm, Step};
+use wc_text_lines::{LineShape, StartedLine, Step};
 
 /// A parenthesis that is open.
 #[derive(Drop)]
@@ -21,7 +21,7 @@ pub struct Opening<'a> {
     /// The lines before it in its list.
     pub before: Vec<Line<'a>, Global>,
     /// The label and the line of its operator.
-    pub begun: Begun<'a>,
+    pub started: StartedLine<'a>,
     pub operator: Operator,
     /// What the short form loads first.
     pub operand: Option<Operand<'a>>,
@@ -69,10 +69,10 @@ fn one_more(count: usize) -> usize
 #[inline(always)]
 pub fn add_label<'a>(body: &mut Body<'a>, label: Word<'a>) -> Result<(), AllocError>
     requires { IsCounted body.old }
-    ensures behind { OnOk result
+    ensures following { OnOk result
         ((units : List ProgramUnit)
         → position_view units body.new
-        ≡ moves.behind_line (position_view units body.old)
+        ≡ moves.after_line (position_view units body.old)
         (lines.LabelAlone (word_view label.entry))) }
     ensures counted { OnOk result (IsCounted body.new) }
 {
@@ -82,17 +82,21 @@ pub fn add_label<'a>(body: &mut Body<'a>, label: Word<'a>) -> Result<(), AllocEr
 
 /// Adds an instruction after a body's lines.
 #[inline(always)]
-pub fn add_step<'a>(body: &mut Body<'a>, begun: Begun<'a>, step: Step<'a>) -> Result<(), AllocError>
+pub fn add_step<'a>(
+    body: &mut Body<'a>,
+    started: StartedLine<'a>,
+    step: Step<'a>,
+) -> Result<(), AllocError>
     requires { IsCounted body.old }
-    ensures behind { OnOk result
+    ensures following { OnOk result
         ((units : List ProgramUnit)
         → position_view units body.new
-        ≡ moves.behind_line (position_view units body.old)
-        (lines.Instructs (option_map word_view begun.entry.label) begun.entry.line
+        ≡ moves.after_line (position_view units body.old)
+        (lines.Instructs (option_map word_view started.entry.label) started.entry.line
         (step_view step.entry))) }
     ensures counted { OnOk result (IsCounted body.new) }
 {
-    body.done.push(step_line(begun, step))?;
+    body.done.push(step_line(started, step))?;
     body.count = one_more(body.count);
     Ok(())
 }
@@ -101,23 +105,23 @@ pub fn add_step<'a>(body: &mut Body<'a>, begun: Begun<'a>, step: Step<'a>) -> Re
 fn add_opening<'a>(
     alloc: Global,
     body: &mut Body<'a>,
-    begun: Begun<'a>,
+    started: StartedLine<'a>,
     operator: Operator,
     operand: Option<Operand<'a>>,
 ) -> Result<(), AllocError>
     requires { IsCounted body.old }
-    ensures behind { OnOk result
+    ensures following { OnOk result
         ((units : List ProgramUnit)
         → position_view units body.new
-        ≡ moves.behind_line (position_view units body.old)
-        (lines.Opens (option_map word_view begun.entry.label) begun.entry.line operator
+        ≡ moves.after_line (position_view units body.old)
+        (lines.Opens (option_map word_view started.entry.label) started.entry.line operator
         (option_map term_view operand.entry))) }
     ensures counted { OnOk result (IsCounted body.new) }
 {
     let before = mem::replace(&mut body.done, Vec::new(alloc));
     body.openings.push(Opening {
         before,
-        begun,
+        started,
         operator,
         operand,
     })?;
@@ -127,23 +131,23 @@ fn add_opening<'a>(
 
 /// Adds the line of an instruction after a body's lines.
 #[inline(always)]
-pub fn add_form<'a>(
+pub fn add_shape<'a>(
     alloc: Global,
     body: &mut Body<'a>,
-    begun: Begun<'a>,
-    form: LineForm<'a>,
+    started: StartedLine<'a>,
+    line_shape: LineShape<'a>,
 ) -> Result<(), AllocError>
     requires { IsCounted body.old }
-    ensures behind { OnOk result
+    ensures following { OnOk result
         ((units : List ProgramUnit)
         → position_view units body.new
-        ≡ moves.behind_line (position_view units body.old)
-        (form_view (begun_view begun.entry) form.entry)) }
+        ≡ moves.after_line (position_view units body.old)
+        (shape_view (started_view started.entry) line_shape.entry)) }
     ensures counted { OnOk result (IsCounted body.new) }
 {
-    match form {
-        LineForm::Instructs(step) => add_step(body, begun, step),
-        LineForm::Opens(operator, operand) => add_opening(alloc, body, begun, operator, operand),
+    match line_shape {
+        LineShape::Instructs(step) => add_step(body, started, step),
+        LineShape::Opens(operator, operand) => add_opening(alloc, body, started, operator, operand),
     }
 }
 
@@ -162,7 +166,7 @@ pub(crate) fn has_content<'a>(opening: &Opening<'a>, done: &[Line<'a>]) -> bool
 /// Closes the innermost parenthesis at its `)`, and says whether there is one that holds something.
 pub fn close<'a>(body: &mut Body<'a>, close: u32) -> Result<bool, AllocError>
     requires { IsCounted body.old }
-    ensures behind { IfOk result
+    ensures following { IfOk result
         (λ closed.
         (units : List ProgramUnit) (innermost : positions.Opening) (outer : List positions.Opening)
         → (position_view units body.old).openings ≡ innermost ∷ outer
@@ -176,13 +180,13 @@ pub fn close<'a>(body: &mut Body<'a>, close: u32) -> Result<bool, AllocError>
             if has_content(&opening, &body.done) {
                 let Opening {
                     before,
-                    begun,
+                    started,
                     operator,
                     operand,
                 } = opening;
                 let inside = mem::replace(&mut body.done, before);
                 body.done
-                    .push(nested_line(begun, operator, operand, inside, close))?;
+                    .push(nested_line(started, operator, operand, inside, close))?;
                 body.count = one_more(body.count);
                 Ok(true)
             } else {

@@ -18,17 +18,17 @@ pub enum DeclarationState<'a> {
     /// Before a declaration.
     Undeclared,
     /// After a name.
-    BehindNames(Vec<Word<'a>, Global>),
+    AfterNames(Vec<Word<'a>, Global>),
     /// After a comma.
-    BehindComma(Vec<Word<'a>, Global>),
+    AfterComma(Vec<Word<'a>, Global>),
     /// After the colon.
-    BehindColon(Vec<Word<'a>, Global>),
+    AfterColon(Vec<Word<'a>, Global>),
     /// After the type.
-    BehindType(Vec<Word<'a>, Global>, Word<'a>),
+    AfterType(Vec<Word<'a>, Global>, Word<'a>),
     /// After `:=`.
-    BehindAssign(Vec<Word<'a>, Global>, Word<'a>),
+    AfterAssign(Vec<Word<'a>, Global>, Word<'a>),
     /// After the value.
-    BehindValue(Vec<Word<'a>, Global>, Word<'a>, Initial),
+    AfterValue(Vec<Word<'a>, Global>, Word<'a>, Initial),
 }
 
 /// Where a token of a section leads, apart from the unit.
@@ -37,7 +37,7 @@ pub enum SectionPlace<'a> {
     /// On in the section.
     WithinSection(DeclarationState<'a>),
     /// After END_VAR.
-    BehindSection,
+    AfterSection,
 }
 
 /// Adds a declaration after a unit's others.
@@ -89,11 +89,11 @@ fn with_name<'a>(
     ensures { IfOk result
         (λ state.
         declaring_view state
-        ≡ moves.BehindNames (map word_view names.entry.items ++ word_view name.entry ∷ [])) }
+        ≡ moves.AfterNames (map word_view names.entry.items ++ word_view name.entry ∷ [])) }
 {
     let mut names = names;
     names.push(name)?;
-    Ok(DeclarationState::BehindNames(names))
+    Ok(DeclarationState::AfterNames(names))
 }
 
 /// After the identifier that begins a declaration or ends the section.
@@ -104,7 +104,7 @@ fn at_first_name<'a>(alloc: Global, name: Word<'a>) -> Result<SectionPlace<'a>, 
         ≡ moves.at_first_name units unit section (word_view name.entry)) }
 {
     if ends_section(name.text) {
-        Ok(SectionPlace::BehindSection)
+        Ok(SectionPlace::AfterSection)
     } else {
         let state = with_name(Vec::new(alloc), name)?;
         Ok(SectionPlace::WithinSection(state))
@@ -137,12 +137,12 @@ fn at_names<'a>(names: Vec<Word<'a>, Global>, token: Token<'a>) -> Option<Sectio
     ensures { (units : List ProgramUnit) (unit : ProgramUnit) (section : Section) (line : ℕ)
         → option_map (section_view units unit section) result
         ≡ moves.declaration_move units unit section
-        (moves.BehindNames (map word_view names.entry.items)) (symbol_view token.entry) line }
+        (moves.AfterNames (map word_view names.entry.items)) (symbol_view token.entry) line }
 {
     let state = match token.shape {
-        Shape::LineEnd => DeclarationState::BehindNames(names),
-        Shape::Comma => DeclarationState::BehindComma(names),
-        Shape::Colon => DeclarationState::BehindColon(names),
+        Shape::LineEnd => DeclarationState::AfterNames(names),
+        Shape::Comma => DeclarationState::AfterComma(names),
+        Shape::Colon => DeclarationState::AfterColon(names),
         _ => return None,
     };
     Some(SectionPlace::WithinSection(state))
@@ -157,11 +157,11 @@ fn at_next_name<'a>(
         (λ next. (units : List ProgramUnit) (unit : ProgramUnit) (section : Section)
         → option_map (section_view units unit section) next
         ≡ moves.declaration_move units unit section
-        (moves.BehindComma (map word_view names.entry.items))
+        (moves.AfterComma (map word_view names.entry.items))
         (symbol_view token.entry) token.entry.line) }
 {
     match token.shape {
-        Shape::LineEnd => Ok(Some(SectionPlace::WithinSection(DeclarationState::BehindComma(
+        Shape::LineEnd => Ok(Some(SectionPlace::WithinSection(DeclarationState::AfterComma(
             names,
         )))),
         Shape::Identifier => {
@@ -177,12 +177,12 @@ fn at_type<'a>(names: Vec<Word<'a>, Global>, token: Token<'a>) -> Option<Section
     ensures { (units : List ProgramUnit) (unit : ProgramUnit) (section : Section)
         → option_map (section_view units unit section) result
         ≡ moves.declaration_move units unit section
-        (moves.BehindColon (map word_view names.entry.items))
+        (moves.AfterColon (map word_view names.entry.items))
         (symbol_view token.entry) token.entry.line }
 {
     match token.shape {
-        Shape::LineEnd => Some(SectionPlace::WithinSection(DeclarationState::BehindColon(names))),
-        Shape::Identifier => Some(SectionPlace::WithinSection(DeclarationState::BehindType(
+        Shape::LineEnd => Some(SectionPlace::WithinSection(DeclarationState::AfterColon(names))),
+        Shape::Identifier => Some(SectionPlace::WithinSection(DeclarationState::AfterType(
             names,
             word(token),
         ))),
@@ -204,7 +204,7 @@ fn literal(token: Token) -> Option<Value>
 }
 
 /// After a declaration's literal, if the token is one.
-fn behind_literal<'a>(
+fn after_literal<'a>(
     names: Vec<Word<'a>, Global>,
     type_name: Word<'a>,
     token: Token<'a>,
@@ -216,7 +216,7 @@ fn behind_literal<'a>(
 {
     let line = token.line;
     match literal(token) {
-        Some(value) => Some(SectionPlace::WithinSection(DeclarationState::BehindValue(
+        Some(value) => Some(SectionPlace::WithinSection(DeclarationState::AfterValue(
             names,
             type_name,
             Initial { value, line },
@@ -234,19 +234,19 @@ fn at_value<'a>(
     ensures { (units : List ProgramUnit) (unit : ProgramUnit) (section : Section)
         → option_map (section_view units unit section) result
         ≡ moves.declaration_move units unit section
-        (moves.BehindAssign (map word_view names.entry.items) (word_view type_name.entry))
+        (moves.AfterAssign (map word_view names.entry.items) (word_view type_name.entry))
         (symbol_view token.entry) token.entry.line }
 {
     match token.shape {
-        Shape::LineEnd => Some(SectionPlace::WithinSection(DeclarationState::BehindAssign(
+        Shape::LineEnd => Some(SectionPlace::WithinSection(DeclarationState::AfterAssign(
             names, type_name,
         ))),
-        _ => behind_literal(names, type_name, token),
+        _ => after_literal(names, type_name, token),
     }
 }
 
 /// After the token that follows a type: `:=` or the `;`.
-fn behind_type<'a>(
+fn after_type<'a>(
     unit: &mut Unit<'a>,
     section: Section,
     names: Vec<Word<'a>, Global>,
@@ -257,14 +257,14 @@ fn behind_type<'a>(
         (λ next. (units : List ProgramUnit) (line : ℕ)
         → option_map (section_view units (unit_view unit.new) section) next
         ≡ moves.declaration_move units (unit_view unit.old) section
-        (moves.BehindType (map word_view names.entry.items) (word_view type_name.entry))
+        (moves.AfterType (map word_view names.entry.items) (word_view type_name.entry))
         (symbol_view token.entry) line) }
 {
     match token.shape {
-        Shape::LineEnd => Ok(Some(SectionPlace::WithinSection(DeclarationState::BehindType(
+        Shape::LineEnd => Ok(Some(SectionPlace::WithinSection(DeclarationState::AfterType(
             names, type_name,
         )))),
-        Shape::Assign => Ok(Some(SectionPlace::WithinSection(DeclarationState::BehindAssign(
+        Shape::Assign => Ok(Some(SectionPlace::WithinSection(DeclarationState::AfterAssign(
             names, type_name,
         )))),
         Shape::Semicolon => end_declaration(unit, section, names, type_name, None),
@@ -273,7 +273,7 @@ fn behind_type<'a>(
 }
 
 /// After the token that follows a value: the `;`.
-fn behind_value<'a>(
+fn after_value<'a>(
     unit: &mut Unit<'a>,
     section: Section,
     names: Vec<Word<'a>, Global>,
@@ -285,11 +285,11 @@ fn behind_value<'a>(
         (λ next. (units : List ProgramUnit) (line : ℕ)
         → option_map (section_view units (unit_view unit.new) section) next
         ≡ moves.declaration_move units (unit_view unit.old) section
-        (moves.BehindValue (map word_view names.entry.items) (word_view type_name.entry) initial)
+        (moves.AfterValue (map word_view names.entry.items) (word_view type_name.entry) initial)
         (symbol_view token.entry) line) }
 {
     match token.shape {
-        Shape::LineEnd => Ok(Some(SectionPlace::WithinSection(DeclarationState::BehindValue(
+        Shape::LineEnd => Ok(Some(SectionPlace::WithinSection(DeclarationState::AfterValue(
             names, type_name, initial,
         )))),
         Shape::Semicolon => end_declaration(unit, section, names, type_name, Some(initial)),
@@ -314,14 +314,14 @@ pub fn declaration_move<'a>(
 {
     match state {
         DeclarationState::Undeclared => at_undeclared(alloc, token),
-        DeclarationState::BehindNames(names) => Ok(at_names(names, token)),
-        DeclarationState::BehindComma(names) => at_next_name(names, token),
-        DeclarationState::BehindColon(names) => Ok(at_type(names, token)),
-        DeclarationState::BehindType(names, type_name) => behind_type(
+        DeclarationState::AfterNames(names) => Ok(at_names(names, token)),
+        DeclarationState::AfterComma(names) => at_next_name(names, token),
+        DeclarationState::AfterColon(names) => Ok(at_type(names, token)),
+        DeclarationState::AfterType(names, type_name) => after_type(
             unit, section, names, type_name, token,
         ),
-        DeclarationState::BehindAssign(names, type_name) => Ok(at_value(names, type_name, token)),
-        DeclarationState::BehindValue(names, type_name, initial) => behind_value(
+        DeclarationState::AfterAssign(names, type_name) => Ok(at_value(names, type_name, token)),
+        DeclarationState::AfterValue(names, type_name, initial) => after_value(
             unit, section, names, type_name, initial, token,
         ),
     }

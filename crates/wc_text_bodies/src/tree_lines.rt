@@ -8,7 +8,7 @@ ghost use Rattle.wc_text_lines.specs.Words.{operating_view};
 
 use std::alloc::Global;
 use wc_model::{Instr, Line, Operand, Operator, Word};
-use wc_text_lines::{Begun, Listed, Operating, Step};
+use wc_text_lines::{Listed, Operating, StartedLine, Step};
 
 /// The line of a label alone.
 #[inline(always)]
@@ -90,13 +90,13 @@ fn operated_line<'a>(
 
 /// The line of an instruction.
 #[inline(always)]
-pub(crate) fn step_line<'a>(begun: Begun<'a>, step: Step<'a>) -> Line<'a>
+pub(crate) fn step_line<'a>(started: StartedLine<'a>, step: Step<'a>) -> Line<'a>
     ensures { (rest : Lines)
         → line_view result rest
-        ≡ tree.Plain (option_map word_view begun.entry.label) begun.entry.line
+        ≡ tree.Plain (option_map word_view started.entry.label) started.entry.line
         (step_view step.entry) rest }
 {
-    let Begun { label, line } = begun;
+    let StartedLine { label, line } = started;
     match step {
         Step::Operate(operating, operand) => operated_line(label, line, operating, operand),
         Step::Negate => line_with(label, Instr::Not { line }),
@@ -115,7 +115,7 @@ pub(crate) fn step_line<'a>(begun: Begun<'a>, step: Step<'a>) -> Line<'a>
 
 /// The line of a whole parenthesis.
 pub(crate) fn nested_line<'a>(
-    begun: Begun<'a>,
+    started: StartedLine<'a>,
     operator: Operator,
     operand: Option<Operand<'a>>,
     inside: Vec<Line<'a>, Global>,
@@ -123,16 +123,16 @@ pub(crate) fn nested_line<'a>(
 ) -> Line<'a>
     ensures { (rest : Lines)
         → line_view result rest
-        ≡ tree.Nested (option_map word_view begun.entry.label) begun.entry.line operator
+        ≡ tree.Nested (option_map word_view started.entry.label) started.entry.line operator
         (option_map term_view operand.entry) (lines_view inside.entry.items) close rest }
 {
     Line {
-        label: begun.label,
+        label: started.label,
         instr: Some(Instr::Defer {
             operator,
             operand,
             inside,
-            line: begun.line,
+            line: started.line,
             close,
         }),
     }

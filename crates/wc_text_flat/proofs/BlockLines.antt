@@ -7,7 +7,7 @@ use Rattle.wc_text_flat.proofs.PlaceNumbers.{write_both}
 use Rattle.wc_text_flat.proofs.Sides.{IsBased}
 use Rattle.wc_text_flat.proofs.Values.{bit_of-number}
 use Rattle.wc_text_flat.specs.Contents.{AreContents}
-use Rattle.wc_text_flat.specs.Laid.{first_place}
+use Rattle.wc_text_flat.specs.Lowered.{first_place}
 use Rattle.wc_text_flat.specs.NumberBlocks.{field_numbers, is_slot, number_from, with_numbers, given_bit, given_natural, block_called}
 use Rattle.wc_text_flat.specs.NumberOperators.{given}
 use Rattle.wc_model.specs.Language.BlockCalls.{field_at, with_truth, with_dint, with_time, with_moment, with_phase, with_fields, r_trig_contents, sr_contents, rs_contents, ctu_contents, ton_contents, tof_contents, tp_contents, standard_called}

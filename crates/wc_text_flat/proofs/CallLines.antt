@@ -11,7 +11,7 @@ use Rattle.wc_text_flat.proofs.Sides.{Sides, flat, IsBased, BodyFollows, AreAlik
 use Rattle.wc_text_flat.proofs.Values.{value_number, ReadsAs, AnswersAs, acts_follow}
 use Rattle.wc_text_flat.specs.Contents.{AreContents}
 use Rattle.wc_text_flat.specs.FlatMeaning.{State, Skips, Moved, Ran, goes_on, with_all, writes, turns, returns, line_runs, followed, runs}
-use Rattle.wc_text_flat.specs.Laid.{Operand, Number, At, IsOperand, argument_line, IsArgument, IsOutput, AreEach, AreArguments, AreOutputs, IsCallLaid, IsUnitBody, IsBodyOf, first_place}
+use Rattle.wc_text_flat.specs.Lowered.{Operand, Number, At, IsOperand, argument_line, IsArgument, IsOutput, AreEach, AreArguments, AreOutputs, IsCallLowered, IsUnitBody, IsBodyOf, first_place}
 use Rattle.wc_text_flat.specs.NumberBlocks.{block_called}
 use Rattle.wc_text_flat.specs.NumberOperators.{given, acts}
 use Rattle.wc_laws_language.proofs.Longest.{trace_length}
@@ -149,16 +149,16 @@ BodyLineFollows w line result put_by numbers (Stuck reason) = Unit {0}
 
 -- the body of a standard block
 pub standard_follows : (w : Sides) → AreAlike w → (result : Option Value) (put_by : List ℤ) (store : Store) (numbers : List ℤ) → AreContents w.frame store numbers → (instance : Name) (block : Rattle.wc_model.specs.declared.block.StandardBlock.StandardBlock) → IsInstance w.here.scope instance (Standard block) → (line : Code) → IsBodyOf w.here.scope instance (Some (Standard block)) line → BodyLineFollows w line result put_by numbers (body_outcome w.here (Standard block) instance store)
-standard_follows w alike result put_by store numbers contents instance block is line laid =
+standard_follows w alike result put_by store numbers contents instance block is line lowered =
     step (standard_called block w.here.now store (w.here.instance ++ instance ∷ []))
-    (block_follows w.frame block w.here.now store numbers contents (w.here.instance ++ instance ∷ []) (w.base + laid.0.0) (fields_at w.frame w.here.scope w.here.instance w.base alike.based instance is.variable is.found block is.typed laid.0.0 laid.1))
+    (block_follows w.frame block w.here.now store numbers contents (w.here.instance ++ instance ∷ []) (w.base + lowered.0.0) (fields_at w.frame w.here.scope w.here.instance w.base alike.based instance is.variable is.found block is.typed lowered.0.0 lowered.1))
   where
-    step : (r : Result Store Reason) → CalledAs w.frame r (block_called block w.here.now (slot_kinds w.frame) numbers (w.base + laid.0.0)) → BodyLineFollows w line result put_by numbers (elim r as (λ x. Outcome) [ Ok new ↦ Done None new (StandardBody ∷ []) | Err reason ↦ Stuck reason ])
+    step : (r : Result Store Reason) → CalledAs w.frame r (block_called block w.here.now (slot_kinds w.frame) numbers (w.base + lowered.0.0)) → BodyLineFollows w line result put_by numbers (elim r as (λ x. Outcome) [ Ok new ↦ Done None new (StandardBody ∷ []) | Err reason ↦ Stuck reason ])
     step (Err reason) h = tt
     step (Ok new) h = (
       h.0,
       h.1,
-      λ others. ap (λ (l : Code). runs (flat w) (l ∷ others) (Skips 0) (state_of result put_by numbers)) laid.2
+      λ others. ap (λ (l : Code). runs (flat w) (l ∷ others) (Skips 0) (state_of result put_by numbers)) lowered.2
           ∙ ap (λ (o : Option (List ℤ)). followed (given o (λ ns. goes_on (with_all (state_of result put_by numbers) ns))) (runs (flat w) others)) h.2,
     )
 
@@ -208,7 +208,7 @@ instance_based w alike instance name is at first unit earlier found = at_place
 
 -- the body of a block of the text
 pub unit_follows : (w : Sides) → AreAlike w → (result : Option Value) (put_by : List ℤ) (store : Store) (numbers : List ℤ) → AreContents w.frame store numbers → (instance name : Name) → IsInstance w.here.scope instance (Block name) → (line : Code) → IsBodyOf w.here.scope instance (Some (Block name)) line → BodyLineFollows w line result put_by numbers (body_outcome w.here (Block name) instance store)
-unit_follows w alike result put_by store numbers contents instance name is line laid = by_block (block_named w.here.scope.before name) refl laid
+unit_follows w alike result put_by store numbers contents instance name is line lowered = by_block (block_named w.here.scope.before name) refl lowered
   where
     names : List Name
     names = w.here.instance ++ instance ∷ []
@@ -231,9 +231,9 @@ unit_follows w alike result put_by store numbers contents instance name is line 
 
 -- the body of whatever is called
 pub body_line_follows : (w : Sides) → AreAlike w → (result : Option Value) (put_by : List ℤ) (store : Store) (numbers : List ℤ) → AreContents w.frame store numbers → (instance : Name) (type : VariableType) → type_of w.here.scope instance ≡ Some type → (line : Code) → IsBodyOf w.here.scope instance (Some type) line → BodyLineFollows w line result put_by numbers (body_outcome w.here type instance store)
-body_line_follows w alike result put_by store numbers contents instance (Elementary kind) e line laid = absurd laid
-body_line_follows w alike result put_by store numbers contents instance (Standard block) e line laid = standard_follows w alike result put_by store numbers contents instance block (type_of-found w.here.scope instance (Standard block) e) line laid
-body_line_follows w alike result put_by store numbers contents instance (Block name) e line laid = unit_follows w alike result put_by store numbers contents instance name (type_of-found w.here.scope instance (Block name) e) line laid
+body_line_follows w alike result put_by store numbers contents instance (Elementary kind) e line lowered = absurd lowered
+body_line_follows w alike result put_by store numbers contents instance (Standard block) e line lowered = standard_follows w alike result put_by store numbers contents instance block (type_of-found w.here.scope instance (Standard block) e) line lowered
+body_line_follows w alike result put_by store numbers contents instance (Block name) e line lowered = unit_follows w alike result put_by store numbers contents instance name (type_of-found w.here.scope instance (Block name) e) line lowered
 
 -- each has one line
 pub each_length : (IsOne : Assignment → Code → Type 0) (items : List Assignment) (lines : List Code) → AreEach IsOne items lines → length lines ≡ length items
@@ -252,13 +252,13 @@ all_parts (argument ∷ arguments) = step (goes_in argument) (all_parts argument
     step false e = omega (arith, e)
 
 -- the number of flat lines after a call's own
-pub laid_behind : (scope : Scope) (condition : Condition) (instance : Name) (arguments : List Assignment) (own : List Code) (laid : IsCallLaid scope condition instance arguments own) → length (laid.assigned ++ laid.body ∷ laid.given) ≡ 1 + length arguments
-laid_behind scope condition instance arguments own laid =
-    let a = length-append laid.assigned (laid.body ∷ laid.given) in
-    let b = each_length (IsArgument scope instance) (inputs_of arguments) laid.assigned laid.inputs in
-    let c = each_length (IsOutput scope instance) (outputs_of arguments) laid.given laid.outputs in
+pub lowered_after : (scope : Scope) (condition : Condition) (instance : Name) (arguments : List Assignment) (own : List Code) (lowered : IsCallLowered scope condition instance arguments own) → length (lowered.assigned ++ lowered.body ∷ lowered.given) ≡ 1 + length arguments
+lowered_after scope condition instance arguments own lowered =
+    let a = length-append lowered.assigned (lowered.body ∷ lowered.given) in
+    let b = each_length (IsArgument scope instance) (inputs_of arguments) lowered.assigned lowered.inputs in
+    let c = each_length (IsOutput scope instance) (outputs_of arguments) lowered.given lowered.outputs in
     let d = all_parts arguments in
-    let e : length (laid.body ∷ laid.given) ≡ 1 + length laid.given = omega arith in
+    let e : length (lowered.body ∷ lowered.given) ≡ 1 + length lowered.given = omega arith in
     omega (arith, a, b, c, d, e)
 
 -- what a call that is made leaves: its line, its inputs, its block's body, its outputs
@@ -290,8 +290,8 @@ made_follows w own_line body lines given number instance arguments result put_by
         left others = runs (flat w) others (Skips 0) (state_of result put_by k.0)
 
 -- a call that is made
-pub acting_follows : (w : Sides) → AreAlike w → (number : ℕ) (result : Option Value) (put_by : List ℤ) (store : Store) (numbers : List ℤ) → AreContents w.frame store numbers → (condition : Condition) (instance : Name) (arguments : List Assignment) (own : List Code) (laid : IsCallLaid w.here.scope condition instance arguments own) → acts condition (option_map value_number result) ≡ Some true → OnwardFollows w (CallLine condition (1 + length arguments) ∷ laid.assigned ++ laid.body ∷ laid.given) put_by (state_of result put_by numbers) (call_effect w.here number instance arguments result store)
-acting_follows w alike number result put_by store numbers contents condition instance arguments own laid acting = by_type (type_of w.here.scope instance) refl laid.called
+pub acting_follows : (w : Sides) → AreAlike w → (number : ℕ) (result : Option Value) (put_by : List ℤ) (store : Store) (numbers : List ℤ) → AreContents w.frame store numbers → (condition : Condition) (instance : Name) (arguments : List Assignment) (own : List Code) (lowered : IsCallLowered w.here.scope condition instance arguments own) → acts condition (option_map value_number result) ≡ Some true → OnwardFollows w (CallLine condition (1 + length arguments) ∷ lowered.assigned ++ lowered.body ∷ lowered.given) put_by (state_of result put_by numbers) (call_effect w.here number instance arguments result store)
+acting_follows w alike number result put_by store numbers contents condition instance arguments own lowered acting = by_type (type_of w.here.scope instance) refl lowered.called
   where
     own_line : Code
     own_line = CallLine condition (1 + length arguments)
@@ -299,16 +299,16 @@ acting_follows w alike number result put_by store numbers contents condition ins
     onward : line_runs (flat w) (state_of result put_by numbers) own_line ≡ goes_on (state_of result put_by numbers)
     onward = ap (λ (b : Option Bool). turns (state_of result put_by numbers) b (Skips 0) (Skips (1 + length arguments))) acting
 
-    by_store : (type : VariableType) → type_of w.here.scope instance ≡ Some type → IsBodyOf w.here.scope instance (Some type) laid.body → (r : Result Store Reason) → AssignsAs w laid.assigned (length (inputs_of arguments)) result put_by numbers r → OnwardFollows w (own_line ∷ laid.assigned ++ laid.body ∷ laid.given) put_by (state_of result put_by numbers) (from_store r (λ new. made w.here instance (body_outcome w.here type instance new) number arguments result))
+    by_store : (type : VariableType) → type_of w.here.scope instance ≡ Some type → IsBodyOf w.here.scope instance (Some type) lowered.body → (r : Result Store Reason) → AssignsAs w lowered.assigned (length (inputs_of arguments)) result put_by numbers r → OnwardFollows w (own_line ∷ lowered.assigned ++ lowered.body ∷ lowered.given) put_by (state_of result put_by numbers) (from_store r (λ new. made w.here instance (body_outcome w.here type instance new) number arguments result))
     by_store type e is (Err reason) h = tt
     by_store type e is (Ok new) h =
-        made_follows w own_line laid.body laid.assigned laid.given number instance arguments result put_by numbers onward h.0 h.2 (body_outcome w.here type instance new)
-        (body_line_follows w alike result put_by new h.0 h.1 instance type e laid.body is)
-        (λ last after held. outputs_follow w alike result put_by instance (outputs_of arguments) laid.given laid.outputs last after held)
+        made_follows w own_line lowered.body lowered.assigned lowered.given number instance arguments result put_by numbers onward h.0 h.2 (body_outcome w.here type instance new)
+        (body_line_follows w alike result put_by new h.0 h.1 instance type e lowered.body is)
+        (λ last after held. outputs_follow w alike result put_by instance (outputs_of arguments) lowered.given lowered.outputs last after held)
 
-    by_type : (t : Option VariableType) → type_of w.here.scope instance ≡ t → IsBodyOf w.here.scope instance t laid.body → OnwardFollows w (own_line ∷ laid.assigned ++ laid.body ∷ laid.given) put_by (state_of result put_by numbers) (elim t as (λ x. Effect) [ Some type ↦ called_type w.here type number instance arguments result store | None ↦ Fails NoSuchPlace ])
+    by_type : (t : Option VariableType) → type_of w.here.scope instance ≡ t → IsBodyOf w.here.scope instance t lowered.body → OnwardFollows w (own_line ∷ lowered.assigned ++ lowered.body ∷ lowered.given) put_by (state_of result put_by numbers) (elim t as (λ x. Effect) [ Some type ↦ called_type w.here type number instance arguments result store | None ↦ Fails NoSuchPlace ])
     by_type None e is = absurd is
-    by_type (Some type) e is = by_store type e is (assigned w.here (members_of w.here.scope.before type) instance (inputs_of arguments) store) (arguments_follow w alike result put_by (members_of w.here.scope.before type) instance (inputs_of arguments) laid.assigned laid.inputs store numbers contents)
+    by_type (Some type) e is = by_store type e is (assigned w.here (members_of w.here.scope.before type) instance (inputs_of arguments) store) (arguments_follow w alike result put_by (members_of w.here.scope.before type) instance (inputs_of arguments) lowered.assigned lowered.inputs store numbers contents)
 
 -- an answer that is given
 pub answer_given : (r : Result Bool Reason) (o : Option Bool) (b : Bool) → AnswersAs r o → r ≡ Ok b → o ≡ Some b
@@ -316,20 +316,20 @@ answer_given (Ok c) o b h e = let same : c ≡ b = cc in h ∙ ap Some same
 answer_given (Err reason) o b h e = cc
 
 -- a call, made or not
-pub call_follows : (w : Sides) → AreAlike w → (number : ℕ) (result : Option Value) (put_by : List ℤ) (store : Store) (numbers : List ℤ) → AreContents w.frame store numbers → (condition : Condition) (instance : Name) (arguments : List Assignment) (own : List Code) (laid : IsCallLaid w.here.scope condition instance arguments own) → OnwardFollows w (CallLine condition (1 + length arguments) ∷ laid.assigned ++ laid.body ∷ laid.given) put_by (state_of result put_by numbers) (step_effect w.here number (Call condition instance arguments) result store)
-call_follows w alike number result put_by store numbers contents condition instance arguments own laid =
-    by_choice (OnwardFollows w (CallLine condition (1 + length arguments) ∷ laid.assigned ++ laid.body ∷ laid.given) put_by (state_of result put_by numbers)) (λ reason. tt)
+pub call_follows : (w : Sides) → AreAlike w → (number : ℕ) (result : Option Value) (put_by : List ℤ) (store : Store) (numbers : List ℤ) → AreContents w.frame store numbers → (condition : Condition) (instance : Name) (arguments : List Assignment) (own : List Code) (lowered : IsCallLowered w.here.scope condition instance arguments own) → OnwardFollows w (CallLine condition (1 + length arguments) ∷ lowered.assigned ++ lowered.body ∷ lowered.given) put_by (state_of result put_by numbers) (step_effect w.here number (Call condition instance arguments) result store)
+call_follows w alike number result put_by store numbers contents condition instance arguments own lowered =
+    by_choice (OnwardFollows w (CallLine condition (1 + length arguments) ∷ lowered.assigned ++ lowered.body ∷ lowered.given) put_by (state_of result put_by numbers)) (λ reason. tt)
     (meaning.acts condition result) (call_effect w.here number instance arguments result store) (Goes (Running result) store (AtLine number ∷ []))
-    (λ e. acting_follows w alike number result put_by store numbers contents condition instance arguments own laid (answer_given (meaning.acts condition result) (acts condition (option_map value_number result)) true (acts_follow condition result) e))
+    (λ e. acting_follows w alike number result put_by store numbers contents condition instance arguments own lowered (answer_given (meaning.acts condition result) (acts condition (option_map value_number result)) true (acts_follow condition result) e))
     (λ e. (numbers, contents, passing (answer_given (meaning.acts condition result) (acts condition (option_map value_number result)) false (acts_follow condition result) e)))
   where
-    behind : List Code
-    behind = laid.assigned ++ laid.body ∷ laid.given
+    following : List Code
+    following = lowered.assigned ++ lowered.body ∷ lowered.given
 
-    passing : acts condition (option_map value_number result) ≡ Some false → (others : List Code) → runs (flat w) ((CallLine condition (1 + length arguments) ∷ behind) ++ others) (Skips 0) (state_of result put_by numbers) ≡ then_counted 1 (runs (flat w) others (Skips 0) (state_of result put_by numbers))
+    passing : acts condition (option_map value_number result) ≡ Some false → (others : List Code) → runs (flat w) ((CallLine condition (1 + length arguments) ∷ following) ++ others) (Skips 0) (state_of result put_by numbers) ≡ then_counted 1 (runs (flat w) others (Skips 0) (state_of result put_by numbers))
     passing e others =
-        ap (λ (b : Option Bool). followed (turns (state_of result put_by numbers) b (Skips 0) (Skips (1 + length arguments))) (runs (flat w) (behind ++ others))) e
-        ∙ ap (then_counted 1) (ap (λ n. runs (flat w) (behind ++ others) (Skips n) (state_of result put_by numbers)) so_many ∙ passed_over (flat w) behind others 0 (state_of result put_by numbers))
+        ap (λ (b : Option Bool). followed (turns (state_of result put_by numbers) b (Skips 0) (Skips (1 + length arguments))) (runs (flat w) (following ++ others))) e
+        ∙ ap (then_counted 1) (ap (λ n. runs (flat w) (following ++ others) (Skips n) (state_of result put_by numbers)) so_many ∙ passed_over (flat w) following others 0 (state_of result put_by numbers))
       where
-        so_many : 1 + length arguments ≡ length behind + 0
-        so_many = let a = laid_behind w.here.scope condition instance arguments own laid in omega (arith, a)
+        so_many : 1 + length arguments ≡ length following + 0
+        so_many = let a = lowered_after w.here.scope condition instance arguments own lowered in omega (arith, a)

@@ -4,11 +4,11 @@ use Rattle.std.proofs.lemmas.List.{length-append, append-nil}
 use Rattle.std.specs.List.{AllByRecursion}
 use Rattle.std.specs.Option.{option_map}
 use Rattle.std.specs.Prelude.{if◌then◌else◌, slice_get}
-use Rattle.wc_text_flat.proofs.CallLines.{laid_behind}
-use Rattle.wc_text_flat.proofs.Bodies.{laid_length, step_laid_length}
+use Rattle.wc_text_flat.proofs.CallLines.{lowered_after}
+use Rattle.wc_text_flat.proofs.Bodies.{lowered_length, step_lowered_length}
 use Rattle.wc_text_flat.specs.Depths.{depth_after, depth_at, IsDepthRight}
-use Rattle.wc_text_flat.specs.Laid.{Operand, Number, At, load_line, apply_line, short_line, argument_line, AreArguments, AreOutputs, IsUnitBody, IsBodyOf, IsStepLaid, IsOpening, step_length, flat_length, lines_ahead, IsLaid, AreLaidBehind}
-use Rattle.wc_text_flat.specs.Laws.{LaidCodeNests}
+use Rattle.wc_text_flat.specs.Lowered.{Operand, Number, At, load_line, apply_line, short_line, argument_line, AreArguments, AreOutputs, IsUnitBody, IsBodyOf, IsStepLowered, IsOpening, step_length, flat_length, lines_ahead, IsLowered, AreLoweredAfter}
+use Rattle.wc_text_flat.specs.Laws.{LoweredCodeNests}
 use Rattle.wc_model.specs.Language.Declarations.{VariableType, Elementary, Standard, Block, block_named}
 use Rattle.wc_model.specs.Text.Limits.{depth, IsBodyWithinLimits}
 use Rattle.wc_model.specs.Language.Meaning.{carries}
@@ -22,13 +22,13 @@ use Rattle.wc_laws_soundness.proofs.FramePlaces.{one_number}
 
 -- what a line asks of the depth before it and of the lines after it
 abbrev pub IsDeepEnough : ℕ → Code → List Code → Type 0
-IsDeepEnough d Open behind = d < 8
-IsDeepEnough d (OpenNumber n) behind = d < 8
-IsDeepEnough d (OpenPlace place) behind = d < 8
-IsDeepEnough d (Close operator) behind = 0 < d
-IsDeepEnough d (Jump condition skip) behind = depth_at d behind skip ≡ d
-IsDeepEnough d (Call condition skip) behind = depth_at d behind skip ≡ d
-IsDeepEnough d line behind = Unit {0}
+IsDeepEnough d Open following = d < 8
+IsDeepEnough d (OpenNumber n) following = d < 8
+IsDeepEnough d (OpenPlace place) following = d < 8
+IsDeepEnough d (Close operator) following = 0 < d
+IsDeepEnough d (Jump condition skip) following = depth_at d following skip ≡ d
+IsDeepEnough d (Call condition skip) following = depth_at d following skip ≡ d
+IsDeepEnough d line following = Unit {0}
 
 abbrev pub AllDeepEnough : ℕ → List Code → Type 0
 AllDeepEnough d [] = Unit {0}
@@ -58,14 +58,14 @@ is_level (ArgumentPlace place target) = true
 is_level (StandardLine block at) = true
 is_level (Body unit at) = true
 
-pub level_asks : (d : ℕ) (line : Code) (behind : List Code) → is_level line ≡ true → IsDeepEnough d line behind
-level_asks d Open behind e = cc
-level_asks d (OpenNumber n) behind e = cc
-level_asks d (OpenPlace place) behind e = cc
-level_asks d (Close operator) behind e = cc
-level_asks d (Jump condition skip) behind e = cc
-level_asks d (Call condition skip) behind e = cc
-level_asks d line behind e = tt
+pub level_asks : (d : ℕ) (line : Code) (following : List Code) → is_level line ≡ true → IsDeepEnough d line following
+level_asks d Open following e = cc
+level_asks d (OpenNumber n) following e = cc
+level_asks d (OpenPlace place) following e = cc
+level_asks d (Close operator) following e = cc
+level_asks d (Jump condition skip) following e = cc
+level_asks d (Call condition skip) following e = cc
+level_asks d line following e = tt
 
 pub level_depth : (d : ℕ) (line : Code) → is_level line ≡ true → depth_after d line ≡ d
 level_depth d Open e = cc
@@ -138,8 +138,8 @@ body_level scope instance (Some (Block name)) body is = step (block_named scope.
 
 -- a body's lines before others: what they ask holds, after them is what was before, and so it is at each label ahead
 pub record AreMatched (lines : Lines) (code : List Code) (d : ℕ) : Type 0 where
-  pub met : (others : List Code) → AllDeepEnough d others → AllDeepEnough d (code ++ others)
-  pub behind : (others : List Code) (n : ℕ) → depth_at d (code ++ others) (length code + n) ≡ depth_at d others n
+  pub raised : (others : List Code) → AllDeepEnough d others → AllDeepEnough d (code ++ others)
+  pub following : (others : List Code) (n : ℕ) → depth_at d (code ++ others) (length code + n) ≡ depth_at d others n
   pub ahead : (others : List Code) (label : Name) (n : ℕ) → lines_ahead lines label ≡ Some n → depth_at d (code ++ others) n ≡ d
 
 -- at the first line nothing has changed
@@ -157,17 +157,17 @@ ahead_of rest own others d m so false label n later e = step (lines_ahead rest l
     step (Some k) is f = ap (depth_at d (own ++ others)) (sym (one_number (Some (m + k)) (m + k) n refl f)) ∙ (so k ∙ later k is)
 
 -- a step before the rest
-pub step_matched : (scope : Scope) (rest : Lines) (step : Step) (own : List Code) → IsStepLaid scope rest step own → (d : ℕ) (others : List Code) → ((label : Name) (n : ℕ) → lines_ahead rest label ≡ Some n → depth_at d others n ≡ d) → (AllDeepEnough d others → AllDeepEnough d (own ++ others)) × ((n : ℕ) → depth_at d (own ++ others) (length own + n) ≡ depth_at d others n)
-step_matched scope rest (Load negated term) own laid d others ahead = (subst IsLevel (sym laid.2) (line_level (load_line negated laid.0) (load_level negated laid.0))) d others
-step_matched scope rest (StoreStep storing target) own laid d others ahead = (subst IsLevel (sym laid.2) (line_level (Store storing laid.0) refl)) d others
-step_matched scope rest (Apply operator term) own laid d others ahead = (subst IsLevel (sym laid.2) (line_level (apply_line operator laid.0) (apply_level operator laid.0))) d others
-step_matched scope rest Negate own laid d others ahead = (subst IsLevel (sym laid) (line_level Not refl)) d others
-step_matched scope rest (ReturnStep condition) own laid d others ahead = (subst IsLevel (sym laid) (line_level (Return condition) refl)) d others
-step_matched scope rest (JumpStep condition label) own laid d others ahead =
-    subst (λ (c : List Code). (AllDeepEnough d others → AllDeepEnough d (c ++ others)) × ((n : ℕ) → depth_at d (c ++ others) (length c + n) ≡ depth_at d others n)) (sym laid.2)
-    (λ h. (ahead label laid.0 laid.1, h), λ n. ap (depth_at d (Jump condition laid.0 ∷ others)) (let a : length (Jump condition laid.0 ∷ []) + n ≡ 1 + n = omega arith in a) ∙ one_more_line d (Jump condition laid.0) others n)
-step_matched scope rest (CallStep condition instance arguments) own laid d others ahead =
-    subst (λ (c : List Code). (AllDeepEnough d others → AllDeepEnough d (c ++ others)) × ((n : ℕ) → depth_at d (c ++ others) (length c + n) ≡ depth_at d others n)) (sym laid.is) (
+pub step_matched : (scope : Scope) (rest : Lines) (step : Step) (own : List Code) → IsStepLowered scope rest step own → (d : ℕ) (others : List Code) → ((label : Name) (n : ℕ) → lines_ahead rest label ≡ Some n → depth_at d others n ≡ d) → (AllDeepEnough d others → AllDeepEnough d (own ++ others)) × ((n : ℕ) → depth_at d (own ++ others) (length own + n) ≡ depth_at d others n)
+step_matched scope rest (Load negated term) own lowered d others ahead = (subst IsLevel (sym lowered.2) (line_level (load_line negated lowered.0) (load_level negated lowered.0))) d others
+step_matched scope rest (StoreStep storing target) own lowered d others ahead = (subst IsLevel (sym lowered.2) (line_level (Store storing lowered.0) refl)) d others
+step_matched scope rest (Apply operator term) own lowered d others ahead = (subst IsLevel (sym lowered.2) (line_level (apply_line operator lowered.0) (apply_level operator lowered.0))) d others
+step_matched scope rest Negate own lowered d others ahead = (subst IsLevel (sym lowered) (line_level Not refl)) d others
+step_matched scope rest (ReturnStep condition) own lowered d others ahead = (subst IsLevel (sym lowered) (line_level (Return condition) refl)) d others
+step_matched scope rest (JumpStep condition label) own lowered d others ahead =
+    subst (λ (c : List Code). (AllDeepEnough d others → AllDeepEnough d (c ++ others)) × ((n : ℕ) → depth_at d (c ++ others) (length c + n) ≡ depth_at d others n)) (sym lowered.2)
+    (λ h. (ahead label lowered.0 lowered.1, h), λ n. ap (depth_at d (Jump condition lowered.0 ∷ others)) (let a : length (Jump condition lowered.0 ∷ []) + n ≡ 1 + n = omega arith in a) ∙ one_more_line d (Jump condition lowered.0) others n)
+step_matched scope rest (CallStep condition instance arguments) own lowered d others ahead =
+    subst (λ (c : List Code). (AllDeepEnough d others → AllDeepEnough d (c ++ others)) × ((n : ℕ) → depth_at d (c ++ others) (length c + n) ≡ depth_at d others n)) (sym lowered.is) (
       λ h. (passed, (level d others).0 h),
       λ n. ap (depth_at d (line ∷ (lines ++ others))) (let a : length (line ∷ lines) + n ≡ 1 + (length lines + n) = omega arith in a) ∙ (one_more_line d line (lines ++ others) (length lines + n) ∙ (level d others).1 n),
     )
@@ -176,24 +176,24 @@ step_matched scope rest (CallStep condition instance arguments) own laid d other
     line = Call condition (1 + length arguments)
 
     lines : List Code
-    lines = laid.assigned ++ laid.body ∷ laid.given
+    lines = lowered.assigned ++ lowered.body ∷ lowered.given
 
     level : IsLevel lines
     level =
-        level_joined laid.assigned (laid.body ∷ laid.given) (arguments_level scope instance (inputs_of arguments) laid.assigned laid.inputs)
-        (level_joined (laid.body ∷ []) laid.given (line_level laid.body (body_level scope instance (type_of scope instance) laid.body laid.called)) (outputs_level scope instance (outputs_of arguments) laid.given laid.outputs))
+        level_joined lowered.assigned (lowered.body ∷ lowered.given) (arguments_level scope instance (inputs_of arguments) lowered.assigned lowered.inputs)
+        (level_joined (lowered.body ∷ []) lowered.given (line_level lowered.body (body_level scope instance (type_of scope instance) lowered.body lowered.called)) (outputs_level scope instance (outputs_of arguments) lowered.given lowered.outputs))
 
     passed : depth_at d (lines ++ others) (1 + length arguments) ≡ d
     passed =
-        let a = laid_behind scope condition instance arguments own laid in
+        let a = lowered_after scope condition instance arguments own lowered in
         ap (depth_at d (lines ++ others)) (let e : 1 + length arguments ≡ length lines + 0 = omega (arith, a) in e) ∙ ((level d others).1 0 ∙ at_first d others)
 
 -- an opening line
-pub opening_deep : (scope : Scope) (operand : Option Term) (line : Code) → IsOpening scope operand line → (d : ℕ) (behind : List Code) → d < 8 → IsDeepEnough d line behind × (depth_after d line ≡ suc d)
-opening_deep scope None line is d behind l = subst (λ c. IsDeepEnough d c behind × (depth_after d c ≡ suc d)) (sym is) (l, refl)
-opening_deep scope (Some term) line is d behind l = subst (λ c. IsDeepEnough d c behind × (depth_after d c ≡ suc d)) (sym is.2) (short is.0)
+pub opening_deep : (scope : Scope) (operand : Option Term) (line : Code) → IsOpening scope operand line → (d : ℕ) (following : List Code) → d < 8 → IsDeepEnough d line following × (depth_after d line ≡ suc d)
+opening_deep scope None line is d following l = subst (λ c. IsDeepEnough d c following × (depth_after d c ≡ suc d)) (sym is) (l, refl)
+opening_deep scope (Some term) line is d following l = subst (λ c. IsDeepEnough d c following × (depth_after d c ≡ suc d)) (sym is.2) (short is.0)
   where
-    short : (o : Operand) → IsDeepEnough d (short_line o) behind × (depth_after d (short_line o) ≡ suc d)
+    short : (o : Operand) → IsDeepEnough d (short_line o) following × (depth_after d (short_line o) ≡ suc d)
     short (Number n) = (l, refl)
     short (At place) = (l, refl)
 
@@ -202,89 +202,89 @@ pub both_depths : (inside rest d : ℕ) → max (1 + inside) rest + d ≤ 8 → 
 both_depths inside rest d l = (omega (arith, l), omega (arith, l), omega (arith, l))
 
 -- the lines of a body
-pub lines_matched : (scope : Scope) (lines : Lines) (code : List Code) → IsLaid scope lines code → (d : ℕ) → depth lines + d ≤ 8 → AreMatched lines code d
-lines_matched scope End code laid d l = record {
-  met = λ others h. subst (λ (c : List Code). AllDeepEnough d (c ++ others)) (sym laid) h;
-  behind = λ others n. ap (λ (c : List Code). depth_at d (c ++ others) (length c + n)) laid ∙ ap (depth_at d others) (let a : 0 + n ≡ n = omega arith in a);
+pub lines_matched : (scope : Scope) (lines : Lines) (code : List Code) → IsLowered scope lines code → (d : ℕ) → depth lines + d ≤ 8 → AreMatched lines code d
+lines_matched scope End code lowered d l = record {
+  raised = λ others h. subst (λ (c : List Code). AllDeepEnough d (c ++ others)) (sym lowered) h;
+  following = λ others n. ap (λ (c : List Code). depth_at d (c ++ others) (length c + n)) lowered ∙ ap (depth_at d others) (let a : 0 + n ≡ n = omega arith in a);
   ahead = λ others label n e. cc;
 }
-lines_matched scope (Alone word rest) code laid d l =
-    let m = lines_matched scope rest code laid d l in
+lines_matched scope (Alone word rest) code lowered d l =
+    let m = lines_matched scope rest code lowered d l in
     record {
-      met = m.met;
-      behind = m.behind;
+      raised = m.raised;
+      following = m.following;
       ahead = λ others label n e. alone others label n (carries (Some word) label) e (m.ahead others label n);
     }
   where
     alone : (others : List Code) (label : Name) (n : ℕ) (b : Bool) → (if b then Some 0 else lines_ahead rest label) ≡ Some n → (lines_ahead rest label ≡ Some n → depth_at d (code ++ others) n ≡ d) → depth_at d (code ++ others) n ≡ d
     alone others label n true e later = ap (depth_at d (code ++ others)) (sym (one_number (Some 0) 0 n refl e)) ∙ at_first d (code ++ others)
     alone others label n false e later = later e
-lines_matched scope (Plain word line step rest) code laid d l =
-    let m = lines_matched scope rest laid.others laid.rest d l in
-    let joined : (others : List Code) → code ++ others ≡ laid.own ++ (laid.others ++ others) = λ others. ap (λ (c : List Code). c ++ others) laid.whole ∙ append_assoc laid.own laid.others others in
-    let s = λ (others : List Code). step_matched scope rest step laid.own laid.step d (laid.others ++ others) (m.ahead others) in
-    let count : length code ≡ length laid.own + length laid.others = ap (λ (c : List Code). length c) laid.whole ∙ length-append laid.own laid.others in
-    let own : length laid.own ≡ step_length step = step_laid_length scope rest step laid.own laid.step in
+lines_matched scope (Plain word line step rest) code lowered d l =
+    let m = lines_matched scope rest lowered.others lowered.rest d l in
+    let joined : (others : List Code) → code ++ others ≡ lowered.own ++ (lowered.others ++ others) = λ others. ap (λ (c : List Code). c ++ others) lowered.whole ∙ append_assoc lowered.own lowered.others others in
+    let s = λ (others : List Code). step_matched scope rest step lowered.own lowered.step d (lowered.others ++ others) (m.ahead others) in
+    let count : length code ≡ length lowered.own + length lowered.others = ap (λ (c : List Code). length c) lowered.whole ∙ length-append lowered.own lowered.others in
+    let own : length lowered.own ≡ step_length step = step_lowered_length scope rest step lowered.own lowered.step in
     record {
-      met = λ others h. subst (AllDeepEnough d) (sym (joined others)) ((s others).0 (m.met others h));
-      behind = λ others n. ap (λ (c : List Code). depth_at d c (length code + n)) (joined others)
-          ∙ (ap (depth_at d (laid.own ++ (laid.others ++ others))) (let e : length code + n ≡ length laid.own + (length laid.others + n) = omega (arith, count) in e)
-          ∙ ((s others).1 (length laid.others + n) ∙ m.behind others n));
+      raised = λ others h. subst (AllDeepEnough d) (sym (joined others)) ((s others).0 (m.raised others h));
+      following = λ others n. ap (λ (c : List Code). depth_at d c (length code + n)) (joined others)
+          ∙ (ap (depth_at d (lowered.own ++ (lowered.others ++ others))) (let e : length code + n ≡ length lowered.own + (length lowered.others + n) = omega (arith, count) in e)
+          ∙ ((s others).1 (length lowered.others + n) ∙ m.following others n));
       ahead = λ others label n e. ap (λ (c : List Code). depth_at d c n) (joined others)
-          ∙ ahead_of rest laid.own (laid.others ++ others) d (step_length step) (λ k. ap (λ x. depth_at d (laid.own ++ (laid.others ++ others)) (x + k)) (sym own) ∙ (s others).1 k) (carries word label) label n (m.ahead others label) e;
+          ∙ ahead_of rest lowered.own (lowered.others ++ others) d (step_length step) (λ k. ap (λ x. depth_at d (lowered.own ++ (lowered.others ++ others)) (x + k)) (sym own) ∙ (s others).1 k) (carries word label) label n (m.ahead others label) e;
     }
-lines_matched scope (Nested word line operator operand inside close rest) code laid d l =
+lines_matched scope (Nested word line operator operand inside close rest) code lowered d l =
     let b = both_depths (depth inside) (depth rest) d l in
-    let m = lines_matched scope rest laid.others laid.rest d b.1 in
-    let i = lines_matched scope inside laid.inner laid.inside (suc d) b.0 in
-    let own : List Code = laid.opening ∷ laid.inner ++ Close operator ∷ [] in
-    let joined : (others : List Code) → code ++ others ≡ laid.opening ∷ (laid.inner ++ (Close operator ∷ (laid.others ++ others))) =
-    λ others. ap (λ (c : List Code). c ++ others) laid.whole ∙ ap (λ (c : List Code). laid.opening ∷ c) (append_assoc laid.inner (Close operator ∷ laid.others) others)
+    let m = lines_matched scope rest lowered.others lowered.rest d b.1 in
+    let i = lines_matched scope inside lowered.inner lowered.inside (suc d) b.0 in
+    let own : List Code = lowered.opening ∷ lowered.inner ++ Close operator ∷ [] in
+    let joined : (others : List Code) → code ++ others ≡ lowered.opening ∷ (lowered.inner ++ (Close operator ∷ (lowered.others ++ others))) =
+    λ others. ap (λ (c : List Code). c ++ others) lowered.whole ∙ ap (λ (c : List Code). lowered.opening ∷ c) (append_assoc lowered.inner (Close operator ∷ lowered.others) others)
     in
-    let o = λ (behind : List Code). opening_deep scope operand laid.opening laid.opens d behind b.2 in
-    let count : length code ≡ 2 + length laid.inner + length laid.others =
-    (let a : length (laid.inner ++ Close operator ∷ laid.others) ≡ length laid.inner + length (Close operator ∷ laid.others) = length-append laid.inner (Close operator ∷ laid.others) in
-    let e : length code ≡ length (laid.opening ∷ laid.inner ++ Close operator ∷ laid.others) = ap (λ (c : List Code). length c) laid.whole in
+    let o = λ (following : List Code). opening_deep scope operand lowered.opening lowered.opens d following b.2 in
+    let count : length code ≡ 2 + length lowered.inner + length lowered.others =
+    (let a : length (lowered.inner ++ Close operator ∷ lowered.others) ≡ length lowered.inner + length (Close operator ∷ lowered.others) = length-append lowered.inner (Close operator ∷ lowered.others) in
+    let e : length code ≡ length (lowered.opening ∷ lowered.inner ++ Close operator ∷ lowered.others) = ap (λ (c : List Code). length c) lowered.whole in
     omega (arith, a, e))
     in
-    let inner : length laid.inner ≡ flat_length inside = laid_length scope inside laid.inner laid.inside in
-    let past : (others : List Code) (k : ℕ) → depth_at d (laid.opening ∷ (laid.inner ++ (Close operator ∷ (laid.others ++ others)))) (2 + length laid.inner + k) ≡ depth_at d (laid.others ++ others) k =
+    let inner : length lowered.inner ≡ flat_length inside = lowered_length scope inside lowered.inner lowered.inside in
+    let past : (others : List Code) (k : ℕ) → depth_at d (lowered.opening ∷ (lowered.inner ++ (Close operator ∷ (lowered.others ++ others)))) (2 + length lowered.inner + k) ≡ depth_at d (lowered.others ++ others) k =
     λ others k.
-    let rest_code : List Code = Close operator ∷ (laid.others ++ others) in
-    ap (depth_at d (laid.opening ∷ (laid.inner ++ rest_code))) (let e : 2 + length laid.inner + k ≡ 1 + (length laid.inner + (1 + k)) = omega arith in e)
-    ∙ (one_more_line d laid.opening (laid.inner ++ rest_code) (length laid.inner + (1 + k))
-    ∙ (ap (λ x. depth_at x (laid.inner ++ rest_code) (length laid.inner + (1 + k))) (o (laid.inner ++ rest_code)).1
-    ∙ (i.behind rest_code (1 + k) ∙ one_more_line (suc d) (Close operator) (laid.others ++ others) k)))
+    let rest_code : List Code = Close operator ∷ (lowered.others ++ others) in
+    ap (depth_at d (lowered.opening ∷ (lowered.inner ++ rest_code))) (let e : 2 + length lowered.inner + k ≡ 1 + (length lowered.inner + (1 + k)) = omega arith in e)
+    ∙ (one_more_line d lowered.opening (lowered.inner ++ rest_code) (length lowered.inner + (1 + k))
+    ∙ (ap (λ x. depth_at x (lowered.inner ++ rest_code) (length lowered.inner + (1 + k))) (o (lowered.inner ++ rest_code)).1
+    ∙ (i.following rest_code (1 + k) ∙ one_more_line (suc d) (Close operator) (lowered.others ++ others) k)))
     in
     record {
-      met = λ others h.
-          let rest_code : List Code = Close operator ∷ (laid.others ++ others) in
+      raised = λ others h.
+          let rest_code : List Code = Close operator ∷ (lowered.others ++ others) in
           subst (AllDeepEnough d) (sym (joined others))
-          ((o (laid.inner ++ rest_code)).0, subst (λ x. AllDeepEnough x (laid.inner ++ rest_code)) (sym (o (laid.inner ++ rest_code)).1) (i.met rest_code (omega arith, m.met others h)));
-      behind = λ others n. ap (λ (c : List Code). depth_at d c (length code + n)) (joined others)
-          ∙ (ap (depth_at d (laid.opening ∷ (laid.inner ++ (Close operator ∷ (laid.others ++ others))))) (let e : length code + n ≡ 2 + length laid.inner + (length laid.others + n) = omega (arith, count) in e)
-          ∙ (past others (length laid.others + n) ∙ m.behind others n));
+          ((o (lowered.inner ++ rest_code)).0, subst (λ x. AllDeepEnough x (lowered.inner ++ rest_code)) (sym (o (lowered.inner ++ rest_code)).1) (i.raised rest_code (omega arith, m.raised others h)));
+      following = λ others n. ap (λ (c : List Code). depth_at d c (length code + n)) (joined others)
+          ∙ (ap (depth_at d (lowered.opening ∷ (lowered.inner ++ (Close operator ∷ (lowered.others ++ others))))) (let e : length code + n ≡ 2 + length lowered.inner + (length lowered.others + n) = omega (arith, count) in e)
+          ∙ (past others (length lowered.others + n) ∙ m.following others n));
       ahead = λ others label n e.
-          let regroup : (laid.opening ∷ laid.inner ++ Close operator ∷ []) ++ (laid.others ++ others) ≡ laid.opening ∷ (laid.inner ++ (Close operator ∷ (laid.others ++ others))) = ap (λ (c : List Code). laid.opening ∷ c) (append_assoc laid.inner (Close operator ∷ []) (laid.others ++ others)) in
+          let regroup : (lowered.opening ∷ lowered.inner ++ Close operator ∷ []) ++ (lowered.others ++ others) ≡ lowered.opening ∷ (lowered.inner ++ (Close operator ∷ (lowered.others ++ others))) = ap (λ (c : List Code). lowered.opening ∷ c) (append_assoc lowered.inner (Close operator ∷ []) (lowered.others ++ others)) in
           ap (λ (c : List Code). depth_at d c n) (joined others ∙ sym regroup)
-          ∙ ahead_of rest (laid.opening ∷ laid.inner ++ Close operator ∷ []) (laid.others ++ others) d (2 + flat_length inside)
-          (λ k. ap (λ (c : List Code). depth_at d c (2 + flat_length inside + k)) regroup ∙ (ap (λ x. depth_at d (laid.opening ∷ (laid.inner ++ (Close operator ∷ (laid.others ++ others)))) (2 + x + k)) (sym inner) ∙ past others k)) (carries word label) label n (m.ahead others label) e;
+          ∙ ahead_of rest (lowered.opening ∷ lowered.inner ++ Close operator ∷ []) (lowered.others ++ others) d (2 + flat_length inside)
+          (λ k. ap (λ (c : List Code). depth_at d c (2 + flat_length inside + k)) regroup ∙ (ap (λ x. depth_at d (lowered.opening ∷ (lowered.inner ++ (Close operator ∷ (lowered.others ++ others)))) (2 + x + k)) (sym inner) ∙ past others k)) (carries word label) label n (m.ahead others label) e;
     }
 
 -- what a line of some number asks, and what follows it
 pub record Deep (d : ℕ) (code : List Code) (k : ℕ) (line : Code) : Type 0 where
-  pub behind : List Code
-  pub asked : IsDeepEnough (depth_at d code k) line behind
-  pub onward : (n : ℕ) → depth_at (depth_after (depth_at d code k) line) behind n ≡ depth_at d code (suc k + n)
+  pub following : List Code
+  pub asked : IsDeepEnough (depth_at d code k) line following
+  pub onward : (n : ℕ) → depth_at (depth_after (depth_at d code k) line) following n ≡ depth_at d code (suc k + n)
 
 pub deep_at : (d : ℕ) (code : List Code) → AllDeepEnough d code → (k : ℕ) (line : Code) → slice_get code k ≡ Some line → Deep d code k line
 deep_at d [] h k line e = cc
 deep_at d (x ∷ code) h zero line e =
     let is : x ≡ line = cc in
-    subst (λ l. Deep d (x ∷ code) 0 l) is (record { behind = code; asked = h.0; onward = λ n. sym (ap (depth_at d (x ∷ code)) (let a : suc 0 + n ≡ suc n = omega arith in a)) })
+    subst (λ l. Deep d (x ∷ code) 0 l) is (record { following = code; asked = h.0; onward = λ n. sym (ap (depth_at d (x ∷ code)) (let a : suc 0 + n ≡ suc n = omega arith in a)) })
 deep_at d (x ∷ code) h (suc k) line e =
     let m = deep_at (depth_after d x) code h.1 k line e in
-    record { behind = m.behind; asked = m.asked; onward = λ n. m.onward n ∙ sym (ap (depth_at d (x ∷ code)) (let a : suc (suc k) + n ≡ suc (suc k + n) = omega arith in a)) }
+    record { following = m.following; asked = m.asked; onward = λ n. m.onward n ∙ sym (ap (depth_at d (x ∷ code)) (let a : suc (suc k) + n ≡ suc (suc k + n) = omega arith in a)) }
 
 pub depth_right : (code : List Code) (k : ℕ) (line : Code) → Deep 0 code k line → IsDepthRight code k line
 depth_right code k Open m = m.asked
@@ -296,17 +296,17 @@ depth_right code k (Call condition skip) m = sym (m.onward skip) ∙ m.asked
 depth_right code k line m = tt
 
 -- the code of each unit
-pub units_deep : (before units : List ProgramUnit) (codes : List (List Code)) → AreLaidBehind before units codes → AllByRecursion IsBodyWithinLimits units → (i : ℕ) (code : List Code) → slice_get codes i ≡ Some code → AllDeepEnough 0 code
-units_deep before [] [] laid limits i code e = cc
-units_deep before [] (first ∷ codes) laid limits i code e = absurd laid
-units_deep before (unit ∷ units) [] laid limits i code e = absurd laid
-units_deep before (unit ∷ units) (first ∷ codes) laid limits zero code e =
+pub units_deep : (before units : List ProgramUnit) (codes : List (List Code)) → AreLoweredAfter before units codes → AllByRecursion IsBodyWithinLimits units → (i : ℕ) (code : List Code) → slice_get codes i ≡ Some code → AllDeepEnough 0 code
+units_deep before [] [] lowered limits i code e = cc
+units_deep before [] (first ∷ codes) lowered limits i code e = absurd lowered
+units_deep before (unit ∷ units) [] lowered limits i code e = absurd lowered
+units_deep before (unit ∷ units) (first ∷ codes) lowered limits zero code e =
     let is : first ≡ code = cc in
     let l = limits.0.depth_of_body in
-    let m = lines_matched (record { before = before; unit = unit }) unit.body first laid.0 0 (omega (arith, l)) in
-    subst (AllDeepEnough 0) (append-nil first ∙ is) (m.met [] tt)
-units_deep before (unit ∷ units) (first ∷ codes) laid limits (suc i) code e = units_deep (unit ∷ before) units codes laid.1 limits.1 i code e
+    let m = lines_matched (record { before = before; unit = unit }) unit.body first lowered.0 0 (omega (arith, l)) in
+    subst (AllDeepEnough 0) (append-nil first ∙ is) (m.raised [] tt)
+units_deep before (unit ∷ units) (first ∷ codes) lowered limits (suc i) code e = units_deep (unit ∷ before) units codes lowered.1 limits.1 i code e
 
-pub laid_code_nests : LaidCodeNests
-laid_code_nests bytes text read codes laid unit code e k line s =
-    depth_right code k line (deep_at 0 code (units_deep [] text codes laid read.within_limits.bodies unit code e) k line s)
+pub lowered_code_nests : LoweredCodeNests
+lowered_code_nests bytes text read codes lowered unit code e k line s =
+    depth_right code k line (deep_at 0 code (units_deep [] text codes lowered read.within_limits.bodies unit code e) k line s)

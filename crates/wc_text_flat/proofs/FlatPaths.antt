@@ -4,10 +4,10 @@ use Rattle.std.proofs.lemmas.Bool.{ltb-true, ltb-false}
 use Rattle.std.proofs.lemmas.List.{length-append, length-map}
 use Rattle.std.specs.Option.{option_map}
 use Rattle.std.specs.Prelude.{if◌then◌else◌, slice_index}
-use Rattle.wc_text_flat.proofs.CallLines.{all_parts, laid_behind}
-use Rattle.wc_text_flat.proofs.Bodies.{regrouped, step_laid_length, laid_length}
+use Rattle.wc_text_flat.proofs.CallLines.{all_parts, lowered_after}
+use Rattle.wc_text_flat.proofs.Bodies.{regrouped, step_lowered_length, lowered_length}
 use Rattle.wc_text_flat.specs.FlatPaths.{step_sources, sources_of, Worst, no_more, one_more, some_more, worse, from_line, turned, line_worst, worst_from}
-use Rattle.wc_text_flat.specs.Laid.{Operand, Number, At, load_line, apply_line, short_line, argument_line, AreArguments, AreOutputs, IsUnitBody, IsBodyOf, IsStepLaid, IsOpening, step_length, flat_length, lines_ahead, IsLaid}
+use Rattle.wc_text_flat.specs.Lowered.{Operand, Number, At, load_line, apply_line, short_line, argument_line, AreArguments, AreOutputs, IsUnitBody, IsBodyOf, IsStepLowered, IsOpening, step_length, flat_length, lines_ahead, IsLowered}
 use Rattle.wc_laws_language.proofs.Longest.{Found, prefixed, longer, trace_length, call_items, body_items, from_items, chosen, best_step, best_pass, nested_items, best}
 use Rattle.wc_model.specs.Language.Declarations.{VariableType, Elementary, Standard, Block, block_named}
 use Rattle.wc_model.specs.Language.Meaning.{call_trace, carries}
@@ -88,13 +88,13 @@ measured_chosen IfTrue line acting passing there onward a p = subst (λ (w : Wor
 measured_chosen IfFalse line acting passing there onward a p = subst (λ (w : Worst). MeasuredAs (longer passing acting) w) (worse_later line onward there) (measured_longer passing acting (one_more line onward) (one_more line there) p a)
 
 -- the paths from lines after others
-pub worst_behind : (bounds : List ℕ) (own others : List Code) (mine sources : List ℕ) (n : ℕ) → length mine ≡ length own → from_line (worst_from bounds (own ++ others) (mine ++ sources)) (length own + n) ≡ from_line (worst_from bounds others sources) n
-worst_behind bounds [] others [] sources n e = ap (from_line (worst_from bounds others sources)) (let a : 0 + n ≡ n = omega arith in a)
-worst_behind bounds [] others (m ∷ mine) sources n e = absurd (omega (arith, e))
-worst_behind bounds (line ∷ own) others [] sources n e = absurd (omega (arith, e))
-worst_behind bounds (line ∷ own) others (m ∷ mine) sources n e =
+pub worst_after : (bounds : List ℕ) (own others : List Code) (mine sources : List ℕ) (n : ℕ) → length mine ≡ length own → from_line (worst_from bounds (own ++ others) (mine ++ sources)) (length own + n) ≡ from_line (worst_from bounds others sources) n
+worst_after bounds [] others [] sources n e = ap (from_line (worst_from bounds others sources)) (let a : 0 + n ≡ n = omega arith in a)
+worst_after bounds [] others (m ∷ mine) sources n e = absurd (omega (arith, e))
+worst_after bounds (line ∷ own) others [] sources n e = absurd (omega (arith, e))
+worst_after bounds (line ∷ own) others (m ∷ mine) sources n e =
     ap (from_line (worst_from bounds (line ∷ own ++ others) (m ∷ mine ++ sources))) (let a : length (line ∷ own) + n ≡ suc (length own + n) = omega arith in a)
-    ∙ worst_behind bounds own others mine sources n (omega (arith, e))
+    ∙ worst_after bounds own others mine sources n (omega (arith, e))
 
 -- the lines of operands are lines of the body
 pub load_measured : (bounds : List ℕ) (source : ℕ) (rest : List Worst) (negated : Bool) (o : Operand) → line_worst bounds source rest (load_line negated o) ≡ one_more source (from_line rest 0)
@@ -127,14 +127,14 @@ is_plain (Jump condition label) = false
 is_plain (Call condition instance arguments) = false
 is_plain (Return condition) = false
 
-pub plain_line : (bounds : List ℕ) (scope : Scope) (rest : Lines) (step : Step) → is_plain step ≡ true → (line : ℕ) (own others : List Code) (sources : List ℕ) → IsStepLaid scope rest step own → from_line (worst_from bounds (own ++ others) (step_sources line step ++ sources)) 0 ≡ one_more line (from_line (worst_from bounds others sources) 0)
-plain_line bounds scope rest (Load negated term) p line own others sources laid = ap (λ (c : List Code). from_line (worst_from bounds (c ++ others) (line ∷ sources)) 0) laid.2 ∙ load_measured bounds line (worst_from bounds others sources) negated laid.0
-plain_line bounds scope rest (StoreStep storing target) p line own others sources laid = ap (λ (c : List Code). from_line (worst_from bounds (c ++ others) (line ∷ sources)) 0) laid.2
-plain_line bounds scope rest (Apply operator term) p line own others sources laid = ap (λ (c : List Code). from_line (worst_from bounds (c ++ others) (line ∷ sources)) 0) laid.2 ∙ apply_measured bounds line (worst_from bounds others sources) operator laid.0
-plain_line bounds scope rest Negate p line own others sources laid = ap (λ (c : List Code). from_line (worst_from bounds (c ++ others) (line ∷ sources)) 0) laid
-plain_line bounds scope rest (Jump condition label) p line own others sources laid = cc
-plain_line bounds scope rest (Call condition instance arguments) p line own others sources laid = cc
-plain_line bounds scope rest (Return condition) p line own others sources laid = cc
+pub plain_line : (bounds : List ℕ) (scope : Scope) (rest : Lines) (step : Step) → is_plain step ≡ true → (line : ℕ) (own others : List Code) (sources : List ℕ) → IsStepLowered scope rest step own → from_line (worst_from bounds (own ++ others) (step_sources line step ++ sources)) 0 ≡ one_more line (from_line (worst_from bounds others sources) 0)
+plain_line bounds scope rest (Load negated term) p line own others sources lowered = ap (λ (c : List Code). from_line (worst_from bounds (c ++ others) (line ∷ sources)) 0) lowered.2 ∙ load_measured bounds line (worst_from bounds others sources) negated lowered.0
+plain_line bounds scope rest (StoreStep storing target) p line own others sources lowered = ap (λ (c : List Code). from_line (worst_from bounds (c ++ others) (line ∷ sources)) 0) lowered.2
+plain_line bounds scope rest (Apply operator term) p line own others sources lowered = ap (λ (c : List Code). from_line (worst_from bounds (c ++ others) (line ∷ sources)) 0) lowered.2 ∙ apply_measured bounds line (worst_from bounds others sources) operator lowered.0
+plain_line bounds scope rest Negate p line own others sources lowered = ap (λ (c : List Code). from_line (worst_from bounds (c ++ others) (line ∷ sources)) 0) lowered
+plain_line bounds scope rest (Jump condition label) p line own others sources lowered = cc
+plain_line bounds scope rest (Call condition instance arguments) p line own others sources lowered = cc
+plain_line bounds scope rest (Return condition) p line own others sources lowered = cc
 
 -- and its longest path goes on with the next line
 pub plain_best : (block : Name → Found) (scope : Scope) (line : ℕ) (step : Step) → is_plain step ≡ true → (go : Way → Found) → best_step block scope line step go ≡ prefixed (AtLine line ∷ []) (go Onward)
@@ -194,36 +194,36 @@ pub record InsideMeasured (bounds : List ℕ) (found : Found) (code : List Code)
   pub is : found ≡ Some path
   pub way : (others : List Code) (more : List ℕ) → from_line (worst_from bounds (code ++ others) (sources ++ more)) 0 ≡ before_way path (from_line (worst_from bounds others more) 0)
 
-pub inside_measured : (bounds : List ℕ) (block : Name → Found) (scope : Scope) (lines : Lines) → IsSimple lines → (code : List Code) → IsLaid scope lines code → InsideMeasured bounds (best block scope lines Onward) code (sources_of lines)
-inside_measured bounds block scope End simple code laid = record {
+pub inside_measured : (bounds : List ℕ) (block : Name → Found) (scope : Scope) (lines : Lines) → IsSimple lines → (code : List Code) → IsLowered scope lines code → InsideMeasured bounds (best block scope lines Onward) code (sources_of lines)
+inside_measured bounds block scope End simple code lowered = record {
   path = [];
   is = refl;
-  way = λ others more. ap (λ (c : List Code). from_line (worst_from bounds (c ++ others) more) 0) laid ∙ before_nothing (from_line (worst_from bounds others more) 0);
+  way = λ others more. ap (λ (c : List Code). from_line (worst_from bounds (c ++ others) more) 0) lowered ∙ before_nothing (from_line (worst_from bounds others more) 0);
 }
-inside_measured bounds block scope (Alone word rest) simple code laid = inside_measured bounds block scope rest simple code laid
-inside_measured bounds block scope (Plain word line step rest) simple code laid =
+inside_measured bounds block scope (Alone word rest) simple code lowered = inside_measured bounds block scope rest simple code lowered
+inside_measured bounds block scope (Plain word line step rest) simple code lowered =
     let p = simple_is_plain step simple.0 in
-    let m = inside_measured bounds block scope rest simple.1 laid.others laid.rest in
+    let m = inside_measured bounds block scope rest simple.1 lowered.others lowered.rest in
     record {
       path = AtLine line ∷ m.path;
       is = plain_best block scope line step p (best block scope rest) ∙ ap (prefixed (AtLine line ∷ [])) m.is;
-      way = λ others more. ap (λ (c : List Code). from_line (worst_from bounds (c ++ others) ((step_sources line step ++ sources_of rest) ++ more)) 0) laid.whole
-          ∙ (ap (λ (c : List Code). from_line (worst_from bounds c ((step_sources line step ++ sources_of rest) ++ more)) 0) (append_assoc laid.own laid.others others)
-          ∙ (ap (λ (ns : List ℕ). from_line (worst_from bounds (laid.own ++ (laid.others ++ others)) ns) 0) (append_assoc (step_sources line step) (sources_of rest) more)
-          ∙ (plain_line bounds scope rest step p line laid.own (laid.others ++ others) (sources_of rest ++ more) laid.step
+      way = λ others more. ap (λ (c : List Code). from_line (worst_from bounds (c ++ others) ((step_sources line step ++ sources_of rest) ++ more)) 0) lowered.whole
+          ∙ (ap (λ (c : List Code). from_line (worst_from bounds c ((step_sources line step ++ sources_of rest) ++ more)) 0) (append_assoc lowered.own lowered.others others)
+          ∙ (ap (λ (ns : List ℕ). from_line (worst_from bounds (lowered.own ++ (lowered.others ++ others)) ns) 0) (append_assoc (step_sources line step) (sources_of rest) more)
+          ∙ (plain_line bounds scope rest step p line lowered.own (lowered.others ++ others) (sources_of rest ++ more) lowered.step
           ∙ (ap (one_more line) (m.way others more) ∙ before_line line m.path (from_line (worst_from bounds others more) 0)))));
     }
-inside_measured bounds block scope (Nested word line operator operand inside close rest) simple code laid =
-    let i = inside_measured bounds block scope inside simple.0 laid.inner laid.inside in
-    let m = inside_measured bounds block scope rest simple.1 laid.others laid.rest in
+inside_measured bounds block scope (Nested word line operator operand inside close rest) simple code lowered =
+    let i = inside_measured bounds block scope inside simple.0 lowered.inner lowered.inside in
+    let m = inside_measured bounds block scope rest simple.1 lowered.others lowered.rest in
     record {
       path = (AtLine line ∷ i.path ++ AtLine close ∷ []) ++ m.path;
       is = ap (λ (f : Found). from_items (nested_items line close f) (best block scope rest Onward)) i.is ∙ ap (prefixed (AtLine line ∷ i.path ++ AtLine close ∷ [])) m.is;
-      way = λ others more. ap (λ (c : List Code). from_line (worst_from bounds (c ++ others) ((line ∷ sources_of inside ++ close ∷ sources_of rest) ++ more)) 0) laid.whole
-          ∙ (ap (λ (c : List Code). from_line (worst_from bounds (laid.opening ∷ c) (line ∷ (sources_of inside ++ close ∷ sources_of rest) ++ more)) 0) (append_assoc laid.inner (Close operator ∷ laid.others) others)
-          ∙ (ap (λ (ns : List ℕ). from_line (worst_from bounds (laid.opening ∷ (laid.inner ++ (Close operator ∷ laid.others ++ others))) (line ∷ ns)) 0) (append_assoc (sources_of inside) (close ∷ sources_of rest) more)
-          ∙ (opening_measured bounds scope line (worst_from bounds (laid.inner ++ (Close operator ∷ laid.others ++ others)) (sources_of inside ++ (close ∷ sources_of rest ++ more))) operand laid.opening laid.opens
-          ∙ (ap (one_more line) (i.way (Close operator ∷ laid.others ++ others) (close ∷ sources_of rest ++ more))
+      way = λ others more. ap (λ (c : List Code). from_line (worst_from bounds (c ++ others) ((line ∷ sources_of inside ++ close ∷ sources_of rest) ++ more)) 0) lowered.whole
+          ∙ (ap (λ (c : List Code). from_line (worst_from bounds (lowered.opening ∷ c) (line ∷ (sources_of inside ++ close ∷ sources_of rest) ++ more)) 0) (append_assoc lowered.inner (Close operator ∷ lowered.others) others)
+          ∙ (ap (λ (ns : List ℕ). from_line (worst_from bounds (lowered.opening ∷ (lowered.inner ++ (Close operator ∷ lowered.others ++ others))) (line ∷ ns)) 0) (append_assoc (sources_of inside) (close ∷ sources_of rest) more)
+          ∙ (opening_measured bounds scope line (worst_from bounds (lowered.inner ++ (Close operator ∷ lowered.others ++ others)) (sources_of inside ++ (close ∷ sources_of rest ++ more))) operand lowered.opening lowered.opens
+          ∙ (ap (one_more line) (i.way (Close operator ∷ lowered.others ++ others) (close ∷ sources_of rest ++ more))
           ∙ (ap (λ (w : Worst). one_more line (before_way i.path (one_more close w))) (m.way others more)
           ∙ before_nested line close i.path m.path (from_line (worst_from bounds others more) 0))))));
     }
@@ -272,15 +272,15 @@ pub record BodyMeasured (bounds : List ℕ) (found : Found) (body : Code) : Type
   pub way : (source : ℕ) (rest : List Worst) → line_worst bounds source rest body ≡ some_more (length items) (from_line rest 0)
 
 pub body_measured : (bounds : List ℕ) (block : Name → Found) (scope : Scope) → BlocksMeasured bounds scope.before block → (instance : Name) (type : Option VariableType) (body : Code) → IsBodyOf scope instance type body → BodyMeasured bounds (body_items block type) body
-body_measured bounds block scope known instance None body laid = absurd laid
-body_measured bounds block scope known instance (Some (Elementary kind)) body laid = absurd laid
-body_measured bounds block scope known instance (Some (Standard b)) body laid = record {
+body_measured bounds block scope known instance None body lowered = absurd lowered
+body_measured bounds block scope known instance (Some (Elementary kind)) body lowered = absurd lowered
+body_measured bounds block scope known instance (Some (Standard b)) body lowered = record {
   items = StandardBody ∷ [];
   is = refl;
   none_own = refl;
-  way = λ source rest. ap (line_worst bounds source rest) laid.2;
+  way = λ source rest. ap (line_worst bounds source rest) lowered.2;
 }
-body_measured bounds block scope known instance (Some (Block name)) body laid = step (block_named scope.before name) refl laid
+body_measured bounds block scope known instance (Some (Block name)) body lowered = step (block_named scope.before name) refl lowered
   where
     step : (b : Option (ProgramUnit × List ProgramUnit)) → block_named scope.before name ≡ b → IsUnitBody scope instance b body → BodyMeasured bounds (body_items block (Some (Block name))) body
     step None e is = absurd is
@@ -325,15 +325,15 @@ acting_measured line arguments items none (Some path) way m = (
 )
 
 -- a call
-pub call_measured : (bounds : List ℕ) (block : Name → Found) (scope : Scope) → BlocksMeasured bounds scope.before block → (line : ℕ) (condition : Condition) (instance : Name) (arguments : List Assignment) (rest : Lines) (own others : List Code) (sources : List ℕ) → IsStepLaid scope rest (Call condition instance arguments) own → (go : Way → Found) → MeasuredAs (go Onward) (from_line (worst_from bounds others sources) 0) → MeasuredAs (best_step block scope line (Call condition instance arguments) go) (from_line (worst_from bounds (own ++ others) (step_sources line (Call condition instance arguments) ++ sources)) 0)
-call_measured bounds block scope known line condition instance arguments rest own others sources laid go m =
+pub call_measured : (bounds : List ℕ) (block : Name → Found) (scope : Scope) → BlocksMeasured bounds scope.before block → (line : ℕ) (condition : Condition) (instance : Name) (arguments : List Assignment) (rest : Lines) (own others : List Code) (sources : List ℕ) → IsStepLowered scope rest (Call condition instance arguments) own → (go : Way → Found) → MeasuredAs (go Onward) (from_line (worst_from bounds others sources) 0) → MeasuredAs (best_step block scope line (Call condition instance arguments) go) (from_line (worst_from bounds (own ++ others) (step_sources line (Call condition instance arguments) ++ sources)) 0)
+call_measured bounds block scope known line condition instance arguments rest own others sources lowered go m =
     subst (λ (w : Worst). MeasuredAs (best_step block scope line (Call condition instance arguments) go) w) (sym whole)
     (measured_chosen condition line (from_items (call_items line arguments (body_items block (type_of scope instance))) (go Onward)) (prefixed (AtLine line ∷ []) (go Onward)) inside left
     (subst (λ (f : Found). MeasuredAs (from_items (call_items line arguments f) (go Onward)) (one_more line inside)) (sym body.is) (acting_measured line arguments body.items body.none_own (go Onward) left m))
     (measured_line line (go Onward) left m))
   where
-    body : BodyMeasured bounds (body_items block (type_of scope instance)) laid.body
-    body = body_measured bounds block scope known instance (type_of scope instance) laid.body laid.called
+    body : BodyMeasured bounds (body_items block (type_of scope instance)) lowered.body
+    body = body_measured bounds block scope known instance (type_of scope instance) lowered.body lowered.called
 
     left : Worst
     left = from_line (worst_from bounds others sources) 0
@@ -348,68 +348,68 @@ call_measured bounds block scope known line condition instance arguments rest ow
     outputs = map (λ output. line) (outputs_of arguments)
 
     lines : List Code
-    lines = laid.assigned ++ laid.body ∷ laid.given
+    lines = lowered.assigned ++ lowered.body ∷ lowered.given
 
-    behind : List Worst
-    behind = worst_from bounds (lines ++ others) ((inputs ++ line ∷ outputs) ++ sources)
+    following : List Worst
+    following = worst_from bounds (lines ++ others) ((inputs ++ line ∷ outputs) ++ sources)
 
-    made : from_line behind 0 ≡ inside
+    made : from_line following 0 ≡ inside
     made =
-        ap (λ (c : List Code). from_line (worst_from bounds c ((inputs ++ line ∷ outputs) ++ sources)) 0) (append_assoc laid.assigned (laid.body ∷ laid.given) others)
-        ∙ (ap (λ (ns : List ℕ). from_line (worst_from bounds (laid.assigned ++ (laid.body ∷ laid.given ++ others)) ns) 0) (append_assoc inputs (line ∷ outputs) sources)
-        ∙ (arguments_measured bounds scope instance line (inputs_of arguments) laid.assigned laid.inputs (laid.body ∷ laid.given ++ others) (line ∷ outputs ++ sources)
+        ap (λ (c : List Code). from_line (worst_from bounds c ((inputs ++ line ∷ outputs) ++ sources)) 0) (append_assoc lowered.assigned (lowered.body ∷ lowered.given) others)
+        ∙ (ap (λ (ns : List ℕ). from_line (worst_from bounds (lowered.assigned ++ (lowered.body ∷ lowered.given ++ others)) ns) 0) (append_assoc inputs (line ∷ outputs) sources)
+        ∙ (arguments_measured bounds scope instance line (inputs_of arguments) lowered.assigned lowered.inputs (lowered.body ∷ lowered.given ++ others) (line ∷ outputs ++ sources)
         ∙ ap (some_more (length (inputs_of arguments)))
-        (body.way line (worst_from bounds (laid.given ++ others) (outputs ++ sources))
-        ∙ ap (some_more (length body.items)) (outputs_measured bounds scope instance line (outputs_of arguments) laid.given laid.outputs others sources))))
+        (body.way line (worst_from bounds (lowered.given ++ others) (outputs ++ sources))
+        ∙ ap (some_more (length body.items)) (outputs_measured bounds scope instance line (outputs_of arguments) lowered.given lowered.outputs others sources))))
 
-    passed : from_line behind (1 + length arguments) ≡ left
+    passed : from_line following (1 + length arguments) ≡ left
     passed =
-        let a = laid_behind scope condition instance arguments own laid in
+        let a = lowered_after scope condition instance arguments own lowered in
         let b = marks_length line arguments in
-        ap (from_line behind) (let e : 1 + length arguments ≡ length lines + 0 = omega (arith, a) in e)
-        ∙ worst_behind bounds lines others (inputs ++ line ∷ outputs) sources 0 (omega (arith, a, b))
+        ap (from_line following) (let e : 1 + length arguments ≡ length lines + 0 = omega (arith, a) in e)
+        ∙ worst_after bounds lines others (inputs ++ line ∷ outputs) sources 0 (omega (arith, a, b))
 
     whole : from_line (worst_from bounds (own ++ others) (step_sources line (Call condition instance arguments) ++ sources)) 0 ≡ one_more line (turned condition inside left)
     whole =
-        ap (λ (c : List Code). from_line (worst_from bounds (c ++ others) (line ∷ ((inputs ++ line ∷ outputs) ++ sources))) 0) laid.is
-        ∙ (ap (λ (w : Worst). one_more line (turned condition w (from_line behind (1 + length arguments)))) made
+        ap (λ (c : List Code). from_line (worst_from bounds (c ++ others) (line ∷ ((inputs ++ line ∷ outputs) ++ sources))) 0) lowered.is
+        ∙ (ap (λ (w : Worst). one_more line (turned condition w (from_line following (1 + length arguments)))) made
         ∙ ap (λ (w : Worst). one_more line (turned condition inside w)) passed)
 
 -- the flat path of a path that precedes these lines
 abbrev pub IsWayOf : Lines → Way → List Worst → Worst → Type 0
-IsWayOf lines Onward ways way = way ≡ from_line ways 0
-IsWayOf lines (Toward label) ways way = (n : ℕ) × (lines_ahead lines label ≡ Some n) × (way ≡ from_line ways n)
-IsWayOf lines Back ways way = way ≡ no_more
+IsWayOf lines Onward edges way = way ≡ from_line edges 0
+IsWayOf lines (Toward label) edges way = (n : ℕ) × (lines_ahead lines label ≡ Some n) × (way ≡ from_line edges n)
+IsWayOf lines Back edges way = way ≡ no_more
 
 -- the longest paths of lines are measured by flat paths
 abbrev pub LinesMeasured : (Name → Found) → Scope → Lines → List Worst → Type 0
-LinesMeasured block scope lines ways = (next : Way) (way : Worst) → IsWayOf lines next ways way → MeasuredAs (best block scope lines next) way
+LinesMeasured block scope lines edges = (next : Way) (way : Worst) → IsWayOf lines next edges way → MeasuredAs (best block scope lines next) way
 
 -- a step that is one line and goes on
-pub plain_measured : (bounds : List ℕ) (block : Name → Found) (scope : Scope) (rest : Lines) (step : Step) → is_plain step ≡ true → (line : ℕ) (own others : List Code) (sources : List ℕ) → IsStepLaid scope rest step own → MeasuredAs (best block scope rest Onward) (from_line (worst_from bounds others sources) 0) → MeasuredAs (best_step block scope line step (best block scope rest)) (from_line (worst_from bounds (own ++ others) (step_sources line step ++ sources)) 0)
-plain_measured bounds block scope rest step p line own others sources laid m =
-    subst (λ (w : Worst). MeasuredAs (best_step block scope line step (best block scope rest)) w) (sym (plain_line bounds scope rest step p line own others sources laid))
+pub plain_measured : (bounds : List ℕ) (block : Name → Found) (scope : Scope) (rest : Lines) (step : Step) → is_plain step ≡ true → (line : ℕ) (own others : List Code) (sources : List ℕ) → IsStepLowered scope rest step own → MeasuredAs (best block scope rest Onward) (from_line (worst_from bounds others sources) 0) → MeasuredAs (best_step block scope line step (best block scope rest)) (from_line (worst_from bounds (own ++ others) (step_sources line step ++ sources)) 0)
+plain_measured bounds block scope rest step p line own others sources lowered m =
+    subst (λ (w : Worst). MeasuredAs (best_step block scope line step (best block scope rest)) w) (sym (plain_line bounds scope rest step p line own others sources lowered))
     (subst (λ (f : Found). MeasuredAs f (one_more line (from_line (worst_from bounds others sources) 0))) (sym (plain_best block scope line step p (best block scope rest)))
     (measured_line line (best block scope rest Onward) (from_line (worst_from bounds others sources) 0) m))
 
 -- a step that is executed
-pub step_measured : (bounds : List ℕ) (block : Name → Found) (scope : Scope) → BlocksMeasured bounds scope.before block → (line : ℕ) (step : Step) (rest : Lines) (own others : List Code) (sources : List ℕ) → IsStepLaid scope rest step own → LinesMeasured block scope rest (worst_from bounds others sources) → MeasuredAs (best_step block scope line step (best block scope rest)) (from_line (worst_from bounds (own ++ others) (step_sources line step ++ sources)) 0)
-step_measured bounds block scope known line (Jump condition label) rest own others sources laid m =
-    subst (λ (c : List Code). MeasuredAs (best_step block scope line (Jump condition label) (best block scope rest)) (from_line (worst_from bounds (c ++ others) (line ∷ sources)) 0)) (sym laid.2)
-    (measured_chosen condition line (prefixed (AtLine line ∷ []) (best block scope rest (Toward label))) (prefixed (AtLine line ∷ []) (best block scope rest Onward)) (from_line (worst_from bounds others sources) laid.0) (from_line (worst_from bounds others sources) 0)
-    (measured_line line (best block scope rest (Toward label)) (from_line (worst_from bounds others sources) laid.0) (m (Toward label) (from_line (worst_from bounds others sources) laid.0) (laid.0, laid.1, refl)))
+pub step_measured : (bounds : List ℕ) (block : Name → Found) (scope : Scope) → BlocksMeasured bounds scope.before block → (line : ℕ) (step : Step) (rest : Lines) (own others : List Code) (sources : List ℕ) → IsStepLowered scope rest step own → LinesMeasured block scope rest (worst_from bounds others sources) → MeasuredAs (best_step block scope line step (best block scope rest)) (from_line (worst_from bounds (own ++ others) (step_sources line step ++ sources)) 0)
+step_measured bounds block scope known line (Jump condition label) rest own others sources lowered m =
+    subst (λ (c : List Code). MeasuredAs (best_step block scope line (Jump condition label) (best block scope rest)) (from_line (worst_from bounds (c ++ others) (line ∷ sources)) 0)) (sym lowered.2)
+    (measured_chosen condition line (prefixed (AtLine line ∷ []) (best block scope rest (Toward label))) (prefixed (AtLine line ∷ []) (best block scope rest Onward)) (from_line (worst_from bounds others sources) lowered.0) (from_line (worst_from bounds others sources) 0)
+    (measured_line line (best block scope rest (Toward label)) (from_line (worst_from bounds others sources) lowered.0) (m (Toward label) (from_line (worst_from bounds others sources) lowered.0) (lowered.0, lowered.1, refl)))
     (measured_line line (best block scope rest Onward) (from_line (worst_from bounds others sources) 0) (m Onward (from_line (worst_from bounds others sources) 0) refl)))
-step_measured bounds block scope known line (Return condition) rest own others sources laid m =
-    subst (λ (c : List Code). MeasuredAs (best_step block scope line (Return condition) (best block scope rest)) (from_line (worst_from bounds (c ++ others) (line ∷ sources)) 0)) (sym laid)
+step_measured bounds block scope known line (Return condition) rest own others sources lowered m =
+    subst (λ (c : List Code). MeasuredAs (best_step block scope line (Return condition) (best block scope rest)) (from_line (worst_from bounds (c ++ others) (line ∷ sources)) 0)) (sym lowered)
     (measured_chosen condition line (prefixed (AtLine line ∷ []) (best block scope rest Back)) (prefixed (AtLine line ∷ []) (best block scope rest Onward)) no_more (from_line (worst_from bounds others sources) 0)
     (measured_line line (best block scope rest Back) no_more (m Back no_more refl))
     (measured_line line (best block scope rest Onward) (from_line (worst_from bounds others sources) 0) (m Onward (from_line (worst_from bounds others sources) 0) refl)))
-step_measured bounds block scope known line (Call condition instance arguments) rest own others sources laid m =
-    call_measured bounds block scope known line condition instance arguments rest own others sources laid (best block scope rest) (m Onward (from_line (worst_from bounds others sources) 0) refl)
-step_measured bounds block scope known line (Load negated term) rest own others sources laid m = plain_measured bounds block scope rest (Load negated term) refl line own others sources laid (m Onward (from_line (worst_from bounds others sources) 0) refl)
-step_measured bounds block scope known line (StoreStep storing target) rest own others sources laid m = plain_measured bounds block scope rest (StoreStep storing target) refl line own others sources laid (m Onward (from_line (worst_from bounds others sources) 0) refl)
-step_measured bounds block scope known line (Apply operator term) rest own others sources laid m = plain_measured bounds block scope rest (Apply operator term) refl line own others sources laid (m Onward (from_line (worst_from bounds others sources) 0) refl)
-step_measured bounds block scope known line Negate rest own others sources laid m = plain_measured bounds block scope rest Negate refl line own others sources laid (m Onward (from_line (worst_from bounds others sources) 0) refl)
+step_measured bounds block scope known line (Call condition instance arguments) rest own others sources lowered m =
+    call_measured bounds block scope known line condition instance arguments rest own others sources lowered (best block scope rest) (m Onward (from_line (worst_from bounds others sources) 0) refl)
+step_measured bounds block scope known line (Load negated term) rest own others sources lowered m = plain_measured bounds block scope rest (Load negated term) refl line own others sources lowered (m Onward (from_line (worst_from bounds others sources) 0) refl)
+step_measured bounds block scope known line (StoreStep storing target) rest own others sources lowered m = plain_measured bounds block scope rest (StoreStep storing target) refl line own others sources lowered (m Onward (from_line (worst_from bounds others sources) 0) refl)
+step_measured bounds block scope known line (Apply operator term) rest own others sources lowered m = plain_measured bounds block scope rest (Apply operator term) refl line own others sources lowered (m Onward (from_line (worst_from bounds others sources) 0) refl)
+step_measured bounds block scope known line Negate rest own others sources lowered m = plain_measured bounds block scope rest Negate refl line own others sources lowered (m Onward (from_line (worst_from bounds others sources) 0) refl)
 
 -- what is passed over adds nothing
 pub measured_passing : (found : Found) (way : Worst) → MeasuredAs found way → MeasuredAs (prefixed [] found) way
@@ -417,31 +417,31 @@ measured_passing None way m = m
 measured_passing (Some path) way m = m
 
 -- the flat path of a path before a line with n flat lines
-abbrev pub IsWayBehind : ℕ → Lines → Way → List Worst → Worst → Type 0
-IsWayBehind n rest Onward ways way = way ≡ from_line ways 0
-IsWayBehind n rest (Toward label) ways way = (m : ℕ) × (lines_ahead rest label ≡ Some m) × (way ≡ from_line ways (n + m))
-IsWayBehind n rest Back ways way = way ≡ no_more
+abbrev pub IsWayAfter : ℕ → Lines → Way → List Worst → Worst → Type 0
+IsWayAfter n rest Onward edges way = way ≡ from_line edges 0
+IsWayAfter n rest (Toward label) edges way = (m : ℕ) × (lines_ahead rest label ≡ Some m) × (way ≡ from_line edges (n + m))
+IsWayAfter n rest Back edges way = way ≡ no_more
 
-pub way_arrives : (lines rest : Lines) (word : Option Word) (n : ℕ) (ways : List Worst) → ((label : Name) → lines_ahead lines label ≡ (if carries word label then Some 0 else option_map (λ m. n + m) (lines_ahead rest label))) → (next : Way) (way : Worst) → IsWayOf lines next ways way → IsWayBehind n rest (arriving_way word next) ways way
-way_arrives lines rest word n ways so Onward way is = is
-way_arrives lines rest word n ways so Back way is = is
-way_arrives lines rest word n ways so (Toward label) way is = step (carries word label) (sym (so label) ∙ is.1)
+pub way_arrives : (lines rest : Lines) (word : Option Word) (n : ℕ) (edges : List Worst) → ((label : Name) → lines_ahead lines label ≡ (if carries word label then Some 0 else option_map (λ m. n + m) (lines_ahead rest label))) → (next : Way) (way : Worst) → IsWayOf lines next edges way → IsWayAfter n rest (arriving_way word next) edges way
+way_arrives lines rest word n edges so Onward way is = is
+way_arrives lines rest word n edges so Back way is = is
+way_arrives lines rest word n edges so (Toward label) way is = step (carries word label) (sym (so label) ∙ is.1)
   where
-    further : (o : Option ℕ) → lines_ahead rest label ≡ o → option_map (λ m. n + m) o ≡ Some is.0 → (m : ℕ) × (lines_ahead rest label ≡ Some m) × (way ≡ from_line ways (n + m))
+    further : (o : Option ℕ) → lines_ahead rest label ≡ o → option_map (λ m. n + m) o ≡ Some is.0 → (m : ℕ) × (lines_ahead rest label ≡ Some m) × (way ≡ from_line edges (n + m))
     further None e f = cc
-    further (Some m) e f = (m, e, is.2 ∙ ap (from_line ways) (one_number (Some is.0) is.0 (n + m) refl (sym f)))
+    further (Some m) e f = (m, e, is.2 ∙ ap (from_line edges) (one_number (Some is.0) is.0 (n + m) refl (sym f)))
 
-    step : (b : Bool) → (if b then Some 0 else option_map (λ m. n + m) (lines_ahead rest label)) ≡ Some is.0 → IsWayBehind n rest (elim b as (λ x. Way) [ true ↦ Onward | false ↦ Toward label ]) ways way
-    step true e = is.2 ∙ ap (from_line ways) (one_number (Some is.0) is.0 0 refl (sym e))
+    step : (b : Bool) → (if b then Some 0 else option_map (λ m. n + m) (lines_ahead rest label)) ≡ Some is.0 → IsWayAfter n rest (elim b as (λ x. Way) [ true ↦ Onward | false ↦ Toward label ]) edges way
+    step true e = is.2 ∙ ap (from_line edges) (one_number (Some is.0) is.0 0 refl (sym e))
     step false e = further (lines_ahead rest label) refl e
 
 -- a line, executed or passed over
-pub pass_measured : (bounds : List ℕ) (block : Name → Found) (scope : Scope) (rest : Lines) (own others : List Code) (mine sources : List ℕ) → length mine ≡ length own → (n : ℕ) → length own ≡ n → (executed : Found) → MeasuredAs executed (from_line (worst_from bounds (own ++ others) (mine ++ sources)) 0) → LinesMeasured block scope rest (worst_from bounds others sources) → (next : Way) (way : Worst) → IsWayBehind n rest next (worst_from bounds (own ++ others) (mine ++ sources)) way → MeasuredAs (best_pass next executed (best block scope rest)) way
+pub pass_measured : (bounds : List ℕ) (block : Name → Found) (scope : Scope) (rest : Lines) (own others : List Code) (mine sources : List ℕ) → length mine ≡ length own → (n : ℕ) → length own ≡ n → (executed : Found) → MeasuredAs executed (from_line (worst_from bounds (own ++ others) (mine ++ sources)) 0) → LinesMeasured block scope rest (worst_from bounds others sources) → (next : Way) (way : Worst) → IsWayAfter n rest next (worst_from bounds (own ++ others) (mine ++ sources)) way → MeasuredAs (best_pass next executed (best block scope rest)) way
 pass_measured bounds block scope rest own others mine sources e n so executed x m Onward way is = subst (λ (w : Worst). MeasuredAs executed w) (sym is) x
 pass_measured bounds block scope rest own others mine sources e n so executed x m Back way is = measured_passing (best block scope rest Back) way (m Back way is)
 pass_measured bounds block scope rest own others mine sources e n so executed x m (Toward label) way is =
     measured_passing (best block scope rest (Toward label)) way
-    (m (Toward label) way (is.0, is.1, is.2 ∙ (ap (λ k. from_line (worst_from bounds (own ++ others) (mine ++ sources)) (k + is.0)) (sym so) ∙ worst_behind bounds own others mine sources is.0 e)))
+    (m (Toward label) way (is.0, is.1, is.2 ∙ (ap (λ k. from_line (worst_from bounds (own ++ others) (mine ++ sources)) (k + is.0)) (sym so) ∙ worst_after bounds own others mine sources is.0 e)))
 
 -- as many sources as flat lines
 pub step_sources_length : (line : ℕ) (step : Step) → length (step_sources line step) ≡ step_length step
@@ -480,56 +480,56 @@ nested_measured line close inner (Some path) way m = (
 )
 
 -- past a label alone
-pub way_alone : (word : Word) (rest : Lines) (ways : List Worst) (next : Way) (way : Worst) → IsWayOf (Alone word rest) next ways way → IsWayOf rest (arriving_way (Some word) next) ways way
-way_alone word rest ways Onward way is = is
-way_alone word rest ways Back way is = is
-way_alone word rest ways (Toward label) way is = step (carries (Some word) label) is.1
+pub way_alone : (word : Word) (rest : Lines) (edges : List Worst) (next : Way) (way : Worst) → IsWayOf (Alone word rest) next edges way → IsWayOf rest (arriving_way (Some word) next) edges way
+way_alone word rest edges Onward way is = is
+way_alone word rest edges Back way is = is
+way_alone word rest edges (Toward label) way is = step (carries (Some word) label) is.1
   where
-    step : (b : Bool) → (if b then Some 0 else lines_ahead rest label) ≡ Some is.0 → IsWayOf rest (elim b as (λ x. Way) [ true ↦ Onward | false ↦ Toward label ]) ways way
-    step true e = is.2 ∙ ap (from_line ways) (one_number (Some is.0) is.0 0 refl (sym e))
+    step : (b : Bool) → (if b then Some 0 else lines_ahead rest label) ≡ Some is.0 → IsWayOf rest (elim b as (λ x. Way) [ true ↦ Onward | false ↦ Toward label ]) edges way
+    step true e = is.2 ∙ ap (from_line edges) (one_number (Some is.0) is.0 0 refl (sym e))
     step false e = (is.0, e, is.2)
 
 -- the lines left
-pub lines_measured : (bounds : List ℕ) (block : Name → Found) (scope : Scope) → BlocksMeasured bounds scope.before block → (lines : Lines) → NestsSimply lines → (code : List Code) → IsLaid scope lines code → LinesMeasured block scope lines (worst_from bounds code (sources_of lines))
-lines_measured bounds block scope known End simple code laid Onward way is =
-    subst (λ (w : Worst). MeasuredAs (Some []) w) (sym (is ∙ ap (λ (c : List Code). from_line (worst_from bounds c []) 0) laid)) (refl, refl)
-lines_measured bounds block scope known End simple code laid Back way is = subst (λ (w : Worst). MeasuredAs (Some []) w) (sym is) (refl, refl)
-lines_measured bounds block scope known End simple code laid (Toward label) way is = absurd (let e = is.1 in cc)
-lines_measured bounds block scope known (Alone word rest) simple code laid next way is =
-    lines_measured bounds block scope known rest simple code laid (arriving_way (Some word) next) way (way_alone word rest (worst_from bounds code (sources_of rest)) next way is)
-lines_measured bounds block scope known (Plain word line step rest) simple code laid next way is =
-    let rest_measured = lines_measured bounds block scope known rest simple laid.others laid.rest in
-    let a = step_laid_length scope rest step laid.own laid.step in
+pub lines_measured : (bounds : List ℕ) (block : Name → Found) (scope : Scope) → BlocksMeasured bounds scope.before block → (lines : Lines) → NestsSimply lines → (code : List Code) → IsLowered scope lines code → LinesMeasured block scope lines (worst_from bounds code (sources_of lines))
+lines_measured bounds block scope known End simple code lowered Onward way is =
+    subst (λ (w : Worst). MeasuredAs (Some []) w) (sym (is ∙ ap (λ (c : List Code). from_line (worst_from bounds c []) 0) lowered)) (refl, refl)
+lines_measured bounds block scope known End simple code lowered Back way is = subst (λ (w : Worst). MeasuredAs (Some []) w) (sym is) (refl, refl)
+lines_measured bounds block scope known End simple code lowered (Toward label) way is = absurd (let e = is.1 in cc)
+lines_measured bounds block scope known (Alone word rest) simple code lowered next way is =
+    lines_measured bounds block scope known rest simple code lowered (arriving_way (Some word) next) way (way_alone word rest (worst_from bounds code (sources_of rest)) next way is)
+lines_measured bounds block scope known (Plain word line step rest) simple code lowered next way is =
+    let rest_measured = lines_measured bounds block scope known rest simple lowered.others lowered.rest in
+    let a = step_lowered_length scope rest step lowered.own lowered.step in
     let b = step_sources_length line step in
-    pass_measured bounds block scope rest laid.own laid.others (step_sources line step) (sources_of rest) (omega (arith, a, b)) (step_length step) a (best_step block scope line step (best block scope rest))
-    (step_measured bounds block scope known line step rest laid.own laid.others (sources_of rest) laid.step rest_measured) rest_measured (arriving_way word next) way
-    (way_arrives (Plain word line step rest) rest word (step_length step) (worst_from bounds (laid.own ++ laid.others) (step_sources line step ++ sources_of rest)) (λ label. refl) next way
-    (subst (λ (c : List Code). IsWayOf (Plain word line step rest) next (worst_from bounds c (step_sources line step ++ sources_of rest)) way) laid.whole is))
-lines_measured bounds block scope known (Nested word line operator operand inside close rest) simple code laid next way is =
-    let rest_measured = lines_measured bounds block scope known rest simple.1 laid.others laid.rest in
-    let own : List Code = laid.opening ∷ laid.inner ++ Close operator ∷ [] in
+    pass_measured bounds block scope rest lowered.own lowered.others (step_sources line step) (sources_of rest) (omega (arith, a, b)) (step_length step) a (best_step block scope line step (best block scope rest))
+    (step_measured bounds block scope known line step rest lowered.own lowered.others (sources_of rest) lowered.step rest_measured) rest_measured (arriving_way word next) way
+    (way_arrives (Plain word line step rest) rest word (step_length step) (worst_from bounds (lowered.own ++ lowered.others) (step_sources line step ++ sources_of rest)) (λ label. refl) next way
+    (subst (λ (c : List Code). IsWayOf (Plain word line step rest) next (worst_from bounds c (step_sources line step ++ sources_of rest)) way) lowered.whole is))
+lines_measured bounds block scope known (Nested word line operator operand inside close rest) simple code lowered next way is =
+    let rest_measured = lines_measured bounds block scope known rest simple.1 lowered.others lowered.rest in
+    let own : List Code = lowered.opening ∷ lowered.inner ++ Close operator ∷ [] in
     let mine : List ℕ = line ∷ sources_of inside ++ close ∷ [] in
-    let a = laid_length scope inside laid.inner laid.inside in
+    let a = lowered_length scope inside lowered.inner lowered.inside in
     let b = sources_length inside in
-    let c : length (laid.inner ++ Close operator ∷ []) ≡ length laid.inner + 1 = length-append laid.inner (Close operator ∷ []) in
+    let c : length (lowered.inner ++ Close operator ∷ []) ≡ length lowered.inner + 1 = length-append lowered.inner (Close operator ∷ []) in
     let d : length (sources_of inside ++ close ∷ []) ≡ length (sources_of inside) + 1 = length-append (sources_of inside) (close ∷ []) in
-    let coded : code ≡ own ++ laid.others = laid.whole ∙ regrouped laid.opening laid.inner operator laid.others in
+    let coded : code ≡ own ++ lowered.others = lowered.whole ∙ regrouped lowered.opening lowered.inner operator lowered.others in
     let sourced : line ∷ sources_of inside ++ close ∷ sources_of rest ≡ mine ++ sources_of rest = ap (λ (ns : List ℕ). line ∷ ns) (sym (append_assoc (sources_of inside) (close ∷ []) (sources_of rest))) in
-    let i = inside_measured bounds block scope inside simple.0 laid.inner laid.inside in
-    let left : Worst = from_line (worst_from bounds laid.others (sources_of rest)) 0 in
-    let first : from_line (worst_from bounds (own ++ laid.others) (mine ++ sources_of rest)) 0 ≡ one_more line (before_way i.path (one_more close left)) =
-    ap (λ (ns : List Code). from_line (worst_from bounds ns (mine ++ sources_of rest)) 0) (sym (regrouped laid.opening laid.inner operator laid.others))
-    ∙ (ap (λ (ns : List ℕ). from_line (worst_from bounds (laid.opening ∷ laid.inner ++ Close operator ∷ laid.others) ns) 0) (sym sourced)
-    ∙ (opening_measured bounds scope line (worst_from bounds (laid.inner ++ Close operator ∷ laid.others) (sources_of inside ++ close ∷ sources_of rest)) operand laid.opening laid.opens
-    ∙ ap (one_more line) (i.way (Close operator ∷ laid.others) (close ∷ sources_of rest))))
+    let i = inside_measured bounds block scope inside simple.0 lowered.inner lowered.inside in
+    let left : Worst = from_line (worst_from bounds lowered.others (sources_of rest)) 0 in
+    let first : from_line (worst_from bounds (own ++ lowered.others) (mine ++ sources_of rest)) 0 ≡ one_more line (before_way i.path (one_more close left)) =
+    ap (λ (ns : List Code). from_line (worst_from bounds ns (mine ++ sources_of rest)) 0) (sym (regrouped lowered.opening lowered.inner operator lowered.others))
+    ∙ (ap (λ (ns : List ℕ). from_line (worst_from bounds (lowered.opening ∷ lowered.inner ++ Close operator ∷ lowered.others) ns) 0) (sym sourced)
+    ∙ (opening_measured bounds scope line (worst_from bounds (lowered.inner ++ Close operator ∷ lowered.others) (sources_of inside ++ close ∷ sources_of rest)) operand lowered.opening lowered.opens
+    ∙ ap (one_more line) (i.way (Close operator ∷ lowered.others) (close ∷ sources_of rest))))
     in
     let executed : Found = from_items (nested_items line close (best block scope inside Onward)) (best block scope rest Onward) in
-    let measured : MeasuredAs executed (from_line (worst_from bounds (own ++ laid.others) (mine ++ sources_of rest)) 0) =
+    let measured : MeasuredAs executed (from_line (worst_from bounds (own ++ lowered.others) (mine ++ sources_of rest)) 0) =
     subst (λ (w : Worst). MeasuredAs executed w) (sym first)
     (subst (λ (f : Found). MeasuredAs (from_items (nested_items line close f) (best block scope rest Onward)) (one_more line (before_way i.path (one_more close left)))) (sym i.is)
     (nested_measured line close i.path (best block scope rest Onward) left (rest_measured Onward left refl)))
     in
-    pass_measured bounds block scope rest own laid.others mine (sources_of rest) (omega (arith, a, b, c, d)) (2 + flat_length inside) (omega (arith, a, b, c, d)) executed measured rest_measured (arriving_way word next) way
-    (way_arrives (Nested word line operator operand inside close rest) rest word (2 + flat_length inside) (worst_from bounds (own ++ laid.others) (mine ++ sources_of rest)) (λ label. refl) next way
-    (subst (λ (ns : List ℕ). IsWayOf (Nested word line operator operand inside close rest) next (worst_from bounds (own ++ laid.others) ns) way) sourced
+    pass_measured bounds block scope rest own lowered.others mine (sources_of rest) (omega (arith, a, b, c, d)) (2 + flat_length inside) (omega (arith, a, b, c, d)) executed measured rest_measured (arriving_way word next) way
+    (way_arrives (Nested word line operator operand inside close rest) rest word (2 + flat_length inside) (worst_from bounds (own ++ lowered.others) (mine ++ sources_of rest)) (λ label. refl) next way
+    (subst (λ (ns : List ℕ). IsWayOf (Nested word line operator operand inside close rest) next (worst_from bounds (own ++ lowered.others) ns) way) sourced
     (subst (λ (ns : List Code). IsWayOf (Nested word line operator operand inside close rest) next (worst_from bounds ns (line ∷ sources_of inside ++ close ∷ sources_of rest)) way) coded is)))

@@ -23,13 +23,13 @@ left_held frame first (Done result store trace) run ends alike = (alike.0, alike
 left_held frame first (Stuck reason) run ends alike = absurd alike
 
 pub held_numbers_stay_held : HeldNumbersStayHeld
-held_numbers_stay_held bytes text read sound codes laid numbers held image now =
+held_numbers_stay_held bytes text read sound codes lowered numbers held image now =
     let new : Newest (reverse text) = subst Newest (append-nil (reverse text)) (newest text [] read.spelled.order) in
     let written : ImageWritten (reverse text) = subst ImageWritten (sym new.are) (image_of_program new.before new.program) in
     let both = written held.0 held.1 numbers held.2 image in
     left_held (frame_of_text text) (initial_of text) (scan_of text held.0 image now) (program_runs (slot_kinds (frame_of_text text)) codes now (with_image_numbers image numbers))
     (some_text_ends text read.spelled.order (spelled_text_nests _ text read.spelled) sound held.0 held.1 image now)
-    (flat_code_means_the_text bytes text read sound codes laid (with_image image held.0) both.0 (with_image_numbers image numbers) both.1 now)
+    (flat_code_means_the_text bytes text read sound codes lowered (with_image image held.0) both.0 (with_image_numbers image numbers) both.1 now)
 
 -- below n + 1 is below n, or n
 pub below_next : (n unit : ℕ) → unit < suc n → (unit < n) ⊎ (unit ≡ n)

@@ -34,11 +34,11 @@ starts_within (entry ∷ entries) [] s = absurd s
 starts_within (entry ∷ entries) (first ∷ frame) s = let l = starts_within entries frame s.1 in omega (arith, l)
 
 -- what is said of a content is at each entry's number
-abbrev pub told : {X : Type 0} → (Content → X) → List (Location × Content) → List X
-told f entries = map (λ entry. f entry.1) entries
+abbrev pub reported : {X : Type 0} → (Content → X) → List (Location × Content) → List X
+reported f entries = map (λ entry. f entry.1) entries
 
 -- what is said of a place, with contents in place of the first
-pub overlaid_at : {X : Type 0} (f : Content → X) (store : Store) (place : Location) (entries frame : List (Location × Content)) (xs : List X) → StartsWith entries frame → length xs ≡ length frame → (k : ℕ) → place_number frame place ≡ Some k → slice_get xs k ≡ option_map f (store place) → slice_get (told f entries ++ drop (length entries) xs) k ≡ option_map f (overlaid entries store place)
+pub overlaid_at : {X : Type 0} (f : Content → X) (store : Store) (place : Location) (entries frame : List (Location × Content)) (xs : List X) → StartsWith entries frame → length xs ≡ length frame → (k : ℕ) → place_number frame place ≡ Some k → slice_get xs k ≡ option_map f (store place) → slice_get (reported f entries ++ drop (length entries) xs) k ≡ option_map f (overlaid entries store place)
 overlaid_at f store place [] frame xs s l k e h = h
 overlaid_at f store place (entry ∷ entries) [] xs s l k e h = absurd s
 overlaid_at f store place (entry ∷ entries) (first ∷ frame) [] s l k e h = absurd (omega (arith, l))
@@ -46,13 +46,13 @@ overlaid_at f store place (entry ∷ entries) (first ∷ frame) (x ∷ xs) s l k
     step (same_place entry.0 place) (ap (λ (p : Location). cond (same_place p place) (Some 0) (position_from (λ (q : Location × Content). same_place q.0 place) 1 frame)) (sym s.0) ∙ e)
     (λ j g i. overlaid_at f store place entries frame xs s.1 (omega (arith, l)) j g i)
   where
-    further : (found : (j : ℕ) × (k ≡ suc j) × (place_number frame place ≡ Some j)) → ((j : ℕ) → place_number frame place ≡ Some j → slice_get xs j ≡ option_map f (store place) → slice_get (told f entries ++ drop (length entries) xs) j ≡ option_map f (overlaid entries store place)) → slice_get (told f (entry ∷ entries) ++ drop (length (entry ∷ entries)) (x ∷ xs)) k ≡ option_map f (overlaid entries store place)
+    further : (found : (j : ℕ) × (k ≡ suc j) × (place_number frame place ≡ Some j)) → ((j : ℕ) → place_number frame place ≡ Some j → slice_get xs j ≡ option_map f (store place) → slice_get (reported f entries ++ drop (length entries) xs) j ≡ option_map f (overlaid entries store place)) → slice_get (reported f (entry ∷ entries) ++ drop (length (entry ∷ entries)) (x ∷ xs)) k ≡ option_map f (overlaid entries store place)
     further found onward =
-        ap (λ i. slice_get (told f (entry ∷ entries) ++ drop (length (entry ∷ entries)) (x ∷ xs)) i) found.1
+        ap (λ i. slice_get (reported f (entry ∷ entries) ++ drop (length (entry ∷ entries)) (x ∷ xs)) i) found.1
         ∙ onward found.0 found.2 (ap (λ i. slice_get (x ∷ xs) i) (sym found.1) ∙ h)
 
-    step : (b : Bool) → cond b (Some 0) (position_from (λ (q : Location × Content). same_place q.0 place) 1 frame) ≡ Some k → ((j : ℕ) → place_number frame place ≡ Some j → slice_get xs j ≡ option_map f (store place) → slice_get (told f entries ++ drop (length entries) xs) j ≡ option_map f (overlaid entries store place)) → slice_get (told f (entry ∷ entries) ++ drop (length (entry ∷ entries)) (x ∷ xs)) k ≡ option_map f (elim (if b then Some entry.1 else store_of entries place) as (λ o. Option Content) [ Some content ↦ Some content | None ↦ store place ])
-    step true g onward = ap (λ i. slice_get (told f (entry ∷ entries) ++ drop (length (entry ∷ entries)) (x ∷ xs)) i) (sym (one_number (Some 0) 0 k refl g))
+    step : (b : Bool) → cond b (Some 0) (position_from (λ (q : Location × Content). same_place q.0 place) 1 frame) ≡ Some k → ((j : ℕ) → place_number frame place ≡ Some j → slice_get xs j ≡ option_map f (store place) → slice_get (reported f entries ++ drop (length entries) xs) j ≡ option_map f (overlaid entries store place)) → slice_get (reported f (entry ∷ entries) ++ drop (length (entry ∷ entries)) (x ∷ xs)) k ≡ option_map f (elim (if b then Some entry.1 else store_of entries place) as (λ o. Option Content) [ Some content ↦ Some content | None ↦ store place ])
+    step true g onward = ap (λ i. slice_get (reported f (entry ∷ entries) ++ drop (length (entry ∷ entries)) (x ∷ xs)) i) (sym (one_number (Some 0) 0 k refl g))
     step false g onward = further (position_unshifted (λ (q : Location × Content). same_place q.0 place) 0 k frame g) onward
 
 -- the inputs, the status bits and the weights are the first places of a program's frame
@@ -77,15 +77,15 @@ image_written before program store numbers h image = record {
 }
 
 -- what is said of a place at first
-pub first_at : {X : Type 0} (f : Content → X) (frame : List (Location × Content)) (place : Location) (k : ℕ) → place_number frame place ≡ Some k → slice_get (told f frame) k ≡ option_map f (store_of frame place)
+pub first_at : {X : Type 0} (f : Content → X) (frame : List (Location × Content)) (place : Location) (k : ℕ) → place_number frame place ≡ Some k → slice_get (reported f frame) k ≡ option_map f (store_of frame place)
 first_at f [] place k e = cc
 first_at f (entry ∷ frame) place k e = step (same_place entry.0 place) e (λ j g. first_at f frame place j g)
   where
-    further : (found : (j : ℕ) × (k ≡ suc j) × (place_number frame place ≡ Some j)) → ((j : ℕ) → place_number frame place ≡ Some j → slice_get (told f frame) j ≡ option_map f (store_of frame place)) → slice_get (told f (entry ∷ frame)) k ≡ option_map f (store_of frame place)
-    further found onward = ap (λ i. slice_get (told f (entry ∷ frame)) i) found.1 ∙ onward found.0 found.2
+    further : (found : (j : ℕ) × (k ≡ suc j) × (place_number frame place ≡ Some j)) → ((j : ℕ) → place_number frame place ≡ Some j → slice_get (reported f frame) j ≡ option_map f (store_of frame place)) → slice_get (reported f (entry ∷ frame)) k ≡ option_map f (store_of frame place)
+    further found onward = ap (λ i. slice_get (reported f (entry ∷ frame)) i) found.1 ∙ onward found.0 found.2
 
-    step : (b : Bool) → cond b (Some 0) (position_from (λ (x : Location × Content). same_place x.0 place) 1 frame) ≡ Some k → ((j : ℕ) → place_number frame place ≡ Some j → slice_get (told f frame) j ≡ option_map f (store_of frame place)) → slice_get (told f (entry ∷ frame)) k ≡ option_map f (if b then Some entry.1 else store_of frame place)
-    step true g onward = ap (λ i. slice_get (told f (entry ∷ frame)) i) (sym (one_number (Some 0) 0 k refl g))
+    step : (b : Bool) → cond b (Some 0) (position_from (λ (x : Location × Content). same_place x.0 place) 1 frame) ≡ Some k → ((j : ℕ) → place_number frame place ≡ Some j → slice_get (reported f frame) j ≡ option_map f (store_of frame place)) → slice_get (reported f (entry ∷ frame)) k ≡ option_map f (if b then Some entry.1 else store_of frame place)
+    step true g onward = ap (λ i. slice_get (reported f (entry ∷ frame)) i) (sym (one_number (Some 0) 0 k refl g))
     step false g onward = further (position_unshifted (λ (x : Location × Content). same_place x.0 place) 0 k frame g) onward
 
 -- the first numbers are those of the first store

@@ -3,7 +3,7 @@ use Rattle.std.proofs.Common.{◌≡◌, ℕ, ◌+◌, Bool, true, false, ◌&&�
 use Rattle.std.specs.List.{flat_map, position_from}
 use Rattle.std.specs.Option.{option_map}
 use Rattle.std.specs.Prelude.{find, if◌then◌else◌}
-use Rattle.wc_text_flat.specs.Laid.{size_of, places_before, first_of_all, first_place}
+use Rattle.wc_text_flat.specs.Lowered.{size_of, places_before, first_of_all, first_place}
 use Rattle.wc_model.specs.Language.Declarations.{Variable, same_name, variables_of, variable_named, is_block}
 use Rattle.wc_model.specs.Language.DirectVariables.{DirectVariable, direct_variables, kind_of_direct}
 use Rattle.wc_model.specs.Language.Frames.{frame_of, place_number}
@@ -45,10 +45,10 @@ path_below start name (p ∷ places) path =
     step (same_path p.0 path) (same_name-refl name)
 
 -- the places below another name are passed over
-pub path_beside : (start : ℕ) (other : Name) (places rest : List (List Name × Content)) (name : Name) (path : List Name) → same_name other name ≡ false → path_from start (below other places ++ rest) (name ∷ path) ≡ path_from (length places + start) rest (name ∷ path)
-path_beside start other [] rest name path e = ap (λ n. path_from n rest (name ∷ path)) (let a : start ≡ 0 + start = omega arith in a)
-path_beside start other (p ∷ places) rest name path e =
-    rw e (path_beside (start + 1) other places rest name path e ∙ ap (λ n. path_from n rest (name ∷ path)) (let a : length places + (start + 1) ≡ length (p ∷ places) + start = omega arith in a))
+pub path_alongside : (start : ℕ) (other : Name) (places rest : List (List Name × Content)) (name : Name) (path : List Name) → same_name other name ≡ false → path_from start (below other places ++ rest) (name ∷ path) ≡ path_from (length places + start) rest (name ∷ path)
+path_alongside start other [] rest name path e = ap (λ n. path_from n rest (name ∷ path)) (let a : start ≡ 0 + start = omega arith in a)
+path_alongside start other (p ∷ places) rest name path e =
+    rw e (path_alongside (start + 1) other places rest name path e ∙ ap (λ n. path_from n rest (name ∷ path)) (let a : length places + (start + 1) ≡ length (p ∷ places) + start = omega arith in a))
 
 -- the places of variables, one after another
 abbrev pub all_places : List ProgramUnit → List Variable → List (List Name × Content)
@@ -77,7 +77,7 @@ variable_number before (u ∷ vs) start name v first k path f p e =
     further differs None is q onward = cc
     further differs (Some m) is q onward =
         let sum : size_of before u + m ≡ first = one_number (Some (size_of before u + m)) (size_of before u + m) first refl q in
-        path_beside start u.name (places_of before u) (all_places before vs) name path differs
+        path_alongside start u.name (places_of before u) (all_places before vs) name path differs
         ∙ (onward (length (places_of before u) + start) m is ∙ ap Some (let a : length (places_of before u) + start + (m + k) ≡ start + (first + k) = omega (arith, sum) in a))
 
     step : (b : Bool) → same_name u.name name ≡ b → (if b then Some u else find (λ (w : Variable). same_name w.name name) vs) ≡ Some v → (if b then Some 0 else option_map (λ n. size_of before u + n) (places_before before vs name)) ≡ Some first → ((s m : ℕ) → find (λ (w : Variable). same_name w.name name) vs ≡ Some v → places_before before vs name ≡ Some m → path_from s (all_places before vs) (name ∷ path) ≡ Some (s + (m + k))) → path_from start (below u.name (places_of before u) ++ all_places before vs) (name ∷ path) ≡ Some (start + (first + k))
@@ -93,10 +93,10 @@ pub no_direct : (places : List (List Name × Content)) (start : ℕ) (v : Direct
 no_direct [] start v = refl
 no_direct (p ∷ places) start v = no_direct places (start + 1) v
 
-pub behind_direct : (vs : List DirectVariable) (rest : List (Location × Content)) (start : ℕ) (path : List Name) → position_from (λ (entry : Location × Content). same_place entry.0 (Path path)) start (map (λ v. (Direct v, zero_of (kind_of_direct v))) vs ++ rest) ≡ position_from (λ (entry : Location × Content). same_place entry.0 (Path path)) (length vs + start) rest
-behind_direct [] rest start path = ap (λ n. position_from (λ (entry : Location × Content). same_place entry.0 (Path path)) n rest) (let a : start ≡ 0 + start = omega arith in a)
-behind_direct (v ∷ vs) rest start path =
-    behind_direct vs rest (start + 1) path
+pub after_direct : (vs : List DirectVariable) (rest : List (Location × Content)) (start : ℕ) (path : List Name) → position_from (λ (entry : Location × Content). same_place entry.0 (Path path)) start (map (λ v. (Direct v, zero_of (kind_of_direct v))) vs ++ rest) ≡ position_from (λ (entry : Location × Content). same_place entry.0 (Path path)) (length vs + start) rest
+after_direct [] rest start path = ap (λ n. position_from (λ (entry : Location × Content). same_place entry.0 (Path path)) n rest) (let a : start ≡ 0 + start = omega arith in a)
+after_direct (v ∷ vs) rest start path =
+    after_direct vs rest (start + 1) path
     ∙ ap (λ n. position_from (λ (entry : Location × Content). same_place entry.0 (Path path)) n rest) (let a : length vs + (start + 1) ≡ length (v ∷ vs) + start = omega arith in a)
 
 -- the number of a path in a unit's frame
@@ -106,7 +106,7 @@ frame_path scope path k e = step (is_block scope.unit)
     step : (b : Bool) → place_number (if b then map (λ p. (Path p.0, p.1)) (unit_places scope.before scope.unit) else program_frame scope.before scope.unit) (Path path) ≡ Some ((if b then 0 else length direct_variables) + k)
     step true = path_number (unit_places scope.before scope.unit) 0 path ∙ e 0
     step false =
-        behind_direct direct_variables (map (λ p. (Path p.0, p.1)) (unit_places scope.before scope.unit)) 0 path
+        after_direct direct_variables (map (λ p. (Path p.0, p.1)) (unit_places scope.before scope.unit)) 0 path
         ∙ (path_number (unit_places scope.before scope.unit) (length direct_variables + 0) path
         ∙ (e (length direct_variables + 0) ∙ ap Some (let a : length direct_variables + 0 + k ≡ length direct_variables + k = omega arith in a)))
 

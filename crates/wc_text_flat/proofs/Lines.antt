@@ -7,10 +7,10 @@ use Rattle.wc_text_flat.proofs.Sides.{Sides, flat, AreAlike, state_of, LineFollo
 use Rattle.wc_text_flat.proofs.Values.{value_number, ReadsAs, combined_follows, flipped_follows}
 use Rattle.wc_text_flat.specs.Contents.{AreContents}
 use Rattle.wc_text_flat.specs.FlatMeaning.{State, Moved, goes_on, with_result, with_all, is_named, kind_at, may_hold, number_held, overwrites, writes, loads, applies, line_runs}
-use Rattle.wc_text_flat.specs.Laid.{Operand, Number, At, IsPlaceOf, IsOperand, load_line, apply_line}
+use Rattle.wc_text_flat.specs.Lowered.{Operand, Number, At, IsPlaceOf, IsOperand, load_line, apply_line}
 use Rattle.wc_text_flat.specs.NumberOperators.{given, flipped, combined}
 use Rattle.wc_model.specs.Language.Frames.{content_number, place_number, slot_kind_of, slot_kinds}
-use Rattle.wc_model.specs.Language.Meaning.{Goes, Running, as_truth, takes_truth, beside, value_of, written_to, from_value, from_store, next, store_effect, step_effect}
+use Rattle.wc_model.specs.Language.Meaning.{Goes, Running, as_truth, takes_truth, alongside, value_of, written_to, from_value, from_store, next, store_effect, step_effect}
 use Rattle.wc_model.specs.Language.Meaning as meaning
 use Rattle.wc_model.specs.Language.Operators.{apply, negated}
 use Rattle.wc_model.specs.Language.Reasons.{Reason, NoSuchPlace, WrongKind}
@@ -54,7 +54,7 @@ place_read w alike store numbers contents (Some location) place is =
     (slice_get numbers (w.base + place.0)) (contents.each (within w.here.instance location) (w.base + place.0) (alike.based location place.0 is))
 
 -- what is stored
-pub stored_read : (w : Sides) → AreAlike w → (store : Store) (numbers : List ℤ) → AreContents w.frame store numbers → (term : Term) (operand : Operand) → Rattle.wc_text_flat.specs.Laid.IsStored w.here.scope term operand → ReadsAs (meaning.stored_value w.here store term) (operand_number w numbers operand)
+pub stored_read : (w : Sides) → AreAlike w → (store : Store) (numbers : List ℤ) → AreContents w.frame store numbers → (term : Term) (operand : Operand) → Rattle.wc_text_flat.specs.Lowered.IsStored w.here.scope term operand → ReadsAs (meaning.stored_value w.here store term) (operand_number w numbers operand)
 stored_read w alike store numbers contents term (Number n) is = absurd is
 stored_read w alike store numbers contents term (At place) is = place_read w alike store numbers contents (readable_place w.here.scope term) place is
 
@@ -77,14 +77,14 @@ truth_operand scope (Address word) operand is = is
 truth_operand scope (NameOf name) operand is = is
 truth_operand scope (Field instance field) operand is = is
 
-pub beside_operand : (scope : Scope) (operator : Operator) (a : Value) (term : Term) (operand : Operand) → IsOperand scope term operand → IsOperand scope (beside operator a term) operand
-beside_operand scope operator (Truth b) term operand is = step (takes_truth operator)
+pub alongside_operand : (scope : Scope) (operator : Operator) (a : Value) (term : Term) (operand : Operand) → IsOperand scope term operand → IsOperand scope (alongside operator a term) operand
+alongside_operand scope operator (Truth b) term operand is = step (takes_truth operator)
   where
     step : (t : Bool) → IsOperand scope (if t then as_truth term else term) operand
     step true = truth_operand scope term operand is
     step false = is
-beside_operand scope operator (Dint n) term operand is = is
-beside_operand scope operator (Time t) term operand is = is
+alongside_operand scope operator (Dint n) term operand is = is
+alongside_operand scope operator (Time t) term operand is = is
 
 -- on to the next line with a value
 pub next_follows : (w : Sides) (line : Code) (put_by : List ℤ) (number : ℕ) (store : Store) (numbers : List ℤ) → AreContents w.frame store numbers → (result : Option Value) (r : Result Value Reason) (o : Option ℤ) → ReadsAs r o → line_runs (flat w) (state_of result put_by numbers) line ≡ given o (λ n. goes_on (with_result (state_of result put_by numbers) n)) → LineFollows w line put_by (state_of result put_by numbers) (from_value r (next number store))
@@ -102,16 +102,16 @@ load_follows w alike put_by number store numbers contents result term operand is
     line (At place) = refl
 
 -- the negation of a literal is lowered
-pub negation_laid : (b : Bool) → pos 1 -ℤ value_number (Truth b) ≡ value_number (Truth (Rattle.std.specs.Prelude.not b))
-negation_laid true = refl
-negation_laid false = refl
+pub negation_lowered : (b : Bool) → pos 1 -ℤ value_number (Truth b) ≡ value_number (Truth (Rattle.std.specs.Prelude.not b))
+negation_lowered true = refl
+negation_lowered false = refl
 
 -- LDN
 pub load_negated_follows : (w : Sides) → AreAlike w → (put_by : List ℤ) (number : ℕ) (store : Store) (numbers : List ℤ) → AreContents w.frame store numbers → (result : Option Value) (term : Term) (operand : Operand) → IsOperand w.here.scope term operand → LineFollows w (load_line true operand) put_by (state_of result put_by numbers) (step_effect w.here number (Load true term) result store)
 load_negated_follows w alike put_by number store numbers contents result term operand is = step operand (value_of w.here store term) (operand_read w alike store numbers contents term operand is)
   where
     literal : (n : ℤ) (value : Value) → Some n ≡ Some (value_number value) → LineFollows w (load_line true (Number n)) put_by (state_of result put_by numbers) (from_value (negated value) (next number store))
-    literal n (Truth b) e = let same : n ≡ value_number (Truth b) = cc in (numbers, contents, refl, ap (λ m. goes_on (with_result (state_of result put_by numbers) (pos 1 -ℤ m))) same ∙ ap (λ m. goes_on (with_result (state_of result put_by numbers) m)) (negation_laid b))
+    literal n (Truth b) e = let same : n ≡ value_number (Truth b) = cc in (numbers, contents, refl, ap (λ m. goes_on (with_result (state_of result put_by numbers) (pos 1 -ℤ m))) same ∙ ap (λ m. goes_on (with_result (state_of result put_by numbers) m)) (negation_lowered b))
     literal n (Dint m) e = tt
     literal n (Time t) e = tt
 
@@ -125,7 +125,7 @@ load_negated_follows w alike put_by number store numbers contents result term op
 -- an operator with its operand
 pub apply_follows : (w : Sides) → AreAlike w → (put_by : List ℤ) (number : ℕ) (store : Store) (numbers : List ℤ) → AreContents w.frame store numbers → (result : Option Value) (operator : Operator) (term : Term) (operand : Operand) → IsOperand w.here.scope term operand → LineFollows w (apply_line operator operand) put_by (state_of result put_by numbers) (step_effect w.here number (Apply operator term) result store)
 apply_follows w alike put_by number store numbers contents None operator term operand is = tt
-apply_follows w alike put_by number store numbers contents (Some a) operator term operand is = step (value_of w.here store (beside operator a term)) (operand_read w alike store numbers contents (beside operator a term) operand (beside_operand w.here.scope operator a term operand is))
+apply_follows w alike put_by number store numbers contents (Some a) operator term operand is = step (value_of w.here store (alongside operator a term)) (operand_read w alike store numbers contents (alongside operator a term) operand (alongside_operand w.here.scope operator a term operand is))
   where
     line : (o : Operand) → line_runs (flat w) (state_of (Some a) put_by numbers) (apply_line operator o) ≡ given (operand_number w numbers o) (λ n. applies (state_of (Some a) put_by numbers) operator n)
     line (Number n) = refl

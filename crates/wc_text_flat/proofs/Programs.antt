@@ -7,7 +7,7 @@ use Rattle.wc_text_flat.proofs.Bodies.{lines_follow}
 use Rattle.wc_text_flat.proofs.Sides.{Sides, IsBased, BodyFollows, AreAlike}
 use Rattle.wc_text_flat.specs.Contents.{AreContents}
 use Rattle.wc_text_flat.specs.FlatMeaning.{Calls, Skips, Ran, body_runs, calls_below}
-use Rattle.wc_text_flat.specs.Laid.{IsLaid, AreLaidBehind}
+use Rattle.wc_text_flat.specs.Lowered.{IsLowered, AreLoweredAfter}
 use Rattle.wc_model.specs.Language.Declarations.{same_name, is_block, block_named}
 use Rattle.wc_model.specs.Text.Limits.{depth}
 use Rattle.wc_model.specs.Language.Frames.{slot_kinds}
@@ -31,7 +31,7 @@ NestWell (unit ∷ units) = NestsSimply unit.body × (depth unit.body ≤ 8) × 
 -- these are the codes of units that come newest first
 abbrev pub AreCodesOf : List (List Code) → List ProgramUnit → Type 0
 AreCodesOf codes [] = Unit {0}
-AreCodesOf codes (unit ∷ before) = (code : List Code) × (slice_get codes (length before) ≡ Some code) × IsLaid (record { before = before; unit = unit }) unit.body code × AreCodesOf codes before
+AreCodesOf codes (unit ∷ before) = (code : List Code) × (slice_get codes (length before) ≡ Some code) × IsLowered (record { before = before; unit = unit }) unit.body code × AreCodesOf codes before
 
 -- flat calls follow those of the tree, for these units
 abbrev pub CallsFollow : List (Location × Content) → List ProgramUnit → meaning.Calls → Calls → Type 0
@@ -40,12 +40,12 @@ CallsFollow frame before calls flat_calls = (name : Name) (unit : ProgramUnit) (
     (store : Store) (numbers : List ℤ) → AreContents frame store numbers → BodyFollows frame (calls name names store) (flat_calls (length earlier) base numbers)
 
 -- a whole body
-pub body_follows : (frame : List (Location × Content)) (scope : Scope) (names : List Name) (now base : ℕ) (calls : meaning.Calls) (flat_calls : Calls) → CallsFollow frame scope.before calls flat_calls → IsBased frame scope names base → NestsSimply scope.unit.body → depth scope.unit.body ≤ 8 → (code : List Code) → IsLaid scope scope.unit.body code → (found : Option (List Code)) → found ≡ Some code → (store : Store) (numbers : List ℤ) → AreContents frame store numbers → BodyFollows frame (body_means scope names now calls store) (body_runs (record { base = base; now = now; kinds = slot_kinds frame; calls = flat_calls }) found numbers)
-body_follows frame scope names now base calls flat_calls follow based simple l code laid found is store numbers contents =
+pub body_follows : (frame : List (Location × Content)) (scope : Scope) (names : List Name) (now base : ℕ) (calls : meaning.Calls) (flat_calls : Calls) → CallsFollow frame scope.before calls flat_calls → IsBased frame scope names base → NestsSimply scope.unit.body → depth scope.unit.body ≤ 8 → (code : List Code) → IsLowered scope scope.unit.body code → (found : Option (List Code)) → found ≡ Some code → (store : Store) (numbers : List ℤ) → AreContents frame store numbers → BodyFollows frame (body_means scope names now calls store) (body_runs (record { base = base; now = now; kinds = slot_kinds frame; calls = flat_calls }) found numbers)
+body_follows frame scope names now base calls flat_calls follow based simple l code lowered found is store numbers contents =
     let w : Sides = record { frame = frame; here = record { scope = scope; instance = names; now = now; calls = calls }; base = base; calls = flat_calls } in
     let alike : AreAlike w = record { based = based; calls_follow = follow } in
     subst (λ (c : Option (List Code)). BodyFollows frame (body_means scope names now calls store) (body_runs (record { base = base; now = now; kinds = slot_kinds frame; calls = flat_calls }) c numbers)) (sym is)
-    (lines_follow w alike scope.unit.body simple l code laid (Running None) (Skips 0) refl store numbers contents)
+    (lines_follow w alike scope.unit.body simple l code lowered (Running None) (Skips 0) refl store numbers contents)
 
 -- what is found as a block comes before
 pub found_before : (before : List ProgramUnit) (name : Name) (unit : ProgramUnit) (earlier : List ProgramUnit) → block_named before name ≡ Some (unit, earlier) → length earlier < length before
@@ -78,8 +78,8 @@ earlier_unit kinds codes now n unit base numbers l = step (unit == n) refl
     step false e = refl
 
 -- one more unit
-pub call_step : (frame : List (Location × Content)) (codes : List (List Code)) (now : ℕ) (u : ProgramUnit) (before : List ProgramUnit) → NestsSimply u.body → depth u.body ≤ 8 → (code : List Code) → slice_get codes (length before) ≡ Some code → IsLaid (record { before = before; unit = u }) u.body code → CallsFollow frame before (called before now) (calls_below (slot_kinds frame) codes now (length before)) → CallsFollow frame (u ∷ before) (called (u ∷ before) now) (calls_below (slot_kinds frame) codes now (suc (length before)))
-call_step frame codes now u before simple l code found laid follow = λ name unit earlier e names base based store numbers contents.
+pub call_step : (frame : List (Location × Content)) (codes : List (List Code)) (now : ℕ) (u : ProgramUnit) (before : List ProgramUnit) → NestsSimply u.body → depth u.body ≤ 8 → (code : List Code) → slice_get codes (length before) ≡ Some code → IsLowered (record { before = before; unit = u }) u.body code → CallsFollow frame before (called before now) (calls_below (slot_kinds frame) codes now (length before)) → CallsFollow frame (u ∷ before) (called (u ∷ before) now) (calls_below (slot_kinds frame) codes now (suc (length before)))
+call_step frame codes now u before simple l code found lowered follow = λ name unit earlier e names base based store numbers contents.
     step name unit earlier names base based store numbers contents (same_name u.name.name name) e
   where
     mine : (name : Name) (unit : ProgramUnit) (earlier : List ProgramUnit) (names : List Name) (base : ℕ) (store : Store) (numbers : List ℤ) → IsBased frame (record { before = earlier; unit = unit }) names base → AreContents frame store numbers → (let that : ProgramUnit × List ProgramUnit = (unit, earlier) in let this : ProgramUnit × List ProgramUnit = (u, before) in that ≡ this) → BodyFollows frame (body_means (record { before = before; unit = u }) names now (called before now) store) (calls_below (slot_kinds frame) codes now (suc (length before)) (length earlier) base numbers)
@@ -88,7 +88,7 @@ call_step frame codes now u before simple l code found laid follow = λ name uni
         let here : IsBased frame (record { before = before; unit = u }) names base = subst (λ (p : ProgramUnit × List ProgramUnit). IsBased frame (record { before = p.1; unit = p.0 }) names base) same based in
         subst (λ (o : Option Ran). BodyFollows frame (body_means (record { before = before; unit = u }) names now (called before now) store) o)
         (sym (ap (λ n. calls_below (slot_kinds frame) codes now (suc (length before)) n base numbers) count ∙ this_unit (slot_kinds frame) codes now (length before) base numbers))
-        (body_follows frame (record { before = before; unit = u }) names now base (called before now) (calls_below (slot_kinds frame) codes now (length before)) follow here simple l code laid (slice_get codes (length before)) found store numbers contents)
+        (body_follows frame (record { before = before; unit = u }) names now base (called before now) (calls_below (slot_kinds frame) codes now (length before)) follow here simple l code lowered (slice_get codes (length before)) found store numbers contents)
 
     block : (name : Name) (unit : ProgramUnit) (earlier : List ProgramUnit) (names : List Name) (base : ℕ) → IsBased frame (record { before = earlier; unit = unit }) names base → (store : Store) (numbers : List ℤ) → AreContents frame store numbers → (b : Bool) → (let this : ProgramUnit × List ProgramUnit = (u, before) in let that : ProgramUnit × List ProgramUnit = (unit, earlier) in (if b then Some this else None) ≡ Some that) → BodyFollows frame (body_means (record { before = before; unit = u }) names now (called before now) store) (calls_below (slot_kinds frame) codes now (suc (length before)) (length earlier) base numbers)
     block name unit earlier names base based store numbers contents true f = mine name unit earlier names base store numbers based contents (let this : ProgramUnit × List ProgramUnit = (u, before) in let that : ProgramUnit × List ProgramUnit = (unit, earlier) in Some-same this that f)
@@ -108,27 +108,27 @@ calls_follow frame codes now (u ∷ before) well are =
     (call_step frame codes now u before well.0 well.1 are.0 are.1 are.2 (calls_follow frame codes now before well.2 are.3))
 
 -- the codes of units in text order, after those before
-pub at_seam : (front rest : List (List Code)) (code : List Code) (n : ℕ) → length front ≡ n → slice_get (front ++ code ∷ rest) n ≡ Some code
+pub at_seam : (prefix rest : List (List Code)) (code : List Code) (n : ℕ) → length prefix ≡ n → slice_get (prefix ++ code ∷ rest) n ≡ Some code
 at_seam [] rest code zero e = refl
 at_seam [] rest code (suc n) e = absurd (omega (arith, e))
-at_seam (c ∷ front) rest code zero e = absurd (omega (arith, e))
-at_seam (c ∷ front) rest code (suc n) e = at_seam front rest code n (omega (arith, e))
+at_seam (c ∷ prefix) rest code zero e = absurd (omega (arith, e))
+at_seam (c ∷ prefix) rest code (suc n) e = at_seam prefix rest code n (omega (arith, e))
 
-pub codes_of : (units before : List ProgramUnit) (front rest : List (List Code)) → length front ≡ length before → AreLaidBehind before units rest → AreCodesOf (front ++ rest) before → AreCodesOf (front ++ rest) (reverse units ++ before)
-codes_of [] before front [] e laid are = are
-codes_of [] before front (code ∷ rest) e laid are = absurd laid
-codes_of (unit ∷ units) before front [] e laid are = absurd laid
-codes_of (unit ∷ units) before front (code ∷ rest) e laid are =
-    let joined : (front ++ code ∷ []) ++ rest ≡ front ++ code ∷ rest = append_assoc front (code ∷ []) rest in
-    let more : AreCodesOf (front ++ code ∷ rest) (unit ∷ before) = (code, at_seam front rest code (length before) e, laid.0, are) in
-    let so_many : length (front ++ code ∷ []) ≡ length (unit ∷ before) = let a = length-append front (code ∷ []) in omega (arith, a, e) in
-    subst (AreCodesOf (front ++ code ∷ rest)) (turned unit units before)
+pub codes_of : (units before : List ProgramUnit) (prefix rest : List (List Code)) → length prefix ≡ length before → AreLoweredAfter before units rest → AreCodesOf (prefix ++ rest) before → AreCodesOf (prefix ++ rest) (reverse units ++ before)
+codes_of [] before prefix [] e lowered are = are
+codes_of [] before prefix (code ∷ rest) e lowered are = absurd lowered
+codes_of (unit ∷ units) before prefix [] e lowered are = absurd lowered
+codes_of (unit ∷ units) before prefix (code ∷ rest) e lowered are =
+    let joined : (prefix ++ code ∷ []) ++ rest ≡ prefix ++ code ∷ rest = append_assoc prefix (code ∷ []) rest in
+    let more : AreCodesOf (prefix ++ code ∷ rest) (unit ∷ before) = (code, at_seam prefix rest code (length before) e, lowered.0, are) in
+    let so_many : length (prefix ++ code ∷ []) ≡ length (unit ∷ before) = let a = length-append prefix (code ∷ []) in omega (arith, a, e) in
+    subst (AreCodesOf (prefix ++ code ∷ rest)) (turned unit units before)
     (subst (λ (cs : List (List Code)). AreCodesOf cs (reverse units ++ (unit ∷ before))) joined
-    (codes_of units (unit ∷ before) (front ++ code ∷ []) rest so_many laid.1 (subst (λ (cs : List (List Code)). AreCodesOf cs (unit ∷ before)) (sym joined) more)))
+    (codes_of units (unit ∷ before) (prefix ++ code ∷ []) rest so_many lowered.1 (subst (λ (cs : List (List Code)). AreCodesOf cs (unit ∷ before)) (sym joined) more)))
 
 -- as many codes as units
-pub codes_length : (before units : List ProgramUnit) (codes : List (List Code)) → AreLaidBehind before units codes → length codes ≡ length units
-codes_length before [] [] laid = refl
-codes_length before [] (code ∷ codes) laid = absurd laid
-codes_length before (unit ∷ units) [] laid = absurd laid
-codes_length before (unit ∷ units) (code ∷ codes) laid = let e = codes_length (unit ∷ before) units codes laid.1 in omega (arith, e)
+pub codes_length : (before units : List ProgramUnit) (codes : List (List Code)) → AreLoweredAfter before units codes → length codes ≡ length units
+codes_length before [] [] lowered = refl
+codes_length before [] (code ∷ codes) lowered = absurd lowered
+codes_length before (unit ∷ units) [] lowered = absurd lowered
+codes_length before (unit ∷ units) (code ∷ codes) lowered = let e = codes_length (unit ∷ before) units codes lowered.1 in omega (arith, e)

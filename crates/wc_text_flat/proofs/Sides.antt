@@ -3,8 +3,8 @@ use Rattle.std.proofs.Common.{◌≡◌, ℕ, ◌+◌, Bool, true, false, List, 
 use Rattle.std.specs.Option.{option_map}
 use Rattle.wc_text_flat.proofs.Values.{value_number}
 use Rattle.wc_text_flat.specs.Contents.{AreContents}
-use Rattle.wc_text_flat.specs.FlatMeaning.{State, Course, Skips, Ended, Ran, Calls, Here, goes_on, line_runs, counted, followed, runs}
-use Rattle.wc_text_flat.specs.Laid.{lines_ahead}
+use Rattle.wc_text_flat.specs.FlatMeaning.{State, Flow, Skips, Ended, Ran, Calls, Here, goes_on, line_runs, counted, followed, runs}
+use Rattle.wc_text_flat.specs.Lowered.{lines_ahead}
 use Rattle.wc_text_flat.specs.NumberOperators.{given}
 use Rattle.wc_model.specs.Language.Declarations.{block_named}
 use Rattle.wc_model.specs.Language.Frames.{frame_of, place_number, slot_kinds}
@@ -78,7 +78,7 @@ line_onward w line put_by state (Goes (Returned result) store items) h = absurd 
 line_onward w line put_by state (Fails reason) h = tt
 
 -- the course of a run that is in a mode before these lines
-abbrev pub IsCourse : Lines → Mode → Course → Type 0
+abbrev pub IsCourse : Lines → Mode → Flow → Type 0
 IsCourse rest (Running result) course = course ≡ Skips 0
 IsCourse rest (Seeking label result) course = (n : ℕ) × (lines_ahead rest label ≡ Some n) × (course ≡ Skips n)
 IsCourse rest (Returned result) course = course ≡ Ended
@@ -90,9 +90,9 @@ result_in (Seeking label result) = result
 result_in (Returned result) = result
 
 -- flat lines follow an effect, from a course on, if these lines follow
-abbrev pub EffectFollows : Sides → Lines → List Code → List ℤ → Course → State → Effect → Type 0
+abbrev pub EffectFollows : Sides → Lines → List Code → List ℤ → Flow → State → Effect → Type 0
 EffectFollows w rest own put_by course state (Goes mode store items) =
-    (next : Course) × (numbers : List ℤ) × AreContents w.frame store numbers × IsCourse rest mode next
+    (next : Flow) × (numbers : List ℤ) × AreContents w.frame store numbers × IsCourse rest mode next
     × ((others : List Code) → runs (flat w) (own ++ others) course state ≡ then_counted (length items) (runs (flat w) others next (state_of (result_in mode) put_by numbers)))
 EffectFollows w rest own put_by course state (Fails reason) = Unit {0}
 

@@ -92,7 +92,7 @@ reversed_alike units new well clean codes are so_many =
     (program_alike new.before new.program new.no_block (subst NestWell new.are well) (subst AreClean new.are clean) codes (subst (AreCodesOf codes) new.are are) (so_many ∙ ap (λ (us : List ProgramUnit). length us) new.are))
 
 pub flat_code_means_the_text : FlatCodeMeansTheText
-flat_code_means_the_text bytes text read sound codes laid =
+flat_code_means_the_text bytes text read sound codes lowered =
     let simple = spelled_text_nests _ text read.spelled in
     let whole : reverse text ++ [] ≡ reverse text = append-nil (reverse text) in
     reversed_alike (reverse text)
@@ -100,8 +100,8 @@ flat_code_means_the_text bytes text read sound codes laid =
     (subst NestWell whole (all_nest_well text [] simple read.within_limits.bodies tt))
     (subst AreClean whole (units_clean [] text (none_broken (text_body_checks text) sound) simple tt))
     codes
-    (subst (AreCodesOf codes) whole (codes_of text [] [] codes refl laid tt))
-    (codes_length [] text codes laid ∙ sym (length-reverse text))
+    (subst (AreCodesOf codes) whole (codes_of text [] [] codes refl lowered tt))
+    (codes_length [] text codes lowered ∙ sym (length-reverse text))
 
 -- with an image the store holds what it held
 abbrev pub ImageWritten : List ProgramUnit → Type 0
@@ -115,8 +115,8 @@ image_of_program before program store same numbers contents image =
     (SameSlots-trans (initial_store before program) store (with_image image store) same (image-keeps store fits.direct image), image_written before program store numbers contents image)
 
 pub flat_code_scans_the_text : FlatCodeScansTheText
-flat_code_scans_the_text bytes text read sound codes laid store same numbers contents image now =
+flat_code_scans_the_text bytes text read sound codes lowered store same numbers contents image now =
     let new : Newest (reverse text) = subst Newest (append-nil (reverse text)) (newest text [] read.spelled.order) in
     let written : ImageWritten (reverse text) = subst ImageWritten (sym new.are) (image_of_program new.before new.program) in
     let both = written store same numbers contents image in
-    flat_code_means_the_text bytes text read sound codes laid (with_image image store) both.0 (with_image_numbers image numbers) both.1 now
+    flat_code_means_the_text bytes text read sound codes lowered (with_image image store) both.0 (with_image_numbers image numbers) both.1 now

@@ -3,12 +3,12 @@ use Rattle.std.proofs.Common.{◌≡◌, ℕ, zero, suc, ◌+◌, ◌<◌, Bool,
 use Rattle.std.specs.Prelude.{if◌then◌else◌, slice_get, slice_index}
 use Rattle.wc_text_flat.proofs.FlatPaths.{MeasuredAs, BlocksMeasured, lines_measured}
 use Rattle.wc_text_flat.specs.FlatPaths.{sources_of, Worst, worst_of}
-use Rattle.wc_text_flat.specs.Laid.{IsLaid, AreLaidBehind}
+use Rattle.wc_text_flat.specs.Lowered.{IsLowered, AreLoweredAfter}
 use Rattle.wc_text_flat.specs.Laws.{FlatCodeHasTheWorstPath}
 use Rattle.wc_laws_language.proofs.Longest.{Found, best_block, best_path, computed_is_worst, computed_lines, longest_of_worst}
-use Rattle.wc_model.specs.Language.Checks.{spots_behind}
+use Rattle.wc_model.specs.Language.Checks.{positions_after}
 use Rattle.wc_model.specs.Language.Declarations.{same_name, is_block, block_named}
-use Rattle.wc_model.specs.Language.Frames.{scope_of_spot}
+use Rattle.wc_model.specs.Language.Frames.{scope_of_position}
 use Rattle.wc_model.specs.Language.Names.{Name}
 use Rattle.wc_model.specs.Language.Paths.{Onward, IsLongest}
 use Rattle.wc_model.specs.Language.Scopes.{Scope}
@@ -22,9 +22,9 @@ use Rattle.wc_laws_soundness.specs.Laws.{UnitsNestSimply}
 use Rattle.wc_laws_soundness.specs.Sound.{NestsSimply}
 
 -- the worst path of a unit whose blocks are known
-pub unit_measured : (bounds : List ℕ) (before : List ProgramUnit) (unit : ProgramUnit) → BlocksMeasured bounds before (best_block before) → NestsSimply unit.body → (code : List Code) → IsLaid (record { before = before; unit = unit }) unit.body code → MeasuredAs (best_path (record { before = before; unit = unit })) (worst_of bounds code (sources_of unit.body))
-unit_measured bounds before unit known simple code laid =
-    lines_measured bounds (best_block before) (record { before = before; unit = unit }) known unit.body simple code laid Onward (worst_of bounds code (sources_of unit.body)) refl
+pub unit_measured : (bounds : List ℕ) (before : List ProgramUnit) (unit : ProgramUnit) → BlocksMeasured bounds before (best_block before) → NestsSimply unit.body → (code : List Code) → IsLowered (record { before = before; unit = unit }) unit.body code → MeasuredAs (best_path (record { before = before; unit = unit })) (worst_of bounds code (sources_of unit.body))
+unit_measured bounds before unit known simple code lowered =
+    lines_measured bounds (best_block before) (record { before = before; unit = unit }) known unit.body simple code lowered Onward (worst_of bounds code (sources_of unit.body)) refl
 
 -- what is measured is a longest path, and a worst one
 pub measured_is_worst : (scope : Scope) (found : Found) (way : Worst) → best_path scope ≡ found → MeasuredAs found way → IsLongest scope way.steps × AreWorstLines scope way.lines
@@ -55,32 +55,32 @@ blocks_step bounds u before known way m bound = λ name unit earlier e. step nam
     step name unit earlier false f = known name unit earlier f
 
 -- the units after those before
-abbrev pub scopes_behind : List ProgramUnit → List ProgramUnit → List Scope
-scopes_behind before units = map scope_of_spot (spots_behind before units)
+abbrev pub scopes_after : List ProgramUnit → List ProgramUnit → List Scope
+scopes_after before units = map scope_of_position (positions_after before units)
 
 -- the bounds of the first n units after those before
-abbrev pub AreBoundsBehind : List ProgramUnit → List ProgramUnit → List (List Code) → List ℕ → ℕ → Type 0
-AreBoundsBehind before units codes bounds n = (k : ℕ) → k < n → (scope : Scope) (code : List Code) → slice_get (scopes_behind before units) k ≡ Some scope → slice_get codes k ≡ Some code → slice_index bounds (length before + k) ≡ (worst_of bounds code (sources_of scope.unit.body)).steps
+abbrev pub AreBoundsAfter : List ProgramUnit → List ProgramUnit → List (List Code) → List ℕ → ℕ → Type 0
+AreBoundsAfter before units codes bounds n = (k : ℕ) → k < n → (scope : Scope) (code : List Code) → slice_get (scopes_after before units) k ≡ Some scope → slice_get codes k ≡ Some code → slice_index bounds (length before + k) ≡ (worst_of bounds code (sources_of scope.unit.body)).steps
 
-pub units_measured : (bounds : List ℕ) (before units : List ProgramUnit) (codes : List (List Code)) → BlocksMeasured bounds before (best_block before) → UnitsNestSimply units → AreLaidBehind before units codes → (n : ℕ) → AreBoundsBehind before units codes bounds n → (scope : Scope) (code : List Code) → slice_get (scopes_behind before units) n ≡ Some scope → slice_get codes n ≡ Some code → IsLongest scope (worst_of bounds code (sources_of scope.unit.body)).steps × AreWorstLines scope (worst_of bounds code (sources_of scope.unit.body)).lines
-units_measured bounds before [] [] known simple laid n are scope code s c = cc
-units_measured bounds before [] (first ∷ codes) known simple laid n are scope code s c = absurd laid
-units_measured bounds before (unit ∷ units) [] known simple laid n are scope code s c = absurd laid
-units_measured bounds before (unit ∷ units) (first ∷ codes) known simple laid zero are scope code s c =
+pub units_measured : (bounds : List ℕ) (before units : List ProgramUnit) (codes : List (List Code)) → BlocksMeasured bounds before (best_block before) → UnitsNestSimply units → AreLoweredAfter before units codes → (n : ℕ) → AreBoundsAfter before units codes bounds n → (scope : Scope) (code : List Code) → slice_get (scopes_after before units) n ≡ Some scope → slice_get codes n ≡ Some code → IsLongest scope (worst_of bounds code (sources_of scope.unit.body)).steps × AreWorstLines scope (worst_of bounds code (sources_of scope.unit.body)).lines
+units_measured bounds before [] [] known simple lowered n are scope code s c = cc
+units_measured bounds before [] (first ∷ codes) known simple lowered n are scope code s c = absurd lowered
+units_measured bounds before (unit ∷ units) [] known simple lowered n are scope code s c = absurd lowered
+units_measured bounds before (unit ∷ units) (first ∷ codes) known simple lowered zero are scope code s c =
     let mine : Scope = record { before = before; unit = unit } in
     let is : mine ≡ scope = sym (Some-same mine scope s) in
     let coded : first ≡ code = sym (Some-same first code c) in
     subst (λ (x : Scope). IsLongest x (worst_of bounds code (sources_of x.unit.body)).steps × AreWorstLines x (worst_of bounds code (sources_of x.unit.body)).lines) is
     (subst (λ (l : List Code). IsLongest mine (worst_of bounds l (sources_of unit.body)).steps × AreWorstLines mine (worst_of bounds l (sources_of unit.body)).lines) coded
-    (measured_is_worst mine (best_path mine) (worst_of bounds first (sources_of unit.body)) refl (unit_measured bounds before unit known simple.0 first laid.0)))
-units_measured bounds before (unit ∷ units) (first ∷ codes) known simple laid (suc n) are scope code s c =
+    (measured_is_worst mine (best_path mine) (worst_of bounds first (sources_of unit.body)) refl (unit_measured bounds before unit known simple.0 first lowered.0)))
+units_measured bounds before (unit ∷ units) (first ∷ codes) known simple lowered (suc n) are scope code s c =
     let mine : Scope = record { before = before; unit = unit } in
     let bound : slice_index bounds (length before) ≡ (worst_of bounds first (sources_of unit.body)).steps = ap (slice_index bounds) (let a : length before ≡ length before + 0 = omega arith in a) ∙ are 0 (omega arith) mine first refl refl in
-    let more : BlocksMeasured bounds (unit ∷ before) (best_block (unit ∷ before)) = blocks_step bounds unit before known (worst_of bounds first (sources_of unit.body)) (unit_measured bounds before unit known simple.0 first laid.0) bound in
-    units_measured bounds (unit ∷ before) units codes more simple.1 laid.1 n
+    let more : BlocksMeasured bounds (unit ∷ before) (best_block (unit ∷ before)) = blocks_step bounds unit before known (worst_of bounds first (sources_of unit.body)) (unit_measured bounds before unit known simple.0 first lowered.0) bound in
+    units_measured bounds (unit ∷ before) units codes more simple.1 lowered.1 n
     (λ k l x y f g. ap (slice_index bounds) (let a : length (unit ∷ before) + k ≡ length before + suc k = omega arith in a) ∙ are (suc k) (omega (arith, l)) x y f g) scope code s c
 
 pub flat_code_has_the_worst_path : FlatCodeHasTheWorstPath
-flat_code_has_the_worst_path bytes text read codes laid bounds n are scope code s c =
-    units_measured bounds [] text codes (λ name unit earlier e. cc) (spelled_text_nests _ text read.spelled) laid n
+flat_code_has_the_worst_path bytes text read codes lowered bounds n are scope code s c =
+    units_measured bounds [] text codes (λ name unit earlier e. cc) (spelled_text_nests _ text read.spelled) lowered n
     (λ k l x y f g. ap (slice_index bounds) (let a : 0 + k ≡ k = omega arith in a) ∙ are k l x y f g) scope code s c

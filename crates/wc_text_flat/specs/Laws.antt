@@ -5,7 +5,7 @@ use Rattle.wc_text_flat.specs.Contents.{frame_of_text, AreContents, with_image_n
 use Rattle.wc_text_flat.specs.Depths.{IsDepthRight}
 use Rattle.wc_text_flat.specs.FlatMeaning.{State, Skips, Ended, Ran, Here, ended, runs, calls_below, unit_runs, program_runs}
 use Rattle.wc_text_flat.specs.FlatPaths.{sources_of, worst_of}
-use Rattle.wc_text_flat.specs.Laid.{AreLaid}
+use Rattle.wc_text_flat.specs.Lowered.{AreLowered}
 use Rattle.wc_model.specs.Language.DirectVariables.{OutputBit, OutputWord}
 use Rattle.wc_model.specs.Language.Faults.{body_fault}
 use Rattle.wc_model.specs.Language.Frames.{content_number, first_numbers, scopes_of, slot_kinds}
@@ -38,14 +38,14 @@ text_means text now store = first_of_reversed (reverse text) (λ before program.
 -- declarations say, and the numbers of that store: the flat run of the program's code means what the text means.
 abbrev pub FlatCodeMeansTheText : Type 0
 FlatCodeMeansTheText = (bytes : List ℕ) (text : Text) → IsRead bytes text → body_fault text ≡ None →
-    (codes : List (List Code)) → AreLaid text codes →
+    (codes : List (List Code)) → AreLowered text codes →
     (store : Store) → SameSlots (initial_of text) store → (numbers : List ℤ) → AreContents (frame_of_text text) store numbers → (now : ℕ) →
     RunsAlike (frame_of_text text) (text_means text now store) (program_runs (slot_kinds (frame_of_text text)) codes now numbers)
 
 -- and a scan is the flat run over the numbers with the image in place of the first 25
 abbrev pub FlatCodeScansTheText : Type 0
 FlatCodeScansTheText = (bytes : List ℕ) (text : Text) → IsRead bytes text → body_fault text ≡ None →
-    (codes : List (List Code)) → AreLaid text codes →
+    (codes : List (List Code)) → AreLowered text codes →
     (store : Store) → SameSlots (initial_of text) store → (numbers : List ℤ) → AreContents (frame_of_text text) store numbers → (image : Image) (now : ℕ) →
     RunsAlike (frame_of_text text) (scan_of text store image now) (program_runs (slot_kinds (frame_of_text text)) codes now (with_image_numbers image numbers))
 
@@ -60,7 +60,7 @@ AreHeld text numbers = (store : Store) × SameSlots (initial_of text) store × A
 -- from numbers that are held a scan is defined, and the numbers that it leaves are held again
 abbrev pub HeldNumbersStayHeld : Type 0
 HeldNumbersStayHeld = (bytes : List ℕ) (text : Text) → IsRead bytes text → body_fault text ≡ None →
-    (codes : List (List Code)) → AreLaid text codes → (numbers : List ℤ) → AreHeld text numbers → (image : Image) (now : ℕ) →
+    (codes : List (List Code)) → AreLowered text codes → (numbers : List ℤ) → AreHeld text numbers → (image : Image) (now : ℕ) →
     (ran : Ran) × (program_runs (slot_kinds (frame_of_text text)) codes now (with_image_numbers image numbers) ≡ Some ran) × AreHeld text ran.numbers
 
 -- a call of an earlier unit is that unit's run
@@ -69,8 +69,8 @@ CallsAreRuns = (kinds : List SlotKind) (codes : List (List Code)) (now n unit ba
     calls_below kinds codes now n unit base numbers ≡ unit_runs kinds codes now unit base numbers
 
 -- each line of the code of each unit keeps within the unit's frame, within the code, and calls an earlier unit
-abbrev pub LaidCodeKeepsWithin : Type 0
-LaidCodeKeepsWithin = (text : Text) (codes : List (List Code)) → AreLaid text codes →
+abbrev pub LoweredCodeKeepsWithin : Type 0
+LoweredCodeKeepsWithin = (text : Text) (codes : List (List Code)) → AreLowered text codes →
     (unit size : ℕ) (code : List Code) → slice_get codes unit ≡ Some code → slice_get (frame_sizes text) unit ≡ Some size →
     (k left : ℕ) (line : Code) → slice_get code k ≡ Some line → suc k + left ≡ length code → IsWithin (frame_sizes text) unit size left line
 
@@ -82,14 +82,14 @@ AreBoundsBelow text codes bounds n = (k : ℕ) → k < n → (scope : Scope) (co
 -- if the bounds of the units before are known, the worst path of a unit's flat code has the length of a longest path of the
 -- unit, and the lines of its worst path
 abbrev pub FlatCodeHasTheWorstPath : Type 0
-FlatCodeHasTheWorstPath = (bytes : List ℕ) (text : Text) → IsRead bytes text → (codes : List (List Code)) → AreLaid text codes →
+FlatCodeHasTheWorstPath = (bytes : List ℕ) (text : Text) → IsRead bytes text → (codes : List (List Code)) → AreLowered text codes →
     (bounds : List ℕ) (n : ℕ) → AreBoundsBelow text codes bounds n →
     (scope : Scope) (code : List Code) → slice_get (scopes_of text) n ≡ Some scope → slice_get codes n ≡ Some code →
     IsLongest scope (worst_of bounds code (sources_of scope.unit.body)).steps × AreWorstLines scope (worst_of bounds code (sources_of scope.unit.body)).lines
 
 -- in the code of each unit the parentheses match, and are not too deep
-abbrev pub LaidCodeNests : Type 0
-LaidCodeNests = (bytes : List ℕ) (text : Text) → IsRead bytes text → (codes : List (List Code)) → AreLaid text codes →
+abbrev pub LoweredCodeNests : Type 0
+LoweredCodeNests = (bytes : List ℕ) (text : Text) → IsRead bytes text → (codes : List (List Code)) → AreLowered text codes →
     (unit : ℕ) (code : List Code) → slice_get codes unit ≡ Some code → (k : ℕ) (line : Code) → slice_get code k ≡ Some line → IsDepthRight code k line
 
 -- lines that are passed over are dropped, and so is what follows the end of a body
@@ -101,7 +101,7 @@ EndedBodiesAreOver = (here : Here) (code : List Code) (state : State) → runs h
 
 -- no unit has more flat lines than a text may have bytes, so that a number of 32 bits is enough to count those passed over
 abbrev pub FlatCodeIsShort : Type 0
-FlatCodeIsShort = (bytes : List ℕ) (text : Text) → IsRead bytes text → (codes : List (List Code)) → AreLaid text codes →
+FlatCodeIsShort = (bytes : List ℕ) (text : Text) → IsRead bytes text → (codes : List (List Code)) → AreLowered text codes →
     (unit : ℕ) (code : List Code) → slice_get codes unit ≡ Some code → length code ≤ most_bytes
 
 -- the output bits of a store are the numbers from place 25 on, and the output words those from place 41 on

@@ -1,11 +1,11 @@
 pub mod NumberOperators
 pub mod NumberBlocks
 pub mod FlatMeaning
-pub mod Laid
+pub mod Lowered
 pub mod Contents
 pub mod Examples
 pub mod Bounds
 pub mod FlatPaths
 pub mod Depths
 pub mod Laws
-pub mod LaidExample
+pub mod LoweredExample

@@ -1,15 +1,15 @@
-ghost use Rattle.wc_text_flat.specs.Laws.{FlatCodeHasTheWorstPath, FlatCodeIsShort, LaidCodeKeepsWithin, LaidCodeNests};
+ghost use Rattle.wc_text_flat.specs.Laws.{FlatCodeHasTheWorstPath, FlatCodeIsShort, LoweredCodeKeepsWithin, LoweredCodeNests};
 
 /// The lines of lowered code name places of the unit's frame, pass over lines that are there, and
 /// call earlier units, whose frames lie within the caller's.
-pub fn laid_code_keeps_within()
-    ensures { LaidCodeKeepsWithin }
+pub fn lowered_code_keeps_within()
+    ensures { LoweredCodeKeepsWithin }
 {}
 
 /// The parentheses of lowered code match, and are at most eight deep; lines that are passed over
 /// match too.
-pub fn laid_code_nests()
-    ensures { LaidCodeNests }
+pub fn lowered_code_nests()
+    ensures { LoweredCodeNests }
 {}
 
 /// The worst path of a unit's flat code, from the last line to the first, has the length of a

@@ -1,5 +1,5 @@
-ghost use Rattle.wc_text_flat.specs.Laid.{IsLaid};
-ghost use Rattle.wc_text_flat.specs.LaidExample.{laid_scope, laid_body, laid_code};
+ghost use Rattle.wc_text_flat.specs.Lowered.{IsLowered};
+ghost use Rattle.wc_text_flat.specs.LoweredExample.{lowered_scope, lowered_body, lowered_code};
 ghost use Rattle.std.specs.Prelude.{◌≡◌, Some, None};
 ghost use Rattle.wc_text_flat.specs.Examples.{jump_runs, jump_ran, parenthesis_runs, parenthesis_ran, timer_runs, timer_ran, call_runs, call_ran, stray_runs, double_runs, moment_runs, unopened_runs};
 
@@ -33,6 +33,6 @@ pub fn nothing_else_has_a_meaning()
 {}
 
 /// Loads, a jump over a parenthesis, a store and a call of a TON, lowered in a program's frame.
-pub fn body_is_laid()
-    ensures { IsLaid laid_scope laid_body laid_code }
+pub fn body_is_lowered()
+    ensures { IsLowered lowered_scope lowered_body lowered_code }
 {}

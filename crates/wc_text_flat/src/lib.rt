@@ -8,11 +8,11 @@ mod examples;
 mod meaning;
 
 pub use bounds::{
-    flat_code_has_the_worst_path, flat_code_is_short, laid_code_keeps_within, laid_code_nests,
+    flat_code_has_the_worst_path, flat_code_is_short, lowered_code_keeps_within, lowered_code_nests,
 };
 pub use examples::{
-    block_is_called, body_is_laid, jump_passes_over, nothing_else_has_a_meaning, parentheses_defer,
-    timer_is_called,
+    block_is_called, body_is_lowered, jump_passes_over, nothing_else_has_a_meaning,
+    parentheses_defer, timer_is_called,
 };
 pub use meaning::{
     calls_are_runs, ended_bodies_are_over, first_numbers_are_contents, flat_code_means_the_text,

@@ -1,3 +1,3 @@
-mod MeantWords
+mod KeywordMeanings
 mod LaterTokens
 pub mod Outcomes

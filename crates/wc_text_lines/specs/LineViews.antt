@@ -5,14 +5,14 @@ use Rattle.wc_laws_grammar.specs.Words.{step_of}
 use Rattle.wc_model.specs.Language.Tree as tree
 use Rattle.wc_model.specs.Language.Views.{assignment_view, name_view, term_view, word_view}
 use Rattle.wc_text_lines.specs.Words.{operating_view}
-use Rattle.wc_text_lines.specs.declared.line_state.Begun.{Begun}
+use Rattle.wc_text_lines.specs.declared.line_state.StartedLine.{StartedLine}
 use Rattle.wc_text_lines.specs.declared.line_state.Formal.{Formal}
 use Rattle.wc_text_lines.specs.declared.line_state.InList.{InList}
 use Rattle.wc_text_lines.specs.declared.line_state.InList.TheVariants.{AtFirst, AtNext, AtAssign, AtValue, AtEnd}
 use Rattle.wc_text_lines.specs.declared.line_state.InLine.{InLine}
 use Rattle.wc_text_lines.specs.declared.line_state.InLine.TheVariants.{Operated, Jumped, Called, Instanced, Listing, Named, Formed}
-use Rattle.wc_text_lines.specs.declared.line_state.LineForm.{LineForm}
-use Rattle.wc_text_lines.specs.declared.line_state.LineForm.TheVariants.{Instructs, Opens}
+use Rattle.wc_text_lines.specs.declared.line_state.LineShape.{LineShape}
+use Rattle.wc_text_lines.specs.declared.line_state.LineShape.TheVariants.{Instructs, Opens}
 use Rattle.wc_text_lines.specs.declared.line_state.LineState.{LineState}
 use Rattle.wc_text_lines.specs.declared.line_state.LineState.TheVariants.{Worded, Labelled, LabelAlone, Instructing}
 use Rattle.wc_text_lines.specs.declared.line_state.Listed.{Listed}
@@ -22,8 +22,8 @@ use Rattle.wc_text_lines.specs.declared.line_state.Step.{Step}
 use Rattle.wc_text_lines.specs.declared.line_state.Step.TheVariants.{Operate, Negate, Jump, Call, Return}
 
 -- an instruction that has started
-abbrev pub begun_view : Begun → lines.Begun
-begun_view begun = record { label = option_map word_view begun.label; line = begun.line }
+abbrev pub started_view : StartedLine → lines.StartedLine
+started_view started = record { label = option_map word_view started.label; line = started.line }
 
 -- a call whose list has started
 abbrev pub listed_view : Listed → lines.Listed
@@ -56,31 +56,31 @@ item_view (AtValue formal) = lines.AtValue (formal_view formal)
 item_view AtEnd = lines.AtEnd
 
 -- what a whole line with an instruction is
-abbrev pub form_view : lines.Begun → LineForm → lines.LineForm
-form_view begun (Instructs step) = lines.Instructs begun.label begun.line (step_view step)
-form_view begun (Opens operator operand) = lines.Opens begun.label begun.line operator (option_map term_view operand)
+abbrev pub shape_view : lines.StartedLine → LineShape → lines.LineShape
+shape_view started (Instructs step) = lines.Instructs started.label started.line (step_view step)
+shape_view started (Opens operator operand) = lines.Opens started.label started.line operator (option_map term_view operand)
 
 -- what may be a whole line, before its end
-abbrev pub whole_view : lines.Begun → LineForm → lines.LineState
-whole_view begun (Instructs step) = lines.Stepped begun (step_view step)
-whole_view begun (Opens operator None) = lines.Bracketed begun operator
-whole_view begun (Opens operator (Some operand)) = lines.BracketedWith begun operator (term_view operand)
+abbrev pub whole_view : lines.StartedLine → LineShape → lines.LineState
+whole_view started (Instructs step) = lines.Stepped started (step_view step)
+whole_view started (Opens operator None) = lines.Bracketed started operator
+whole_view started (Opens operator (Some operand)) = lines.BracketedWith started operator (term_view operand)
 
 -- how far an instruction has been read that has started
-abbrev pub in_line_view : lines.Begun → InLine → lines.LineState
-in_line_view begun (Operated operating) = lines.Operated begun (operating_view operating)
-in_line_view begun (Jumped condition) = lines.Jumped begun condition
-in_line_view begun (Called condition) = lines.Called begun condition
-in_line_view begun (Instanced condition instance) = lines.Instanced begun condition (name_view instance)
-in_line_view begun (Listing call item) = lines.Listing begun (listed_view call) (item_view item)
-in_line_view begun (Named owner name false) = lines.Named begun (owner_view owner) (name_view name)
-in_line_view begun (Named owner name true) = lines.Pointed begun (owner_view owner) (name_view name)
-in_line_view begun (Formed form false) = whole_view begun form
-in_line_view begun (Formed form true) = lines.Ended (form_view begun form)
+abbrev pub in_line_view : lines.StartedLine → InLine → lines.LineState
+in_line_view started (Operated operating) = lines.Operated started (operating_view operating)
+in_line_view started (Jumped condition) = lines.Jumped started condition
+in_line_view started (Called condition) = lines.Called started condition
+in_line_view started (Instanced condition instance) = lines.Instanced started condition (name_view instance)
+in_line_view started (Listing call item) = lines.Listing started (listed_view call) (item_view item)
+in_line_view started (Named owner name false) = lines.Named started (owner_view owner) (name_view name)
+in_line_view started (Named owner name true) = lines.Pointed started (owner_view owner) (name_view name)
+in_line_view started (Formed line_shape false) = whole_view started line_shape
+in_line_view started (Formed line_shape true) = lines.Ended (shape_view started line_shape)
 
 -- how far a line has been read
 abbrev pub line_state_view : LineState → lines.LineState
 line_state_view (Worded label) = lines.Worded (word_view label)
 line_state_view (Labelled label) = lines.Labelled (word_view label)
 line_state_view (LabelAlone label) = lines.Ended (lines.LabelAlone (word_view label))
-line_state_view (Instructing begun at) = in_line_view (begun_view begun) at
+line_state_view (Instructing started at) = in_line_view (started_view started) at

@@ -7,22 +7,22 @@ use Rattle.wc_model.specs.declared.source.Section.{Section}
 use Rattle.wc_model.specs.declared.source.UnitKind.{UnitKind}
 
 -- the operator that a reserved word is
-abbrev pub operation_meant : Keyword → Option Operation
-operation_meant (keyword.Load negated) = Some (Operates (Loads negated))
-operation_meant (keyword.Store storing) = Some (Operates (Stores storing))
-operation_meant (keyword.Apply operator) = Some (Operates (Applies operator))
-operation_meant keyword.Not = Some Negates
-operation_meant (keyword.Jump condition) = Some (Jumps condition)
-operation_meant (keyword.Call condition) = Some (Calls condition)
-operation_meant (keyword.Return condition) = Some (Returns condition)
-operation_meant _ = None
+abbrev pub operation_for : Keyword → Option Operation
+operation_for (keyword.Load negated) = Some (Operates (Loads negated))
+operation_for (keyword.Store storing) = Some (Operates (Stores storing))
+operation_for (keyword.Apply operator) = Some (Operates (Applies operator))
+operation_for keyword.Not = Some Negates
+operation_for (keyword.Jump condition) = Some (Jumps condition)
+operation_for (keyword.Call condition) = Some (Calls condition)
+operation_for (keyword.Return condition) = Some (Returns condition)
+operation_for _ = None
 
 -- the section that it begins
-abbrev pub section_meant : Keyword → Option Section
-section_meant (keyword.SectionStart section) = Some section
-section_meant _ = None
+abbrev pub section_for : Keyword → Option Section
+section_for (keyword.SectionStart section) = Some section
+section_for _ = None
 
 -- the kind of unit that it begins
-abbrev pub unit_meant : Keyword → Option UnitKind
-unit_meant (keyword.UnitStart kind) = Some kind
-unit_meant _ = None
+abbrev pub unit_for : Keyword → Option UnitKind
+unit_for (keyword.UnitStart kind) = Some kind
+unit_for _ = None

@@ -5,7 +5,7 @@ ghost use Rattle.wc_model.specs.Language.Views.{name_view};
 ghost use Rattle.wc_text_lines.specs.LineViews.{formal_view, in_line_view, item_view, listed_view};
 ghost use Rattle.wc_text_lines.specs.Words.{symbol_view};
 
-use crate::line_state::{Formal, InLine, InList, LineForm, Listed, OperandOf, Step};
+use crate::line_state::{Formal, InLine, InList, LineShape, Listed, OperandOf, Step};
 use crate::operands::at_operand;
 use crate::words::word;
 use std::alloc::{AllocError, Global};
@@ -19,10 +19,10 @@ pub(crate) fn at_instance<'a>(
     instance: Word<'a>,
     token: Token<'a>,
 ) -> Option<InLine<'a>>
-    ensures { (begun : lines.Begun) (setting : Setting) (line : ℕ) (colon : Bool)
-        → option_map (in_line_view begun) result
+    ensures { (started : lines.StartedLine) (setting : Setting) (line : ℕ) (colon : Bool)
+        → option_map (in_line_view started) result
         ≡ lines.line_move setting
-        (lines.Instanced begun condition (name_view instance.entry))
+        (lines.Instanced started condition (name_view instance.entry))
         (symbol_view token.entry) line colon }
 {
     let call = Listed {
@@ -31,7 +31,7 @@ pub(crate) fn at_instance<'a>(
         arguments: Vec::new(alloc),
     };
     match token.shape {
-        Shape::LineEnd => Some(InLine::Formed(LineForm::Instructs(Step::Call(call)), true)),
+        Shape::LineEnd => Some(InLine::Formed(LineShape::Instructs(Step::Call(call)), true)),
         Shape::Opening => Some(InLine::Listing(call, InList::AtFirst)),
         _ => None,
     }
@@ -39,24 +39,24 @@ pub(crate) fn at_instance<'a>(
 
 /// After the token that follows the list's bracket: an input or output, or the list's end.
 fn at_first<'a>(call: Listed<'a>, token: Token<'a>) -> Option<InLine<'a>>
-    ensures { (begun : lines.Begun) (line : ℕ)
-        → option_map (in_line_view begun) result
-        ≡ lines.at_list begun (listed_view call.entry) lines.AtFirst
+    ensures { (started : lines.StartedLine) (line : ℕ)
+        → option_map (in_line_view started) result
+        ≡ lines.at_list started (listed_view call.entry) lines.AtFirst
         (symbol_view token.entry) line }
 {
     match token.shape {
         Shape::LineEnd => Some(InLine::Listing(call, InList::AtFirst)),
         Shape::Identifier => Some(InLine::Listing(call, InList::AtAssign(word(token)))),
-        Shape::Closing => Some(InLine::Formed(LineForm::Instructs(Step::Call(call)), false)),
+        Shape::Closing => Some(InLine::Formed(LineShape::Instructs(Step::Call(call)), false)),
         _ => None,
     }
 }
 
 /// After the token that follows a comma: an input or output.
 fn at_next<'a>(call: Listed<'a>, token: Token<'a>) -> Option<InLine<'a>>
-    ensures { (begun : lines.Begun) (line : ℕ)
-        → option_map (in_line_view begun) result
-        ≡ lines.at_list begun (listed_view call.entry) lines.AtNext
+    ensures { (started : lines.StartedLine) (line : ℕ)
+        → option_map (in_line_view started) result
+        ≡ lines.at_list started (listed_view call.entry) lines.AtNext
         (symbol_view token.entry) line }
 {
     match token.shape {
@@ -68,9 +68,9 @@ fn at_next<'a>(call: Listed<'a>, token: Token<'a>) -> Option<InLine<'a>>
 
 /// After the token that follows the name of an input or output: its `:=` or `=>`.
 fn at_assign<'a>(call: Listed<'a>, word: Word<'a>, token: Token<'a>) -> Option<InLine<'a>>
-    ensures { (begun : lines.Begun) (line : ℕ)
-        → option_map (in_line_view begun) result
-        ≡ lines.at_list begun (listed_view call.entry)
+    ensures { (started : lines.StartedLine) (line : ℕ)
+        → option_map (in_line_view started) result
+        ≡ lines.at_list started (listed_view call.entry)
         (lines.AtAssign (name_view word.entry)) (symbol_view token.entry) line }
 {
     match token.shape {
@@ -100,9 +100,9 @@ fn at_value<'a>(
     token: Token<'a>,
 ) -> Result<Option<InLine<'a>>, AllocError>
     ensures { IfOk result
-        (λ next. (begun : lines.Begun)
-        → option_map (in_line_view begun) next
-        ≡ lines.at_list begun (listed_view call.entry)
+        (λ next. (started : lines.StartedLine)
+        → option_map (in_line_view started) next
+        ≡ lines.at_list started (listed_view call.entry)
         (lines.AtValue (formal_view formal.entry)) (symbol_view token.entry) token.entry.line) }
 {
     match token.shape {
@@ -113,15 +113,15 @@ fn at_value<'a>(
 
 /// After the token that follows a whole argument: a comma, or the list's end.
 fn at_end<'a>(call: Listed<'a>, token: Token<'a>) -> Option<InLine<'a>>
-    ensures { (begun : lines.Begun) (line : ℕ)
-        → option_map (in_line_view begun) result
-        ≡ lines.at_list begun (listed_view call.entry) lines.AtEnd
+    ensures { (started : lines.StartedLine) (line : ℕ)
+        → option_map (in_line_view started) result
+        ≡ lines.at_list started (listed_view call.entry) lines.AtEnd
         (symbol_view token.entry) line }
 {
     match token.shape {
         Shape::LineEnd => Some(InLine::Listing(call, InList::AtEnd)),
         Shape::Comma => Some(InLine::Listing(call, InList::AtNext)),
-        Shape::Closing => Some(InLine::Formed(LineForm::Instructs(Step::Call(call)), false)),
+        Shape::Closing => Some(InLine::Formed(LineShape::Instructs(Step::Call(call)), false)),
         _ => None,
     }
 }
@@ -133,9 +133,9 @@ pub(crate) fn at_list<'a>(
     token: Token<'a>,
 ) -> Result<Option<InLine<'a>>, AllocError>
     ensures { IfOk result
-        (λ next. (begun : lines.Begun)
-        → option_map (in_line_view begun) next
-        ≡ lines.at_list begun (listed_view call.entry) (item_view item.entry)
+        (λ next. (started : lines.StartedLine)
+        → option_map (in_line_view started) next
+        ≡ lines.at_list started (listed_view call.entry) (item_view item.entry)
         (symbol_view token.entry) token.entry.line) }
 {
     match item {

@@ -4,7 +4,7 @@ use wc_model::{Argument, Condition, Direction, Operand, Operator, Word};
 
 /// An instruction that has started: its label, and the line of its first token.
 #[derive(Clone, Copy)]
-pub struct Begun<'a> {
+pub struct StartedLine<'a> {
     pub label: Option<Word<'a>>,
     pub line: u32,
 }
@@ -63,7 +63,7 @@ pub enum InList<'a> {
 
 /// What a whole line with an instruction is.
 #[derive(Drop)]
-pub enum LineForm<'a> {
+pub enum LineShape<'a> {
     /// An instruction.
     Instructs(Step<'a>),
     /// The opening of a parenthesis, with its operand if it has one.
@@ -86,7 +86,7 @@ pub enum InLine<'a> {
     /// After a name where an operand is, and whether after the point after it too.
     Named(OperandOf<'a>, Word<'a>, bool),
     /// After what may be the whole line, and whether after the line's end too.
-    Formed(LineForm<'a>, bool),
+    Formed(LineShape<'a>, bool),
 }
 
 /// How far a line of a body has been read.
@@ -99,5 +99,5 @@ pub enum LineState<'a> {
     /// After the line's end, if a label is alone.
     LabelAlone(Word<'a>),
     /// After an operator, with what has started there.
-    Instructing(Begun<'a>, InLine<'a>),
+    Instructing(StartedLine<'a>, InLine<'a>),
 }

@@ -5,12 +5,12 @@ ghost use Rattle.wc_model.specs.Text.Grammar.{Setting, InBody, InParentheses};
 ghost use Rattle.wc_model.specs.Language.Names.{name_of};
 ghost use Rattle.wc_model.specs.Language.Tree as tree;
 ghost use Rattle.wc_model.specs.Language.Views.{term_view, word_view};
-ghost use Rattle.wc_text_lines.specs.LineViews.{begun_view, in_line_view, line_state_view, step_view, whole_view};
+ghost use Rattle.wc_text_lines.specs.LineViews.{started_view, in_line_view, line_state_view, step_view, whole_view};
 ghost use Rattle.wc_text_lines.specs.Words.{operating_view, operation_view, symbol_view};
 
 use crate::calls::{at_instance, at_list};
-use crate::line_state::{Begun, InLine, LineForm, LineState, OperandOf, Step};
-use crate::operands::{at_operand, behind_name};
+use crate::line_state::{InLine, LineShape, LineState, OperandOf, StartedLine, Step};
+use crate::operands::{after_name, at_operand};
 use crate::operators::{Operating, Operation, is_transfer, operation_named, operation_of};
 use crate::words::word;
 use std::alloc::{AllocError, Global};
@@ -19,18 +19,18 @@ use wc_model::{Condition, Operand, Operator, Word};
 
 /// What begins with an operator.
 #[inline(always)]
-fn begun_with<'a>(operation: Operation) -> InLine<'a>
+fn started_with<'a>(operation: Operation) -> InLine<'a>
     ensures { (label : Option tree.Word) (line : ℕ)
         → in_line_view (record { label = label; line = line }) result
-        ≡ lines.behind_operator label line (operation_view operation) }
+        ≡ lines.after_operator label line (operation_view operation) }
 {
     match operation {
         Operation::Operates(operating) => InLine::Operated(operating),
-        Operation::Negates => InLine::Formed(LineForm::Instructs(Step::Negate), false),
+        Operation::Negates => InLine::Formed(LineShape::Instructs(Step::Negate), false),
         Operation::Jumps(condition) => InLine::Jumped(condition),
         Operation::Calls(condition) => InLine::Called(condition),
         Operation::Returns(condition) => InLine::Formed(
-            LineForm::Instructs(Step::Return(condition)),
+            LineShape::Instructs(Step::Return(condition)),
             false,
         ),
     }
@@ -38,11 +38,11 @@ fn begun_with<'a>(operation: Operation) -> InLine<'a>
 
 /// After an operator.
 #[inline(always)]
-fn behind_operator<'a>(label: Option<Word<'a>>, line: u32, operation: Operation) -> LineState<'a>
+fn after_operator<'a>(label: Option<Word<'a>>, line: u32, operation: Operation) -> LineState<'a>
     ensures { line_state_view result
-        ≡ lines.behind_operator (option_map word_view label.entry) line (operation_view operation) }
+        ≡ lines.after_operator (option_map word_view label.entry) line (operation_view operation) }
 {
-    LineState::Instructing(Begun { label, line }, begun_with(operation))
+    LineState::Instructing(StartedLine { label, line }, started_with(operation))
 }
 
 /// After a token that has to be an operator.
@@ -53,7 +53,7 @@ fn at_operator<'a>(label: Option<Word<'a>>, token: Token<'a>) -> Option<LineStat
         (words.operation_of (symbol_view token.entry)) }
 {
     match operation_of(token) {
-        Some(operation) => Some(behind_operator(label, token.line, operation)),
+        Some(operation) => Some(after_operator(label, token.line, operation)),
         None => None,
     }
 }
@@ -67,7 +67,7 @@ fn operator_or_label<'a>(token: Token<'a>) -> LineState<'a>
         (words.found words.operations (name_of token.entry.text.now)) }
 {
     match operation_named(token.text) {
-        Some(operation) => behind_operator(None, token.line, operation),
+        Some(operation) => after_operator(None, token.line, operation),
         None => LineState::Worded(word(token)),
     }
 }
@@ -98,7 +98,7 @@ pub fn at_start_inside<'a>(token: Token<'a>) -> Option<LineState<'a>>
             if is_transfer(operation) {
                 None
             } else {
-                Some(behind_operator(None, token.line, operation))
+                Some(after_operator(None, token.line, operation))
             }
         }
         None => None,
@@ -120,13 +120,13 @@ fn at_labelled<'a>(label: Word<'a>, token: Token<'a>) -> Option<LineState<'a>>
 #[inline(always)]
 fn at_applied<'a>(operator: Operator, token: Token<'a>) -> Result<Option<InLine<'a>>, AllocError>
     ensures { IfOk result
-        (λ next. (begun : lines.Begun)
-        → option_map (in_line_view begun) next
-        ≡ lines.at_operated begun (words.Applies operator)
+        (λ next. (started : lines.StartedLine)
+        → option_map (in_line_view started) next
+        ≡ lines.at_operated started (words.Applies operator)
         (symbol_view token.entry) token.entry.line) }
 {
     match token.shape {
-        Shape::Opening => Ok(Some(InLine::Formed(LineForm::Opens(operator, None), false))),
+        Shape::Opening => Ok(Some(InLine::Formed(LineShape::Opens(operator, None), false))),
         _ => at_operand(OperandOf::OfStep(Operating::Applies(operator)), token),
     }
 }
@@ -135,9 +135,9 @@ fn at_applied<'a>(operator: Operator, token: Token<'a>) -> Result<Option<InLine<
 #[inline(always)]
 fn at_operated<'a>(operating: Operating, token: Token<'a>) -> Result<Option<InLine<'a>>, AllocError>
     ensures { IfOk result
-        (λ next. (begun : lines.Begun)
-        → option_map (in_line_view begun) next
-        ≡ lines.at_operated begun (operating_view operating)
+        (λ next. (started : lines.StartedLine)
+        → option_map (in_line_view started) next
+        ≡ lines.at_operated started (operating_view operating)
         (symbol_view token.entry) token.entry.line) }
 {
     match operating {
@@ -152,27 +152,27 @@ fn at_operated<'a>(operating: Operating, token: Token<'a>) -> Result<Option<InLi
 /// After the token that follows an operator's bracket.
 fn at_bracketed<'a>(operator: Operator, token: Token<'a>) -> Result<Option<InLine<'a>>, AllocError>
     ensures { IfOk result
-        (λ next. (begun : lines.Begun)
-        → option_map (in_line_view begun) next
-        ≡ lines.at_bracketed begun operator (symbol_view token.entry) token.entry.line) }
+        (λ next. (started : lines.StartedLine)
+        → option_map (in_line_view started) next
+        ≡ lines.at_bracketed started operator (symbol_view token.entry) token.entry.line) }
 {
     match token.shape {
-        Shape::LineEnd => Ok(Some(InLine::Formed(LineForm::Opens(operator, None), true))),
+        Shape::LineEnd => Ok(Some(InLine::Formed(LineShape::Opens(operator, None), true))),
         _ => at_operand(OperandOf::OfOpening(operator), token),
     }
 }
 
 /// After the token that follows a jump's operator: its label.
 fn at_target<'a>(condition: Condition, token: Token<'a>) -> Option<InLine<'a>>
-    ensures { (begun : lines.Begun) (setting : Setting) (line : ℕ) (colon : Bool)
-        → option_map (in_line_view begun) result
-        ≡ lines.line_move setting (lines.Jumped begun condition)
+    ensures { (started : lines.StartedLine) (setting : Setting) (line : ℕ) (colon : Bool)
+        → option_map (in_line_view started) result
+        ≡ lines.line_move setting (lines.Jumped started condition)
         (symbol_view token.entry) line colon }
 {
     match token.shape {
         Shape::Identifier => {
             let step = Step::Jump(condition, word(token));
-            Some(InLine::Formed(LineForm::Instructs(step), false))
+            Some(InLine::Formed(LineShape::Instructs(step), false))
         }
         _ => None,
     }
@@ -180,9 +180,9 @@ fn at_target<'a>(condition: Condition, token: Token<'a>) -> Option<InLine<'a>>
 
 /// After the token that follows a call's operator: its instance.
 fn at_called<'a>(condition: Condition, token: Token<'a>) -> Option<InLine<'a>>
-    ensures { (begun : lines.Begun) (setting : Setting) (line : ℕ) (colon : Bool)
-        → option_map (in_line_view begun) result
-        ≡ lines.line_move setting (lines.Called begun condition)
+    ensures { (started : lines.StartedLine) (setting : Setting) (line : ℕ) (colon : Bool)
+        → option_map (in_line_view started) result
+        ≡ lines.line_move setting (lines.Called started condition)
         (symbol_view token.entry) line colon }
 {
     match token.shape {
@@ -194,13 +194,13 @@ fn at_called<'a>(condition: Condition, token: Token<'a>) -> Option<InLine<'a>>
 /// After the token that follows a whole instruction: the line's end.
 #[inline(always)]
 fn at_step_end<'a>(step: Step<'a>, token: Token<'a>) -> Option<InLine<'a>>
-    ensures { (begun : lines.Begun) (setting : Setting) (line : ℕ) (colon : Bool)
-        → option_map (in_line_view begun) result
-        ≡ lines.line_move setting (lines.Stepped begun (step_view step.entry))
+    ensures { (started : lines.StartedLine) (setting : Setting) (line : ℕ) (colon : Bool)
+        → option_map (in_line_view started) result
+        ≡ lines.line_move setting (lines.Stepped started (step_view step.entry))
         (symbol_view token.entry) line colon }
 {
     match token.shape {
-        Shape::LineEnd => Some(InLine::Formed(LineForm::Instructs(step), true)),
+        Shape::LineEnd => Some(InLine::Formed(LineShape::Instructs(step), true)),
         _ => None,
     }
 }
@@ -211,14 +211,14 @@ fn at_opening_end<'a>(
     operand: Operand<'a>,
     token: Token<'a>,
 ) -> Option<InLine<'a>>
-    ensures { (begun : lines.Begun) (setting : Setting) (line : ℕ) (colon : Bool)
-        → option_map (in_line_view begun) result
+    ensures { (started : lines.StartedLine) (setting : Setting) (line : ℕ) (colon : Bool)
+        → option_map (in_line_view started) result
         ≡ lines.line_move setting
-        (lines.BracketedWith begun operator (term_view operand.entry))
+        (lines.BracketedWith started operator (term_view operand.entry))
         (symbol_view token.entry) line colon }
 {
     match token.shape {
-        Shape::LineEnd => Some(InLine::Formed(LineForm::Opens(operator, Some(operand)), true)),
+        Shape::LineEnd => Some(InLine::Formed(LineShape::Opens(operator, Some(operand)), true)),
         _ => None,
     }
 }
@@ -230,9 +230,9 @@ fn at_opening<'a>(
     token: Token<'a>,
 ) -> Result<Option<InLine<'a>>, AllocError>
     ensures { IfOk result
-        (λ next. (begun : lines.Begun) (setting : Setting) (colon : Bool)
-        → option_map (in_line_view begun) next
-        ≡ lines.line_move setting (whole_view begun (LineForm.Opens operator operand.entry))
+        (λ next. (started : lines.StartedLine) (setting : Setting) (colon : Bool)
+        → option_map (in_line_view started) next
+        ≡ lines.line_move setting (whole_view started (LineShape.Opens operator operand.entry))
         (symbol_view token.entry) token.entry.line colon) }
 {
     match operand {
@@ -243,16 +243,19 @@ fn at_opening<'a>(
 
 /// After the token that follows what may be a whole line.
 #[inline(always)]
-fn at_whole<'a>(form: LineForm<'a>, token: Token<'a>) -> Result<Option<InLine<'a>>, AllocError>
+fn at_whole<'a>(
+    line_shape: LineShape<'a>,
+    token: Token<'a>,
+) -> Result<Option<InLine<'a>>, AllocError>
     ensures { IfOk result
-        (λ next. (begun : lines.Begun) (setting : Setting) (colon : Bool)
-        → option_map (in_line_view begun) next
-        ≡ lines.line_move setting (whole_view begun form.entry)
+        (λ next. (started : lines.StartedLine) (setting : Setting) (colon : Bool)
+        → option_map (in_line_view started) next
+        ≡ lines.line_move setting (whole_view started line_shape.entry)
         (symbol_view token.entry) token.entry.line colon) }
 {
-    match form {
-        LineForm::Instructs(step) => Ok(at_step_end(step, token)),
-        LineForm::Opens(operator, operand) => at_opening(operator, operand, token),
+    match line_shape {
+        LineShape::Instructs(step) => Ok(at_step_end(step, token)),
+        LineShape::Opens(operator, operand) => at_opening(operator, operand, token),
     }
 }
 
@@ -264,9 +267,9 @@ fn in_line_move<'a>(
     token: Token<'a>,
 ) -> Result<Option<InLine<'a>>, AllocError>
     ensures { IfOk result
-        (λ next. (begun : lines.Begun) (setting : Setting) (colon : Bool)
-        → option_map (in_line_view begun) next
-        ≡ lines.line_move setting (in_line_view begun state.entry)
+        (λ next. (started : lines.StartedLine) (setting : Setting) (colon : Bool)
+        → option_map (in_line_view started) next
+        ≡ lines.line_move setting (in_line_view started state.entry)
         (symbol_view token.entry) token.entry.line colon) }
 {
     match state {
@@ -277,12 +280,12 @@ fn in_line_move<'a>(
             alloc, condition, instance, token,
         )),
         InLine::Listing(call, item) => at_list(call, item, token),
-        InLine::Named(owner, name, pointed) => behind_name(owner, name, pointed, token),
-        InLine::Formed(form, ended) => {
+        InLine::Named(owner, name, pointed) => after_name(owner, name, pointed, token),
+        InLine::Formed(line_shape, ended) => {
             if ended {
                 Ok(None)
             } else {
-                at_whole(form, token)
+                at_whole(line_shape, token)
             }
         }
     }
@@ -290,12 +293,12 @@ fn in_line_move<'a>(
 
 /// On the line of an instruction, if it goes on so.
 #[inline(always)]
-fn instructing<'a>(begun: Begun<'a>, state: Option<InLine<'a>>) -> Option<LineState<'a>>
+fn instructing<'a>(started: StartedLine<'a>, state: Option<InLine<'a>>) -> Option<LineState<'a>>
     ensures { option_map line_state_view result
-        ≡ option_map (in_line_view (begun_view begun.entry)) state.entry }
+        ≡ option_map (in_line_view (started_view started.entry)) state.entry }
 {
     match state {
-        Some(state) => Some(LineState::Instructing(begun, state)),
+        Some(state) => Some(LineState::Instructing(started, state)),
         None => None,
     }
 }
@@ -330,9 +333,9 @@ pub fn line_move<'a>(
         LineState::Worded(label) => Ok(at_colon(label, token)),
         LineState::Labelled(label) => Ok(at_labelled(label, token)),
         LineState::LabelAlone(_) => Ok(None),
-        LineState::Instructing(begun, state) => {
+        LineState::Instructing(started, state) => {
             match in_line_move(alloc, state, token) {
-                Ok(next) => Ok(instructing(begun, next)),
+                Ok(next) => Ok(instructing(started, next)),
                 Err(error) => Err(error),
             }
         }

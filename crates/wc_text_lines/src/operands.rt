@@ -7,7 +7,7 @@ ghost use Rattle.wc_model.specs.Language.Views.{name_view, term_view};
 ghost use Rattle.wc_text_lines.specs.LineViews.{formal_view, in_line_view, listed_view, owner_view};
 ghost use Rattle.wc_text_lines.specs.Words.{operating_view, symbol_view};
 
-use crate::line_state::{Formal, InLine, InList, LineForm, Listed, OperandOf, Step};
+use crate::line_state::{Formal, InLine, InList, LineShape, Listed, OperandOf, Step};
 use crate::operators::Operating;
 use crate::words::{truth, word};
 use std::alloc::AllocError;
@@ -36,23 +36,23 @@ fn with_argument<'a>(
 }
 
 /// After a whole operand.
-fn behind_operand<'a>(
+fn after_operand<'a>(
     owner: OperandOf<'a>,
     operand: Operand<'a>,
 ) -> Result<Option<InLine<'a>>, AllocError>
     ensures { IfOk result
-        (λ next. (begun : lines.Begun)
-        → option_map (in_line_view begun) next
-        ≡ Some (lines.behind_operand begun (owner_view owner.entry) (term_view operand.entry))) }
+        (λ next. (started : lines.StartedLine)
+        → option_map (in_line_view started) next
+        ≡ Some (lines.after_operand started (owner_view owner.entry) (term_view operand.entry))) }
 {
     match owner {
         OperandOf::OfStep(operating) => {
             let step = Step::Operate(operating, operand);
-            Ok(Some(InLine::Formed(LineForm::Instructs(step), false)))
+            Ok(Some(InLine::Formed(LineShape::Instructs(step), false)))
         }
         OperandOf::OfOpening(operator) => {
-            let form = LineForm::Opens(operator, Some(operand));
-            Ok(Some(InLine::Formed(form, false)))
+            let line_shape = LineShape::Opens(operator, Some(operand));
+            Ok(Some(InLine::Formed(line_shape, false)))
         }
         OperandOf::OfArgument(call, formal) => {
             let call = with_argument(call, formal, operand)?;
@@ -62,13 +62,13 @@ fn behind_operand<'a>(
 }
 
 /// After a literal where an operand is.
-fn behind_literal<'a>(owner: OperandOf<'a>, value: Value) -> Result<Option<InLine<'a>>, AllocError>
+fn after_literal<'a>(owner: OperandOf<'a>, value: Value) -> Result<Option<InLine<'a>>, AllocError>
     ensures { IfOk result
-        (λ next. (begun : lines.Begun)
-        → option_map (in_line_view begun) next
-        ≡ Some (lines.behind_operand begun (owner_view owner.entry) (tree.Constant value))) }
+        (λ next. (started : lines.StartedLine)
+        → option_map (in_line_view started) next
+        ≡ Some (lines.after_operand started (owner_view owner.entry) (tree.Constant value))) }
 {
-    behind_operand(owner, Operand::Literal(value))
+    after_operand(owner, Operand::Literal(value))
 }
 
 /// After the first token of an operand; none if none begins so.
@@ -77,35 +77,35 @@ pub(crate) fn at_operand<'a>(
     token: Token<'a>,
 ) -> Result<Option<InLine<'a>>, AllocError>
     ensures { IfOk result
-        (λ next. (begun : lines.Begun)
-        → option_map (in_line_view begun) next
-        ≡ lines.at_operand begun (owner_view owner.entry)
+        (λ next. (started : lines.StartedLine)
+        → option_map (in_line_view started) next
+        ≡ lines.at_operand started (owner_view owner.entry)
         (symbol_view token.entry) token.entry.line) }
 {
     match token.shape {
         Shape::Identifier => match truth(token.text) {
-            Some(value) => behind_literal(owner, Value::Bool(value)),
+            Some(value) => after_literal(owner, Value::Bool(value)),
             None => Ok(Some(InLine::Named(owner, word(token), false))),
         },
-        Shape::Whole(number) => behind_literal(owner, Value::Dint(number)),
-        Shape::Duration(milliseconds) => behind_literal(owner, Value::Time(milliseconds)),
-        Shape::Truth(value) => behind_literal(owner, Value::Bool(value)),
-        Shape::Address => behind_operand(owner, Operand::Address(word(token))),
+        Shape::Whole(number) => after_literal(owner, Value::Dint(number)),
+        Shape::Duration(milliseconds) => after_literal(owner, Value::Time(milliseconds)),
+        Shape::Truth(value) => after_literal(owner, Value::Bool(value)),
+        Shape::Address => after_operand(owner, Operand::Address(word(token))),
         _ => Ok(None),
     }
 }
 
 /// After the token that follows an argument's name that is the whole operand.
-fn behind_value<'a>(
+fn after_value<'a>(
     call: Listed<'a>,
     formal: Formal<'a>,
     name: Word<'a>,
     token: Token<'a>,
 ) -> Result<Option<InLine<'a>>, AllocError>
     ensures { IfOk result
-        (λ next. (begun : lines.Begun)
-        → option_map (in_line_view begun) next
-        ≡ lines.behind_name begun
+        (λ next. (started : lines.StartedLine)
+        → option_map (in_line_view started) next
+        ≡ lines.after_name started
         (lines.OfArgument (listed_view call.entry) (formal_view formal.entry))
         (name_view name.entry) (symbol_view token.entry)) }
 {
@@ -117,46 +117,42 @@ fn behind_value<'a>(
         }
         Shape::Closing => {
             let call = with_argument(call, formal, Operand::Name(name.text))?;
-            Ok(Some(InLine::Formed(LineForm::Instructs(Step::Call(call)), false)))
+            Ok(Some(InLine::Formed(LineShape::Instructs(Step::Call(call)), false)))
         }
         _ => Ok(None),
     }
 }
 
 /// After the token that follows an instruction's name that is the whole operand.
-fn behind_step_name<'a>(
-    operating: Operating,
-    name: Word<'a>,
-    token: Token<'a>,
-) -> Option<InLine<'a>>
-    ensures { (begun : lines.Begun)
-        → option_map (in_line_view begun) result
-        ≡ lines.behind_name begun (lines.OfStep (operating_view operating))
+fn after_step_name<'a>(operating: Operating, name: Word<'a>, token: Token<'a>) -> Option<InLine<'a>>
+    ensures { (started : lines.StartedLine)
+        → option_map (in_line_view started) result
+        ≡ lines.after_name started (lines.OfStep (operating_view operating))
         (name_view name.entry) (symbol_view token.entry) }
 {
     match token.shape {
         Shape::LineEnd => {
             let step = Step::Operate(operating, Operand::Name(name.text));
-            Some(InLine::Formed(LineForm::Instructs(step), true))
+            Some(InLine::Formed(LineShape::Instructs(step), true))
         }
         _ => None,
     }
 }
 
 /// After the token that follows an opening line's name that is the whole operand.
-fn behind_opening_name<'a>(
+fn after_opening_name<'a>(
     operator: Operator,
     name: Word<'a>,
     token: Token<'a>,
 ) -> Option<InLine<'a>>
-    ensures { (begun : lines.Begun)
-        → option_map (in_line_view begun) result
-        ≡ lines.behind_name begun (lines.OfOpening operator)
+    ensures { (started : lines.StartedLine)
+        → option_map (in_line_view started) result
+        ≡ lines.after_name started (lines.OfOpening operator)
         (name_view name.entry) (symbol_view token.entry) }
 {
     match token.shape {
         Shape::LineEnd => Some(InLine::Formed(
-            LineForm::Opens(operator, Some(Operand::Name(name.text))),
+            LineShape::Opens(operator, Some(Operand::Name(name.text))),
             true,
         )),
         _ => None,
@@ -164,21 +160,21 @@ fn behind_opening_name<'a>(
 }
 
 /// After the token that follows a name that is the whole operand.
-fn behind_whole_name<'a>(
+fn after_whole_name<'a>(
     owner: OperandOf<'a>,
     name: Word<'a>,
     token: Token<'a>,
 ) -> Result<Option<InLine<'a>>, AllocError>
     ensures { IfOk result
-        (λ next. (begun : lines.Begun)
-        → option_map (in_line_view begun) next
-        ≡ lines.behind_name begun (owner_view owner.entry) (name_view name.entry)
+        (λ next. (started : lines.StartedLine)
+        → option_map (in_line_view started) next
+        ≡ lines.after_name started (owner_view owner.entry) (name_view name.entry)
         (symbol_view token.entry)) }
 {
     match owner {
-        OperandOf::OfStep(operating) => Ok(behind_step_name(operating, name, token)),
-        OperandOf::OfOpening(operator) => Ok(behind_opening_name(operator, name, token)),
-        OperandOf::OfArgument(call, formal) => behind_value(call, formal, name, token),
+        OperandOf::OfStep(operating) => Ok(after_step_name(operating, name, token)),
+        OperandOf::OfOpening(operator) => Ok(after_opening_name(operator, name, token)),
+        OperandOf::OfArgument(call, formal) => after_value(call, formal, name, token),
     }
 }
 
@@ -189,23 +185,23 @@ fn at_named<'a>(
     token: Token<'a>,
 ) -> Result<Option<InLine<'a>>, AllocError>
     ensures { IfOk result
-        (λ next. (begun : lines.Begun) (setting : Setting) (line : ℕ) (colon : Bool)
-        → option_map (in_line_view begun) next
+        (λ next. (started : lines.StartedLine) (setting : Setting) (line : ℕ) (colon : Bool)
+        → option_map (in_line_view started) next
         ≡ lines.line_move setting
-        (lines.Named begun (owner_view owner.entry) (name_view name.entry))
+        (lines.Named started (owner_view owner.entry) (name_view name.entry))
         (symbol_view token.entry) line colon) }
 {
     match token.shape {
         Shape::Point => Ok(Some(InLine::Named(owner, name, true))),
-        _ => behind_whole_name(owner, name, token),
+        _ => after_whole_name(owner, name, token),
     }
 }
 
 /// After the line end after a field's point: only in a call's list line ends are passed over.
-fn behind_point<'a>(owner: OperandOf<'a>, instance: Word<'a>) -> Option<InLine<'a>>
-    ensures { (begun : lines.Begun)
-        → option_map (in_line_view begun) result
-        ≡ lines.at_field begun (owner_view owner.entry)
+fn after_point<'a>(owner: OperandOf<'a>, instance: Word<'a>) -> Option<InLine<'a>>
+    ensures { (started : lines.StartedLine)
+        → option_map (in_line_view started) result
+        ≡ lines.at_field started (owner_view owner.entry)
         (name_view instance.entry) marks.LineEnd }
 {
     match owner {
@@ -225,9 +221,9 @@ fn at_field<'a>(
     token: Token<'a>,
 ) -> Result<Option<InLine<'a>>, AllocError>
     ensures { IfOk result
-        (λ next. (begun : lines.Begun)
-        → option_map (in_line_view begun) next
-        ≡ lines.at_field begun (owner_view owner.entry)
+        (λ next. (started : lines.StartedLine)
+        → option_map (in_line_view started) next
+        ≡ lines.at_field started (owner_view owner.entry)
         (name_view instance.entry) (symbol_view token.entry)) }
 {
     match token.shape {
@@ -236,25 +232,25 @@ fn at_field<'a>(
                 instance: instance.text,
                 field: token.text,
             };
-            behind_operand(owner, operand)
+            after_operand(owner, operand)
         }
-        Shape::LineEnd => Ok(behind_point(owner, instance)),
+        Shape::LineEnd => Ok(after_point(owner, instance)),
         _ => Ok(None),
     }
 }
 
 /// After the token that follows a name, or after the point after it.
-pub(crate) fn behind_name<'a>(
+pub(crate) fn after_name<'a>(
     owner: OperandOf<'a>,
     name: Word<'a>,
     pointed: bool,
     token: Token<'a>,
 ) -> Result<Option<InLine<'a>>, AllocError>
     ensures { IfOk result
-        (λ next. (begun : lines.Begun) (setting : Setting) (line : ℕ) (colon : Bool)
-        → option_map (in_line_view begun) next
+        (λ next. (started : lines.StartedLine) (setting : Setting) (line : ℕ) (colon : Bool)
+        → option_map (in_line_view started) next
         ≡ lines.line_move setting
-        (in_line_view begun (InLine.Named owner.entry name.entry pointed))
+        (in_line_view started (InLine.Named owner.entry name.entry pointed))
         (symbol_view token.entry) line colon) }
 {
     if pointed {

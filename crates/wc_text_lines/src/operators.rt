@@ -1,7 +1,7 @@
 ghost use Rattle.std.specs.Prelude.{◌≡◌, option_map};
 ghost use Rattle.wc_laws_grammar.specs.Words as words;
 ghost use Rattle.wc_model.specs.Language.Names.{name_of};
-ghost use Rattle.wc_text_lines.specs.Meanings.{operation_meant};
+ghost use Rattle.wc_text_lines.specs.Meanings.{operation_for};
 ghost use Rattle.wc_text_lines.specs.Words.{operation_view, symbol_view};
 
 use wc_built_in::{Keyword, keyword_named};
@@ -35,8 +35,8 @@ pub enum Operation {
 }
 
 /// The operator that a reserved word is.
-fn operation_meant(keyword: Keyword) -> Option<Operation>
-    ensures { option_map operation_view result ≡ operation_meant keyword }
+fn operation_for(keyword: Keyword) -> Option<Operation>
+    ensures { option_map operation_view result ≡ operation_for keyword }
 {
     let operation = match keyword {
         Keyword::Load(negated) => Operation::Operates(Operating::Loads(negated)),
@@ -56,7 +56,7 @@ pub fn operation_named(text: &[u8]) -> Option<Operation>
     ensures { option_map operation_view result ≡ words.found words.operations (name_of text.now) }
 {
     match keyword_named(text) {
-        Some(keyword) => operation_meant(keyword),
+        Some(keyword) => operation_for(keyword),
         None => None,
     }
 }

@@ -1,6 +1,6 @@
 ghost use Rattle.std.specs.Prelude.{◌≡◌};
 ghost use Rattle.wc_laws_grammar.specs.Words as words;
-ghost use Rattle.wc_text_lines.specs.Meanings.{section_meant, unit_meant};
+ghost use Rattle.wc_text_lines.specs.Meanings.{section_for, unit_for};
 ghost use Rattle.wc_model.specs.Language.Declarations.{same_name};
 ghost use Rattle.wc_model.specs.Language.Names.{name_of};
 ghost use Rattle.wc_model.specs.Text.Keywords.{end_var, end_word};
@@ -40,8 +40,8 @@ pub fn ends_section(text: &[u8]) -> bool
 }
 
 /// The section that a reserved word begins.
-fn section_meant(keyword: Keyword) -> Option<Section>
-    ensures { result ≡ section_meant keyword }
+fn section_for(keyword: Keyword) -> Option<Section>
+    ensures { result ≡ section_for keyword }
 {
     match keyword {
         Keyword::SectionStart(section) => Some(section),
@@ -54,14 +54,14 @@ pub fn section_named(text: &[u8]) -> Option<Section>
     ensures { result ≡ words.found words.section_words (name_of text.now) }
 {
     match keyword_named(text) {
-        Some(keyword) => section_meant(keyword),
+        Some(keyword) => section_for(keyword),
         None => None,
     }
 }
 
 /// The kind of unit that a reserved word begins.
-fn unit_meant(keyword: Keyword) -> Option<UnitKind>
-    ensures { result ≡ unit_meant keyword }
+fn unit_for(keyword: Keyword) -> Option<UnitKind>
+    ensures { result ≡ unit_for keyword }
 {
     match keyword {
         Keyword::UnitStart(kind) => Some(kind),
@@ -74,7 +74,7 @@ pub fn unit_kind(text: &[u8]) -> Option<UnitKind>
     ensures { result ≡ words.found words.unit_kinds (name_of text.now) }
 {
     match keyword_named(text) {
-        Some(keyword) => unit_meant(keyword),
+        Some(keyword) => unit_for(keyword),
         None => None,
     }
 }

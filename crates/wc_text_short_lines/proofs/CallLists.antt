@@ -2,8 +2,8 @@
 use Rattle.std.proofs.Common.{◌≡◌, ◌≤◌, ℕ, Bool, false, List, [], ◌∷◌, Option, Some, None, refl, sym, subst, ◌∙◌, drop, length, get_or, arith}
 use Rattle.std.proofs.lemmas.List.{drop-drop}
 use Rattle.std.specs.Prelude.{◌+◌}
-use Rattle.wc_laws_grammar.specs.LineMoves.{Formal, formal_of, behind_operator, Begun, Listed, OfArgument, AtNext, Listing, Instructs, name_or_literal, with_argument}
-use Rattle.wc_laws_grammar.specs.Moves.{AtLine, OnLine, behind_line, on_line}
+use Rattle.wc_laws_grammar.specs.LineMoves.{Formal, formal_of, after_operator, StartedLine, Listed, OfArgument, AtNext, Listing, Instructs, name_or_literal, with_argument}
+use Rattle.wc_laws_grammar.specs.Moves.{AtLine, OnLine, after_line, on_line}
 use Rattle.wc_laws_grammar.specs.Words as words
 use Rattle.wc_laws_grammar.specs.Words.{found, truths}
 use Rattle.wc_lexer.specs.Views.{shape_view, token_view}
@@ -33,27 +33,27 @@ named_formal way bytes = record { direction = way; name = name_of bytes }
 
 -- the list's end and the line's, and what follows them
 abbrev and_ends : (close end : ℕ) → List Mark → List Mark
-and_ends close end behind = record { symbol = ClosingBracket; line = close } ∷ record { symbol = LineEnd; line = end } ∷ behind
+and_ends close end following = record { symbol = ClosingBracket; line = close } ∷ record { symbol = LineEnd; line = end } ∷ following
 
 -- where an identifier leads that is an argument's value
-named : (way : Direction) (p : Position) (begun : Begun) (call : Listed) (bytes value : List ℕ) (line assign at last : ℕ) (next : Mark) (behind : List Mark)
-    → walk (OnLine p (Listing begun call AtNext)) (argument_marks way bytes line assign (record { symbol = Identifier value; line = at }) (next ∷ behind)) last
-    ≡ walk (on_line p (name_or_literal begun (OfArgument call (named_formal way bytes)) (name_of value) (found truths (name_of value)))) (next ∷ behind) last
-named Into p begun call bytes value line assign at last next behind = refl
-named OutOf p begun call bytes value line assign at last next behind = refl
+named : (way : Direction) (p : Position) (started : StartedLine) (call : Listed) (bytes value : List ℕ) (line assign at last : ℕ) (next : Mark) (following : List Mark)
+    → walk (OnLine p (Listing started call AtNext)) (argument_marks way bytes line assign (record { symbol = Identifier value; line = at }) (next ∷ following)) last
+    ≡ walk (on_line p (name_or_literal started (OfArgument call (named_formal way bytes)) (name_of value) (found truths (name_of value)))) (next ∷ following) last
+named Into p started call bytes value line assign at last next following = refl
+named OutOf p started call bytes value line assign at last next following = refl
 
 -- the list's end after a name, or after TRUE or FALSE
-name_ends : (p : Position) (begun : Begun) (call : Listed) (input : Formal) (name : Name) (truth : Option Bool) (close end last : ℕ) (behind : List Mark)
-    → walk (on_line p (name_or_literal begun (OfArgument call input) name truth)) (and_ends close end behind) last
-    ≡ walk (AtLine (behind_line p (Instructs begun.label begun.line (Call call.condition call.instance (with_argument call input (name_or_truth name truth)).arguments)))) behind last
-name_ends p begun call input name None close end last behind = refl
-name_ends p begun call input name (Some value) close end last behind = refl
+name_ends : (p : Position) (started : StartedLine) (call : Listed) (input : Formal) (name : Name) (truth : Option Bool) (close end last : ℕ) (following : List Mark)
+    → walk (on_line p (name_or_literal started (OfArgument call input) name truth)) (and_ends close end following) last
+    ≡ walk (AtLine (after_line p (Instructs started.label started.line (Call call.condition call.instance (with_argument call input (name_or_truth name truth)).arguments)))) following last
+name_ends p started call input name None close end last following = refl
+name_ends p started call input name (Some value) close end last following = refl
 
 -- where an argument, the list's end and the line's lead
 abbrev EndsAs : Direction → Listed → List ℕ → (line assign : ℕ) → Mark → (close end : ℕ) → List Mark → Option Term → Type 0
-EndsAs way call bytes line assign operand close end behind None = Unit {0}
-EndsAs way call bytes line assign operand close end behind (Some term) =
-    ListEnds call (argument_marks way bytes line assign operand (and_ends close end behind)) (with_argument call (named_formal way bytes) term) behind
+EndsAs way call bytes line assign operand close end following None = Unit {0}
+EndsAs way call bytes line assign operand close end following (Some term) =
+    ListEnds call (argument_marks way bytes line assign operand (and_ends close end following)) (with_argument call (named_formal way bytes) term) following
 
 -- an argument and a comma at the start of the tokens that are left
 pub takes_argument : (call more : Listed) (tokens : List Token) (other : Token) (argument : Assignment) → 4 ≤ length tokens → (get_or tokens 3 other).shape ≡ Shape.Comma
@@ -63,10 +63,10 @@ takes_argument call more [] other argument le comma is m = absurd (omega (arith,
 takes_argument call more (input ∷ []) other argument le comma is m = absurd (omega (arith, le))
 takes_argument call more (input ∷ assign ∷ []) other argument le comma is m = absurd (omega (arith, le))
 takes_argument call more (input ∷ assign ∷ operand ∷ []) other argument le comma is m = absurd (omega (arith, le))
-takes_argument call more (input ∷ assign ∷ operand ∷ next ∷ behind) other argument le comma is m =
+takes_argument call more (input ∷ assign ∷ operand ∷ next ∷ following) other argument le comma is m =
     rw m (subst (λ s. ListsOn call (mark_of_token (token_view input) ∷ mark_of_token (token_view assign) ∷ mark_of_token (token_view operand)
-    ∷ record { symbol = symbol_of (shape_view s) next.text.now; line = next.line } ∷ marks_of behind) (with_argument call (formal_of argument) argument.actual) (marks_of behind))
-    (sym comma) (is.goes_on call next.line (marks_of behind)))
+    ∷ record { symbol = symbol_of (shape_view s) next.text.now; line = next.line } ∷ marks_of following) (with_argument call (formal_of argument) argument.actual) (marks_of following))
+    (sym comma) (is.goes_on call next.line (marks_of following)))
 
 -- the last argument at the start of the tokens that are left
 pub takes_last : (call all : Listed) (tokens : List Token) (other : Token) (argument : Assignment) → 5 ≤ length tokens → (get_or tokens 3 other).shape ≡ Shape.Closing
@@ -78,35 +78,35 @@ takes_last call all (input ∷ []) other argument le close ended is m = absurd (
 takes_last call all (input ∷ assign ∷ []) other argument le close ended is m = absurd (omega (arith, le))
 takes_last call all (input ∷ assign ∷ operand ∷ []) other argument le close ended is m = absurd (omega (arith, le))
 takes_last call all (input ∷ assign ∷ operand ∷ closing ∷ []) other argument le close ended is m = absurd (omega (arith, le))
-takes_last call all (input ∷ assign ∷ operand ∷ closing ∷ end ∷ behind) other argument le close ended is m =
-    let front : List Mark → List Mark = λ rest. mark_of_token (token_view input) ∷ mark_of_token (token_view assign) ∷ mark_of_token (token_view operand) ∷ rest in
-    rw m (subst (λ s. ListEnds call (front (record { symbol = symbol_of (shape_view s) closing.text.now; line = closing.line } ∷ mark_of_token (token_view end) ∷ marks_of behind))
-    (with_argument call (formal_of argument) argument.actual) (marks_of behind)) (sym close)
-    (subst (λ s. ListEnds call (front (record { symbol = ClosingBracket; line = closing.line } ∷ record { symbol = symbol_of (shape_view s) end.text.now; line = end.line } ∷ marks_of behind))
-    (with_argument call (formal_of argument) argument.actual) (marks_of behind)) (sym ended)
-    (is.ends call closing.line end.line (marks_of behind))))
+takes_last call all (input ∷ assign ∷ operand ∷ closing ∷ end ∷ following) other argument le close ended is m =
+    let prefix : List Mark → List Mark = λ rest. mark_of_token (token_view input) ∷ mark_of_token (token_view assign) ∷ mark_of_token (token_view operand) ∷ rest in
+    rw m (subst (λ s. ListEnds call (prefix (record { symbol = symbol_of (shape_view s) closing.text.now; line = closing.line } ∷ mark_of_token (token_view end) ∷ marks_of following))
+    (with_argument call (formal_of argument) argument.actual) (marks_of following)) (sym close)
+    (subst (λ s. ListEnds call (prefix (record { symbol = ClosingBracket; line = closing.line } ∷ record { symbol = symbol_of (shape_view s) end.text.now; line = end.line } ∷ marks_of following))
+    (with_argument call (formal_of argument) argument.actual) (marks_of following)) (sym ended)
+    (is.ends call closing.line end.line (marks_of following))))
 
 -- some arguments, and then others
 pub lists_then : (call more all : Listed) (xs ys zs : List Mark) → ListsOn call xs more ys → ListsOn more ys all zs → ListsOn call xs all zs
-lists_then call more all xs ys zs g h = record { same = λ p begun. record { same = λ last. (g.same p begun).same last ∙ (h.same p begun).same last } }
+lists_then call more all xs ys zs g h = record { same = λ p started. record { same = λ last. (g.same p started).same last ∙ (h.same p started).same last } }
 
 -- arguments and then the last one, in one list of tokens
-pub ends_then : (call more all : Listed) (tokens behind : List Token) (n m : ℕ) → behind ≡ drop n tokens → ListsOn call (marks_of tokens) more (marks_of (drop n tokens))
-    → ListEnds more (marks_of behind) all (marks_of (drop m behind)) → ListEnds call (marks_of tokens) all (marks_of (drop (n + m) tokens))
-ends_then call more all tokens behind n m e g h =
+pub ends_then : (call more all : Listed) (tokens following : List Token) (n m : ℕ) → following ≡ drop n tokens → ListsOn call (marks_of tokens) more (marks_of (drop n tokens))
+    → ListEnds more (marks_of following) all (marks_of (drop m following)) → ListEnds call (marks_of tokens) all (marks_of (drop (n + m) tokens))
+ends_then call more all tokens following n m e g h =
     let on : ListEnds more (marks_of (drop n tokens)) all (marks_of (drop m (drop n tokens))) = subst (λ xs. ListEnds more (marks_of xs) all (marks_of (drop m xs))) e h in
     subst (λ xs. ListEnds call (marks_of tokens) all (marks_of xs)) (drop-drop m n tokens)
-    (record { same = λ p begun. record { same = λ last. (g.same p begun).same last ∙ (on.same p begun).same last } })
+    (record { same = λ p started. record { same = λ last. (g.same p started).same last ∙ (on.same p started).same last } })
 
 -- a call's operator, its instance, the bracket and the first input
 begins_call : (p : Position) (bytes instance input : List ℕ) (line at opening first : ℕ) (condition : Condition) → Begins p bytes (words.Calls condition)
     → BeginsCall p (record { symbol = Identifier bytes; line = line }) (record { symbol = Identifier instance; line = at }) (record { symbol = OpeningBracket; line = opening })
     (record { symbol = Identifier input; line = first }) (record { condition = condition; instance = name_of instance; arguments = [] })
 begins_call p bytes instance input line at opening first condition b = record {
-  same = λ behind. record {
+  same = λ following. record {
     same = λ last.
-        (one_on (AtLine p) (on_line p (behind_operator None line (words.Calls condition))) (record { symbol = Identifier bytes; line = line })
-        (record { symbol = Identifier instance; line = at } ∷ record { symbol = OpeningBracket; line = opening } ∷ record { symbol = Identifier input; line = first } ∷ behind)
+        (one_on (AtLine p) (on_line p (after_operator None line (words.Calls condition))) (record { symbol = Identifier bytes; line = line })
+        (record { symbol = Identifier instance; line = at } ∷ record { symbol = OpeningBracket; line = opening } ∷ record { symbol = Identifier input; line = first } ∷ following)
         false refl (b.passes line) (b.leads line)).same
         last
         ∙ refl;
@@ -130,14 +130,14 @@ begins_call_of p operator instance opening input condition a b c d begins =
 pub takes_call : (p next : Position) (tokens list : List Token) (other : Token) (call all : Listed) (n : ℕ) → 4 ≤ length tokens → list ≡ drop 3 tokens
     → BeginsCall p (mark_of_token (token_view (get_or tokens 0 other))) (mark_of_token (token_view (get_or tokens 1 other))) (mark_of_token (token_view (get_or tokens 2 other))) (mark_of_token (token_view (get_or tokens 3 other))) call
     → ListEnds call (marks_of list) all (marks_of (drop n list))
-    → next ≡ behind_line p (Instructs None (get_or tokens 0 other).line (Call all.condition all.instance all.arguments))
+    → next ≡ after_line p (Instructs None (get_or tokens 0 other).line (Call all.condition all.instance all.arguments))
     → GoesOn (AtLine p) (marks_of tokens) (AtLine next) (marks_of (drop (3 + n) tokens))
 takes_call p next [] list other call all n le e b h m = absurd (omega (arith, le))
 takes_call p next (operator ∷ []) list other call all n le e b h m = absurd (omega (arith, le))
 takes_call p next (operator ∷ instance ∷ []) list other call all n le e b h m = absurd (omega (arith, le))
 takes_call p next (operator ∷ instance ∷ opening ∷ []) list other call all n le e b h m = absurd (omega (arith, le))
-takes_call p next (operator ∷ instance ∷ opening ∷ input ∷ behind) list other call all n le e b h m =
-    let tokens = operator ∷ instance ∷ opening ∷ input ∷ behind in
+takes_call p next (operator ∷ instance ∷ opening ∷ input ∷ following) list other call all n le e b h m =
+    let tokens = operator ∷ instance ∷ opening ∷ input ∷ following in
     let on : ListEnds call (marks_of (drop 3 tokens)) all (marks_of (drop n (drop 3 tokens))) = subst (λ xs. ListEnds call (marks_of xs) all (marks_of (drop n xs))) e h in
-    rw m (subst (λ xs. GoesOn (AtLine p) (marks_of tokens) (AtLine (behind_line p (Instructs None operator.line (Call all.condition all.instance all.arguments)))) (marks_of xs)) (drop-drop n 3 tokens)
-    (record { same = λ last. (b.same (marks_of behind)).same last ∙ (on.same p (record { label = None; line = operator.line })).same last }))
+    rw m (subst (λ xs. GoesOn (AtLine p) (marks_of tokens) (AtLine (after_line p (Instructs None operator.line (Call all.condition all.instance all.arguments)))) (marks_of xs)) (drop-drop n 3 tokens)
+    (record { same = λ last. (b.same (marks_of following)).same last ∙ (on.same p (record { label = None; line = operator.line })).same last }))

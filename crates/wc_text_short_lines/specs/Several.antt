@@ -1,7 +1,7 @@
 -- Tokens that are taken several at a time. (No rule of the language.)
 use Rattle.std.specs.Prelude.{◌≡◌, ℕ, Bool, false, List, ◌∷◌, Option, Some, None}
-use Rattle.wc_laws_grammar.specs.LineMoves.{AtNext, formal_of, Begun, Instructs, Listed, Listing, behind_operator, with_argument}
-use Rattle.wc_laws_grammar.specs.Moves.{State, AtLine, OnLine, behind_line, is_colon, judge, move, on_line}
+use Rattle.wc_laws_grammar.specs.LineMoves.{AtNext, formal_of, StartedLine, Instructs, Listed, Listing, after_operator, with_argument}
+use Rattle.wc_laws_grammar.specs.Moves.{State, AtLine, OnLine, after_line, is_colon, validate, move, on_line}
 use Rattle.wc_laws_grammar.specs.Words.{Operation, found, truths}
 use Rattle.wc_model.specs.Language.Names.{Name, name_of}
 use Rattle.wc_model.specs.Language.Tree.{Assignment, Call, Step, Term, Constant, Address, Variable}
@@ -12,50 +12,50 @@ use Rattle.wc_text_short_lines.specs.Walks.{walk}
 
 -- A text whose walk is at one state with these tokens to come is read as if it were at the
 -- other with those: the walk says the same, and stops at the same state.
-pub record GoesOn (state : State) (marks : List Mark) (next : State) (behind : List Mark) : Type 0 where
-  pub same : (last : ℕ) → walk state marks last ≡ walk next behind last
+pub record GoesOn (state : State) (marks : List Mark) (next : State) (following : List Mark) : Type 0 where
+  pub same : (last : ℕ) → walk state marks last ≡ walk next following last
 
 -- At the start of a line, if these bytes are an operator and nothing is wrong with them.
 pub record Begins (p : Position) (bytes : List ℕ) (operation : Operation) : Type 0 where
-  pub passes : (line : ℕ) → judge (AtLine p) (Identifier bytes) line false ≡ None
-  pub leads : (line : ℕ) → move (AtLine p) (Identifier bytes) line false ≡ Some (on_line p (behind_operator None line operation))
+  pub passes : (line : ℕ) → validate (AtLine p) (Identifier bytes) line false ≡ None
+  pub leads : (line : ℕ) → move (AtLine p) (Identifier bytes) line false ≡ Some (on_line p (after_operator None line operation))
 
 -- An operator with the token after it is this instruction if the line ends there.
 pub record Makes (operation : Operation) (mark : Mark) (step : Step) : Type 0 where
   pub no_colon : is_colon mark.symbol ≡ false
-  pub ends : (p : Position) (line end : ℕ) (behind : List Mark)
-      → GoesOn (on_line p (behind_operator None line operation)) (mark ∷ record { symbol = LineEnd; line = end } ∷ behind)
-      (AtLine (behind_line p (Instructs None line step))) behind
+  pub ends : (p : Position) (line end : ℕ) (following : List Mark)
+      → GoesOn (on_line p (after_operator None line operation)) (mark ∷ record { symbol = LineEnd; line = end } ∷ following)
+      (AtLine (after_line p (Instructs None line step))) following
 
 -- At the start of a line the two tokens are this instruction if the line ends after them.
 pub record IsLine (p : Position) (first second : Mark) (step : Step) : Type 0 where
-  pub ends : (end : ℕ) (behind : List Mark)
-      → GoesOn (AtLine p) (first ∷ second ∷ record { symbol = LineEnd; line = end } ∷ behind)
-      (AtLine (behind_line p (Instructs None first.line step))) behind
+  pub ends : (end : ℕ) (following : List Mark)
+      → GoesOn (AtLine p) (first ∷ second ∷ record { symbol = LineEnd; line = end } ∷ following)
+      (AtLine (after_line p (Instructs None first.line step))) following
 
 -- After a comma of a call's list, tokens with which the list goes on up to another comma.
-pub record ListsOn (call : Listed) (marks : List Mark) (more : Listed) (behind : List Mark) : Type 0 where
-  pub same : (p : Position) (begun : Begun) → GoesOn (OnLine p (Listing begun call AtNext)) marks (OnLine p (Listing begun more AtNext)) behind
+pub record ListsOn (call : Listed) (marks : List Mark) (more : Listed) (following : List Mark) : Type 0 where
+  pub same : (p : Position) (started : StartedLine) → GoesOn (OnLine p (Listing started call AtNext)) marks (OnLine p (Listing started more AtNext)) following
 
 -- After a comma of a call's list, tokens with which the list and its line end.
-pub record ListEnds (call : Listed) (marks : List Mark) (all : Listed) (behind : List Mark) : Type 0 where
-  pub same : (p : Position) (begun : Begun)
-      → GoesOn (OnLine p (Listing begun call AtNext)) marks
-      (AtLine (behind_line p (Instructs begun.label begun.line (Call all.condition all.instance all.arguments)))) behind
+pub record ListEnds (call : Listed) (marks : List Mark) (all : Listed) (following : List Mark) : Type 0 where
+  pub same : (p : Position) (started : StartedLine)
+      → GoesOn (OnLine p (Listing started call AtNext)) marks
+      (AtLine (after_line p (Instructs started.label started.line (Call all.condition all.instance all.arguments)))) following
 
 -- The three are an argument, which a comma or the list's end may follow.
 pub record IsArgument (input assign operand : Mark) (argument : Assignment) : Type 0 where
-  pub goes_on : (call : Listed) (comma : ℕ) (behind : List Mark)
-      → ListsOn call (input ∷ assign ∷ operand ∷ record { symbol = Comma; line = comma } ∷ behind) (with_argument call (formal_of argument) argument.actual) behind
-  pub ends : (call : Listed) (close end : ℕ) (behind : List Mark)
-      → ListEnds call (input ∷ assign ∷ operand ∷ record { symbol = ClosingBracket; line = close } ∷ record { symbol = LineEnd; line = end } ∷ behind)
-      (with_argument call (formal_of argument) argument.actual) behind
+  pub goes_on : (call : Listed) (comma : ℕ) (following : List Mark)
+      → ListsOn call (input ∷ assign ∷ operand ∷ record { symbol = Comma; line = comma } ∷ following) (with_argument call (formal_of argument) argument.actual) following
+  pub ends : (call : Listed) (close end : ℕ) (following : List Mark)
+      → ListEnds call (input ∷ assign ∷ operand ∷ record { symbol = ClosingBracket; line = close } ∷ record { symbol = LineEnd; line = end } ∷ following)
+      (with_argument call (formal_of argument) argument.actual) following
 
 -- At the start of a line the four begin this call's list, whose first input is read as one after a
 -- comma is.
 pub record BeginsCall (p : Position) (operator instance opening input : Mark) (call : Listed) : Type 0 where
-  pub same : (behind : List Mark)
-      → GoesOn (AtLine p) (operator ∷ instance ∷ opening ∷ input ∷ behind) (OnLine p (Listing (record { label = None; line = operator.line }) call AtNext)) (input ∷ behind)
+  pub same : (following : List Mark)
+      → GoesOn (AtLine p) (operator ∷ instance ∷ opening ∷ input ∷ following) (OnLine p (Listing (record { label = None; line = operator.line }) call AtNext)) (input ∷ following)
 
 -- a name, or TRUE or FALSE
 abbrev pub name_or_truth : Name → Option Bool → Term

@@ -17,8 +17,10 @@ use crate::label_lines::take_empty;
 use std::alloc::AllocError;
 use wc_lexer::{Shape, Token};
 use wc_model::{Condition, Operand, Value};
-use wc_text_bodies::{Body, add_step, is_full, section_begun};
-use wc_text_lines::{Begun, Operating, Operation, Step, ends_unit, operation_named, truth, word};
+use wc_text_bodies::{Body, add_step, is_full, section_started};
+use wc_text_lines::{
+    Operating, Operation, StartedLine, Step, ends_unit, operation_named, truth, word,
+};
 
 /// The operand that the token is by itself.
 pub fn operand_of<'a>(token: Token<'a>) -> Option<Operand<'a>>
@@ -83,7 +85,7 @@ fn is_plain_start(body: &Body, text: &[u8]) -> bool
     requires { IsCounted body.now }
     ensures opened { IsTrue result → (units : List ProgramUnit)
         → (position_view units body.now).openings ≡ [] }
-    ensures room { IsTrue result → (units : List ProgramUnit)
+    ensures capacity { IsTrue result → (units : List ProgramUnit)
         → moves.is_full (position_view units body.now) ≡ false }
     ensures unended { IsTrue result
         → same_name (name_of text.now) (end_word body.now.unit.kind) ≡ false }
@@ -106,7 +108,7 @@ pub(crate) fn operation_at<'a>(body: &Body<'a>, text: &[u8]) -> Option<Operation
     if !is_plain_start(body, text) {
         return None;
     }
-    match section_begun(&body.done, text) {
+    match section_started(&body.done, text) {
         Some(_) => None,
         None => operation_named(text),
     }
@@ -149,11 +151,11 @@ fn take_step<'a>(body: &mut Body<'a>, tokens: &[Token<'a>]) -> Result<usize, All
     };
     match step_at(body, *first, *second) {
         Some(step) => {
-            let begun = Begun {
+            let started = StartedLine {
                 label: None,
                 line: first.line,
             };
-            add_step(body, begun, step)?;
+            add_step(body, started, step)?;
             Ok(3)
         }
         None => Ok(0),
@@ -173,7 +175,7 @@ pub(crate) fn take_line<'a>(body: &mut Body<'a>, tokens: &[Token<'a>]) -> Result
     ensures within { IfOk result (λ taken. taken ≤ length tokens.now) }
 {
     let before = take_empty(body, tokens)?;
-    let (_, behind) = tokens.split_at(before);
-    let taken = take_step(body, behind)?;
+    let (_, following) = tokens.split_at(before);
+    let taken = take_step(body, following)?;
     Ok(before + taken)
 }

@@ -16,7 +16,7 @@ use std::alloc::{AllocError, Global};
 use wc_lexer::{Shape, Token};
 use wc_model::{Argument, Direction};
 use wc_text_bodies::{Body, add_step};
-use wc_text_lines::{Begun, Listed, Operation, Step, word};
+use wc_text_lines::{Listed, Operation, StartedLine, Step, word};
 
 /// Which way a value goes by the sign between a formal and an actual parameter.
 fn direction_of(sign: Token<'_>) -> Option<Direction>
@@ -159,8 +159,8 @@ fn take_list<'a>(call: &mut Listed<'a>, tokens: &[Token<'a>]) -> Result<usize, A
     ensures within { IfOk result (λ taken. taken ≤ length tokens.now) }
 {
     let before = take_arguments(call, tokens)?;
-    let (_, behind) = tokens.split_at(before);
-    let last = take_last(call, behind)?;
+    let (_, following) = tokens.split_at(before);
+    let last = take_last(call, following)?;
     if last == 0 {
         return Ok(0);
     }
@@ -225,11 +225,11 @@ fn take_call<'a>(
             if taken == 0 {
                 return Ok(0);
             }
-            let begun = Begun {
+            let started = StartedLine {
                 label: None,
                 line: operator.line,
             };
-            add_step(body, begun, Step::Call(call))?;
+            add_step(body, started, Step::Call(call))?;
             Ok(3 + taken)
         }
         None => Ok(0),
@@ -253,7 +253,7 @@ pub fn take_line_and_call<'a>(
     ensures within { IfOk result (λ taken. taken ≤ length tokens.now) }
 {
     let before = take_line(body, tokens)?;
-    let (_, behind) = tokens.split_at(before);
-    let taken = take_call(alloc, body, behind)?;
+    let (_, following) = tokens.split_at(before);
+    let taken = take_call(alloc, body, following)?;
     Ok(before + taken)
 }

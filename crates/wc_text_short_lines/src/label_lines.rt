@@ -75,7 +75,7 @@ pub(crate) fn take_empty<'a>(body: &mut Body<'a>, tokens: &[Token<'a>]) -> Resul
     ensures within { IfOk result (λ taken. taken ≤ length tokens.now) }
 {
     let empty = empty_line(tokens);
-    let (_, behind) = tokens.split_at(empty);
-    let taken = take_label(body, behind)?;
+    let (_, following) = tokens.split_at(empty);
+    let taken = take_label(body, following)?;
     Ok(empty + taken)
 }

@@ -133,6 +133,6 @@ pub fn take_declaration<'a>(
     ensures within { IfOk result (λ taken. taken ≤ length tokens.now) }
 {
     let taken = take_plain(alloc, unit, section, tokens)?;
-    let (_, behind) = tokens.split_at(taken);
-    Ok(taken + empty_line(behind))
+    let (_, following) = tokens.split_at(taken);
+    Ok(taken + empty_line(following))
 }

@@ -9,7 +9,7 @@ ghost use Rattle.wc_model.specs.Language.Store.{Path as Named};
 ghost use Rattle.wc_model.specs.Language.Tree.{Text};
 ghost use Rattle.wc_model.specs.Language.Views.{text_view};
 ghost use Rattle.wc_names.specs.Numbered.{IsUnit, numbered_type};
-ghost use Rattle.wc_names.specs.StandsFor.{AreTables};
+ghost use Rattle.wc_names.specs.RepresentsText.{AreTables};
 ghost use Rattle.wc_text_variables.specs.Names.{is_hidden, is_hidden_field};
 ghost use Rattle.wc_text_variables.specs.Numbered.{value_kind, variable_at_location, variable_named};
 
@@ -54,7 +54,8 @@ fn kind_at(kinds: &[SlotKind], place: Place) -> Option<Kind>
 /// The variable at the place that a path names in a program.
 fn variable_at_location(loaded: &Loaded<'_>, path: &Path<'_>) -> Option<NamedVariable>
     ensures { result
-        ≡ option_and_then (variable_at_location (text_view loaded.now.source)) (location_of path.now) }
+        ≡ option_and_then (variable_at_location (text_view loaded.now.source))
+        (location_of path.now) }
 {
     // A program is loaded, so its text has a last unit.
     let _units = loaded.units();

@@ -12,7 +12,7 @@ use Rattle.wc_model.specs.declared.tree.Line.{Line}
 use Rattle.wc_verify.specs.Instructions.{instr_line, opened_line}
 use Rattle.wc_verify.specs.Rows.{carriers, counted_row, one_more, row_at, row_named}
 use Rattle.wc_verify.specs.declared.labels.Row.{Row}
-use Rattle.wc_verify.specs.declared.ways.Way.TheVariants.{Unseen}
+use Rattle.wc_verify.specs.declared.edges.Way.TheVariants.{Unseen}
 use Rattle.wc_verify.proofs.InstrLines.{lines_put, view_instr, view_none}
 
 -- an instruction follows its label

@@ -5,7 +5,7 @@ use Rattle.std.specs.List.{list_any}
 use Rattle.std.specs.Prelude.{◌||◌, OnOk, if◌then◌else◌}
 use Rattle.wc_model.specs.Language.BodyRules.{is_ahead, label_rules, line_rules}
 use Rattle.wc_model.specs.Language.Checks.{Check, first_broken}
-use Rattle.wc_model.specs.Language.Judging.{Judges}
+use Rattle.wc_model.specs.Language.Validation.{Validates}
 use Rattle.wc_model.specs.Language.Kinds.{BodyLine, AloneLine, jumps_to, kind_after, kind_at, kinds_from_jumps, kinds_from_label, known_kinds, label_of, leaves, lines_of}
 use Rattle.wc_model.specs.Language.Meaning.{carries}
 use Rattle.wc_model.specs.Language.Names.{Name}
@@ -17,13 +17,13 @@ use Rattle.wc_model.specs.declared.fault.Fault.TheVariants.{Refused, Memory}
 use Rattle.wc_model.specs.declared.kind.Kind.{Kind}
 use Rattle.wc_model.specs.declared.tree.Instr.{Instr}
 use Rattle.wc_model.specs.declared.tree.Line.{Line}
-use Rattle.wc_verify.specs.Bodies.{CountsLines, GetsTo, GoesTo, HandsOn, StandsAt, asked_of, way_behind}
+use Rattle.wc_verify.specs.Bodies.{CountsLines, GetsTo, GoesTo, HandsOn, IsAt, asked_of, way_after}
 use Rattle.wc_verify.specs.Instructions.{GoesOn, instr_line}
 use Rattle.wc_verify.specs.Rows.{carriers, entered_row, jumped_row, one_more, row_at, row_named, way_to}
-use Rattle.wc_verify.specs.Ways.{joined_ways, kind_of_way, labelled_way, way_of, with_way}
+use Rattle.wc_verify.specs.Edges.{joined_edges, kind_of_way, labelled_way, way_of, with_way}
 use Rattle.wc_verify.specs.declared.labels.Row.{Row}
-use Rattle.wc_verify.specs.declared.ways.Way.{Way}
-use Rattle.wc_verify.specs.declared.ways.Way.TheVariants.{Unseen, Agreed}
+use Rattle.wc_verify.specs.declared.edges.Way.{Way}
+use Rattle.wc_verify.specs.declared.edges.Way.TheVariants.{Unseen, Agreed}
 use Rattle.wc_verify.proofs.BodyLines.{label_kept}
 use Rattle.wc_verify.proofs.InstrLines.{lines_put, view_instr, view_none}
 use Rattle.wc_verify.proofs.KindsAlong.{above_next, jumps_next, kind_here, line_asked}
@@ -38,9 +38,9 @@ ahead_counted name [] = refl
 ahead_counted name (line ∷ lines) = or_ahead (carries (label_of line) name) (carriers name lines) (is_ahead lines name) (ahead_counted name lines)
 
 -- a fault of an instruction
-pub hands_fault : (scope : Scope) (line : BodyLine) (behind : List BodyLine) (kind : Option Kind) (more : List Check) (fault : Fault) → GoesOn scope line behind kind more (Err fault) → HandsOn scope line behind kind more (Err fault)
-hands_fault scope line behind kind more (Refused number place) h = h
-hands_fault scope line behind kind more Memory h = tt
+pub hands_fault : (scope : Scope) (line : BodyLine) (following : List BodyLine) (kind : Option Kind) (more : List Check) (fault : Fault) → GoesOn scope line following kind more (Err fault) → HandsOn scope line following kind more (Err fault)
+hands_fault scope line following kind more (Refused number place) h = h
+hands_fault scope line following kind more Memory h = tt
 
 -- the first that is asked of a line is its label
 abbrev pub AskedFirst : Scope → List BodyLine → Option Word → List BodyLine → List Check → Type 0
@@ -63,18 +63,18 @@ first_by scope before line rest more None e = label_first scope before (option_m
 
 -- a label that is refused
 pub label_refused : (scope : Scope) (before : List BodyLine) (line : Line) (rest : Lines) (rows : List (Name × Row)) (fault : Fault) →
-    ((more : List Check) → Judges {X = Option Kind} (first_broken (label_rules before (option_map word_view line.label) ++ more)) (first_broken more) (Err fault)) →
+    ((more : List Check) → Validates {X = Option Kind} (first_broken (label_rules before (option_map word_view line.label) ++ more)) (first_broken more) (Err fault)) →
     GoesTo scope before (lines_of (line_view line rest)) (lines_of rest) rows (Err fault)
 label_refused scope before line rest rows (Refused number place) h = λ more. let asked = first_by scope before line rest more line.instr refl in asked.1 ∙ h asked.0
 label_refused scope before line rest rows Memory h = tt
 
 -- none of the labels before is given twice: what is kept says whether one is given
-pub given_kept : (scope : Scope) (before left : List BodyLine) (rows : List (Name × Row)) (above : Way) → StandsAt scope before left rows above → (name : Name) →
+pub given_kept : (scope : Scope) (before left : List BodyLine) (rows : List (Name × Row)) (above : Way) → IsAt scope before left rows above → (name : Name) →
     (row_named rows name).given ≡ list_any (λ line. carries (label_of line) name) before
 given_kept scope before left rows above h name = ap (λ row. row.given) (h.labels name)
 
 -- what the jumps to a line's label bring
-way_kept : (scope : Scope) (before left : List BodyLine) (label : Option Word) (rows : List (Name × Row)) (above : Way) → StandsAt scope before left rows above → way_of (kinds_from_label label (known_kinds scope before)) ≡ way_to label rows
+way_kept : (scope : Scope) (before left : List BodyLine) (label : Option Word) (rows : List (Name × Row)) (above : Way) → IsAt scope before left rows above → way_of (kinds_from_label label (known_kinds scope before)) ≡ way_to label rows
 way_kept scope before left None rows above h = refl
 way_kept scope before left (Some word) rows above h = sym (ap (λ row. row.way) (h.labels word.name))
 
@@ -82,8 +82,8 @@ way_kept scope before left (Some word) rows above h = sym (ap (λ row. row.way) 
 pub record IsEntered (scope : Scope) (before : List BodyLine) (b : BodyLine) (all left : List BodyLine) (label : Option Word) (rows entered : List (Name × Row)) (above : Way) (kind : Option Kind) : Type 0 where
   pub is : all ≡ b ∷ left
   pub carried : label_of b ≡ label
-  pub stands : StandsAt scope before all rows above
-  pub kind_is : kind ≡ kind_of_way (joined_ways above (way_to label rows))
+  pub represents : IsAt scope before all rows above
+  pub kind_is : kind ≡ kind_of_way (joined_edges above (way_to label rows))
   pub rows_are : (name : Name) → row_named entered name ≡ entered_row (carries label name) (row_named rows name)
   pub new : (more : List Check) → first_broken (label_rules before label ++ more) ≡ first_broken more
 
@@ -91,7 +91,7 @@ pub record IsEntered (scope : Scope) (before : List BodyLine) (b : BodyLine) (al
 pub kind_entered : (scope : Scope) (before : List BodyLine) (b : BodyLine) (all left : List BodyLine) (label : Option Word) (rows entered : List (Name × Row)) (above : Way) (kind : Option Kind) →
     IsEntered scope before b all left label rows entered above kind → kind_at scope before b ≡ kind
 kind_entered scope before b all left label rows entered above kind h =
-    kind_here scope before b above (way_to label rows) h.stands.handed (ap (λ l. way_of (kinds_from_label l (known_kinds scope before))) h.carried ∙ way_kept scope before all label rows above h.stands) ∙ sym h.kind_is
+    kind_here scope before b above (way_to label rows) h.represents.handed (ap (λ l. way_of (kinds_from_label l (known_kinds scope before))) h.carried ∙ way_kept scope before all label rows above h.represents) ∙ sym h.kind_is
 
 -- the row of a label after the line
 one_less : (n : ℕ) → suc n - 1 ≡ n
@@ -113,7 +113,7 @@ row_entered : (scope : Scope) (before : List BodyLine) (b : BodyLine) (all left 
     IsEntered scope before b all left label rows entered above kind → (name : Name) → row_named entered name ≡ entered_row (carries (label_of b) name) (row_at scope before (b ∷ left) name)
 row_entered scope before b all left label rows entered above kind h name =
     h.rows_are name ∙ ap (λ l. entered_row (carries l name) (row_named rows name)) (sym h.carried)
-    ∙ ap (entered_row (carries (label_of b) name)) (h.stands.labels name ∙ ap (λ ls. row_at scope before ls name) h.is)
+    ∙ ap (entered_row (carries (label_of b) name)) (h.represents.labels name ∙ ap (λ ls. row_at scope before ls name) h.is)
 
 pub counts_entered : (scope : Scope) (before : List BodyLine) (b : BodyLine) (all left : List BodyLine) (label : Option Word) (rows entered : List (Name × Row)) (above : Way) (kind : Option Kind) →
     IsEntered scope before b all left label rows entered above kind → CountsLines entered left
@@ -122,10 +122,10 @@ counts_entered scope before b all left label rows entered above kind h name =
     ∙ entered_ahead (carries (label_of b) name) (carriers name left) (list_any (λ line. carries (label_of line) name) before) (way_of (kinds_from_jumps name (known_kinds scope before)))
 
 -- what is kept after it
-stands_behind : (scope : Scope) (before : List BodyLine) (b : BodyLine) (all left : List BodyLine) (label : Option Word) (rows entered new : List (Name × Row)) (above next : Way) (kind : Option Kind) →
-    IsEntered scope before b all left label rows entered above kind → ((name : Name) → row_named new name ≡ jumped_row (jumps_to b name) kind (row_named entered name)) → next ≡ way_behind scope b kind →
-    StandsAt scope (b ∷ before) left new next
-stands_behind scope before b all left label rows entered new above next kind h jumped handed =
+is_after : (scope : Scope) (before : List BodyLine) (b : BodyLine) (all left : List BodyLine) (label : Option Word) (rows entered new : List (Name × Row)) (above next : Way) (kind : Option Kind) →
+    IsEntered scope before b all left label rows entered above kind → ((name : Name) → row_named new name ≡ jumped_row (jumps_to b name) kind (row_named entered name)) → next ≡ way_after scope b kind →
+    IsAt scope (b ∷ before) left new next
+is_after scope before b all left label rows entered new above next kind h jumped handed =
     let k = kind_entered scope before b all left label rows entered above kind h in
     record {
       labels = λ name.
@@ -141,52 +141,52 @@ stands_behind scope before b all left label rows entered new above next kind h j
     }
 
 -- what is found of it, and then of those after it
-found_behind : (scope : Scope) (before : List BodyLine) (b : BodyLine) (all left : List BodyLine) (label : Option Word) (rows entered : List (Name × Row)) (above : Way) (kind : Option Kind) (more : List Check) →
+found_after : (scope : Scope) (before : List BodyLine) (b : BodyLine) (all left : List BodyLine) (label : Option Word) (rows entered : List (Name × Row)) (above : Way) (kind : Option Kind) (more : List Check) →
     IsEntered scope before b all left label rows entered above kind →
     first_broken (asked_of scope before all ++ more) ≡ first_broken (line_rules scope b left kind ++ (asked_of scope (b ∷ before) left ++ more))
-found_behind scope before b all left label rows entered above kind more h =
+found_after scope before b all left label rows entered above kind more h =
     let k = kind_entered scope before b all left label rows entered above kind h in
     let others : Option Kind → List Check = λ kind. line_rules scope b left kind ++ (asked_of scope (b ∷ before) left ++ more) in
     ap (λ ls. first_broken (asked_of scope before ls ++ more)) h.is ∙ line_asked scope before b left more
     ∙ (λ i. first_broken (label_rules before (h.carried i) ++ others (k i))) ∙ h.new (others kind)
 
 -- a line is checked
-pub line_judged : (scope : Scope) (before : List BodyLine) (b : BodyLine) (all left : List BodyLine) (label : Option Word) (rows entered new : List (Name × Row)) (above : Way) (kind : Option Kind) (r : Result Way Fault) →
+pub line_validated : (scope : Scope) (before : List BodyLine) (b : BodyLine) (all left : List BodyLine) (label : Option Word) (rows entered new : List (Name × Row)) (above : Way) (kind : Option Kind) (r : Result Way Fault) →
     IsEntered scope before b all left label rows entered above kind → OnOk r ((name : Name) → row_named new name ≡ jumped_row (jumps_to b name) kind (row_named entered name)) →
     ((more : List Check) → HandsOn scope b left kind more r) → GoesTo scope before all left new r
-line_judged scope before b all left label rows entered new above kind (Ok next) h jumped judged = record {
+line_validated scope before b all left label rows entered new above kind (Ok next) h jumped validated = record {
   so_far = b ∷ before;
-  found = λ more. found_behind scope before b all left label rows entered above kind more h ∙ (judged (asked_of scope (b ∷ before) left ++ more)).0;
-  stands = stands_behind scope before b all left label rows entered new above next kind h jumped (judged []).1;
+  found = λ more. found_after scope before b all left label rows entered above kind more h ∙ (validated (asked_of scope (b ∷ before) left ++ more)).0;
+  represents = is_after scope before b all left label rows entered new above next kind h jumped (validated []).1;
 }
-line_judged scope before b all left label rows entered new above kind (Err (Refused number place)) h jumped judged = λ more.
-    found_behind scope before b all left label rows entered above kind more h ∙ judged (asked_of scope (b ∷ before) left ++ more)
-line_judged scope before b all left label rows entered new above kind (Err Memory) h jumped judged = tt
+line_validated scope before b all left label rows entered new above kind (Err (Refused number place)) h jumped validated = λ more.
+    found_after scope before b all left label rows entered above kind more h ∙ validated (asked_of scope (b ∷ before) left ++ more)
+line_validated scope before b all left label rows entered new above kind (Err Memory) h jumped validated = tt
 
 -- a line with no instruction is
-pub alone_judged : (scope : Scope) (before : List BodyLine) (all : List BodyLine) (label : Option Word) (rest : Lines) (rows entered : List (Name × Row)) (above : Way) (kind : Option Kind) →
-    all ≡ lines_of (label_view label rest) → StandsAt scope before all rows above → kind ≡ kind_of_way (joined_ways above (way_to label rows)) →
+pub alone_validated : (scope : Scope) (before : List BodyLine) (all : List BodyLine) (label : Option Word) (rest : Lines) (rows entered : List (Name × Row)) (above : Way) (kind : Option Kind) →
+    all ≡ lines_of (label_view label rest) → IsAt scope before all rows above → kind ≡ kind_of_way (joined_edges above (way_to label rows)) →
     ((name : Name) → row_named entered name ≡ entered_row (carries label name) (row_named rows name)) → ((more : List Check) → first_broken (label_rules before label ++ more) ≡ first_broken more) →
     GetsTo scope before all (lines_of rest) entered (labelled_way label above kind)
-alone_judged scope before all None rest rows entered above kind is stands kind_is rows_are new = record {
+alone_validated scope before all None rest rows entered above kind is represents kind_is rows_are new = record {
   so_far = before;
   found = λ more. ap (λ ls. first_broken (asked_of scope before ls ++ more)) is;
-  stands = record { labels = λ name. rows_are name ∙ stands.labels name ∙ ap (λ ls. row_at scope before ls name) is; handed = stands.handed };
+  represents = record { labels = λ name. rows_are name ∙ represents.labels name ∙ ap (λ ls. row_at scope before ls name) is; handed = represents.handed };
 }
-alone_judged scope before all (Some word) rest rows entered above kind is stands kind_is rows_are new =
-    line_judged scope before (AloneLine word) all (lines_of rest) (Some word) rows entered entered above kind (Ok (Agreed kind))
-    (record { is = is; carried = refl; stands = stands; kind_is = kind_is; rows_are = rows_are; new = new }) (λ name. refl) (λ more. (refl, refl))
+alone_validated scope before all (Some word) rest rows entered above kind is represents kind_is rows_are new =
+    line_validated scope before (AloneLine word) all (lines_of rest) (Some word) rows entered entered above kind (Ok (Agreed kind))
+    (record { is = is; carried = refl; represents = represents; kind_is = kind_is; rows_are = rows_are; new = new }) (λ name. refl) (λ more. (refl, refl))
 
 -- lines that are checked, and others after them
 pub goes_further : (scope : Scope) (before all middle left : List BodyLine) (rows new : List (Name × Row)) (above : Way) (r : Result Way Fault) → (h : GetsTo scope before all middle rows above) →
     GoesTo scope h.so_far middle left new r → GoesTo scope before all left new r
-goes_further scope before all middle left rows new above (Ok next) h g = record { so_far = g.so_far; found = λ more. h.found more ∙ g.found more; stands = g.stands }
+goes_further scope before all middle left rows new above (Ok next) h g = record { so_far = g.so_far; found = λ more. h.found more ∙ g.found more; represents = g.represents }
 goes_further scope before all middle left rows new above (Err (Refused number place)) h g = λ more. h.found more ∙ g more
 goes_further scope before all middle left rows new above (Err Memory) h g = tt
 
 -- a fault of some lines is a fault of the body
 pub body_fault : (scope : Scope) (all left : List BodyLine) (rows : List (Name × Row)) (more : List Check) (fault : Fault) → GoesTo scope [] all left rows (Err fault) →
-    Judges {X = Unit {0}} (first_broken (asked_of scope [] all ++ more)) (first_broken more) (Err fault)
+    Validates {X = Unit {0}} (first_broken (asked_of scope [] all ++ more)) (first_broken more) (Err fault)
 body_fault scope all left rows more (Refused number place) h = h more
 body_fault scope all left rows more Memory h = tt
 

@@ -3,9 +3,9 @@ use Rattle.std.proofs.Common.{◌≡◌, ℕ, zero, suc, ◌+◌, List, [], ◌�
 use Rattle.std.specs.List.{flat_map}
 use Rattle.std.specs.Prelude.{slice_get}
 use Rattle.wc_model.specs.Language.BodyRules.{body_rules}
-use Rattle.wc_model.specs.Language.Checks.{Check, Spot, first_broken, spots_behind}
+use Rattle.wc_model.specs.Language.Checks.{Check, Position, first_broken, positions_after}
 use Rattle.wc_model.specs.Language.Faults.{body_fault}
-use Rattle.wc_model.specs.Language.Frames.{scope_of_spot, scopes_of}
+use Rattle.wc_model.specs.Language.Frames.{scope_of_position, scopes_of}
 use Rattle.wc_model.specs.Language.Tree.{ProgramUnit, Text}
 
 -- where a list from an index on begins
@@ -22,21 +22,21 @@ rest_there (x ∷ xs) zero y ys e = cc
 rest_there (x ∷ xs) (suc i) y ys e = rest_there xs i y ys e
 
 -- what is asked of a unit's body
-abbrev pub unit_rules : Spot ProgramUnit → List Check
-unit_rules spot = body_rules (record { before = spot.before; unit = spot.item })
+abbrev pub unit_rules : Position ProgramUnit → List Check
+unit_rules position = body_rules (record { before = position.before; unit = position.item })
 
 -- nothing is broken before the units that are left, which are in the text from this number on
 pub record UnitsLeft (all left : Text) (number : ℕ) : Type 0 where
   pub before : List ProgramUnit
-  pub found : body_fault all ≡ first_broken (flat_map unit_rules (spots_behind before left))
-  pub there : drop number (scopes_of all) ≡ map scope_of_spot (spots_behind before left)
+  pub found : body_fault all ≡ first_broken (flat_map unit_rules (positions_after before left))
+  pub there : drop number (scopes_of all) ≡ map scope_of_position (positions_after before left)
 
 pub all_left : (all : Text) → UnitsLeft all all 0
 all_left all = record { before = []; found = refl; there = refl }
 
 -- the first of them
 pub unit_there : (all left : Text) (unit : ProgramUnit) (number : ℕ) (h : UnitsLeft all (unit ∷ left) number) → slice_get (scopes_of all) number ≡ Some (record { before = h.before; unit = unit })
-unit_there all left unit number h = first_there (scopes_of all) number (record { before = h.before; unit = unit }) (map scope_of_spot (spots_behind (unit ∷ h.before) left)) h.there
+unit_there all left unit number h = first_there (scopes_of all) number (record { before = h.before; unit = unit }) (map scope_of_position (positions_after (unit ∷ h.before) left)) h.there
 
 -- those after it
 pub unit_passed : (all left : Text) (unit : ProgramUnit) (number : ℕ) (h : UnitsLeft all (unit ∷ left) number) →
@@ -45,6 +45,6 @@ unit_passed all left unit number h passes =
     let next : number + 1 ≡ suc number = add-one number in
     record {
       before = unit ∷ h.before;
-      found = h.found ∙ passes (flat_map unit_rules (spots_behind (unit ∷ h.before) left));
-      there = ap (λ n. drop n (scopes_of all)) next ∙ rest_there (scopes_of all) number (record { before = h.before; unit = unit }) (map scope_of_spot (spots_behind (unit ∷ h.before) left)) h.there;
+      found = h.found ∙ passes (flat_map unit_rules (positions_after (unit ∷ h.before) left));
+      there = ap (λ n. drop n (scopes_of all)) next ∙ rest_there (scopes_of all) number (record { before = h.before; unit = unit }) (map scope_of_position (positions_after (unit ∷ h.before) left)) h.there;
     }

@@ -4,7 +4,7 @@ use Rattle.std.proofs.lemmas.List.Folds.{list_any-append}
 use Rattle.std.specs.List.{flat_map, list_any}
 use Rattle.std.specs.Prelude.{◌||◌, option_and_then, option_map, is_some, OnOk}
 use Rattle.wc_model.specs.Language.BodyRules.{actual_checks, argument_checks, condition_checks, formal_named, is_instance, members_called}
-use Rattle.wc_model.specs.Language.Checks.{Check, Spot, asks, first_broken, spots_behind, spots_of}
+use Rattle.wc_model.specs.Language.Checks.{Check, Position, asks, first_broken, positions_after, positions_of}
 use Rattle.wc_model.specs.Language.DeclarationRules.{is_among}
 use Rattle.wc_model.specs.Language.Declarations.{Member, VariableType, Elementary, Standard, Block, block_named, members_of, same_name}
 use Rattle.wc_model.specs.Language.Kinds.{elementary_kind}
@@ -39,11 +39,11 @@ formal_parts scope type None formal h = absurd (cc)
 formal_parts scope type (Some m) formal h = record { member = m; is = refl; kind_is = kind_parts (elementary_kind m.type) (number_within scope.before type (m.name ∷ [])) formal h }
 
 -- the rules of one of a call's list whose input or output there is, and which is not named before
-pub argument_found : (scope : Scope) (members : List Member) (spot : Spot Assignment) (kind : Kind) (r : Option ℕ) → IsFormal (formal_named spot.item.direction members spot.item.formal) kind →
-    list_any (λ a. same_name a.formal spot.item.formal) spot.before ≡ false →
-    ((m : Member) → elementary_kind m.type ≡ Some kind → Finds (λ line. actual_checks scope line spot.item.direction (Some m) spot.item.actual) r) → Finds (λ line. argument_checks scope line members spot) r
-argument_found scope members spot kind r formal new found line rest =
-    (λ i. first_broken (asks 409 line (is_some (formal.is i)) ∷ asks 410 line (not (new i)) ∷ actual_checks scope line spot.item.direction (formal.is i) spot.item.actual ++ rest))
+pub argument_found : (scope : Scope) (members : List Member) (position : Position Assignment) (kind : Kind) (r : Option ℕ) → IsFormal (formal_named position.item.direction members position.item.formal) kind →
+    list_any (λ a. same_name a.formal position.item.formal) position.before ≡ false →
+    ((m : Member) → elementary_kind m.type ≡ Some kind → Finds (λ line. actual_checks scope line position.item.direction (Some m) position.item.actual) r) → Finds (λ line. argument_checks scope line members position) r
+argument_found scope members position kind r formal new found line rest =
+    (λ i. first_broken (asks 409 line (is_some (formal.is i)) ∷ asks 410 line (not (new i)) ∷ actual_checks scope line position.item.direction (formal.is i) position.item.actual ++ rest))
     ∙ found formal.member formal.kind_is line rest
 
 or_last : (a b : Bool) → (a || (b || false)) ≡ (b || a)
@@ -58,28 +58,28 @@ one_more names before a held = λ name.
     list_any-append (same_name name) names (a.formal ∷ []) ∙ or_last (is_among names name) (same_name name a.formal) ∙ (λ i. same_name_laws.symm name a.formal i || held name i)
 
 -- what follows the arguments so far, newest first
-pub record ArgumentsBehind (tables : Tables) (unit : ℕ) (declared : DeclaredType) (line : ℕ) (names : List Name) (all left : List Assignment) : Type 0 where
+pub record ArgumentsAfter (tables : Tables) (unit : ℕ) (declared : DeclaredType) (line : ℕ) (names : List Name) (all left : List Assignment) : Type 0 where
   pub before : List Assignment
   pub held : HoldsNames names before
   pub found : (scope : Scope) (type : VariableType) (rest : List Check) → IsScope tables unit scope → numbered_type scope.before type ≡ Some declared →
-      first_broken (flat_map (argument_checks scope line (members_of scope.before type)) (spots_behind [] all) ++ rest) ≡ first_broken (flat_map (argument_checks scope line (members_of scope.before type)) (spots_behind before left) ++ rest)
+      first_broken (flat_map (argument_checks scope line (members_of scope.before type)) (positions_after [] all) ++ rest) ≡ first_broken (flat_map (argument_checks scope line (members_of scope.before type)) (positions_after before left) ++ rest)
 
-pub at_first : (tables : Tables) (unit : ℕ) (declared : DeclaredType) (line : ℕ) (all : List Assignment) → ArgumentsBehind tables unit declared line [] all all
+pub at_first : (tables : Tables) (unit : ℕ) (declared : DeclaredType) (line : ℕ) (all : List Assignment) → ArgumentsAfter tables unit declared line [] all all
 at_first tables unit declared line all = record { before = []; held = λ name. refl; found = λ scope type rest is num. refl }
 
-pub one_behind : (tables : Tables) (unit : ℕ) (declared : DeclaredType) (line : ℕ) (names new : List Name) (all : List Assignment) (a : Assignment) (left : List Assignment) →
-    (h : ArgumentsBehind tables unit declared line names all (a ∷ left)) →
-    ((scope : Scope) (type : VariableType) (before behind : List Assignment) (rest : List Check) → IsScope tables unit scope → numbered_type scope.before type ≡ Some declared → HoldsNames names before →
-    first_broken (argument_checks scope line (members_of scope.before type) (record { before = before; item = a; behind = behind }) ++ rest) ≡ first_broken rest) →
-    ((before : List Assignment) → HoldsNames names before → HoldsNames new (a ∷ before)) → ArgumentsBehind tables unit declared line new all left
-one_behind tables unit declared line names new all a left h passes holds = record {
+pub one_after : (tables : Tables) (unit : ℕ) (declared : DeclaredType) (line : ℕ) (names new : List Name) (all : List Assignment) (a : Assignment) (left : List Assignment) →
+    (h : ArgumentsAfter tables unit declared line names all (a ∷ left)) →
+    ((scope : Scope) (type : VariableType) (before following : List Assignment) (rest : List Check) → IsScope tables unit scope → numbered_type scope.before type ≡ Some declared → HoldsNames names before →
+    first_broken (argument_checks scope line (members_of scope.before type) (record { before = before; item = a; following = following }) ++ rest) ≡ first_broken rest) →
+    ((before : List Assignment) → HoldsNames names before → HoldsNames new (a ∷ before)) → ArgumentsAfter tables unit declared line new all left
+one_after tables unit declared line names new all a left h passes holds = record {
   before = a ∷ h.before;
   held = holds h.before h.held;
   found = λ scope type rest is num.
       let checks = argument_checks scope line (members_of scope.before type) in
       h.found scope type rest is num
-      ∙ ap first_broken (append_assoc (checks (record { before = h.before; item = a; behind = left })) (flat_map checks (spots_behind (a ∷ h.before) left)) rest)
-      ∙ passes scope type h.before left (flat_map checks (spots_behind (a ∷ h.before) left) ++ rest) is num h.held;
+      ∙ ap first_broken (append_assoc (checks (record { before = h.before; item = a; following = left })) (flat_map checks (positions_after (a ∷ h.before) left)) rest)
+      ∙ passes scope type h.before left (flat_map checks (positions_after (a ∷ h.before) left) ++ rest) is num h.held;
 }
 
 -- a fact of what is fine either way
@@ -119,20 +119,20 @@ type_parts scope (Some (Block name)) declared h = record { type = Block name; is
 -- the rules of a call, whose instance's type is this
 abbrev pub checks_called : Scope → ℕ → Condition → Option VariableType → List Assignment → Option Kind → List Check
 checks_called scope line condition o arguments kind =
-    asks 401 line (is_some o) ∷ asks 402 line (is_instance o) ∷ condition_checks condition line kind ++ flat_map (argument_checks scope line (members_called scope o)) (spots_of arguments)
+    asks 401 line (is_some o) ∷ asks 402 line (is_instance o) ∷ condition_checks condition line kind ++ flat_map (argument_checks scope line (members_called scope o)) (positions_of arguments)
 
 -- what is called is not an instance
 pub no_instance_found : (scope : Scope) (line : ℕ) (condition : Condition) (o : Option VariableType) (arguments : List Assignment) (kind : Option Kind) (rest : List Check) (declared : DeclaredType) →
     IsTyped scope o declared → is_numbered_instance declared ≡ false → first_broken (checks_called scope line condition o arguments kind ++ rest) ≡ Some (record { number = 402; line = line })
 no_instance_found scope line condition o arguments kind rest declared typed none =
     (λ i. first_broken (checks_called scope line condition (typed.is i) arguments kind ++ rest))
-    ∙ ap (λ b. first_broken (asks 402 line b ∷ (condition_checks condition line kind ++ flat_map (argument_checks scope line (members_called scope (Some typed.type))) (spots_of arguments)) ++ rest)) (typed.instance ∙ none)
+    ∙ ap (λ b. first_broken (asks 402 line b ∷ (condition_checks condition line kind ++ flat_map (argument_checks scope line (members_called scope (Some typed.type))) (positions_of arguments)) ++ rest)) (typed.instance ∙ none)
 
 -- an instance is called
 pub instance_found : (scope : Scope) (line : ℕ) (condition : Condition) (o : Option VariableType) (arguments : List Assignment) (kind : Option Kind) (rest : List Check) (declared : DeclaredType) →
     (typed : IsTyped scope o declared) → is_numbered_instance declared ≡ true → first_broken (checks_called scope line condition o arguments kind ++ rest)
-    ≡ first_broken (condition_checks condition line kind ++ (flat_map (argument_checks scope line (members_of scope.before typed.type)) (spots_of arguments) ++ rest))
+    ≡ first_broken (condition_checks condition line kind ++ (flat_map (argument_checks scope line (members_of scope.before typed.type)) (positions_of arguments) ++ rest))
 instance_found scope line condition o arguments kind rest declared typed some =
     (λ i. first_broken (checks_called scope line condition (typed.is i) arguments kind ++ rest))
-    ∙ ap (λ b. first_broken (asks 402 line b ∷ (condition_checks condition line kind ++ flat_map (argument_checks scope line (members_of scope.before typed.type)) (spots_of arguments)) ++ rest)) (typed.instance ∙ some)
-    ∙ ap first_broken (append_assoc (condition_checks condition line kind) (flat_map (argument_checks scope line (members_of scope.before typed.type)) (spots_of arguments)) rest)
+    ∙ ap (λ b. first_broken (asks 402 line b ∷ (condition_checks condition line kind ++ flat_map (argument_checks scope line (members_of scope.before typed.type)) (positions_of arguments)) ++ rest)) (typed.instance ∙ some)
+    ∙ ap first_broken (append_assoc (condition_checks condition line kind) (flat_map (argument_checks scope line (members_of scope.before typed.type)) (positions_of arguments)) rest)

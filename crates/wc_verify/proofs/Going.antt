@@ -10,18 +10,18 @@ use Rattle.wc_model.specs.declared.fault.Fault.{Fault}
 use Rattle.wc_model.specs.declared.fault.Fault.TheVariants.{Refused, Memory}
 use Rattle.wc_model.specs.declared.kind.Kind.{Kind}
 use Rattle.wc_model.specs.declared.kind.Kind.TheVariants.{Bool as KindBool}
-use Rattle.wc_model.specs.Language.Judging.{Judges}
+use Rattle.wc_model.specs.Language.Validation.{Validates}
 use Rattle.wc_verify.specs.Instructions.{GoesOn}
 
 -- a fault stays
-goes_so : (scope : Scope) (line : BodyLine) (behind : List BodyLine) (kind : Option Kind) (more : List Check) (fault : Fault) →
-    Judges {X = Unit {0}} (first_broken (line_rules scope line behind kind ++ more)) (first_broken more) (Err fault) → GoesOn scope line behind kind more (Err fault)
-goes_so scope line behind kind more (Refused number place) h = h
-goes_so scope line behind kind more Memory h = tt
+goes_so : (scope : Scope) (line : BodyLine) (following : List BodyLine) (kind : Option Kind) (more : List Check) (fault : Fault) →
+    Validates {X = Unit {0}} (first_broken (line_rules scope line following kind ++ more)) (first_broken more) (Err fault) → GoesOn scope line following kind more (Err fault)
+goes_so scope line following kind more (Refused number place) h = h
+goes_so scope line following kind more Memory h = tt
 
-pub goes_wrong : (scope : Scope) (line : BodyLine) (behind : List BodyLine) (kind : Option Kind) (more : List Check) (r : Result (Unit {0}) Fault) (fault : Fault) → r ≡ Err fault →
-    Judges (first_broken (line_rules scope line behind kind ++ more)) (first_broken more) r → GoesOn scope line behind kind more (Err fault)
-goes_wrong scope line behind kind more r fault e h = goes_so scope line behind kind more fault (subst (λ x. Judges (first_broken (line_rules scope line behind kind ++ more)) (first_broken more) x) e h)
+pub goes_wrong : (scope : Scope) (line : BodyLine) (following : List BodyLine) (kind : Option Kind) (more : List Check) (r : Result (Unit {0}) Fault) (fault : Fault) → r ≡ Err fault →
+    Validates (first_broken (line_rules scope line following kind ++ more)) (first_broken more) r → GoesOn scope line following kind more (Err fault)
+goes_wrong scope line following kind more r fault e h = goes_so scope line following kind more fault (subst (λ x. Validates (first_broken (line_rules scope line following kind ++ more)) (first_broken more) x) e h)
 
 -- the kind after LD and LDN
 pub loaded : (scope : Scope) (label : Option Word) (line : ℕ) (negated : Bool) (term : Term) (kind seen after : Option Kind) → after ≡ (if negated then Some KindBool else seen) → term_kind scope term ≡ seen →

@@ -2,7 +2,7 @@
 use Rattle.std.proofs.Common.{◌≡◌, ℕ, ◌+◌, ◌<◌, length, drop, get_or, Bor, Vec, Global, Bool, false, List, [], ◌∷◌, ◌++◌, map, Option, Some, None, Result, Ok, Err, option_map, append_assoc, refl, sym, ap, subst, ◌∙◌, rules}
 use Rattle.wc_model.specs.Language.BodyRules.{inside_rules, line_rules}
 use Rattle.wc_model.specs.Language.Checks.{Check, first_broken}
-use Rattle.wc_model.specs.Language.Kinds.{BodyLine, AloneLine, PlainLine, NestedLine, kind_after, kind_behind, lines_of}
+use Rattle.wc_model.specs.Language.Kinds.{BodyLine, AloneLine, PlainLine, NestedLine, kind_after, kind_following, lines_of}
 use Rattle.wc_model.specs.Language.Names.{name_of}
 use Rattle.wc_model.specs.Language.Scopes.{Scope}
 use Rattle.wc_model.specs.Language.Tree.{Word, Step, Load, Store, Apply, Negate, Jump, Call, Return, Lines}
@@ -36,10 +36,10 @@ inside_put scope (AloneLine label) rest kind = refl
 inside_put scope (PlainLine label line step) rest kind = refl
 inside_put scope (NestedLine label line operator operand inside close) rest kind = refl
 
-pub behind_put : (scope : Scope) (line : BodyLine) (rest : Lines) (kind : Option Kind) → kind_behind scope (put line rest) kind ≡ kind_behind scope rest (kind_after scope line kind)
-behind_put scope (AloneLine label) rest kind = refl
-behind_put scope (PlainLine label line step) rest kind = refl
-behind_put scope (NestedLine label line operator operand inside close) rest kind = refl
+pub after_put : (scope : Scope) (line : BodyLine) (rest : Lines) (kind : Option Kind) → kind_following scope (put line rest) kind ≡ kind_following scope rest (kind_after scope line kind)
+after_put scope (AloneLine label) rest kind = refl
+after_put scope (PlainLine label line step) rest kind = refl
+after_put scope (NestedLine label line operator operand inside close) rest kind = refl
 
 -- no label follows a line inside a parenthesis
 step_none : (step : Step) → step_ahead step false []
@@ -60,7 +60,7 @@ none_ahead (NestedLine label line operator operand inside close) = tt
 pub inside_line : (scope : Scope) (line : BodyLine) (rest : Lines) (kind : Option Kind) (more : List Check) (r : Result (Option Kind) Fault) → GoesOn scope line [] kind (inside_rules scope rest (kind_after scope line kind) ++ more) r → GoesInside scope (put line rest) kind rest more r
 inside_line scope line rest kind more (Ok after) h = (
   ap (λ cs. first_broken (cs ++ more)) (inside_put scope line rest kind) ∙ ap first_broken (append_assoc (line_rules scope line [] kind) (inside_rules scope rest (kind_after scope line kind)) more) ∙ h.0 ∙ ap (λ k. first_broken (inside_rules scope rest k ++ more)) (sym h.1),
-  behind_put scope line rest kind ∙ ap (kind_behind scope rest) (sym h.1),
+  after_put scope line rest kind ∙ ap (kind_following scope rest) (sym h.1),
 )
 inside_line scope line rest kind more (Err (Refused number place)) h =
     ap (λ cs. first_broken (cs ++ more)) (inside_put scope line rest kind) ∙ ap first_broken (append_assoc (line_rules scope line [] kind) (inside_rules scope rest (kind_after scope line kind)) more) ∙ h
@@ -133,8 +133,8 @@ pub line_defer : (operator : Operator) (operand : Option Operand) (inside : Vec 
 line_defer operator operand inside k close label = search (the_lemmas, rules)
 
 -- what is known of a line is known of the same one
-pub same_line : (scope : Scope) (a b : BodyLine) (behind : List BodyLine) (kind : Option Kind) (more : List Check) (r : Result (Option Kind) Fault) → a ≡ b → GoesOn scope b behind kind more r → GoesOn scope a behind kind more r
-same_line scope a b behind kind more r e h = subst (λ x. GoesOn scope x behind kind more r) (sym e) h
+pub same_line : (scope : Scope) (a b : BodyLine) (following : List BodyLine) (kind : Option Kind) (more : List Check) (r : Result (Option Kind) Fault) → a ≡ b → GoesOn scope b following kind more r → GoesOn scope a following kind more r
+same_line scope a b following kind more r e h = subst (λ x. GoesOn scope x following kind more r) (sym e) h
 
 -- some lines begin with one
 pub first_seen : (items : List Line) (i : ℕ) (line : Line) → i < length items → line ≡ get_or items i line → lines_view (drop i items) ≡ line_view line (lines_view (drop (i + 1) items))

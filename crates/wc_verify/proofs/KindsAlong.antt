@@ -2,33 +2,33 @@
 use Rattle.std.proofs.Common.{◌≡◌, Bool, true, false, List, [], ◌∷◌, ◌++◌, Option, None, append_assoc, refl, ap, ◌∙◌}
 use Rattle.std.specs.List.{flat_map}
 use Rattle.std.specs.Prelude.{if◌then◌else◌}
-use Rattle.wc_model.specs.Language.BodyRules.{label_rules, line_rules, spot_rules}
-use Rattle.wc_model.specs.Language.Checks.{Check, first_broken, spots_behind}
-use Rattle.wc_model.specs.Language.Kinds.{BodyLine, Known, jumps_to, kind_after, kind_at, kinds_from_above, kinds_from_jumps, kinds_from_label, known_kinds, label_of, leaves, ways_in}
+use Rattle.wc_model.specs.Language.BodyRules.{label_rules, line_rules, rules_at_position}
+use Rattle.wc_model.specs.Language.Checks.{Check, first_broken, positions_after}
+use Rattle.wc_model.specs.Language.Kinds.{BodyLine, Known, jumps_to, kind_after, kind_at, kinds_from_above, kinds_from_jumps, kinds_from_label, known_kinds, label_of, leaves, edges_in}
 use Rattle.wc_model.specs.Language.Meaning.{carries}
 use Rattle.wc_model.specs.Language.Names.{Name}
 use Rattle.wc_model.specs.Language.Scopes.{Scope}
 use Rattle.wc_model.specs.declared.kind.Kind.{Kind}
-use Rattle.wc_verify.specs.Ways.{joined_ways, kind_of_way, way_of, with_way}
-use Rattle.wc_verify.specs.declared.ways.Way.{Way}
-use Rattle.wc_verify.specs.declared.ways.Way.TheVariants.{Unseen, Agreed}
-use Rattle.wc_verify.proofs.WaysIn.{kind_kept, one_joined, with_one}
+use Rattle.wc_verify.specs.Edges.{joined_edges, kind_of_way, way_of, with_way}
+use Rattle.wc_verify.specs.declared.edges.Way.{Way}
+use Rattle.wc_verify.specs.declared.edges.Way.TheVariants.{Unseen, Agreed}
+use Rattle.wc_verify.proofs.EdgesIn.{kind_kept, one_joined, with_one}
 
 -- the path from above is none or one
-none_or_one : (b : Bool) (kind : Option Kind) (ways : List (Option Kind)) → way_of ((if b then [] else kind ∷ []) ++ ways) ≡ joined_ways (way_of (if b then [] else kind ∷ [])) (way_of ways)
-none_or_one true kind ways = refl
-none_or_one false kind ways = one_joined kind ways
+none_or_one : (b : Bool) (kind : Option Kind) (edges : List (Option Kind)) → way_of ((if b then [] else kind ∷ []) ++ edges) ≡ joined_edges (way_of (if b then [] else kind ∷ [])) (way_of edges)
+none_or_one true kind edges = refl
+none_or_one false kind edges = one_joined kind edges
 
-above_joined : (scope : Scope) (earlier : List Known) (ways : List (Option Kind)) → way_of (kinds_from_above scope earlier ++ ways) ≡ joined_ways (way_of (kinds_from_above scope earlier)) (way_of ways)
-above_joined scope [] ways = one_joined None ways
-above_joined scope (known ∷ earlier) ways = none_or_one (leaves known.line) (kind_after scope known.line known.before) ways
+above_joined : (scope : Scope) (earlier : List Known) (edges : List (Option Kind)) → way_of (kinds_from_above scope earlier ++ edges) ≡ joined_edges (way_of (kinds_from_above scope earlier)) (way_of edges)
+above_joined scope [] edges = one_joined None edges
+above_joined scope (known ∷ earlier) edges = none_or_one (leaves known.line) (kind_after scope known.line known.before) edges
 
 -- the kind at a line, from what is kept
 pub kind_here : (scope : Scope) (before : List BodyLine) (line : BodyLine) (above others : Way) → way_of (kinds_from_above scope (known_kinds scope before)) ≡ above →
-    way_of (kinds_from_label (label_of line) (known_kinds scope before)) ≡ others → kind_at scope before line ≡ kind_of_way (joined_ways above others)
+    way_of (kinds_from_label (label_of line) (known_kinds scope before)) ≡ others → kind_at scope before line ≡ kind_of_way (joined_edges above others)
 kind_here scope before line above others e o =
-    kind_kept (ways_in scope (known_kinds scope before) line) ∙ ap kind_of_way (above_joined scope (known_kinds scope before) (kinds_from_label (label_of line) (known_kinds scope before)))
-    ∙ (λ i. kind_of_way (joined_ways (e i) (o i)))
+    kind_kept (edges_in scope (known_kinds scope before) line) ∙ ap kind_of_way (above_joined scope (known_kinds scope before) (kinds_from_label (label_of line) (known_kinds scope before)))
+    ∙ (λ i. kind_of_way (joined_edges (e i) (o i)))
 
 -- what a line passes on
 handed : (b : Bool) (kind : Option Kind) → way_of (if b then [] else kind ∷ []) ≡ (if b then Unseen else Agreed kind)
@@ -40,12 +40,12 @@ pub above_next : (scope : Scope) (before : List BodyLine) (line : BodyLine) →
 above_next scope before line = handed (leaves line) (kind_after scope line (kind_at scope before line))
 
 -- the jumps to a label after a line: the line may carry it, and may jump to it
-jumped : (j c : Bool) (kind : Option Kind) (ways : List (Option Kind)) →
-    way_of ((if j then kind ∷ [] else []) ++ (if c then [] else ways)) ≡ (if j then with_way kind (if c then Unseen else way_of ways) else (if c then Unseen else way_of ways))
-jumped true true kind ways = with_one kind []
-jumped true false kind ways = with_one kind ways
-jumped false true kind ways = refl
-jumped false false kind ways = refl
+jumped : (j c : Bool) (kind : Option Kind) (edges : List (Option Kind)) →
+    way_of ((if j then kind ∷ [] else []) ++ (if c then [] else edges)) ≡ (if j then with_way kind (if c then Unseen else way_of edges) else (if c then Unseen else way_of edges))
+jumped true true kind edges = with_one kind []
+jumped true false kind edges = with_one kind edges
+jumped false true kind edges = refl
+jumped false false kind edges = refl
 
 pub jumps_next : (scope : Scope) (before : List BodyLine) (line : BodyLine) (name : Name) →
     way_of (kinds_from_jumps name (known_kinds scope (line ∷ before)))
@@ -55,10 +55,10 @@ jumps_next scope before line name = jumped (jumps_to line name) (carries (label_
 
 -- what is asked of a line, and then of those after it
 pub line_asked : (scope : Scope) (before : List BodyLine) (line : BodyLine) (left : List BodyLine) (rest : List Check) →
-    first_broken (flat_map (spot_rules scope) (spots_behind before (line ∷ left)) ++ rest)
-    ≡ first_broken (label_rules before (label_of line) ++ (line_rules scope line left (kind_at scope before line) ++ (flat_map (spot_rules scope) (spots_behind (line ∷ before) left) ++ rest)))
+    first_broken (flat_map (rules_at_position scope) (positions_after before (line ∷ left)) ++ rest)
+    ≡ first_broken (label_rules before (label_of line) ++ (line_rules scope line left (kind_at scope before line) ++ (flat_map (rules_at_position scope) (positions_after (line ∷ before) left) ++ rest)))
 line_asked scope before line left rest =
-    ap first_broken (regrouped (label_rules before (label_of line)) (line_rules scope line left (kind_at scope before line)) (flat_map (spot_rules scope) (spots_behind (line ∷ before) left)) rest)
+    ap first_broken (regrouped (label_rules before (label_of line)) (line_rules scope line left (kind_at scope before line)) (flat_map (rules_at_position scope) (positions_after (line ∷ before) left)) rest)
   where
     regrouped : (a b c d : List Check) → ((a ++ b) ++ c) ++ d ≡ a ++ (b ++ (c ++ d))
     regrouped a b c d = simp append_assoc

@@ -9,4 +9,4 @@ pub mod KindsAlong
 pub mod LabelRows
 pub mod Nesting
 pub mod Seeing
-pub mod WaysIn
+pub mod EdgesIn

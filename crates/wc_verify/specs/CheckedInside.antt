@@ -1,6 +1,6 @@
 -- What a verified text holds in its fields. (No rule of the language.)
 use Rattle.std.specs.Prelude.{◌≡◌, None}
-use Rattle.wc_names.specs.StandsFor.{AreTables}
+use Rattle.wc_names.specs.RepresentsText.{AreTables}
 use Rattle.wc_model.specs.Language.Faults.{body_fault, declaration_fault}
 use Rattle.wc_model.specs.Language.Views.{text_view}
 use Rattle.wc_verify.specs.CheckedTexts.{CheckedText, WasRead}

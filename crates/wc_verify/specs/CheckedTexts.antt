@@ -1,6 +1,6 @@
 -- A text that breaks no rule on bodies, with its tables. (No rule of the language.)
 use Rattle.std.specs.Prelude.{◌≡◌, ℕ, List, None}
-use Rattle.wc_names.specs.StandsFor.{AreTables}
+use Rattle.wc_names.specs.RepresentsText.{AreTables}
 use Rattle.wc_model.specs.Language.Faults.{declaration_fault}
 use Rattle.wc_model.specs.Language.Tree.{Text}
 use Rattle.wc_model.specs.Text.Reading.{IsRead}
@@ -18,5 +18,5 @@ WasRead text = (bytes : List ℕ) × IsRead bytes text
 
 -- the tables are those that declarations without a fault give: what `tables` of the declarations' pass promises of its answer
 pub record AreGiven (tables : Tables) (text : Text) : Type 0 where
-  pub stand : AreTables tables text
+  pub occur : AreTables tables text
   pub declared : declaration_fault text ≡ None

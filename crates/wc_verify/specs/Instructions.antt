@@ -2,7 +2,7 @@
 use Rattle.std.specs.Prelude.{◌≡◌, Bool, List, ◌++◌, map, Option, Some, None, option_map, Result, Ok, Err}
 use Rattle.wc_model.specs.Language.BodyRules.{inside_rules, is_ahead, line_rules}
 use Rattle.wc_model.specs.Language.Checks.{Check, first_broken}
-use Rattle.wc_model.specs.Language.Kinds.{BodyLine, AloneLine, PlainLine, NestedLine, kind_after, kind_behind}
+use Rattle.wc_model.specs.Language.Kinds.{BodyLine, AloneLine, PlainLine, NestedLine, kind_after, kind_following}
 use Rattle.wc_model.specs.Language.Names.{Name, name_of}
 use Rattle.wc_model.specs.Language.Scopes.{Scope}
 use Rattle.wc_model.specs.Language.Tree.{Word, Step, Load, Store, Apply, Negate, Jump, Call, Return, Lines, Alone, Plain, Nested}
@@ -36,33 +36,33 @@ put (NestedLine label line operator operand inside close) rest = Nested label li
 
 -- what a jump asks of the lines after it
 abbrev pub step_ahead : Step → Bool → List BodyLine → Type 0
-step_ahead (Load negated operand) ahead behind = Unit {0}
-step_ahead (Store storing target) ahead behind = Unit {0}
-step_ahead (Apply operator operand) ahead behind = Unit {0}
-step_ahead Negate ahead behind = Unit {0}
-step_ahead (Jump condition label) ahead behind = ahead ≡ is_ahead behind label
-step_ahead (Call condition instance arguments) ahead behind = Unit {0}
-step_ahead (Return condition) ahead behind = Unit {0}
+step_ahead (Load negated operand) ahead following = Unit {0}
+step_ahead (Store storing target) ahead following = Unit {0}
+step_ahead (Apply operator operand) ahead following = Unit {0}
+step_ahead Negate ahead following = Unit {0}
+step_ahead (Jump condition label) ahead following = ahead ≡ is_ahead following label
+step_ahead (Call condition instance arguments) ahead following = Unit {0}
+step_ahead (Return condition) ahead following = Unit {0}
 
 abbrev pub SaysAhead : BodyLine → Bool → List BodyLine → Type 0
-SaysAhead (AloneLine label) ahead behind = Unit {0}
-SaysAhead (PlainLine label line step) ahead behind = step_ahead step ahead behind
-SaysAhead (NestedLine label line operator operand inside close) ahead behind = Unit {0}
+SaysAhead (AloneLine label) ahead following = Unit {0}
+SaysAhead (PlainLine label line step) ahead following = step_ahead step ahead following
+SaysAhead (NestedLine label line operator operand inside close) ahead following = Unit {0}
 
 -- a line is checked, from the kind before it; if nothing is broken, with the kind after it
 abbrev pub GoesOn : Scope → BodyLine → List BodyLine → Option Kind → List Check → Result (Option Kind) Fault → Type 0
-GoesOn scope line behind kind more (Ok after) = (first_broken (line_rules scope line behind kind ++ more) ≡ first_broken more) × (after ≡ kind_after scope line kind)
-GoesOn scope line behind kind more (Err (Refused number place)) = first_broken (line_rules scope line behind kind ++ more) ≡ Some (record { number = number; line = place })
-GoesOn scope line behind kind more (Err Memory) = Unit {0}
+GoesOn scope line following kind more (Ok after) = (first_broken (line_rules scope line following kind ++ more) ≡ first_broken more) × (after ≡ kind_after scope line kind)
+GoesOn scope line following kind more (Err (Refused number place)) = first_broken (line_rules scope line following kind ++ more) ≡ Some (record { number = number; line = place })
+GoesOn scope line following kind more (Err Memory) = Unit {0}
 
 -- lines inside a parenthesis are checked as far as the rest
 abbrev pub GoesInside : Scope → Lines → Option Kind → Lines → List Check → Result (Option Kind) Fault → Type 0
 GoesInside scope lines kind rest more (Ok after) =
-    (first_broken (inside_rules scope lines kind ++ more) ≡ first_broken (inside_rules scope rest after ++ more)) × (kind_behind scope lines kind ≡ kind_behind scope rest after)
+    (first_broken (inside_rules scope lines kind ++ more) ≡ first_broken (inside_rules scope rest after ++ more)) × (kind_following scope lines kind ≡ kind_following scope rest after)
 GoesInside scope lines kind rest more (Err (Refused number place)) = first_broken (inside_rules scope lines kind ++ more) ≡ Some (record { number = number; line = place })
 GoesInside scope lines kind rest more (Err Memory) = Unit {0}
 
 -- what is said of the lines after, if there is a jump
 abbrev pub AsksAhead : Option Name → Bool → List BodyLine → Type 0
-AsksAhead None ahead behind = Unit {0}
-AsksAhead (Some label) ahead behind = ahead ≡ is_ahead behind label
+AsksAhead None ahead following = Unit {0}
+AsksAhead (Some label) ahead following = ahead ≡ is_ahead following label

@@ -6,4 +6,4 @@ pub mod Found
 pub mod Instructions
 pub mod Rows
 pub mod Seeing
-pub mod Ways
+pub mod Edges

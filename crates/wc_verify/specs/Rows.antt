@@ -9,11 +9,11 @@ use Rattle.wc_model.specs.Language.Scopes.{Scope}
 use Rattle.wc_model.specs.Language.Tree.{Word}
 use Rattle.wc_model.specs.declared.kind.Kind.{Kind}
 use Rattle.wc_names.specs.Keys.{name_of_key}
-use Rattle.wc_verify.specs.Ways.{way_of, with_way}
+use Rattle.wc_verify.specs.Edges.{way_of, with_way}
 use Rattle.wc_names.specs.declared.key.Key.{Key}
 use Rattle.wc_verify.specs.declared.labels.Row.{Row}
-use Rattle.wc_verify.specs.declared.ways.Way.{Way}
-use Rattle.wc_verify.specs.declared.ways.Way.TheVariants.{Unseen}
+use Rattle.wc_verify.specs.declared.edges.Way.{Way}
+use Rattle.wc_verify.specs.declared.edges.Way.TheVariants.{Unseen}
 
 -- the rows by the names of their keys
 abbrev pub named_rows : {X : Type 0} → List (Key × X) → List (Name × X)

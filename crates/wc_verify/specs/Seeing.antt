@@ -5,7 +5,7 @@ use Rattle.wc_model.specs.Language.Kinds.{term_kind}
 use Rattle.wc_model.specs.Language.Scopes.{Scope, entity_of}
 use Rattle.wc_model.specs.Language.Tree.{Term, Text}
 use Rattle.wc_names.specs.Numbered.{IsUnit}
-use Rattle.wc_names.specs.StandsFor.{AreTables}
+use Rattle.wc_names.specs.RepresentsText.{AreTables}
 use Rattle.wc_names.specs.declared.kept.Tables.{Tables}
 use Rattle.wc_verify.specs.declared.seen.Seen.{Seen}
 

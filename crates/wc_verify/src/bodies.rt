@@ -1,32 +1,32 @@
 ghost use Rattle.std.specs.Prelude.{◌≡◌, ◌++◌, List, Option, OnOk, option_map, if◌then◌else◌};
 ghost use Rattle.wc_model.specs.Language.BodyRules.{body_rules};
 ghost use Rattle.wc_model.specs.Language.Checks.{Check, first_broken};
-ghost use Rattle.wc_model.specs.Language.Judging.{Judges};
+ghost use Rattle.wc_model.specs.Language.Validation.{Validates};
 ghost use Rattle.wc_model.specs.Language.Kinds.{BodyLine, jumps_to, leaves, lines_of};
 ghost use Rattle.wc_model.specs.Language.Names.{Name, name_of};
 ghost use Rattle.wc_model.specs.Language.Scopes.{Scope};
 ghost use Rattle.wc_model.specs.Language.Tree.{Lines, Word as LabelWord};
 ghost use Rattle.wc_model.specs.Language.Views.{line_view, lines_view, word_view};
-ghost use Rattle.wc_verify.specs.Bodies.{CountsLines, GoesTo, HandsOn, StandsAt};
+ghost use Rattle.wc_verify.specs.Bodies.{CountsLines, GoesTo, HandsOn, IsAt};
 ghost use Rattle.wc_verify.specs.Instructions.{AsksAhead, instr_line};
 ghost use Rattle.wc_verify.specs.Rows.{jumped_row, row_named};
 ghost use Rattle.wc_verify.specs.Seeing.{IsScope};
-ghost use Rattle.wc_verify.specs.Ways.{labelled_way};
+ghost use Rattle.wc_verify.specs.Edges.{labelled_way};
 
 use crate::counting::count_labels;
+use crate::edges::Way;
 use crate::entering::enter;
-use crate::inside::judge_instr;
+use crate::inside::validate_instr;
 use crate::jumps::{leaves, note, target};
 use crate::labels::Labels;
-use crate::ways::Way;
 use std::alloc::Global;
 use wc_model::{Fault, Instr, Kind, Line, Word};
 use wc_names::Tables;
 
 /// Whether a later line carries the label of a jump.
 fn is_ahead(labels: &Labels<'_>, target: Option<&[u8]>) -> bool
-    ensures { (behind : List BodyLine) → CountsLines labels.now behind
-        → AsksAhead (option_map (λ t. name_of t.now) target.entry) result behind }
+    ensures { (following : List BodyLine) → CountsLines labels.now following
+        → AsksAhead (option_map (λ t. name_of t.now) target.entry) result following }
 {
     match target {
         Some(name) => labels.row(name).ahead > 0,
@@ -35,7 +35,7 @@ fn is_ahead(labels: &Labels<'_>, target: Option<&[u8]>) -> bool
 }
 
 /// What an instruction passes on to the next line.
-fn handed_on(instr: &Instr<'_>, after: Option<Kind>) -> Way
+fn propagated(instr: &Instr<'_>, after: Option<Kind>) -> Way
     ensures { (label : Option LabelWord)
         → result ≡ (if leaves (instr_line instr.now label) then Way.Unseen else Way.Agreed after) }
 {
@@ -47,7 +47,7 @@ fn handed_on(instr: &Instr<'_>, after: Option<Kind>) -> Way
 }
 
 /// Checks an instruction whose line is entered, and keeps its jump: what it passes on.
-fn judge_step<'a>(
+fn validate_step<'a>(
     alloc: Global,
     tables: &Tables<'a>,
     unit: usize,
@@ -55,9 +55,9 @@ fn judge_step<'a>(
     instr: &Instr<'a>,
     kind: Option<Kind>,
 ) -> Result<Way, Fault>
-    ensures judged { (scope : Scope) (label : Option LabelWord) (behind : List BodyLine)
-        (more : List Check) → IsScope tables.now unit scope → CountsLines labels.old behind
-        → HandsOn scope (instr_line instr.now label) behind kind more result }
+    ensures validated { (scope : Scope) (label : Option LabelWord) (following : List BodyLine)
+        (more : List Check) → IsScope tables.now unit scope → CountsLines labels.old following
+        → HandsOn scope (instr_line instr.now label) following kind more result }
     ensures rows { OnOk result
         ((label : Option LabelWord) (name : Name)
         → row_named labels.new name
@@ -66,9 +66,9 @@ fn judge_step<'a>(
 {
     let target = target(instr);
     let is_ahead = is_ahead(labels, target);
-    let after = judge_instr(alloc, tables, unit, instr, is_ahead, kind)?;
+    let after = validate_instr(alloc, tables, unit, instr, is_ahead, kind)?;
     note(labels, target, kind)?;
-    Ok(handed_on(instr, after))
+    Ok(propagated(instr, after))
 }
 
 /// What a line with no instruction passes on.
@@ -82,7 +82,7 @@ fn handed_by_label(label: &Option<Word<'_>>, above: Way, kind: Option<Kind>) -> 
 }
 
 /// Checks a line, from what is passed on from above: what it passes on.
-fn judge_line<'a>(
+fn validate_line<'a>(
     alloc: Global,
     tables: &Tables<'a>,
     unit: usize,
@@ -92,19 +92,19 @@ fn judge_line<'a>(
 ) -> Result<Way, Fault>
     ensures { (scope : Scope) (before : List BodyLine) (rest : Lines)
         → IsScope tables.now unit scope
-        → StandsAt scope before (lines_of (line_view line.now rest)) labels.old above
+        → IsAt scope before (lines_of (line_view line.now rest)) labels.old above
         → GoesTo scope before (lines_of (line_view line.now rest)) (lines_of rest)
         labels.new result }
 {
     let kind = enter(labels, &line.label, above)?;
     match &line.instr {
-        Some(instr) => judge_step(alloc, tables, unit, labels, instr, kind),
+        Some(instr) => validate_step(alloc, tables, unit, labels, instr, kind),
         None => Ok(handed_by_label(&line.label, above, kind)),
     }
 }
 
 /// Checks the body of a unit, line by line.
-pub(crate) fn judge_body<'a>(
+pub(crate) fn validate_body<'a>(
     alloc: Global,
     tables: &Tables<'a>,
     unit: usize,
@@ -112,12 +112,12 @@ pub(crate) fn judge_body<'a>(
 ) -> Result<(), Fault>
     ensures { (scope : Scope) (more : List Check) → IsScope tables.now unit scope
         → scope.unit.body ≡ lines_view lines.now.items
-        → Judges (first_broken (body_rules scope ++ more)) (first_broken more) result }
+        → Validates (first_broken (body_rules scope ++ more)) (first_broken more) result }
 {
     let mut labels = count_labels(alloc, lines)?;
     let mut above = Way::Agreed(None);
     for line in lines {
-        above = judge_line(alloc, tables, unit, &mut labels, line, above)?;
+        above = validate_line(alloc, tables, unit, &mut labels, line, above)?;
     }
     Ok(())
 }

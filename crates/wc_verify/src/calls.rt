@@ -1,21 +1,21 @@
 ghost use Rattle.std.specs.Prelude.{◌≡◌, ℕ, ◌<◌, [], ◌∷◌, ◌++◌, List, Option, Some, IfErr, OnOk, length, map, option_and_then, is_some};
 ghost use Rattle.std.specs.List.{flat_map};
 ghost use Rattle.wc_model.specs.Language.BodyRules.{actual_checks, argument_checks, call_checks, suits_input, suits_output};
-ghost use Rattle.wc_model.specs.Language.Checks.{Check, first_broken, spots_of};
+ghost use Rattle.wc_model.specs.Language.Checks.{Check, first_broken, positions_of};
 ghost use Rattle.wc_model.specs.Language.Declarations.{Member, VariableType, members_of};
 ghost use Rattle.wc_model.specs.Language.Kinds.{elementary_kind};
 ghost use Rattle.wc_model.specs.Language.Names.{name_of};
 ghost use Rattle.wc_model.specs.Language.Scopes.{Scope, type_of};
 ghost use Rattle.wc_model.specs.Language.Tree.{Assignment, Term};
 ghost use Rattle.wc_model.specs.Language.Views.{assignment_view, term_view};
-ghost use Rattle.wc_model.specs.Language.Judging.{Judges};
+ghost use Rattle.wc_model.specs.Language.Validation.{Validates};
 ghost use Rattle.wc_names.specs.Numbered.{numbered_type};
 ghost use Rattle.wc_verify.specs.Found.{first_at};
 ghost use Rattle.wc_verify.specs.Calls.{HoldsNames, is_numbered_instance};
 ghost use Rattle.wc_verify.specs.Seeing.{IsScope, IsSeen};
 
 use crate::first::{first_of, refusal, refuse, unless};
-use crate::refusals::{is_of_kind, judge_condition, judge_reading, judge_writing};
+use crate::refusals::{is_of_kind, validate_condition, validate_reading, validate_writing};
 use crate::seen::{Seen, see};
 use std::alloc::Global;
 use wc_model::{Argument, Condition, Direction, Fault, Kind, Operand};
@@ -41,7 +41,7 @@ fn suits_output(kind: Kind, seen: Seen) -> bool
 }
 
 /// What goes into an input of a kind: 401, 405, 402.
-fn judge_assigned(kind: Kind, operand: &Operand<'_>, seen: Seen) -> Option<u16>
+fn validate_assigned(kind: Kind, operand: &Operand<'_>, seen: Seen) -> Option<u16>
     ensures { (scope : Scope) (m : Member) (line : ℕ) (rest : List Check)
         → IsSeen scope (term_view operand.now) seen → elementary_kind m.type ≡ Some kind
         → first_broken
@@ -49,35 +49,40 @@ fn judge_assigned(kind: Kind, operand: &Operand<'_>, seen: Seen) -> Option<u16>
         ≡ first_at result line (first_broken rest) }
 {
     let suits = suits_input(kind, operand, seen);
-    first_of(judge_reading(seen), unless(suits, 402))
+    first_of(validate_reading(seen), unless(suits, 402))
 }
 
 /// Where an output of a kind goes: 401, 404, 402.
-fn judge_given(kind: Kind, seen: Seen) -> Option<u16>
+fn validate_given(kind: Kind, seen: Seen) -> Option<u16>
     ensures { (scope : Scope) (m : Member) (target : Term) (line : ℕ) (rest : List Check)
         → IsSeen scope target seen → elementary_kind m.type ≡ Some kind
         → first_broken (actual_checks scope line Direction.OutOf (Some m) target ++ rest)
         ≡ first_at result line (first_broken rest) }
 {
     let suits = suits_output(kind, seen);
-    first_of(judge_writing(seen), unless(suits, 402))
+    first_of(validate_writing(seen), unless(suits, 402))
 }
 
 /// What is passed to an input or from an output of a kind.
-fn judge_actual(direction: Direction, kind: Kind, operand: &Operand<'_>, seen: Seen) -> Option<u16>
+fn validate_actual(
+    direction: Direction,
+    kind: Kind,
+    operand: &Operand<'_>,
+    seen: Seen,
+) -> Option<u16>
     ensures { (scope : Scope) (m : Member) (line : ℕ) (rest : List Check)
         → IsSeen scope (term_view operand.now) seen → elementary_kind m.type ≡ Some kind
         → first_broken (actual_checks scope line direction (Some m) (term_view operand.now) ++ rest)
         ≡ first_at result line (first_broken rest) }
 {
     match direction {
-        Direction::Into => judge_assigned(kind, operand, seen),
-        Direction::OutOf => judge_given(kind, seen),
+        Direction::Into => validate_assigned(kind, operand, seen),
+        Direction::OutOf => validate_given(kind, seen),
     }
 }
 
 /// Checks one of a call's list after others, and keeps its name: 409, 410, and what is passed.
-fn judge_argument<'a>(
+fn validate_argument<'a>(
     tables: &Tables<'a>,
     unit: usize,
     declared: DeclaredType,
@@ -85,13 +90,13 @@ fn judge_argument<'a>(
     argument: &Argument<'a>,
     line: u32,
 ) -> Result<(), Fault>
-    ensures judged { (scope : Scope) (type : VariableType) (before behind : List Assignment)
+    ensures validated { (scope : Scope) (type : VariableType) (before following : List Assignment)
         (rest : List Check) → IsScope tables.now unit scope
         → numbered_type scope.before type ≡ Some declared → HoldsNames names.old before
-        → Judges
+        → Validates
         (first_broken
         (argument_checks scope line (members_of scope.before type)
-        (record { before = before; item = assignment_view argument.now; behind = behind }) ++ rest))
+        (record { before = before; item = assignment_view argument.now; following = following }) ++ rest))
         (first_broken rest) result }
     ensures held { OnOk result
         ((before : List Assignment) → HoldsNames names.old before
@@ -105,12 +110,12 @@ fn judge_argument<'a>(
         return Err(refusal(410, line));
     }
     let seen = see(tables, unit, &argument.value);
-    let found = judge_actual(argument.direction, formal.kind, &argument.value, seen);
+    let found = validate_actual(argument.direction, formal.kind, &argument.value, seen);
     refuse(found, line)
 }
 
 /// Checks the arguments of a call in written order, and keeps their names, of which there are none.
-fn judge_each<'a>(
+fn validate_each<'a>(
     tables: &Tables<'a>,
     unit: usize,
     declared: DeclaredType,
@@ -119,22 +124,22 @@ fn judge_each<'a>(
     line: u32,
 ) -> Result<(), Fault>
     requires { names.old ≡ [] }
-    ensures judged { (scope : Scope) (type : VariableType) (rest : List Check)
+    ensures validated { (scope : Scope) (type : VariableType) (rest : List Check)
         → IsScope tables.now unit scope → numbered_type scope.before type ≡ Some declared
-        → Judges
+        → Validates
         (first_broken
         (flat_map (argument_checks scope line (members_of scope.before type))
-        (spots_of (map assignment_view arguments.now)) ++ rest)) (first_broken rest) result }
-    ensures room { IfErr result (λ fault. fault ≡ Fault.Memory → 0 < length arguments.now) }
+        (positions_of (map assignment_view arguments.now)) ++ rest)) (first_broken rest) result }
+    ensures capacity { IfErr result (λ fault. fault ≡ Fault.Memory → 0 < length arguments.now) }
 {
     for argument in arguments {
-        judge_argument(tables, unit, declared, names, argument, line)?;
+        validate_argument(tables, unit, declared, names, argument, line)?;
     }
     Ok(())
 }
 
 /// Checks the arguments of a call in written order.
-fn judge_arguments<'a>(
+fn validate_arguments<'a>(
     alloc: Global,
     tables: &Tables<'a>,
     unit: usize,
@@ -142,17 +147,17 @@ fn judge_arguments<'a>(
     arguments: &[Argument<'a>],
     line: u32,
 ) -> Result<(), Fault>
-    ensures judged { (scope : Scope) (type : VariableType) (rest : List Check)
+    ensures validated { (scope : Scope) (type : VariableType) (rest : List Check)
         → IsScope tables.now unit scope → numbered_type scope.before type ≡ Some declared
-        → Judges
+        → Validates
         (first_broken
         (flat_map (argument_checks scope line (members_of scope.before type))
-        (spots_of (map assignment_view arguments.now)) ++ rest)) (first_broken rest) result }
+        (positions_of (map assignment_view arguments.now)) ++ rest)) (first_broken rest) result }
     // With an empty list no memory is taken.
-    ensures room { IfErr result (λ fault. fault ≡ Fault.Memory → 0 < length arguments.now) }
+    ensures capacity { IfErr result (λ fault. fault ≡ Fault.Memory → 0 < length arguments.now) }
 {
     let mut names = Names::new(alloc);
-    judge_each(tables, unit, declared, &mut names, arguments, line)
+    validate_each(tables, unit, declared, &mut names, arguments, line)
 }
 
 /// Whether a type is that of an instance.
@@ -179,7 +184,7 @@ fn type_of<'a>(tables: &Tables<'a>, unit: usize, name: &[u8]) -> Option<Declared
 }
 
 /// Checks a call: 401, 402, the condition, and then its arguments.
-pub(crate) fn judge_call<'a>(
+pub(crate) fn validate_call<'a>(
     alloc: Global,
     tables: &Tables<'a>,
     unit: usize,
@@ -189,13 +194,13 @@ pub(crate) fn judge_call<'a>(
     line: u32,
     kind: Option<Kind>,
 ) -> Result<(), Fault>
-    ensures judged { (scope : Scope) (rest : List Check) → IsScope tables.now unit scope
-        → Judges
+    ensures validated { (scope : Scope) (rest : List Check) → IsScope tables.now unit scope
+        → Validates
         (first_broken
         (call_checks scope line condition (name_of instance.now)
         (map assignment_view arguments.now) kind ++ rest)) (first_broken rest) result }
     // With an empty list no memory is taken, so no refusal is reported as out of memory.
-    ensures room { IfErr result (λ fault. fault ≡ Fault.Memory → 0 < length arguments.now) }
+    ensures capacity { IfErr result (λ fault. fault ≡ Fault.Memory → 0 < length arguments.now) }
 {
     let Some(declared) = type_of(tables, unit, instance) else {
         return Err(refusal(401, line));
@@ -203,8 +208,8 @@ pub(crate) fn judge_call<'a>(
     if !is_instance(declared) {
         return Err(refusal(402, line));
     }
-    match judge_condition(condition, kind) {
+    match validate_condition(condition, kind) {
         Some(number) => Err(refusal(number, line)),
-        None => judge_arguments(alloc, tables, unit, declared, arguments, line),
+        None => validate_arguments(alloc, tables, unit, declared, arguments, line),
     }
 }

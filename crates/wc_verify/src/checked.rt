@@ -1,7 +1,7 @@
 ghost use Rattle.std.specs.Prelude.{◌≡◌, None};
 ghost use Rattle.wc_model.specs.Language.Faults.{body_fault, declaration_fault};
 ghost use Rattle.wc_model.specs.Language.Views.{text_view};
-ghost use Rattle.wc_names.specs.StandsFor.{AreTables};
+ghost use Rattle.wc_names.specs.RepresentsText.{AreTables};
 ghost use Rattle.wc_verify.specs.CheckedTexts.{WasRead};
 
 use std::marker::Model;
@@ -46,7 +46,7 @@ impl<'a> Checked<'a> {
     /// Its tables.
     pub fn tables(&self) -> &Tables<'a>
         ensures tables { result.now ≡ self.now.tables }
-        ensures stand { AreTables self.now.tables (text_view self.now.source) }
+        ensures occur { AreTables self.now.tables (text_view self.now.source) }
     {
         &self.tables
     }

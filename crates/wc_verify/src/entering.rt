@@ -2,17 +2,17 @@ ghost use Rattle.std.specs.Prelude.{◌≡◌, ◌++◌, List, Option, OnOk, IfO
 ghost use Rattle.std.specs.List.{list_any};
 ghost use Rattle.wc_model.specs.Language.BodyRules.{label_rules};
 ghost use Rattle.wc_model.specs.Language.Checks.{Check, first_broken};
-ghost use Rattle.wc_model.specs.Language.Judging.{Judges};
+ghost use Rattle.wc_model.specs.Language.Validation.{Validates};
 ghost use Rattle.wc_model.specs.Language.Kinds.{BodyLine, label_of};
 ghost use Rattle.wc_model.specs.Language.Meaning.{carries};
 ghost use Rattle.wc_model.specs.Language.Names.{Name, name_of};
 ghost use Rattle.wc_model.specs.Language.Views.{word_view};
 ghost use Rattle.wc_verify.specs.Rows.{entered_row, row_named, way_to};
-ghost use Rattle.wc_verify.specs.Ways.{joined_ways, kind_of_way};
+ghost use Rattle.wc_verify.specs.Edges.{joined_edges, kind_of_way};
 
+use crate::edges::{Way, joined_edges, kind_of};
 use crate::first::refusal;
 use crate::labels::{Labels, Row};
-use crate::ways::{Way, joined_ways, kind_of};
 use wc_model::{Fault, Kind, Word};
 
 /// Enters a line with a label, from the path above: 407 if the label was given already.
@@ -21,14 +21,14 @@ fn enter_label<'a>(
     word: &Word<'a>,
     above: Way,
 ) -> Result<Option<Kind>, Fault>
-    ensures judged { (before : List BodyLine) (more : List Check)
+    ensures validated { (before : List BodyLine) (more : List Check)
         → (row_named labels.old (name_of word.now.text.now)).given
         ≡ list_any (λ line. carries (label_of line) (name_of word.now.text.now)) before
-        → Judges (first_broken (label_rules before (Some (word_view word.now)) ++ more))
+        → Validates (first_broken (label_rules before (Some (word_view word.now)) ++ more))
         (first_broken more) result }
     ensures kind { IfOk result
         (λ kind. kind
-        ≡ kind_of_way (joined_ways above (way_to (Some (word_view word.now)) labels.old))) }
+        ≡ kind_of_way (joined_edges above (way_to (Some (word_view word.now)) labels.old))) }
     ensures entered { OnOk result
         ((name : Name)
         → row_named labels.new name
@@ -44,7 +44,7 @@ fn enter_label<'a>(
         way: Way::Unseen,
     };
     labels.set(word.text, entered)?;
-    Ok(kind_of(joined_ways(above, row.way)))
+    Ok(kind_of(joined_edges(above, row.way)))
 }
 
 /// Enters a line, from the path above: the kind of the result before its instruction.
@@ -53,15 +53,15 @@ pub(crate) fn enter<'a>(
     label: &Option<Word<'a>>,
     above: Way,
 ) -> Result<Option<Kind>, Fault>
-    ensures judged { (before : List BodyLine) (more : List Check)
+    ensures validated { (before : List BodyLine) (more : List Check)
         → ((name : Name)
         → (row_named labels.old name).given
         ≡ list_any (λ line. carries (label_of line) name) before)
-        → Judges (first_broken (label_rules before (option_map word_view label.now) ++ more))
+        → Validates (first_broken (label_rules before (option_map word_view label.now) ++ more))
         (first_broken more) result }
     ensures kind { IfOk result
         (λ kind. kind
-        ≡ kind_of_way (joined_ways above (way_to (option_map word_view label.now) labels.old))) }
+        ≡ kind_of_way (joined_edges above (way_to (option_map word_view label.now) labels.old))) }
     ensures entered { OnOk result
         ((name : Name)
         → row_named labels.new name
@@ -69,6 +69,6 @@ pub(crate) fn enter<'a>(
 {
     match label {
         Some(word) => enter_label(labels, word, above),
-        None => Ok(kind_of(joined_ways(above, Way::Unseen))),
+        None => Ok(kind_of(joined_edges(above, Way::Unseen))),
     }
 }

@@ -1,6 +1,6 @@
 ghost use Rattle.std.specs.Prelude.{◌≡◌, ℕ, ◌∷◌, IfErr, List, Option};
 ghost use Rattle.wc_model.specs.Language.Checks.{Check, Refusal, asks, first_broken};
-ghost use Rattle.wc_model.specs.Language.Judging.{Judges};
+ghost use Rattle.wc_model.specs.Language.Validation.{Validates};
 ghost use Rattle.wc_verify.specs.Found.{first_at};
 
 use wc_model::Fault;
@@ -33,8 +33,8 @@ pub(crate) fn refusal(number: u16, place: u32) -> Fault
 
 /// Refuses at a line what breaks a rule.
 pub(crate) fn refuse(number: Option<u16>, line: u32) -> Result<(), Fault>
-    ensures judges { (found rest : Option Refusal) → found ≡ first_at number line rest
-        → Judges found rest result }
+    ensures validates { (found rest : Option Refusal) → found ≡ first_at number line rest
+        → Validates found rest result }
     // No memory is taken here, so out of memory is not reported.
     ensures refuses { IfErr result (λ fault. fault ≡ Fault.Memory → ⊥) }
 {

@@ -8,9 +8,9 @@ ghost use Rattle.wc_verify.specs.Instructions.{GoesInside, GoesOn, SaysAhead, in
 ghost use Rattle.wc_verify.specs.Seeing.{IsScope, IsSeenIfAny};
 
 use crate::first::refuse;
-use crate::instructions::{apply, call, jump, kind_behind, leave, load, negate, store};
+use crate::instructions::{apply, call, jump, kind_following, leave, load, negate, store};
 use crate::seen::{Seen, see};
-use crate::steps::{judge_closing, judge_opening};
+use crate::steps::{validate_closing, validate_opening};
 use std::alloc::Global;
 use wc_model::{Fault, Instr, Kind, Line, Operand, Operator};
 use wc_names::Tables;
@@ -40,7 +40,7 @@ fn opening_kind(seen: Option<Seen>) -> Option<Kind>
 
 /// Checks an opening line, the lines inside, and the `)`.
 #[cycle(inside)]
-fn judge_nested<'a>(
+fn validate_nested<'a>(
     alloc: Global,
     tables: &Tables<'a>,
     unit: usize,
@@ -51,24 +51,24 @@ fn judge_nested<'a>(
     close: u32,
     kind: Option<Kind>,
 ) -> Result<Option<Kind>, Fault>
-    ensures { (scope : Scope) (label : Option Word) (behind : List BodyLine) (more : List Check)
+    ensures { (scope : Scope) (label : Option Word) (following : List BodyLine) (more : List Check)
         → IsScope tables.now unit scope
         → GoesOn scope
         (NestedLine label line operator (option_map term_view operand.now)
-        (lines_view inside.now.items) close) behind kind more result }
+        (lines_view inside.now.items) close) following kind more result }
 {
     let seen = see_if_any(tables, unit, operand);
-    refuse(judge_opening(operator, seen, kind), line)?;
-    let inner = judge_inside(alloc, tables, unit, inside, opening_kind(seen))?;
-    kind_behind(
-        refuse(judge_closing(kind, inner), close),
+    refuse(validate_opening(operator, seen, kind), line)?;
+    let inner = validate_inside(alloc, tables, unit, inside, opening_kind(seen))?;
+    kind_following(
+        refuse(validate_closing(kind, inner), close),
         kind_after_operator(operator, kind),
     )
 }
 
 /// Checks an instruction, from the kind of the result before it.
 #[cycle(inside)]
-pub(crate) fn judge_instr<'a>(
+pub(crate) fn validate_instr<'a>(
     alloc: Global,
     tables: &Tables<'a>,
     unit: usize,
@@ -76,9 +76,9 @@ pub(crate) fn judge_instr<'a>(
     is_ahead: bool,
     kind: Option<Kind>,
 ) -> Result<Option<Kind>, Fault>
-    ensures { (scope : Scope) (label : Option Word) (behind : List BodyLine) (more : List Check)
-        → IsScope tables.now unit scope → SaysAhead (instr_line instr.now label) is_ahead behind
-        → GoesOn scope (instr_line instr.now label) behind kind more result }
+    ensures { (scope : Scope) (label : Option Word) (following : List BodyLine) (more : List Check)
+        → IsScope tables.now unit scope → SaysAhead (instr_line instr.now label) is_ahead following
+        → GoesOn scope (instr_line instr.now label) following kind more result }
 {
     match instr {
         Instr::Load {
@@ -102,7 +102,7 @@ pub(crate) fn judge_instr<'a>(
             inside,
             line,
             close,
-        } => judge_nested(
+        } => validate_nested(
             alloc, tables, unit, *operator, operand, inside, *line, *close, kind,
         ),
         Instr::Not { line } => negate(*line, kind),
@@ -125,7 +125,7 @@ pub(crate) fn judge_instr<'a>(
 
 /// Checks a line inside a parenthesis, whatever its label.
 #[cycle(inside)]
-fn judge_inside_line<'a>(
+fn validate_inside_line<'a>(
     alloc: Global,
     tables: &Tables<'a>,
     unit: usize,
@@ -136,14 +136,14 @@ fn judge_inside_line<'a>(
         → GoesInside scope (line_view line.now rest) kind rest more result }
 {
     match &line.instr {
-        Some(instr) => judge_instr(alloc, tables, unit, instr, false, kind),
+        Some(instr) => validate_instr(alloc, tables, unit, instr, false, kind),
         None => Ok(kind),
     }
 }
 
 /// Checks the lines inside a parenthesis: the kind of the result after them.
 #[cycle(inside)]
-fn judge_inside<'a>(
+fn validate_inside<'a>(
     alloc: Global,
     tables: &Tables<'a>,
     unit: usize,
@@ -155,7 +155,7 @@ fn judge_inside<'a>(
 {
     let mut kind = first;
     for line in lines {
-        kind = judge_inside_line(alloc, tables, unit, line, kind)?;
+        kind = validate_inside_line(alloc, tables, unit, line, kind)?;
     }
     Ok(kind)
 }

@@ -6,32 +6,32 @@ ghost use Rattle.wc_model.specs.Language.Names.{name_of};
 ghost use Rattle.wc_model.specs.Language.Scopes.{Scope};
 ghost use Rattle.wc_model.specs.Language.Tree.{Word, Load, Store, Apply, Negate, Jump, Call, Return};
 ghost use Rattle.wc_model.specs.Language.Views.{assignment_view, term_view};
-ghost use Rattle.wc_model.specs.Language.Judging.{Judges};
+ghost use Rattle.wc_model.specs.Language.Validation.{Validates};
 ghost use Rattle.wc_verify.specs.Instructions.{GoesOn, step_ahead};
 ghost use Rattle.wc_verify.specs.Seeing.{IsScope};
 
-use crate::calls::judge_call;
+use crate::calls::validate_call;
 use crate::first::{first_of, refuse, unless};
-use crate::refusals::{judge_condition, judge_truth};
+use crate::refusals::{validate_condition, validate_truth};
 use crate::seen::see;
-use crate::steps::{judge_apply, judge_load, judge_store};
+use crate::steps::{validate_apply, validate_load, validate_store};
 use std::alloc::Global;
 use wc_model::{Argument, Condition, Fault, Kind, Operand, Operator, Storing};
 use wc_names::Tables;
 use wc_text_kinds::kind_after_operator;
 
 /// What follows a line that is checked: the kind of the result after it.
-pub(crate) fn kind_behind(
-    judged: Result<(), Fault>,
+pub(crate) fn kind_following(
+    validated: Result<(), Fault>,
     after: Option<Kind>,
 ) -> Result<Option<Kind>, Fault>
-    ensures { (scope : Scope) (line : BodyLine) (behind : List BodyLine) (kind : Option Kind)
+    ensures { (scope : Scope) (line : BodyLine) (following : List BodyLine) (kind : Option Kind)
         (more : List Check)
-        → Judges (first_broken (line_rules scope line behind kind ++ more))
-        (first_broken more) judged → after ≡ kind_after scope line kind
-        → GoesOn scope line behind kind more result }
+        → Validates (first_broken (line_rules scope line following kind ++ more))
+        (first_broken more) validated → after ≡ kind_after scope line kind
+        → GoesOn scope line following kind more result }
 {
-    judged?;
+    validated?;
     Ok(after)
 }
 
@@ -50,14 +50,14 @@ pub(crate) fn load<'a>(
     operand: &Operand<'a>,
     line: u32,
 ) -> Result<Option<Kind>, Fault>
-    ensures { (scope : Scope) (label : Option Word) (behind : List BodyLine) (kind : Option Kind)
+    ensures { (scope : Scope) (label : Option Word) (following : List BodyLine) (kind : Option Kind)
         (more : List Check) → IsScope tables.now unit scope
         → GoesOn scope
-        (PlainLine label line (Load negated (term_view operand.now))) behind kind more result }
+        (PlainLine label line (Load negated (term_view operand.now))) following kind more result }
 {
     let seen = see(tables, unit, operand);
     let after = kind_loaded(negated, seen.kind);
-    kind_behind(refuse(judge_load(negated, seen), line), after)
+    kind_following(refuse(validate_load(negated, seen), line), after)
 }
 
 /// ST, STN, S and R.
@@ -69,13 +69,13 @@ pub(crate) fn store<'a>(
     line: u32,
     kind: Option<Kind>,
 ) -> Result<Option<Kind>, Fault>
-    ensures { (scope : Scope) (label : Option Word) (behind : List BodyLine) (more : List Check)
+    ensures { (scope : Scope) (label : Option Word) (following : List BodyLine) (more : List Check)
         → IsScope tables.now unit scope
         → GoesOn scope
-        (PlainLine label line (Store storing (term_view target.now))) behind kind more result }
+        (PlainLine label line (Store storing (term_view target.now))) following kind more result }
 {
     let seen = see(tables, unit, target);
-    kind_behind(refuse(judge_store(storing, seen, kind), line), kind)
+    kind_following(refuse(validate_store(storing, seen, kind), line), kind)
 }
 
 /// An operator with its operand.
@@ -87,25 +87,25 @@ pub(crate) fn apply<'a>(
     line: u32,
     kind: Option<Kind>,
 ) -> Result<Option<Kind>, Fault>
-    ensures { (scope : Scope) (label : Option Word) (behind : List BodyLine) (more : List Check)
+    ensures { (scope : Scope) (label : Option Word) (following : List BodyLine) (more : List Check)
         → IsScope tables.now unit scope
         → GoesOn scope
-        (PlainLine label line (Apply operator (term_view operand.now))) behind kind more result }
+        (PlainLine label line (Apply operator (term_view operand.now))) following kind more result }
 {
     let seen = see(tables, unit, operand);
     let after = kind_after_operator(operator, kind);
-    kind_behind(
-        refuse(judge_apply(operator, operand, seen, kind), line),
+    kind_following(
+        refuse(validate_apply(operator, operand, seen, kind), line),
         after,
     )
 }
 
 /// NOT.
 pub(crate) fn negate(line: u32, kind: Option<Kind>) -> Result<Option<Kind>, Fault>
-    ensures { (scope : Scope) (label : Option Word) (behind : List BodyLine) (more : List Check)
-        → GoesOn scope (PlainLine label line Negate) behind kind more result }
+    ensures { (scope : Scope) (label : Option Word) (following : List BodyLine) (more : List Check)
+        → GoesOn scope (PlainLine label line Negate) following kind more result }
 {
-    kind_behind(refuse(judge_truth(kind), line), kind)
+    kind_following(refuse(validate_truth(kind), line), kind)
 }
 
 /// A jump: 406 if its label is not ahead, and then the condition.
@@ -116,14 +116,14 @@ pub(crate) fn jump(
     line: u32,
     kind: Option<Kind>,
 ) -> Result<Option<Kind>, Fault>
-    ensures { (scope : Scope) (word : Option Word) (behind : List BodyLine) (more : List Check)
-        → step_ahead (Jump condition (name_of label.now)) is_ahead behind
+    ensures { (scope : Scope) (word : Option Word) (following : List BodyLine) (more : List Check)
+        → step_ahead (Jump condition (name_of label.now)) is_ahead following
         → GoesOn scope
-        (PlainLine word line (Jump condition (name_of label.now))) behind kind more result }
+        (PlainLine word line (Jump condition (name_of label.now))) following kind more result }
 {
     let _label = label;
-    let broken = first_of(unless(is_ahead, 406), judge_condition(condition, kind));
-    kind_behind(refuse(broken, line), kind)
+    let broken = first_of(unless(is_ahead, 406), validate_condition(condition, kind));
+    kind_following(refuse(broken, line), kind)
 }
 
 /// A call.
@@ -137,17 +137,17 @@ pub(crate) fn call<'a>(
     line: u32,
     kind: Option<Kind>,
 ) -> Result<Option<Kind>, Fault>
-    ensures { (scope : Scope) (label : Option Word) (behind : List BodyLine) (more : List Check)
+    ensures { (scope : Scope) (label : Option Word) (following : List BodyLine) (more : List Check)
         → IsScope tables.now unit scope
         → GoesOn scope
         (PlainLine label line
         (Call condition (name_of instance.now) (map assignment_view arguments.now)))
-        behind kind more result }
+        following kind more result }
 {
-    let judged = judge_call(
+    let validated = validate_call(
         alloc, tables, unit, condition, instance, arguments, line, kind,
     );
-    kind_behind(judged, kind)
+    kind_following(validated, kind)
 }
 
 /// A return.
@@ -156,8 +156,8 @@ pub(crate) fn leave(
     line: u32,
     kind: Option<Kind>,
 ) -> Result<Option<Kind>, Fault>
-    ensures { (scope : Scope) (label : Option Word) (behind : List BodyLine) (more : List Check)
-        → GoesOn scope (PlainLine label line (Return condition)) behind kind more result }
+    ensures { (scope : Scope) (label : Option Word) (following : List BodyLine) (more : List Check)
+        → GoesOn scope (PlainLine label line (Return condition)) following kind more result }
 {
-    kind_behind(refuse(judge_condition(condition, kind), line), kind)
+    kind_following(refuse(validate_condition(condition, kind), line), kind)
 }

@@ -6,8 +6,8 @@ ghost use Rattle.wc_model.specs.Language.Tree.{Word, Return};
 ghost use Rattle.wc_verify.specs.Instructions.{AsksAhead, SaysAhead, instr_line};
 ghost use Rattle.wc_verify.specs.Rows.{is_target, jumped_row, row_named};
 
+use crate::edges::with_way;
 use crate::labels::{Labels, Row};
-use crate::ways::with_way;
 use wc_model::{Condition, Fault, Instr, Kind};
 
 /// Where a jump goes on, as it is spelled.
@@ -15,9 +15,9 @@ pub(crate) fn target<'a>(instr: &Instr<'a>) -> Option<&'a [u8]>
     ensures jumps { (label : Option Word) (name : Name)
         → jumps_to (instr_line instr.now label) name
         ≡ is_target (option_map (λ t. name_of t.now) result) name }
-    ensures asks { (label : Option Word) (ahead : Bool) (behind : List BodyLine)
-        → AsksAhead (option_map (λ t. name_of t.now) result) ahead behind
-        → SaysAhead (instr_line instr.now label) ahead behind }
+    ensures asks { (label : Option Word) (ahead : Bool) (following : List BodyLine)
+        → AsksAhead (option_map (λ t. name_of t.now) result) ahead following
+        → SaysAhead (instr_line instr.now label) ahead following }
 {
     match instr {
         Instr::Load { .. } => None,

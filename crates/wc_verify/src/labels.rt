@@ -4,7 +4,7 @@ ghost use Rattle.wc_model.specs.Language.Names.{Name, name_of};
 ghost use Rattle.wc_verify.specs.Rows.{named_rows, row_named};
 ghost use Rattle.wc_verify.specs.declared.labels.Row.{Row};
 
-use crate::ways::Way;
+use crate::edges::Way;
 use indexmap::IndexMap;
 use std::alloc::Global;
 use std::marker::Model;

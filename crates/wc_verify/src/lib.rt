@@ -5,6 +5,7 @@ mod bodies;
 mod calls;
 mod checked;
 mod counting;
+mod edges;
 mod entering;
 mod first;
 mod inside;
@@ -15,7 +16,6 @@ mod refusals;
 mod seen;
 mod steps;
 mod verifying;
-mod ways;
 
 pub use checked::Checked;
-pub use verifying::{judge_bodies, verify};
+pub use verifying::{validate_bodies, verify};

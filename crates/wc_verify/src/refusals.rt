@@ -14,7 +14,7 @@ use wc_model::{Condition, Kind, Operand, Operator};
 use wc_text_kinds::{divides, is_bit_literal, is_bool, is_divisor, is_kind, takes, takes_truth};
 
 /// What is read: 401, 405.
-pub(crate) fn judge_reading(seen: Seen) -> Option<u16>
+pub(crate) fn validate_reading(seen: Seen) -> Option<u16>
     ensures { (scope : Scope) (term : Term) (line : ℕ) (rest : List Check) → IsSeen scope term seen
         → first_broken (reading_checks scope line term ++ rest)
         ≡ first_at result line (first_broken rest) }
@@ -23,7 +23,7 @@ pub(crate) fn judge_reading(seen: Seen) -> Option<u16>
 }
 
 /// What is written: 401, 404.
-pub(crate) fn judge_writing(seen: Seen) -> Option<u16>
+pub(crate) fn validate_writing(seen: Seen) -> Option<u16>
     ensures { (scope : Scope) (term : Term) (line : ℕ) (rest : List Check) → IsSeen scope term seen
         → first_broken (writing_checks scope line term ++ rest)
         ≡ first_at result line (first_broken rest) }
@@ -42,7 +42,7 @@ fn is_taken(operator: Operator, kind: Option<Kind>) -> bool
 }
 
 /// The result before an operator: 403, 402.
-pub(crate) fn judge_result(operator: Operator, kind: Option<Kind>) -> Option<u16>
+pub(crate) fn validate_result(operator: Operator, kind: Option<Kind>) -> Option<u16>
     ensures { (line : ℕ) (rest : List Check)
         → first_broken (result_checks operator line kind ++ rest)
         ≡ first_at result line (first_broken rest) }
@@ -54,7 +54,7 @@ pub(crate) fn judge_result(operator: Operator, kind: Option<Kind>) -> Option<u16
 }
 
 /// The result if a BOOL is wanted: 403, 402.
-pub(crate) fn judge_truth(kind: Option<Kind>) -> Option<u16>
+pub(crate) fn validate_truth(kind: Option<Kind>) -> Option<u16>
     ensures { (line : ℕ) (rest : List Check)
         → first_broken (truth_checks line kind ++ rest) ≡ first_at result line (first_broken rest) }
 {
@@ -62,20 +62,20 @@ pub(crate) fn judge_truth(kind: Option<Kind>) -> Option<u16>
 }
 
 /// The result before a conditional: 403, 402.
-pub(crate) fn judge_condition(condition: Condition, kind: Option<Kind>) -> Option<u16>
+pub(crate) fn validate_condition(condition: Condition, kind: Option<Kind>) -> Option<u16>
     ensures { (line : ℕ) (rest : List Check)
         → first_broken (condition_checks condition line kind ++ rest)
         ≡ first_at result line (first_broken rest) }
 {
     match condition {
         Condition::Always => None,
-        Condition::IfTrue => judge_truth(kind),
-        Condition::IfFalse => judge_truth(kind),
+        Condition::IfTrue => validate_truth(kind),
+        Condition::IfFalse => validate_truth(kind),
     }
 }
 
 /// The divisor: 408.
-pub(crate) fn judge_divisor(operator: Operator, operand: &Operand<'_>) -> Option<u16>
+pub(crate) fn validate_divisor(operator: Operator, operand: &Operand<'_>) -> Option<u16>
     ensures { (line : ℕ) (rest : List Check)
         → first_broken (divisor_checks operator line (term_view operand.now) ++ rest)
         ≡ first_at result line (first_broken rest) }

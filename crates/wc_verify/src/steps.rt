@@ -9,8 +9,8 @@ ghost use Rattle.wc_verify.specs.Seeing.{IsSeen, IsSeenIfAny};
 
 use crate::first::{first_of, unless};
 use crate::refusals::{
-    judge_divisor, judge_reading, judge_result, judge_truth, judge_writing, suits_result,
-    suits_target,
+    suits_result, suits_target, validate_divisor, validate_reading, validate_result,
+    validate_truth, validate_writing,
 };
 use crate::seen::Seen;
 use wc_model::{Kind, Operand, Operator, Storing};
@@ -28,19 +28,19 @@ fn is_loaded(negated: bool, kind: Option<Kind>) -> bool
 }
 
 /// LD and LDN.
-pub(crate) fn judge_load(negated: bool, seen: Seen) -> Option<u16>
+pub(crate) fn validate_load(negated: bool, seen: Seen) -> Option<u16>
     ensures { (scope : Scope) (term : Term) (line : ℕ) (rest : List Check) → IsSeen scope term seen
         → first_broken (load_checks scope line negated term ++ rest)
         ≡ first_at result line (first_broken rest) }
 {
     first_of(
-        judge_reading(seen),
+        validate_reading(seen),
         unless(is_loaded(negated, seen.kind), 402),
     )
 }
 
 /// ST.
-fn judge_plain_store(seen: Seen, kind: Option<Kind>) -> Option<u16>
+fn validate_plain_store(seen: Seen, kind: Option<Kind>) -> Option<u16>
     ensures { (scope : Scope) (term : Term) (line : ℕ) (rest : List Check) → IsSeen scope term seen
         → first_broken (store_checks scope line Storing.Result term kind ++ rest)
         ≡ first_at result line (first_broken rest) }
@@ -49,35 +49,35 @@ fn judge_plain_store(seen: Seen, kind: Option<Kind>) -> Option<u16>
         unless(kind.is_some(), 403),
         unless(suits_target(seen, kind), 402),
     );
-    first_of(judge_writing(seen), stored)
+    first_of(validate_writing(seen), stored)
 }
 
 /// STN, S and R.
-fn judge_truth_store(seen: Seen, kind: Option<Kind>) -> Option<u16>
+fn validate_truth_store(seen: Seen, kind: Option<Kind>) -> Option<u16>
     ensures { (scope : Scope) (term : Term) (line : ℕ) (rest : List Check) → IsSeen scope term seen
         → first_broken (store_checks scope line Storing.Negation term kind ++ rest)
         ≡ first_at result line (first_broken rest) }
 {
-    let before = first_of(judge_writing(seen), judge_truth(kind));
+    let before = first_of(validate_writing(seen), validate_truth(kind));
     first_of(before, unless(suits_target(seen, kind), 402))
 }
 
 /// ST, STN, S and R.
-pub(crate) fn judge_store(storing: Storing, seen: Seen, kind: Option<Kind>) -> Option<u16>
+pub(crate) fn validate_store(storing: Storing, seen: Seen, kind: Option<Kind>) -> Option<u16>
     ensures { (scope : Scope) (term : Term) (line : ℕ) (rest : List Check) → IsSeen scope term seen
         → first_broken (store_checks scope line storing term kind ++ rest)
         ≡ first_at result line (first_broken rest) }
 {
     match storing {
-        Storing::Result => judge_plain_store(seen, kind),
-        Storing::Negation => judge_truth_store(seen, kind),
-        Storing::Set => judge_truth_store(seen, kind),
-        Storing::Reset => judge_truth_store(seen, kind),
+        Storing::Result => validate_plain_store(seen, kind),
+        Storing::Negation => validate_truth_store(seen, kind),
+        Storing::Set => validate_truth_store(seen, kind),
+        Storing::Reset => validate_truth_store(seen, kind),
     }
 }
 
 /// An operator with its operand.
-pub(crate) fn judge_apply(
+pub(crate) fn validate_apply(
     operator: Operator,
     operand: &Operand<'_>,
     seen: Seen,
@@ -88,8 +88,8 @@ pub(crate) fn judge_apply(
         → first_broken (apply_checks scope line operator (term_view operand.now) kind ++ rest)
         ≡ first_at result line (first_broken rest) }
 {
-    let before = first_of(judge_reading(seen), judge_result(operator, kind));
-    let divided = first_of(before, judge_divisor(operator, operand));
+    let before = first_of(validate_reading(seen), validate_result(operator, kind));
+    let divided = first_of(before, validate_divisor(operator, operand));
     first_of(
         divided,
         unless(suits_result(operator, operand, seen, kind), 402),
@@ -97,14 +97,14 @@ pub(crate) fn judge_apply(
 }
 
 /// The operand on an opening line: 401, 405.
-fn judge_opening_operand(seen: Option<Seen>) -> Option<u16>
+fn validate_opening_operand(seen: Option<Seen>) -> Option<u16>
     ensures { (scope : Scope) (term : Option Term) (line : ℕ) (rest : List Check)
         → IsSeenIfAny scope term seen
         → first_broken (opening_operand_checks scope line term ++ rest)
         ≡ first_at result line (first_broken rest) }
 {
     match seen {
-        Some(seen) => judge_reading(seen),
+        Some(seen) => validate_reading(seen),
         None => None,
     }
 }
@@ -121,7 +121,7 @@ fn is_no_instance(seen: Option<Seen>) -> bool
 }
 
 /// An opening line.
-pub(crate) fn judge_opening(
+pub(crate) fn validate_opening(
     operator: Operator,
     seen: Option<Seen>,
     kind: Option<Kind>,
@@ -131,7 +131,10 @@ pub(crate) fn judge_opening(
         → first_broken (opening_checks scope line operator term kind ++ rest)
         ≡ first_at result line (first_broken rest) }
 {
-    let before = first_of(judge_opening_operand(seen), judge_result(operator, kind));
+    let before = first_of(
+        validate_opening_operand(seen),
+        validate_result(operator, kind),
+    );
     let own = first_of(
         unless(!divides(operator), 408),
         unless(is_no_instance(seen), 402),
@@ -140,7 +143,7 @@ pub(crate) fn judge_opening(
 }
 
 /// A `)`.
-pub(crate) fn judge_closing(outer: Option<Kind>, inner: Option<Kind>) -> Option<u16>
+pub(crate) fn validate_closing(outer: Option<Kind>, inner: Option<Kind>) -> Option<u16>
     ensures { (line : ℕ) (rest : List Check)
         → first_broken (closing_checks line outer inner ++ rest)
         ≡ first_at result line (first_broken rest) }

@@ -1,11 +1,11 @@
 ghost use Rattle.std.specs.Prelude.{◌≡◌, None, IfOk};
 ghost use Rattle.wc_model.specs.Language.Faults.{body_fault};
-ghost use Rattle.wc_model.specs.Language.Judging.{Judges};
+ghost use Rattle.wc_model.specs.Language.Validation.{Validates};
 ghost use Rattle.wc_model.specs.Language.Views.{text_view};
-ghost use Rattle.wc_names.specs.StandsFor.{AreTables};
+ghost use Rattle.wc_names.specs.RepresentsText.{AreTables};
 ghost use Rattle.wc_verify.specs.CheckedTexts.{AreGiven, WasRead};
 
-use crate::bodies::judge_body;
+use crate::bodies::validate_body;
 use crate::checked::Checked;
 use std::alloc::Global;
 use wc_model::{Fault, Source};
@@ -13,16 +13,16 @@ use wc_names::Tables;
 
 /// Checks the bodies of a text by its tables, unit by unit: the first of the refusals 401 to 410, at
 /// its line. The lines of the text are passed on alone, so they may be places as well.
-pub fn judge_bodies<'a>(
+pub fn validate_bodies<'a>(
     alloc: Global,
     source: &Source<'a>,
     tables: &Tables<'a>,
 ) -> Result<(), Fault>
     ensures { AreTables tables.now (text_view source.now)
-        → Judges (body_fault (text_view source.now)) None result }
+        → Validates (body_fault (text_view source.now)) None result }
 {
     for (number, unit) in source.units.iter().enumerate() {
-        judge_body(alloc, tables, number, &unit.body)?;
+        validate_body(alloc, tables, number, &unit.body)?;
     }
     Ok(())
 }
@@ -38,8 +38,8 @@ pub fn verify<'a>(
     requires tables { AreGiven tables (text_view source) }
     ensures source { IfOk result (λ checked. checked.source ≡ source.entry) }
     ensures tables { IfOk result (λ checked. checked.tables ≡ tables.entry) }
-    ensures judged { Judges (body_fault (text_view source.entry)) None result }
+    ensures validated { Validates (body_fault (text_view source.entry)) None result }
 {
-    judge_bodies(alloc, &source, &tables)?;
+    validate_bodies(alloc, &source, &tables)?;
     Ok(Checked { source, tables })
 }

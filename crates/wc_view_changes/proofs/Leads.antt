@@ -16,7 +16,7 @@ use Rattle.wc_model.specs.declared.kind.Kind.{Kind}
 use Rattle.wc_names.specs.Numbered.{numbered_type}
 use Rattle.wc_names.specs.declared.declared_type.DeclaredType.TheVariants as numbered
 use Rattle.wc_laws_soundness.proofs.Carrying.{at_once, is_field, one_block}
-use Rattle.wc_view_changes.specs.Forms.{has_form}
+use Rattle.wc_view_changes.specs.Shapes.{has_shape}
 use Rattle.wc_view_changes.specs.Shown.{Plain, Instance}
 use Rattle.wc_view_changes.specs.Sides.{numbered_side, side_lead}
 
@@ -39,22 +39,22 @@ not_field (Some (ToPlace kind)) block never = (refl, refl)
 not_field (Some (ToField b)) block never = absurd (never b refl)
 
 -- the other lead of one name is that of a place of the kind exactly if the type is the kind
-plain_old : (before : List ProgramUnit) (type : Option VariableType) (kind : Kind) (content : Content) → same_lead (lead_by (lead_from []) before type []) (Some (ToPlace kind)) ≡ has_form (option_and_then (numbered_type before) type) (Plain kind content)
+plain_old : (before : List ProgramUnit) (type : Option VariableType) (kind : Kind) (content : Content) → same_lead (lead_by (lead_from []) before type []) (Some (ToPlace kind)) ≡ has_shape (option_and_then (numbered_type before) type) (Plain kind content)
 plain_old before None kind content = refl
 plain_old before (Some (Elementary k)) kind content = refl
 plain_old before (Some (Standard b)) kind content = refl
 plain_old before (Some (Block name)) kind content = by (block_named before name)
   where
     by : (o : Option (ProgramUnit × List ProgramUnit)) → same_lead (elim o as (λ x. Option Lead) [ Some found ↦ lead_from [] found.1 found.0 | None ↦ None ]) (Some (ToPlace kind))
-        ≡ has_form (option_map (λ found. numbered.Block (length found.1)) o) (Plain kind content)
+        ≡ has_shape (option_map (λ found. numbered.Block (length found.1)) o) (Plain kind content)
     by None = refl
     by (Some found) = refl
 
 pub plain_kept : (side : Option Scope) (scope : Scope) (name : Name) (kind : Kind) (content : Content) → type_of scope name ≡ Some (Elementary kind) →
-    same_lead (side_lead side (name ∷ [])) (lead_from (name ∷ []) scope.before scope.unit) ≡ has_form (numbered_side side name) (Plain kind content)
+    same_lead (side_lead side (name ∷ [])) (lead_from (name ∷ []) scope.before scope.unit) ≡ has_shape (numbered_side side name) (Plain kind content)
 plain_kept side scope name kind content typed = ap (same_lead (side_lead side (name ∷ []))) (lead_is name [] scope ∙ ap (λ t. lead_by (lead_from []) scope.before t []) typed) ∙ by side
   where
-    by : (s : Option Scope) → same_lead (side_lead s (name ∷ [])) (Some (ToPlace kind)) ≡ has_form (numbered_side s name) (Plain kind content)
+    by : (s : Option Scope) → same_lead (side_lead s (name ∷ [])) (Some (ToPlace kind)) ≡ has_shape (numbered_side s name) (Plain kind content)
     by None = refl
     by (Some old) = ap (λ l. same_lead l (Some (ToPlace kind))) (lead_is name [] old) ∙ plain_old old.before (type_of old name) kind content
 
@@ -65,23 +65,23 @@ field_old b block field is false e true f = let same = one_block b block f in ab
 field_old b block field is false e false f = refl
 
 -- the other lead of a field of an instance is that of a field of the same block exactly if the type is the block
-standard_old : (before : List ProgramUnit) (type : Option VariableType) (block : StandardBlock) (field : Name) → is_field block field ≡ true → same_lead (lead_by (lead_from (field ∷ [])) before type (field ∷ [])) (Some (ToField block)) ≡ has_form (option_and_then (numbered_type before) type) (Instance block)
+standard_old : (before : List ProgramUnit) (type : Option VariableType) (block : StandardBlock) (field : Name) → is_field block field ≡ true → same_lead (lead_by (lead_from (field ∷ [])) before type (field ∷ [])) (Some (ToField block)) ≡ has_shape (option_and_then (numbered_type before) type) (Instance block)
 standard_old before None block field is = refl
 standard_old before (Some (Elementary k)) block field is = refl
 standard_old before (Some (Standard b)) block field is = field_old b block field is (is_field b field) refl (same_block b block) refl
 standard_old before (Some (Block name)) block field is = by (block_named before name)
   where
     by : (o : Option (ProgramUnit × List ProgramUnit)) → same_lead (elim o as (λ x. Option Lead) [ Some found ↦ lead_from (field ∷ []) found.1 found.0 | None ↦ None ]) (Some (ToField block))
-        ≡ has_form (option_map (λ found. numbered.Block (length found.1)) o) (Instance block)
+        ≡ has_shape (option_map (λ found. numbered.Block (length found.1)) o) (Instance block)
     by None = refl
     by (Some found) = (not_field (lead_from (field ∷ []) found.1 found.0) block (λ b. never_field field found.1 found.0 b)).0
 
 field_kept : (side : Option Scope) (scope : Scope) (name : Name) (block : StandardBlock) (field : Name) → type_of scope name ≡ Some (Standard block) → is_field block field ≡ true →
-    same_lead (side_lead side (name ∷ field ∷ [])) (lead_from (name ∷ field ∷ []) scope.before scope.unit) ≡ has_form (numbered_side side name) (Instance block)
+    same_lead (side_lead side (name ∷ field ∷ [])) (lead_from (name ∷ field ∷ []) scope.before scope.unit) ≡ has_shape (numbered_side side name) (Instance block)
 field_kept side scope name block field typed is =
     ap (same_lead (side_lead side (name ∷ field ∷ []))) (lead_is name (field ∷ []) scope ∙ ap (λ t. lead_by (lead_from (field ∷ [])) scope.before t (field ∷ [])) typed ∙ ap (λ b. if b then Some (ToField block) else None) is) ∙ by side
   where
-    by : (s : Option Scope) → same_lead (side_lead s (name ∷ field ∷ [])) (Some (ToField block)) ≡ has_form (numbered_side s name) (Instance block)
+    by : (s : Option Scope) → same_lead (side_lead s (name ∷ field ∷ [])) (Some (ToField block)) ≡ has_shape (numbered_side s name) (Instance block)
     by None = refl
     by (Some old) = ap (λ l. same_lead l (Some (ToField block))) (lead_is name (field ∷ []) old) ∙ standard_old old.before (type_of old name) block field is
 
@@ -122,8 +122,8 @@ own_fields RTrig = refl
 own_fields other = refl
 
 pub standard_kept : (side : Option Scope) (scope : Scope) (name : Name) (block : StandardBlock) → type_of scope name ≡ Some (Standard block) →
-    list_all (λ path. same_lead (side_lead side path) (lead_from path scope.before scope.unit)) (map (λ (f : Name × Content). name ∷ f.0 ∷ []) (standard_fields block)) ≡ has_form (numbered_side side name) (Instance block)
+    list_all (λ path. same_lead (side_lead side path) (lead_from path scope.before scope.unit)) (map (λ (f : Name × Content). name ∷ f.0 ∷ []) (standard_fields block)) ≡ has_shape (numbered_side side name) (Instance block)
 standard_kept side scope name block typed =
     list_all-map (λ path. same_lead (side_lead side path) (lead_from path scope.before scope.unit)) (λ (f : Name × Content). name ∷ f.0 ∷ []) (standard_fields block)
-    ∙ alike (λ (f : Name × Content). same_lead (side_lead side (name ∷ f.0 ∷ [])) (lead_from (name ∷ f.0 ∷ []) scope.before scope.unit)) (λ f. is_field block f.0) (has_form (numbered_side side name) (Instance block))
+    ∙ alike (λ (f : Name × Content). same_lead (side_lead side (name ∷ f.0 ∷ [])) (lead_from (name ∷ f.0 ∷ []) scope.before scope.unit)) (λ f. is_field block f.0) (has_shape (numbered_side side name) (Instance block))
     (λ f is. field_kept side scope name block f.0 typed is) (standard_fields block) (has_fields block) (own_fields block)

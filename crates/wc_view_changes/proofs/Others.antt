@@ -3,9 +3,9 @@ use Rattle.std.proofs.Common.{◌≡◌, ℕ, zero, suc, ◌<◌, ◌≤◌, Lis
 use Rattle.std.proofs.lemmas.List.{length-map}
 use Rattle.std.proofs.lemmas.Option.{slice_get-map, slice_get_within}
 use Rattle.std.specs.Prelude.{option_and_then, slice_get}
-use Rattle.wc_model.specs.Language.Checks.{spots_behind}
+use Rattle.wc_model.specs.Language.Checks.{positions_after}
 use Rattle.wc_model.specs.Language.Declarations.{VariableType, Elementary, Standard, Block, block_named}
-use Rattle.wc_model.specs.Language.Frames.{scope_of_spot}
+use Rattle.wc_model.specs.Language.Frames.{scope_of_position}
 use Rattle.wc_model.specs.Language.Names.{Name}
 use Rattle.wc_model.specs.Language.Scopes.{Scope, type_of}
 use Rattle.wc_model.specs.Language.Tree.{ProgramUnit, Text}
@@ -53,7 +53,7 @@ pub record OtherBlock (text : Text) (number : ℕ) (spelled : Option (List ℕ))
   pub there : slice_get text number ≡ Some unit
   pub is : Some unit.spelled ≡ spelled
 
-unit_there : (before units : List ProgramUnit) (k : ℕ) (scope : Scope) → slice_get (map scope_of_spot (spots_behind before units)) k ≡ Some scope → slice_get units k ≡ Some scope.unit
+unit_there : (before units : List ProgramUnit) (k : ℕ) (scope : Scope) → slice_get (map scope_of_position (positions_after before units)) k ≡ Some scope → slice_get units k ≡ Some scope.unit
 unit_there before [] k scope e = cc
 unit_there before (unit ∷ units) zero scope e = let mine : Scope = record { before = before; unit = unit } in ap (λ (s : Scope). Some s.unit) (sym (Some-same mine scope e))
 unit_there before (unit ∷ units) (suc k) scope e = unit_there (unit ∷ before) units k scope e

@@ -10,7 +10,7 @@ use Rattle.wc_model.specs.Language.Views.{text_view, unit_view}
 use Rattle.wc_model.specs.declared.source.Source.{Source}
 use Rattle.wc_model.specs.declared.source.Unit.{Unit as CodeUnit}
 use Rattle.wc_names.specs.Numbered.{IsUnit}
-use Rattle.wc_names.specs.StandsFor.{onto}
+use Rattle.wc_names.specs.RepresentsText.{onto}
 use Rattle.wc_view_changes.specs.Shown.{Shown, declared_of, seen, shown_all, shown_from, shown_in}
 use Rattle.wc_view_changes.specs.Sides.{IsAt}
 use Rattle.wc_text_variables.proofs.BlockUnits.{onto_more, same_pair}
@@ -22,8 +22,8 @@ map_onto f (x ∷ xs) ys = map_onto f xs (x ∷ ys)
 -- a unit of the code's tree is a unit of the text
 pub seen_unit : (source : Source) (k : ℕ) (before : List CodeUnit) (u : CodeUnit) → IsAt source k before u → IsUnit (text_view source) k (seen before u)
 seen_unit source k before u at =
-    unit_at (text_view source) (map unit_view before) (unit_view u) (map unit_view at.behind) k
-    (sym (map_onto unit_view before (u ∷ at.behind)) ∙ ap (map unit_view) at.whole) (length-map before unit_view ∙ sym at.counted)
+    unit_at (text_view source) (map unit_view before) (unit_view u) (map unit_view at.following) k
+    (sym (map_onto unit_view before (u ∷ at.following)) ∙ ap (map unit_view) at.whole) (length-map before unit_view ∙ sym at.counted)
 
 -- a block to which a name leads, in the code's tree, and the variables of its instances
 pub record CodeBlock (before : List CodeUnit) (name : Name) (g : ProgramUnit) (gs : List ProgramUnit) : Type 0 where
@@ -67,8 +67,8 @@ code_block (unit ∷ before) name g gs e = by (code_block before name g gs) (sam
 -- it precedes the unit that has its instance
 pub block_at : (source : Source) (k : ℕ) (before : List CodeUnit) (u : CodeUnit) (name : Name) (g : ProgramUnit) (gs : List ProgramUnit) → IsAt source k before u → (b : CodeBlock before name g gs) → IsAt source (length gs) b.earlier b.unit
 block_at source k before u name g gs at b = record {
-  behind = onto b.ahead (u ∷ at.behind);
-  whole = sym (onto_more b.ahead (b.unit ∷ b.earlier) (u ∷ at.behind)) ∙ ap (λ xs. onto xs (u ∷ at.behind)) (sym b.whole) ∙ at.whole;
+  following = onto b.ahead (u ∷ at.following);
+  whole = sym (onto_more b.ahead (b.unit ∷ b.earlier) (u ∷ at.following)) ∙ ap (λ xs. onto xs (u ∷ at.following)) (sym b.whole) ∙ at.whole;
   counted = ap length (sym b.earlier_is) ∙ length-map b.earlier unit_view;
 }
 
@@ -87,4 +87,4 @@ on_from (x ∷ xs) ys k = ap (slice_get (onto xs (x ∷ ys))) (let a : length (x
 
 pub at_there : (source : Source) (k : ℕ) (before : List CodeUnit) (u : CodeUnit) → IsAt source k before u → slice_get source.units.items k ≡ Some u
 at_there source k before u at =
-    ap (λ units. slice_get units k) (sym at.whole) ∙ ap (slice_get (onto before (u ∷ at.behind))) (let c : k ≡ length before = at.counted in let a : k ≡ length before + 0 = omega (arith, c) in a) ∙ on_from before (u ∷ at.behind) 0
+    ap (λ units. slice_get units k) (sym at.whole) ∙ ap (slice_get (onto before (u ∷ at.following))) (let c : k ≡ length before = at.counted in let a : k ≡ length before + 0 = omega (arith, c) in a) ∙ on_from before (u ∷ at.following) 0

@@ -19,9 +19,9 @@ use Rattle.wc_model.specs.declared.source.Unit.{Unit as CodeUnit}
 use Rattle.wc_names.specs.Numbered.{numbered_type}
 use Rattle.wc_names.specs.declared.declared_type.DeclaredType.TheVariants as numbered
 use Rattle.wc_names.proofs.Places.{TypeCase, of_block, of_elementary, of_standard, type_case}
-use Rattle.wc_view_changes.specs.Forms.{has_form}
+use Rattle.wc_view_changes.specs.Shapes.{has_shape}
 use Rattle.wc_view_changes.specs.Shown.{Plain, Instance, Declared, declared_of, inside, seen, shown_by, shown_from, shown_in}
-use Rattle.wc_view_changes.specs.Sides.{IsAt, line_between, lines_between, numbered_side, pass_text, side_behind, side_found, variable_lines}
+use Rattle.wc_view_changes.specs.Sides.{IsAt, line_between, lines_between, numbered_side, pass_text, side_after, side_found, variable_lines}
 use Rattle.wc_view_changes.specs.declared.describing.Pass.{Pass}
 use Rattle.wc_view_changes.proofs.Between.{lines_inside}
 use Rattle.wc_view_changes.proofs.Leads.{plain_kept, standard_kept}
@@ -60,24 +60,24 @@ no_lines pass side before u prefix v out none = by (type_of (seen before u) (nam
 
 -- a plain variable
 pub plain_line : (pass : Pass) (side : Option Scope) (before : List CodeUnit) (u : CodeUnit) (prefix name : List ℕ) (initial : Option Initial) (kind : Kind) (content : Content) → type_of (seen before u) (name_of name) ≡ Some (Elementary kind) → content ≡ first_content kind initial →
-    pass_text pass (has_form (numbered_side side (name_of name)) (Plain kind content)) (prefix ++ name) (Plain kind content) (side_found side (name_of name ∷ [])) ≡ variable_lines pass side before u prefix (record { name = name; initial = initial })
+    pass_text pass (has_shape (numbered_side side (name_of name)) (Plain kind content)) (prefix ++ name) (Plain kind content) (side_found side (name_of name ∷ [])) ≡ variable_lines pass side before u prefix (record { name = name; initial = initial })
 plain_line pass side before u prefix name initial kind content typed is =
     let n = name_of name in
     let line = line_between pass side (seen before u) prefix in
     let text = λ (b : Bool) (c : Content). pass_text pass b (prefix ++ name) (Plain kind c) (side_found side (n ∷ [])) in
-    ap (λ c. text (has_form (numbered_side side n) (Plain kind c)) c) is
+    ap (λ c. text (has_shape (numbered_side side n) (Plain kind c)) c) is
     ∙ ap (λ b. text b (first_content kind initial)) (sym (and-true _ ∙ plain_kept side (seen before u) n kind (first_content kind initial) typed))
-    ∙ sym (append-nil (line (record { instances = []; name = name; form = Plain kind (first_content kind initial) })))
+    ∙ sym (append-nil (line (record { instances = []; name = name; shape = Plain kind (first_content kind initial) })))
     ∙ ap (λ t. flat_map line (shown_by (shown_in before) (record { name = name; initial = initial }) t)) (sym typed)
 
 -- an instance of a standard block
 pub instance_line : (pass : Pass) (side : Option Scope) (before : List CodeUnit) (u : CodeUnit) (prefix name : List ℕ) (initial : Option Initial) (block : StandardBlock) → type_of (seen before u) (name_of name) ≡ Some (Standard block) →
-    pass_text pass (has_form (numbered_side side (name_of name)) (Instance block)) (prefix ++ name) (Instance block) (side_found side (name_of name ∷ [])) ≡ variable_lines pass side before u prefix (record { name = name; initial = initial })
+    pass_text pass (has_shape (numbered_side side (name_of name)) (Instance block)) (prefix ++ name) (Instance block) (side_found side (name_of name ∷ [])) ≡ variable_lines pass side before u prefix (record { name = name; initial = initial })
 instance_line pass side before u prefix name initial block typed =
     let n = name_of name in
     let line = line_between pass side (seen before u) prefix in
     ap (λ b. pass_text pass b (prefix ++ name) (Instance block) (side_found side (n ∷ []))) (sym (standard_kept side (seen before u) n block typed))
-    ∙ sym (append-nil (line (record { instances = []; name = name; form = Instance block })))
+    ∙ sym (append-nil (line (record { instances = []; name = name; shape = Instance block })))
     ∙ ap (λ t. flat_map line (shown_by (shown_in before) (record { name = name; initial = initial }) t)) (sym typed)
 
 -- an instance of a block of the text
@@ -113,13 +113,13 @@ into source unit number before u name at e = by (type_case (map unit_view before
         }
 
 pub block_lines : (source : Source) (unit number : ℕ) (pass : Pass) (side : Option Scope) (before : List CodeUnit) (u : CodeUnit) (prefix name : List ℕ) (initial : Option Initial) (i : Into source unit number before u (name_of name)) →
-    lines_between pass (side_behind side (name_of name)) i.code.earlier i.code.unit (prefix ++ (name ++ 46 ∷ [])) (declared_of i.code.unit) ≡ variable_lines pass side before u prefix (record { name = name; initial = initial })
+    lines_between pass (side_after side (name_of name)) i.code.earlier i.code.unit (prefix ++ (name ++ 46 ∷ [])) (declared_of i.code.unit) ≡ variable_lines pass side before u prefix (record { name = name; initial = initial })
 block_lines source unit number pass side before u prefix name initial i =
-    let behind = side_behind side (name_of name) in
+    let following = side_after side (name_of name) in
     let longer = prefix ++ (name ++ 46 ∷ []) in
     let ss = shown_from i.code.earlier i.code.unit in
-    ap (λ (g : ProgramUnit). flat_map (line_between pass behind (record { before = map unit_view i.code.earlier; unit = g }) longer) ss) i.code.unit_is
-    ∙ ap (λ (gs : List ProgramUnit). flat_map (line_between pass behind (record { before = gs; unit = i.found }) longer) ss) i.code.earlier_is
+    ap (λ (g : ProgramUnit). flat_map (line_between pass following (record { before = map unit_view i.code.earlier; unit = g }) longer) ss) i.code.unit_is
+    ∙ ap (λ (gs : List ProgramUnit). flat_map (line_between pass following (record { before = gs; unit = i.found }) longer) ss) i.code.earlier_is
     ∙ sym (lines_inside pass side (seen before u) prefix name i.block i.found i.earlier i.typed i.there ss)
     ∙ ap (λ xs. flat_map (line_between pass side (seen before u) prefix) (map (inside name) xs)) (sym i.code.shown)
     ∙ ap (λ t. flat_map (line_between pass side (seen before u) prefix) (shown_by (shown_in before) (record { name = name; initial = initial }) t)) (sym i.typed)
@@ -137,5 +137,5 @@ passed_lines source unit number pass side before u prefix name initial out i non
 pub one_more : {X : Type 0} (f : X → List ℕ) (start old new : List ℕ) (xs : List X) (i : ℕ) (x : X) → take (i + 1) xs ≡ take i xs ++ x ∷ [] → old ≡ start ++ flat_map f (take i xs) → new ≡ old ++ f x → new ≡ start ++ flat_map f (take (i + 1) xs)
 one_more f start old new xs i x more so now = now ∙ ap (λ o. o ++ f x) so ∙ flat_map_more f start (take i xs) x ∙ ap (λ ys. start ++ flat_map f ys) (sym more)
 
-pub all_told : {X : Type 0} (f : X → List ℕ) (start new : List ℕ) (xs : List X) (i : ℕ) → length xs ≤ i → new ≡ start ++ flat_map f (take i xs) → new ≡ start ++ flat_map f xs
-all_told f start new xs i past so = so ∙ ap (λ ys. start ++ flat_map f ys) (take_all i xs past)
+pub all_reported : {X : Type 0} (f : X → List ℕ) (start new : List ℕ) (xs : List X) (i : ℕ) → length xs ≤ i → new ≡ start ++ flat_map f (take i xs) → new ≡ start ++ flat_map f xs
+all_reported f start new xs i past so = so ∙ ap (λ ys. start ++ flat_map f ys) (take_all i xs past)

@@ -16,10 +16,10 @@ use Rattle.wc_model.specs.declared.operand.Word.{Word}
 use Rattle.wc_model.specs.declared.source.Decl.{Decl}
 use Rattle.wc_model.specs.declared.source.Source.{Source}
 use Rattle.wc_model.specs.declared.source.Unit.{Unit as CodeUnit}
-use Rattle.wc_names.specs.StandsFor.{onto}
+use Rattle.wc_names.specs.RepresentsText.{onto}
 use Rattle.wc_view_changes.specs.ChangeReport.{found_in, found_reversed, is_kept, path_text}
 use Rattle.wc_view_changes.specs.Shown.{Declared, Shown, declared_in, declared_of, names_of, paths_of, seen, shown_all, shown_by, shown_from, shown_in, shown_reversed}
-use Rattle.wc_view_changes.specs.Sides.{IsAt, IsSide, declaration_lines, kept_between, line_beside, line_between, lines_beside, lines_between, pass_text, program_of, program_reversed, side_found, side_lead, variable_lines}
+use Rattle.wc_view_changes.specs.Sides.{IsAt, IsSide, declaration_lines, kept_between, line_alongside, line_between, lines_alongside, lines_between, pass_text, program_of, program_reversed, side_found, side_lead, variable_lines}
 use Rattle.wc_view_changes.specs.declared.describing.Pass.{Pass}
 use Rattle.wc_view_changes.proofs.Between.{all_same}
 use Rattle.wc_view_changes.proofs.Units.{map_onto}
@@ -41,7 +41,7 @@ last_counted xs x before e = sym (length-reverse xs) ∙ ap length e
 -- the program of the new text is its last unit
 pub program_at : (source : Source) (k : ℕ) (u : CodeUnit) (before : List CodeUnit) → reverse source.units.items ≡ u ∷ before → length source.units.items ≡ suc k → IsAt source k before u
 program_at source k u before e counted = record {
-  behind = [];
+  following = [];
   whole = last_of source.units.items u before e;
   counted = let a = last_counted source.units.items u before e in omega (arith, a, counted);
 }
@@ -70,25 +70,25 @@ found_there [] names = refl
 found_there (program ∷ before) names = refl
 
 -- the line of a variable of the new program
-line_there : (pass : Pass) (other : Text) (source : Source) (u : CodeUnit) (before : List CodeUnit) → reverse source.units.items ≡ u ∷ before → (s : Shown) → line_beside pass other (text_view source) s ≡ line_between pass (program_of other) (seen before u) [] s
+line_there : (pass : Pass) (other : Text) (source : Source) (u : CodeUnit) (before : List CodeUnit) → reverse source.units.items ≡ u ∷ before → (s : Shown) → line_alongside pass other (text_view source) s ≡ line_between pass (program_of other) (seen before u) [] s
 line_there pass other source u before e s =
     let turned : reverse (text_view source) ≡ unit_view u ∷ map unit_view before = sym (map_reverse unit_view source.units.items) ∙ ap (map unit_view) e in
     let kept : is_kept other (text_view source) s ≡ kept_between (program_of other) (seen before u) s =
     all_same (λ path. keeps other (text_view source) (Path path)) (λ path. same_lead (side_lead (program_of other) path) (lead_from path (map unit_view before) (unit_view u)))
     (λ path. ap (λ l. same_lead l (path_lead (reverse (text_view source)) path)) (lead_there (reverse other) path) ∙ ap (λ units. same_lead (side_lead (program_of other) path) (path_lead units path)) turned) (paths_of s)
     in
-    ap (λ k. pass_text pass k (path_text s) s.form (found_in other (names_of s))) kept
-    ∙ ap (pass_text pass (kept_between (program_of other) (seen before u) s) (path_text s) s.form) (found_there (reverse other) (names_of s))
+    ap (λ k. pass_text pass k (path_text s) s.shape (found_in other (names_of s))) kept
+    ∙ ap (pass_text pass (kept_between (program_of other) (seen before u) s) (path_text s) s.shape) (found_there (reverse other) (names_of s))
 
-lines_there : (pass : Pass) (other : Text) (source : Source) (u : CodeUnit) (before : List CodeUnit) → reverse source.units.items ≡ u ∷ before → (ss : List Shown) → flat_map (line_beside pass other (text_view source)) ss ≡ flat_map (line_between pass (program_of other) (seen before u) []) ss
+lines_there : (pass : Pass) (other : Text) (source : Source) (u : CodeUnit) (before : List CodeUnit) → reverse source.units.items ≡ u ∷ before → (ss : List Shown) → flat_map (line_alongside pass other (text_view source)) ss ≡ flat_map (line_between pass (program_of other) (seen before u) []) ss
 lines_there pass other source u before e [] = refl
 lines_there pass other source u before e (s ∷ ss) =
-    ap (λ x. x ++ flat_map (line_beside pass other (text_view source)) ss) (line_there pass other source u before e s)
+    ap (λ x. x ++ flat_map (line_alongside pass other (text_view source)) ss) (line_there pass other source u before e s)
     ∙ ap (λ x. line_between pass (program_of other) (seen before u) [] s ++ x) (lines_there pass other source u before e ss)
 
 -- the whole report
-pub report_there : (pass : Pass) (other : Text) (source : Source) (u : CodeUnit) (before : List CodeUnit) → reverse source.units.items ≡ u ∷ before → lines_beside pass other source ≡ lines_between pass (program_of other) before u [] (declared_of u)
-report_there pass other source u before e = ap (λ units. flat_map (line_beside pass other (text_view source)) (shown_reversed units)) e ∙ lines_there pass other source u before e (shown_from before u)
+pub report_there : (pass : Pass) (other : Text) (source : Source) (u : CodeUnit) (before : List CodeUnit) → reverse source.units.items ≡ u ∷ before → lines_alongside pass other source ≡ lines_between pass (program_of other) before u [] (declared_of u)
+report_there pass other source u before e = ap (λ units. flat_map (line_alongside pass other (text_view source)) (shown_reversed units)) e ∙ lines_there pass other source u before e (shown_from before u)
 
 -- the lines of one declared name more, and of one declaration more
 pub by_names : (pass : Pass) (side : Option Scope) (before : List CodeUnit) (u : CodeUnit) (prefix : List ℕ) (ds : List Declared) → flat_map (variable_lines pass side before u prefix) ds ≡ lines_between pass side before u prefix ds
@@ -108,26 +108,26 @@ by_declarations pass side before u prefix (d ∷ ds) =
     ∙ sym (flat_map-append line (all (declared_in d)) (all (flat_map declared_in ds)))
     ∙ ap (flat_map line) (sym (flat_map-append (λ (v : Declared). shown_by (shown_in before) v (type_of (seen before u) (name_of v.name))) (declared_in d) (flat_map declared_in ds)))
 
-pub declaration_told : (pass : Pass) (side : Option Scope) (before : List CodeUnit) (u : CodeUnit) (prefix : List ℕ) (d : Decl) →
+pub declaration_reported : (pass : Pass) (side : Option Scope) (before : List CodeUnit) (u : CodeUnit) (prefix : List ℕ) (d : Decl) →
     flat_map (λ (w : Word). variable_lines pass side before u prefix (record { name = w.text.now; initial = d.initial })) d.names.items ≡ declaration_lines pass side before u prefix d
-declaration_told pass side before u prefix d =
+declaration_reported pass side before u prefix d =
     sym (flat_map-map (variable_lines pass side before u prefix) (λ (w : Word). record { name = w.text.now; initial = d.initial }) d.names.items) ∙ by_names pass side before u prefix (declared_in d)
 
 -- what was reported about the program is reported about the text
-pub told : (pass : Pass) (other : Text) (source : Source) (program : ℕ) (other_program : Option ℕ) (start new : List ℕ) → length source.units.items ≡ suc program → IsSide other other_program (program_of other) →
-    ((side : Option Scope) (before : List CodeUnit) (u : CodeUnit) → IsSide other other_program side → IsAt source program before u → new ≡ start ++ lines_between pass side before u [] (declared_of u)) → new ≡ start ++ lines_beside pass other source
-told pass other source program other_program start new counted at said = by (reverse source.units.items) refl
+pub reported : (pass : Pass) (other : Text) (source : Source) (program : ℕ) (other_program : Option ℕ) (start new : List ℕ) → length source.units.items ≡ suc program → IsSide other other_program (program_of other) →
+    ((side : Option Scope) (before : List CodeUnit) (u : CodeUnit) → IsSide other other_program side → IsAt source program before u → new ≡ start ++ lines_between pass side before u [] (declared_of u)) → new ≡ start ++ lines_alongside pass other source
+reported pass other source program other_program start new counted at said = by (reverse source.units.items) refl
   where
-    by : (r : List CodeUnit) → reverse source.units.items ≡ r → new ≡ start ++ lines_beside pass other source
+    by : (r : List CodeUnit) → reverse source.units.items ≡ r → new ≡ start ++ lines_alongside pass other source
     by [] e = let a : length source.units.items ≡ 0 = sym (length-reverse source.units.items) ∙ ap length e in absurd (omega (arith, a, counted))
     by (u ∷ before) e =
         said (program_of other) before u at (program_at source program u before e counted) ∙ ap (λ x. start ++ x) (sym (report_there pass other source u before e))
 
 -- about a text of no unit there is nothing to report
-pub none_told : (pass : Pass) (other : Text) (source : Source) (out : List ℕ) (n : ℕ) → length source.units.items ≡ n → (1 ≤ n → ⊥) → out ≡ out ++ lines_beside pass other source
-none_told pass other source out n counted none = by source.units.items counted
+pub none_reported : (pass : Pass) (other : Text) (source : Source) (out : List ℕ) (n : ℕ) → length source.units.items ≡ n → (1 ≤ n → ⊥) → out ≡ out ++ lines_alongside pass other source
+none_reported pass other source out n counted none = by source.units.items counted
   where
-    by : (units : List CodeUnit) → length units ≡ n → out ≡ out ++ flat_map (line_beside pass other (text_view source)) (shown_reversed (reverse units))
+    by : (units : List CodeUnit) → length units ≡ n → out ≡ out ++ flat_map (line_alongside pass other (text_view source)) (shown_reversed (reverse units))
     by [] e = sym (append-nil out)
     by (unit ∷ units) e = absurd (none (omega (arith, e)))
 

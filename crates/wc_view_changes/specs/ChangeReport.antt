@@ -16,7 +16,7 @@ use Rattle.wc_model.specs.declared.kind.Kind.{Kind}
 use Rattle.wc_model.specs.declared.kind.Kind.TheVariants.{Bool as KindBool, Dint as KindDint, Time as KindTime}
 use Rattle.wc_model.specs.declared.source.Source.{Source}
 use Rattle.wc_model.specs.declared.value.Value.TheVariants.{Bool as Truth, Dint, Time}
-use Rattle.wc_view_changes.specs.Shown.{Form, Plain, Instance, Shown, names_of, paths_of, shown_of}
+use Rattle.wc_view_changes.specs.Shown.{Shape, Plain, Instance, Shown, names_of, paths_of, shown_of}
 
 -- the types as a text spells them
 abbrev pub kind_text : Kind → List ℕ
@@ -43,14 +43,14 @@ content_text (Moment moment) = []
 content_text (Phase phase) = []
 
 -- the type of a variable, and its first value if it has one of its own
-abbrev pub form_text : Form → List ℕ
-form_text (Plain kind content) = kind_text kind ++ (32 ∷ content_text content)
-form_text (Instance block) = block_text block
+abbrev pub shape_text : Shape → List ℕ
+shape_text (Plain kind content) = kind_text kind ++ (32 ∷ content_text content)
+shape_text (Instance block) = block_text block
 
 -- its type alone
-abbrev pub form_type : Form → List ℕ
-form_type (Plain kind content) = kind_text kind
-form_type (Instance block) = block_text block
+abbrev pub shape_type : Shape → List ℕ
+shape_type (Plain kind content) = kind_text kind
+shape_type (Instance block) = block_text block
 
 -- What is under names, with its type as it is spelled: what has a line of its own, as a variable of an elementary type and an
 -- instance of a standard block have, or an instance of a block of the text, which has none. (The profile's own.)
@@ -100,25 +100,25 @@ abbrev pub path_text : Shown → List ℕ
 path_text s = flat_map (λ instance. instance ++ 46 ∷ []) s.instances ++ s.name
 
 -- the line of a variable of the new program
-abbrev pub line_text : Bool → List ℕ → Form → Option (List ℕ) → List ℕ
-line_text true path form old_type = codes "kept " ++ (path ++ 10 ∷ [])
-line_text false path form old_type = codes "first " ++ (path ++ (32 ∷ (form_text form ++ (32 ∷ (reason_text old_type ++ 10 ∷ [])))))
+abbrev pub line_text : Bool → List ℕ → Shape → Option (List ℕ) → List ℕ
+line_text true path shape old_type = codes "kept " ++ (path ++ 10 ∷ [])
+line_text false path shape old_type = codes "first " ++ (path ++ (32 ∷ (shape_text shape ++ (32 ∷ (reason_text old_type ++ 10 ∷ [])))))
 
 -- The line of a variable of the old program that is lost: it has none if something with a line is under its names in the
 -- new program, since that line says `kept` or `was`. (The profile's own.)
-abbrev pub lost_text : Bool → List ℕ → Form → List ℕ
-lost_text true path form = []
-lost_text false path form = codes "lost " ++ (path ++ (32 ∷ (form_type form ++ 10 ∷ [])))
+abbrev pub lost_text : Bool → List ℕ → Shape → List ℕ
+lost_text true path shape = []
+lost_text false path shape = codes "lost " ++ (path ++ (32 ∷ (shape_type shape ++ 10 ∷ [])))
 
 -- a variable keeps its value if each of its places does
 abbrev pub is_kept : Text → Text → Shown → Bool
 is_kept old new s = list_all (λ path. keeps old new (Path path)) (paths_of s)
 
 abbrev pub line_of : Text → Text → Shown → List ℕ
-line_of old new s = line_text (is_kept old new s) (path_text s) s.form (option_map found_type (found_in old (names_of s)))
+line_of old new s = line_text (is_kept old new s) (path_text s) s.shape (option_map found_type (found_in old (names_of s)))
 
 abbrev pub lost_of : Text → Shown → List ℕ
-lost_of new s = lost_text (has_line (found_in new (names_of s))) (path_text s) s.form
+lost_of new s = lost_text (has_line (found_in new (names_of s))) (path_text s) s.shape
 
 -- the lines of all variables of the new program, and after them those of the old one that are lost, in the order of declaration
 abbrev pub change_report : Source → Source → List ℕ

@@ -1,4 +1,4 @@
 pub mod ChangeReport
-pub mod Forms
+pub mod Shapes
 pub mod Shown
 pub mod Sides

@@ -15,15 +15,15 @@ use Rattle.wc_model.specs.declared.source.Source.{Source}
 use Rattle.wc_model.specs.declared.source.Unit.{Unit as CodeUnit}
 
 -- what is in a frame under one name: a plain variable of a kind with what it holds at first, or a standard block's instance
-pub data Form : Type 0 where
-  Plain : (kind : Kind) (content : Content) → Form
-  Instance : (block : StandardBlock) → Form
+pub data Shape : Type 0 where
+  Plain : (kind : Kind) (content : Content) → Shape
+  Instance : (block : StandardBlock) → Shape
 
 -- such a variable, with the instances through which the program reaches it, the outermost first
 pub record Shown : Type 0 where
   pub instances : List (List ℕ)
   pub name : List ℕ
-  pub form : Form
+  pub shape : Shape
 
 -- a name as it is declared, and the first value that is written after it
 pub record Declared : Type 0 where
@@ -43,13 +43,13 @@ seen before unit = record { before = map unit_view before; unit = unit_view unit
 
 -- the same variable, seen from outside an instance
 abbrev pub inside : List ℕ → Shown → Shown
-inside instance s = record { instances = instance ∷ s.instances; name = s.name; form = s.form }
+inside instance s = record { instances = instance ∷ s.instances; name = s.name; shape = s.shape }
 
 -- what a declared name adds, by the type that it has; `of_block` gives the variables of an instance of a block of the text
 abbrev pub shown_by : (Name → List Shown) → Declared → Option VariableType → List Shown
 shown_by of_block v None = []
-shown_by of_block v (Some (Elementary kind)) = record { instances = []; name = v.name; form = Plain kind (first_content kind v.initial) } ∷ []
-shown_by of_block v (Some (Standard block)) = record { instances = []; name = v.name; form = Instance block } ∷ []
+shown_by of_block v (Some (Elementary kind)) = record { instances = []; name = v.name; shape = Plain kind (first_content kind v.initial) } ∷ []
+shown_by of_block v (Some (Standard block)) = record { instances = []; name = v.name; shape = Instance block } ∷ []
 shown_by of_block v (Some (Block name)) = map (inside v.name) (of_block name)
 
 -- what declared names of a unit add, one after another
@@ -77,9 +77,9 @@ shown_of source = shown_reversed (reverse source.units.items)
 abbrev pub names_of : Shown → List Name
 names_of s = map name_of s.instances ++ name_of s.name ∷ []
 
-abbrev pub paths_at : Form → List Name → List (List Name)
+abbrev pub paths_at : Shape → List Name → List (List Name)
 paths_at (Plain kind content) names = names ∷ []
 paths_at (Instance block) names = map (λ field. names ++ field.0 ∷ []) (standard_fields block)
 
 abbrev pub paths_of : Shown → List (List Name)
-paths_of s = paths_at s.form (names_of s)
+paths_of s = paths_at s.shape (names_of s)

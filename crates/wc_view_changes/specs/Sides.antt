@@ -12,18 +12,18 @@ use Rattle.wc_model.specs.declared.source.Decl.{Decl}
 use Rattle.wc_model.specs.declared.source.Source.{Source}
 use Rattle.wc_model.specs.declared.source.Unit.{Unit as CodeUnit}
 use Rattle.wc_names.specs.Numbered.{IsUnit, numbered_type}
-use Rattle.wc_names.specs.StandsFor.{onto}
+use Rattle.wc_names.specs.RepresentsText.{onto}
 use Rattle.wc_names.specs.declared.declared_type.DeclaredType.{DeclaredType}
 use Rattle.wc_names.specs.declared.declared_type.DeclaredType.TheVariants as numbered
 use Rattle.wc_view_changes.specs.ChangeReport.{Found, found_from, found_in, found_type, has_line, is_kept, line_text, lost_text, path_text}
-use Rattle.wc_view_changes.specs.Shown.{Declared, Form, Shown, declared_in, names_of, paths_of, seen, shown_all, shown_by, shown_in, shown_of}
+use Rattle.wc_view_changes.specs.Shown.{Declared, Shape, Shown, declared_in, names_of, paths_of, seen, shown_all, shown_by, shown_in, shown_of}
 use Rattle.wc_view_changes.specs.declared.describing.Pass.{Pass}
 use Rattle.wc_view_changes.specs.declared.describing.Pass.TheVariants as pass
 
 -- the unit of that number among a source's units, with those before it, newest first
 pub record IsAt (source : Source) (number : ℕ) (before : List CodeUnit) (unit : CodeUnit) : Type 0 where
-  pub behind : List CodeUnit
-  pub whole : onto before (unit ∷ behind) ≡ source.units.items
+  pub following : List CodeUnit
+  pub whole : onto before (unit ∷ following) ≡ source.units.items
   pub counted : number ≡ length before
 
 -- the unit of that number in the other text, or neither
@@ -46,15 +46,15 @@ numbered_side None name = None
 numbered_side (Some scope) name = option_and_then (numbered_type scope.before) (type_of scope name)
 
 -- the unit to which a name leads from there, if it is an instance of a block of the text
-abbrev pub type_behind : List ProgramUnit → Option VariableType → Option Scope
-type_behind before None = None
-type_behind before (Some (Elementary kind)) = None
-type_behind before (Some (Standard block)) = None
-type_behind before (Some (Block block)) = option_map (λ found. record { before = found.1; unit = found.0 }) (block_named before block)
+abbrev pub type_after : List ProgramUnit → Option VariableType → Option Scope
+type_after before None = None
+type_after before (Some (Elementary kind)) = None
+type_after before (Some (Standard block)) = None
+type_after before (Some (Block block)) = option_map (λ found. record { before = found.1; unit = found.0 }) (block_named before block)
 
-abbrev pub side_behind : Option Scope → Name → Option Scope
-side_behind None name = None
-side_behind (Some scope) name = type_behind scope.before (type_of scope name)
+abbrev pub side_after : Option Scope → Name → Option Scope
+side_after None name = None
+side_after (Some scope) name = type_after scope.before (type_of scope name)
 
 -- the number of a block of the text, if a type is one
 abbrev pub unit_numbered : Option DeclaredType → Option ℕ
@@ -84,13 +84,13 @@ abbrev pub kept_between : Option Scope → Scope → Shown → Bool
 kept_between side scope s = list_all (λ path. same_lead (side_lead side path) (lead_from path scope.before scope.unit)) (paths_of s)
 
 -- what is reported about a variable: of the new text, or of the old one
-abbrev pub pass_text : Pass → Bool → List ℕ → Form → Option Found → List ℕ
-pass_text pass.New kept path form found = line_text kept path form (option_map found_type found)
-pass_text pass.Old kept path form found = lost_text (has_line found) path form
+abbrev pub pass_text : Pass → Bool → List ℕ → Shape → Option Found → List ℕ
+pass_text pass.New kept path shape found = line_text kept path shape (option_map found_type found)
+pass_text pass.Old kept path shape found = lost_text (has_line found) path shape
 
 -- the line of a variable of the unit, if the names so far are written like this
 abbrev pub line_between : Pass → Option Scope → Scope → List ℕ → Shown → List ℕ
-line_between pass side scope prefix s = pass_text pass (kept_between side scope s) (prefix ++ path_text s) s.form (side_found side (names_of s))
+line_between pass side scope prefix s = pass_text pass (kept_between side scope s) (prefix ++ path_text s) s.shape (side_found side (names_of s))
 
 -- the lines of what declared names of the unit add
 abbrev pub lines_between : Pass → Option Scope → List CodeUnit → CodeUnit → List ℕ → List Declared → List ℕ
@@ -105,8 +105,8 @@ abbrev pub variable_lines : Pass → Option Scope → List CodeUnit → CodeUnit
 variable_lines pass side before unit prefix v = flat_map (line_between pass side (seen before unit) prefix) (shown_by (shown_in before) v (type_of (seen before unit) (name_of v.name)))
 
 -- the lines of a text next to another
-abbrev pub line_beside : Pass → Text → Text → Shown → List ℕ
-line_beside pass other text s = pass_text pass (is_kept other text s) (path_text s) s.form (found_in other (names_of s))
+abbrev pub line_alongside : Pass → Text → Text → Shown → List ℕ
+line_alongside pass other text s = pass_text pass (is_kept other text s) (path_text s) s.shape (found_in other (names_of s))
 
-abbrev pub lines_beside : Pass → Text → Source → List ℕ
-lines_beside pass other source = flat_map (line_beside pass other (text_view source)) (shown_of source)
+abbrev pub lines_alongside : Pass → Text → Source → List ℕ
+lines_alongside pass other source = flat_map (line_alongside pass other (text_view source)) (shown_of source)

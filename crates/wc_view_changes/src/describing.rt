@@ -5,13 +5,13 @@ ghost use Rattle.wc_model.specs.Language.Views.{text_view};
 ghost use Rattle.wc_model.specs.declared.source.Initial.{Initial};
 ghost use Rattle.wc_model.specs.declared.source.Unit.{Unit as CodeUnit};
 ghost use Rattle.wc_view_changes.specs.ChangeReport.{found_type, line_text, lost_text};
-ghost use Rattle.wc_view_changes.specs.Forms.{form_view, has_form};
+ghost use Rattle.wc_view_changes.specs.Shapes.{shape_view, has_shape};
 ghost use Rattle.wc_view_changes.specs.Shown.{declared_of};
 ghost use Rattle.wc_view_changes.specs.Sides.{IsAt, IsSide, declaration_lines, line_numbered, lines_between, numbered_side, pass_text, side_found, variable_lines};
 
-use crate::form::{Form, first_value, is_kept};
 use crate::lines::{put_first, put_kept, put_lost};
 use crate::other::{is_line, other_type, type_text, unit_of};
+use crate::shape::{Shape, first_value, is_kept};
 use std::alloc::Global;
 use wc_model::{Decl, Fault, Value, put_bytes};
 use wc_names::DeclaredType;
@@ -63,18 +63,18 @@ fn describe_new(
     texts: Texts<'_, '_, '_, '_>,
     prefix: &[u8],
     name: &[u8],
-    form: Form,
+    shape: Shape,
     was: Option<DeclaredType>,
 ) -> Result<(), Fault>
     ensures line { OnOk result ((unit : Option ℕ) (side : Option Scope)
         → IsSide (text_view texts.entry.other.now.source) unit side
         → was ≡ numbered_side side (name_of name.now)
         → out.new.items ≡ out.old.items
-        ++ line_text (has_form was (form_view form)) (prefix.now ++ name.now) (form_view form)
+        ++ line_text (has_shape was (shape_view shape)) (prefix.now ++ name.now) (shape_view shape)
         (option_map found_type (side_found side (name_of name.now ∷ [])))) }
     ensures memory { IsOkUnless result Fault.Memory }
 {
-    if is_kept(form, was) {
+    if is_kept(shape, was) {
         return put_kept(out, prefix, name);
     }
     put_first(
@@ -82,7 +82,7 @@ fn describe_new(
         out,
         prefix,
         name,
-        form,
+        shape,
         type_text(texts.other, was),
     )
 }
@@ -92,40 +92,40 @@ fn describe_old(
     out: &mut Vec<u8>,
     prefix: &[u8],
     name: &[u8],
-    form: Form,
+    shape: Shape,
     becomes: Option<DeclaredType>,
 ) -> Result<(), Fault>
     ensures line { OnOk result
         (out.new.items ≡ out.old.items
-        ++ lost_text (line_numbered becomes) (prefix.now ++ name.now) (form_view form)) }
+        ++ lost_text (line_numbered becomes) (prefix.now ++ name.now) (shape_view shape)) }
     ensures memory { IsOkUnless result Fault.Memory }
 {
     if is_line(becomes) {
         return Ok(());
     }
-    put_lost(out, prefix, name, form)
+    put_lost(out, prefix, name, shape)
 }
 
 /// Puts the line of a variable of one place, or of a standard block's instance.
-fn describe_form(
+fn describe_shape(
     out: &mut Vec<u8>,
     texts: Texts<'_, '_, '_, '_>,
     prefix: &[u8],
     name: &[u8],
-    form: Form,
+    shape: Shape,
     there: Option<DeclaredType>,
 ) -> Result<(), Fault>
     ensures line { OnOk result ((unit : Option ℕ) (side : Option Scope)
         → IsSide (text_view texts.entry.other.now.source) unit side
         → there ≡ numbered_side side (name_of name.now)
         → out.new.items ≡ out.old.items
-        ++ pass_text texts.entry.pass (has_form there (form_view form)) (prefix.now ++ name.now)
-        (form_view form) (side_found side (name_of name.now ∷ []))) }
+        ++ pass_text texts.entry.pass (has_shape there (shape_view shape)) (prefix.now ++ name.now)
+        (shape_view shape) (side_found side (name_of name.now ∷ []))) }
     ensures memory { IsOkUnless result Fault.Memory }
 {
     match texts.pass {
-        Pass::New => describe_new(out, texts, prefix, name, form, there),
-        Pass::Old => describe_old(out, prefix, name, form, there),
+        Pass::New => describe_new(out, texts, prefix, name, shape, there),
+        Pass::Old => describe_old(out, prefix, name, shape, there),
     }
 }
 
@@ -145,7 +145,8 @@ fn describe_variable(
         → IsSide (text_view texts.entry.other.now.source) units.other side
         → IsAt texts.entry.own.now.source units.unit before u
         → literal ≡ option_map (λ i. i.value) initial
-        → out.new.items ≡ out.old.items ++ variable_lines texts.entry.pass side before u names.old.items
+        → out.new.items ≡ out.old.items
+        ++ variable_lines texts.entry.pass side before u names.old.items
         (record { name = name.now; initial = initial })) }
     ensures names { OnOk result (names.new.items ≡ names.old.items) }
     ensures memory { IsOkUnless result Fault.Memory }
@@ -156,12 +157,12 @@ fn describe_variable(
     let there = other_type(texts.other, units.other, name);
     match located.declared {
         DeclaredType::Elementary(kind) => {
-            let form = Form::Plain(kind, first_value(kind, literal));
-            describe_form(out, texts, names.as_slice(), name, form, there)
+            let shape = Shape::Plain(kind, first_value(kind, literal));
+            describe_shape(out, texts, names.as_slice(), name, shape, there)
         }
         DeclaredType::Standard(block) => {
-            let form = Form::Instance(block);
-            describe_form(out, texts, names.as_slice(), name, form, there)
+            let shape = Shape::Instance(block);
+            describe_shape(out, texts, names.as_slice(), name, shape, there)
         }
         DeclaredType::Block(block) => {
             // A block precedes the unit that has its instance, so only what has no place is passed over.

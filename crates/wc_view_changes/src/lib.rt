@@ -3,10 +3,10 @@
 #![tactic(auto)]
 
 mod describing;
-mod form;
 mod lines;
 mod other;
 mod report;
+mod shape;
 
 pub use lines::put_value;
 pub use report::changes;

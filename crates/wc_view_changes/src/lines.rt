@@ -4,9 +4,9 @@ ghost use Rattle.wc_model.specs.Language.Store.{Plain};
 ghost use Rattle.wc_view_changes.specs.ChangeReport.{content_text, line_text, lost_text, reason_text};
 ghost use Rattle.wc_view_changes.specs.ChangeReport as texts;
 ghost use Rattle.wc_view_changes.specs.Shown as shown;
-ghost use Rattle.wc_view_changes.specs.Forms.{form_view};
+ghost use Rattle.wc_view_changes.specs.Shapes.{shape_view};
 
-use crate::form::{Form, block_text, form_type, kind_text};
+use crate::shape::{Shape, block_text, kind_text, shape_type};
 use std::alloc::Global;
 use wc_model::{Fault, Value, put_bytes};
 
@@ -16,14 +16,14 @@ fn put_number(
     out: &mut Vec<u8>,
     before: &str,
     number: i32,
-    behind: &str,
+    following: &str,
 ) -> Result<(), Fault>
     ensures number { OnOk result
         (out.new.items
-        ≡ out.old.items ++ (before.now ++ (signed_decimal number ++ behind.now))) }
+        ≡ out.old.items ++ (before.now ++ (signed_decimal number ++ following.now))) }
     ensures memory { IsOkUnless result Fault.Memory }
 {
-    match format!(in alloc; "{before}{number}{behind}") {
+    match format!(in alloc; "{before}{number}{following}") {
         Ok(text) => put_bytes(out, text.as_bytes()),
         Err(_) => Err(Fault::Memory),
     }
@@ -44,14 +44,14 @@ pub fn put_value(alloc: Global, out: &mut Vec<u8>, value: Value) -> Result<(), F
 }
 
 /// Puts a type, and the first value of what has one of its own.
-fn put_form(alloc: Global, out: &mut Vec<u8>, form: Form) -> Result<(), Fault>
-    ensures form { OnOk result
-        (out.new.items ≡ out.old.items ++ texts.form_text (form_view form)) }
+fn put_shape(alloc: Global, out: &mut Vec<u8>, shape: Shape) -> Result<(), Fault>
+    ensures shape { OnOk result
+        (out.new.items ≡ out.old.items ++ texts.shape_text (shape_view shape)) }
     ensures memory { IsOkUnless result Fault.Memory }
 {
-    match form {
-        Form::Instance(block) => put_bytes(out, block_text(block)),
-        Form::Plain(kind, value) => {
+    match shape {
+        Shape::Instance(block) => put_bytes(out, block_text(block)),
+        Shape::Plain(kind, value) => {
             put_bytes(out, kind_text(kind))?;
             put_bytes(out, b" ")?;
             put_value(alloc, out, value)
@@ -87,8 +87,8 @@ fn put_names(out: &mut Vec<u8>, word: &[u8], prefix: &[u8], name: &[u8]) -> Resu
 
 /// Puts the line of a variable that keeps its value.
 pub(crate) fn put_kept(out: &mut Vec<u8>, prefix: &[u8], name: &[u8]) -> Result<(), Fault>
-    ensures line { (form : shown.Form) (old : Option (List ℕ)) → OnOk result
-        (out.new.items ≡ out.old.items ++ line_text true (prefix.now ++ name.now) form old) }
+    ensures line { (shape : shown.Shape) (old : Option (List ℕ)) → OnOk result
+        (out.new.items ≡ out.old.items ++ line_text true (prefix.now ++ name.now) shape old) }
     ensures memory { IsOkUnless result Fault.Memory }
 {
     put_names(out, b"kept ", prefix, name)?;
@@ -101,18 +101,18 @@ pub(crate) fn put_first(
     out: &mut Vec<u8>,
     prefix: &[u8],
     name: &[u8],
-    form: Form,
+    shape: Shape,
     old_type: Option<&[u8]>,
 ) -> Result<(), Fault>
     ensures line { OnOk result
         (out.new.items ≡ out.old.items
-        ++ line_text false (prefix.now ++ name.now) (form_view form)
+        ++ line_text false (prefix.now ++ name.now) (shape_view shape)
         (option_map (λ spelled. spelled.now) old_type.entry)) }
     ensures memory { IsOkUnless result Fault.Memory }
 {
     put_names(out, b"first ", prefix, name)?;
     put_bytes(out, b" ")?;
-    put_form(alloc, out, form)?;
+    put_shape(alloc, out, shape)?;
     put_bytes(out, b" ")?;
     put_reason(out, old_type)
 }
@@ -122,15 +122,15 @@ pub(crate) fn put_lost(
     out: &mut Vec<u8>,
     prefix: &[u8],
     name: &[u8],
-    form: Form,
+    shape: Shape,
 ) -> Result<(), Fault>
     ensures line { OnOk result
         (out.new.items ≡ out.old.items
-        ++ lost_text false (prefix.now ++ name.now) (form_view form)) }
+        ++ lost_text false (prefix.now ++ name.now) (shape_view shape)) }
     ensures memory { IsOkUnless result Fault.Memory }
 {
     put_names(out, b"lost ", prefix, name)?;
     put_bytes(out, b" ")?;
-    put_bytes(out, form_type(form))?;
+    put_bytes(out, shape_type(shape))?;
     put_bytes(out, b"\n")
 }

@@ -5,7 +5,7 @@ ghost use Rattle.wc_model.specs.Language.Views.{text_view};
 ghost use Rattle.wc_view_changes.specs.ChangeReport.{found_type};
 ghost use Rattle.wc_view_changes.specs.Sides.{IsSide, line_numbered, numbered_side, side_found, unit_numbered};
 
-use crate::form::{block_text, kind_text};
+use crate::shape::{block_text, kind_text};
 use wc_names::DeclaredType;
 use wc_verify::Checked;
 

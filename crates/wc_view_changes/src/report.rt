@@ -1,7 +1,7 @@
 ghost use Rattle.std.specs.Prelude.{◌≡◌, ◌++◌, IfOk, IsOkUnless, OnOk};
 ghost use Rattle.wc_model.specs.Language.Views.{text_view};
 ghost use Rattle.wc_view_changes.specs.ChangeReport.{change_report};
-ghost use Rattle.wc_view_changes.specs.Sides.{lines_beside};
+ghost use Rattle.wc_view_changes.specs.Sides.{lines_alongside};
 
 use crate::describing::{Pass, Texts, UnitPair, describe_unit};
 use std::alloc::Global;
@@ -12,7 +12,7 @@ use wc_model::Fault;
 fn describe_program(out: &mut Vec<u8>, texts: Texts<'_, '_, '_, '_>) -> Result<(), Fault>
     ensures lines { OnOk result
         (out.new.items ≡ out.old.items
-        ++ lines_beside texts.entry.pass (text_view texts.entry.other.now.source)
+        ++ lines_alongside texts.entry.pass (text_view texts.entry.other.now.source)
         texts.entry.own.now.source) }
     ensures memory { IsOkUnless result Fault.Memory }
 {

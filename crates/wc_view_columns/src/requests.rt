@@ -1,7 +1,7 @@
 ghost use Rattle.std.specs.Prelude.{◌≡◌, ◌+◌, ◌^◌, ◌<◌, ℕ, List, [], ◌∷◌, ◌++◌, length};
 ghost use Rattle.wc_view_columns.specs.Happened.{counted};
 ghost use Rattle.wc_model.specs.Instrument.Requests.{requests_in};
-ghost use Rattle.wc_sma.specs.Standing.{HasRead};
+ghost use Rattle.wc_sma.specs.Representation.{HasRead};
 
 use crate::events::{Events, Request};
 use wc_sma::RequestReader;

@@ -2,8 +2,8 @@ ghost use Rattle.std.specs.Prelude.{◌≡◌, ◌<◌, ◌||◌, ℕ, ℤ, pos,
 ghost use Rattle.wc_view_columns.specs.Held.{Held, IsStateOf, held_at};
 ghost use Rattle.wc_view_columns.specs.Spans.{span_of};
 ghost use Rattle.wc_view_columns.specs.declared.span.Span.{Span};
-ghost use Rattle.wc_indicator.specs.Kept.{StandsForHistory, Tells};
-ghost use Rattle.wc_model.specs.Instrument.Indication as told;
+ghost use Rattle.wc_indicator.specs.Kept.{RepresentsHistory, Reports};
+ghost use Rattle.wc_model.specs.Instrument.Indication as reported;
 ghost use Rattle.wc_model.specs.Instrument.Plates.{PlateData};
 ghost use Rattle.wc_model.specs.Instrument.WeighingHistories.{History};
 
@@ -69,8 +69,8 @@ fn either(one: bool, other: bool) -> bool
 
 /// The net weight while a tare is active.
 fn net_of(indicator: &Indicator) -> Option<i32>
-    ensures { Tells
-        (λ p history. if told.is_tare_active p history then told.net p history else None)
+    ensures { Reports
+        (λ p history. if reported.is_tare_active p history then reported.net p history else None)
         indicator.now result }
 {
     if indicator.tare_active() {
@@ -83,7 +83,7 @@ fn net_of(indicator: &Indicator) -> Option<i32>
 impl State {
     /// What holds at an indicator, with these inputs and outputs.
     pub fn at(indicator: &Indicator, inputs: u16, outputs: &Outputs) -> State
-        ensures { (p : PlateData) (history : History) → StandsForHistory indicator.now p history
+        ensures { (p : PlateData) (history : History) → RepresentsHistory indicator.now p history
             → IsStateOf (held_at p history inputs outputs.now ∷ []) result }
     {
         State {

@@ -28,10 +28,10 @@ bytes_from_small (byte ∷ bytes) are zero = are.0
 bytes_from_small (byte ∷ bytes) are (suc i) = bytes_from_small bytes are.1 i
 
 -- and so are these and others
-small_behind : (front back : List ℕ) → AreSmall front → AreSmall back → AreSmall (front ++ back)
+small_after : (prefix back : List ℕ) → AreSmall prefix → AreSmall back → AreSmall (prefix ++ back)
 unfolding AreSmall
-small_behind [] back are behind = behind
-small_behind (byte ∷ front) back are behind = (are.0, small_behind front back are.1 behind)
+small_after [] back are following = following
+small_after (byte ∷ prefix) back are following = (are.0, small_after prefix back are.1 following)
 
 -- a byte of a weight
 weight_byte_small : (byte : ℕ) → is_weight_byte byte ≡ true → byte < 256
@@ -83,7 +83,7 @@ answer_small (Weight r) (size, bytes) = (
           motion_small r.is_stable,
           (
             lit< tt,
-            small_behind (r.weight ++ unit_letters r.unit) (13 ∷ []) (small_behind r.weight (unit_letters r.unit) (weight_small r.weight bytes) (unit_small r.unit)) (lit< tt, tt),
+            small_after (r.weight ++ unit_letters r.unit) (13 ∷ []) (small_after r.weight (unit_letters r.unit) (weight_small r.weight bytes) (unit_small r.unit)) (lit< tt, tt),
           ),
         ),
       ),
@@ -96,7 +96,7 @@ answer_small NotUnderstood ok = (lit< tt, (lit< tt, (lit< tt, tt)))
 answers_small : (answers : List Answer) → AreAllAnswers answers → AreSmall (bytes_of_answers answers)
 unfolding AreSmall
 answers_small [] all = tt
-answers_small (a ∷ answers) (ok, all) = small_behind (answer_bytes a) (bytes_of_answers answers) (answer_small a ok) (answers_small answers all)
+answers_small (a ∷ answers) (ok, all) = small_after (answer_bytes a) (bytes_of_answers answers) (answer_small a ok) (answers_small answers all)
 
 pub answers_are_bytes : (answers : List Answer) → AreAllAnswers answers → IsBytes (bytes_of_answers answers)
 answers_are_bytes answers all = bytes_from_small (bytes_of_answers answers) (answers_small answers all)

@@ -4,7 +4,7 @@ use Rattle.std.proofs.lemmas.List.{append_assoc}
 use Rattle.std.specs.Fmt.{signed_decimal}
 use Rattle.wc_view_decode.proofs.Digits.{signed_is_field}
 use Rattle.wc_view_decode.specs.Fields.{AreFieldBytes, CutsField, words_text}
-use Rattle.wc_view_decode.specs.Lines.{AreWords, TellsRefusal, TellsScan, told_text}
+use Rattle.wc_view_decode.specs.Lines.{AreWords, RefusalContent, ScanContent, content_text}
 use Rattle.wc_model.specs.Run.Hex.{hex_of_bytes, hex_of_word}
 use Rattle.wc_model.specs.Say.Report.{AnswerLine, line_text}
 use mir.Syntax.{w32}
@@ -36,7 +36,7 @@ words_cut (a ∷ b ∷ c ∷ d ∷ x ∷ more) text f1 r1 f2 r2 f3 r3 f4 r4 n1 n
 
 -- the line of a scan, by its fields
 pub scan_fields : (ms steps bits : ℕ) (words : List ℤ) → AreWords words
-    → told_text (TellsScan ms steps (record { bits = bits; words = words }))
+    → content_text (ScanContent ms steps (record { bits = bits; words = words }))
     ≡ 83 ∷ 32 ∷ (decimal ms ++ 32 ∷ (decimal steps ++ 32 ∷ (hex_of_word bits ++ 32 ∷ words_text words)))
 scan_fields ms steps bits (a ∷ b ∷ c ∷ d ∷ []) are = search (rules, append_assoc)
 scan_fields ms steps bits [] are = absurd are
@@ -46,7 +46,7 @@ scan_fields ms steps bits (a ∷ b ∷ c ∷ []) are = absurd are
 scan_fields ms steps bits (a ∷ b ∷ c ∷ d ∷ x ∷ more) are = absurd are
 
 -- the line of a refusal
-pub refusal_fields : (number place : ℕ) → told_text (TellsRefusal number place) ≡ codes "refused" ++ 32 ∷ (decimal number ++ 32 ∷ (decimal place ++ 10 ∷ []))
+pub refusal_fields : (number place : ℕ) → content_text (RefusalContent number place) ≡ codes "refused" ++ 32 ∷ (decimal number ++ 32 ∷ (decimal place ++ 10 ∷ []))
 refusal_fields number place = search (rules, append_assoc)
 
 -- the line of answers

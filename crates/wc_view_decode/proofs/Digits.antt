@@ -24,10 +24,10 @@ lt_false : (a b : ℕ) → b ≤ a → nat_lt a b ≡ false
 lt_false a b h = search rules
 
 -- a field is cut at its end
-pub field_in_front : (bytes more : List ℕ) (end : ℕ) → AreFieldBytes bytes → end ≤ 32 → prefix_len (λ byte. nat_lt 32 byte) (bytes ++ end ∷ more) ≡ length bytes
-field_in_front [] more end are ends = rw (lt_false 32 end ends) refl
-field_in_front (byte ∷ bytes) more end (above, are) ends =
-    rw (lt_true 32 byte above) (omega (arith, field_in_front bytes more end are ends))
+pub field_in_prefix : (bytes more : List ℕ) (end : ℕ) → AreFieldBytes bytes → end ≤ 32 → prefix_len (λ byte. nat_lt 32 byte) (bytes ++ end ∷ more) ≡ length bytes
+field_in_prefix [] more end are ends = rw (lt_false 32 end ends) refl
+field_in_prefix (byte ∷ bytes) more end (above, are) ends =
+    rw (lt_true 32 byte above) (omega (arith, field_in_prefix bytes more end are ends))
 
 -- digits are bytes of a field
 digits_are_field : (ds : List ℕ) → AllDigits 10 ds → AreFieldBytes ds

@@ -70,25 +70,25 @@ reading_length r size =
     omega (arith, size, unit_length r.unit, length-append (r.weight ++ unit_letters r.unit) (13 ∷ []), length-append r.weight (unit_letters r.unit))
 
 -- the bytes of an answer with a weight, before others, are in the first twenty
-pub front_of_reading : (bytes rest : List ℕ) (x : Reading) → length x.weight ≡ 10 → bytes ≡ reading_bytes x ++ rest → take 20 bytes ≡ reading_bytes x
-front_of_reading bytes rest x size e =
+pub prefix_of_reading : (bytes rest : List ℕ) (x : Reading) → length x.weight ≡ 10 → bytes ≡ reading_bytes x ++ rest → take 20 bytes ≡ reading_bytes x
+prefix_of_reading bytes rest x size e =
     ap (take 20) e ∙ subst (λ n. take n (reading_bytes x ++ rest) ≡ reading_bytes x) (reading_length x size) (take-append_seam (reading_bytes x) rest)
 
 -- what comes first is what the first twenty bytes are, if it isn't the short answer
 pub first_of_twenty : (found : Option Answer) (bytes : List ℕ) → ((rest : List ℕ) → ¬ (bytes ≡ 10 ∷ 63 ∷ 13 ∷ rest)) → IsAnswerOf found (take 20 bytes) → IsFirstAnswer found bytes
 first_of_twenty (Some answer) bytes other (ok, e, only) = (
   ok,
-  (drop 20 bytes, sym (take-append-drop 20 bytes) ∙ ap (λ front. front ++ drop 20 bytes) e),
+  (drop 20 bytes, sym (take-append-drop 20 bytes) ∙ ap (λ prefix. prefix ++ drop 20 bytes) e),
   only_first answer bytes other only,
 )
   where
     only_first : (answer : Answer) (bytes : List ℕ) → ((rest : List ℕ) → ¬ (bytes ≡ 10 ∷ 63 ∷ 13 ∷ rest)) → ((one : Answer) → IsAnswer one → take 20 bytes ≡ answer_bytes one → answer ≡ one)
         → (one : Answer) (rest : List ℕ) → IsAnswer one → bytes ≡ answer_bytes one ++ rest → answer ≡ one
-    only_first answer bytes other only (Weight x) rest ok e = only (Weight x) ok (front_of_reading bytes rest x ok.0 e)
+    only_first answer bytes other only (Weight x) rest ok e = only (Weight x) ok (prefix_of_reading bytes rest x ok.0 e)
     only_first answer bytes other only NotUnderstood rest ok e = absurd (other rest e)
 first_of_twenty None bytes other none = λ answer rest ok e. none_first bytes other none answer rest ok e
   where
     none_first : (bytes : List ℕ) → ((rest : List ℕ) → ¬ (bytes ≡ 10 ∷ 63 ∷ 13 ∷ rest)) → ((one : Answer) → IsAnswer one → ¬ (take 20 bytes ≡ answer_bytes one))
         → (one : Answer) (rest : List ℕ) → IsAnswer one → ¬ (bytes ≡ answer_bytes one ++ rest)
-    none_first bytes other none (Weight x) rest ok e = none (Weight x) ok (front_of_reading bytes rest x ok.0 e)
+    none_first bytes other none (Weight x) rest ok e = none (Weight x) ok (prefix_of_reading bytes rest x ok.0 e)
     none_first bytes other none NotUnderstood rest ok e = other rest e

@@ -4,9 +4,9 @@ mod CutLines
 mod Digits
 mod Framed
 mod LineReadings
-mod Pieces
+mod Chunks
 mod RowTexts
 mod Several
 mod Standings
 mod Takings
-mod ToldRows
+mod ContentRows

@@ -3,10 +3,10 @@ use Rattle.std.proofs.Common.{◌≡◌, ◌<◌, ◌+◌, ℕ, suc, ℤ, List, 
 use Rattle.std.proofs.Math.Seq.{take-suc}
 use Rattle.std.proofs.lemmas.List.{append_assoc, append-nil}
 use Rattle.std.specs.Fmt.{signed_decimal}
-use Rattle.wc_view_decode.specs.Forms.{answer_form, answer_forms, named_words, passed_on}
+use Rattle.wc_view_decode.specs.Formats.{answer_format, answer_formats, named_words, passed_on}
 use Rattle.wc_view_decode.specs.declared.answer.Answer.{Answer}
-use Rattle.wc_view_decode.specs.declared.form.DecodeForm.{DecodeForm}
-use Rattle.wc_view_decode.specs.declared.form.DecodeForm.TheVariants.{Text, Table}
+use Rattle.wc_view_decode.specs.declared.format.DecodeFormat.{DecodeFormat}
+use Rattle.wc_view_decode.specs.declared.format.DecodeFormat.TheVariants.{Text, Table}
 
 -- a part more after a text
 pub one_more : (old p q t u : List ℕ) → t ≡ old ++ p → u ≡ t ++ q → u ≡ old ++ (p ++ q)
@@ -38,29 +38,29 @@ four_put (Ok u) old t1 t2 t3 t4 n1 n2 n3 n4 ws d size e1 e2 e3 e4 = four_words o
 four_put (Err e) old t1 t2 t3 t4 n1 n2 n3 n4 ws d size e1 e2 e3 e4 = tt
 
 -- an answer after others
-answers_behind : (form : DecodeForm) (ms : ℕ) (front back : List Answer) → answer_forms form ms (front ++ back) ≡ answer_forms form ms front ++ answer_forms form ms back
-answers_behind form ms [] back = refl
-answers_behind form ms (a ∷ front) back =
-    ap (λ rest. answer_form form ms a ++ rest) (answers_behind form ms front back)
-    ∙ sym (append_assoc (answer_form form ms a) (answer_forms form ms front) (answer_forms form ms back))
+answers_after : (format : DecodeFormat) (ms : ℕ) (prefix back : List Answer) → answer_formats format ms (prefix ++ back) ≡ answer_formats format ms prefix ++ answer_formats format ms back
+answers_after format ms [] back = refl
+answers_after format ms (a ∷ prefix) back =
+    ap (λ rest. answer_format format ms a ++ rest) (answers_after format ms prefix back)
+    ∙ sym (append_assoc (answer_format format ms a) (answer_formats format ms prefix) (answer_formats format ms back))
 
-pub one_answer_more : (form : DecodeForm) (ms : ℕ) (answers : List Answer) (n : ℕ) (other : Answer) → n < length answers
-    → answer_forms form ms (take (n + 1) answers) ≡ answer_forms form ms (take n answers) ++ answer_form form ms (get_or answers n other)
-one_answer_more form ms answers n other within =
+pub one_answer_more : (format : DecodeFormat) (ms : ℕ) (answers : List Answer) (n : ℕ) (other : Answer) → n < length answers
+    → answer_formats format ms (take (n + 1) answers) ≡ answer_formats format ms (take n answers) ++ answer_format format ms (get_or answers n other)
+one_answer_more format ms answers n other within =
     let next : n + 1 ≡ suc n = omega arith in
-    rw next (ap (answer_forms form ms) (take-suc answers n other within) ∙ answers_behind form ms (take n answers) (get_or answers n other ∷ [])
-    ∙ ap (λ text. answer_forms form ms (take n answers) ++ text) (append-nil (answer_form form ms (get_or answers n other))))
+    rw next (ap (answer_formats format ms) (take-suc answers n other within) ∙ answers_after format ms (take n answers) (get_or answers n other ∷ [])
+    ∙ ap (λ text. answer_formats format ms (take n answers) ++ text) (append-nil (answer_format format ms (get_or answers n other))))
 
 -- bytes that are passed on after others
-pub passed_behind : (form : DecodeForm) (front back : List ℕ) → passed_on form (front ++ back) ≡ passed_on form front ++ passed_on form back
-passed_behind Text front back = refl
-passed_behind Table [] back = refl
-passed_behind Table (byte ∷ front) back =
-    ap (λ rest. (if byte == 34 then 34 ∷ 34 ∷ [] else byte ∷ []) ++ rest) (passed_behind Table front back)
-    ∙ sym (append_assoc (if byte == 34 then 34 ∷ 34 ∷ [] else byte ∷ []) (passed_on Table front) (passed_on Table back))
+pub passed_after : (format : DecodeFormat) (prefix back : List ℕ) → passed_on format (prefix ++ back) ≡ passed_on format prefix ++ passed_on format back
+passed_after Text prefix back = refl
+passed_after Table [] back = refl
+passed_after Table (byte ∷ prefix) back =
+    ap (λ rest. (if byte == 34 then 34 ∷ 34 ∷ [] else byte ∷ []) ++ rest) (passed_after Table prefix back)
+    ∙ sym (append_assoc (if byte == 34 then 34 ∷ 34 ∷ [] else byte ∷ []) (passed_on Table prefix) (passed_on Table back))
 
-pub one_passed_more : (form : DecodeForm) (bytes : List ℕ) (n other : ℕ) → n < length bytes
-    → passed_on form (take (n + 1) bytes) ≡ passed_on form (take n bytes) ++ passed_on form (get_or bytes n other ∷ [])
-one_passed_more form bytes n other within =
+pub one_passed_more : (format : DecodeFormat) (bytes : List ℕ) (n other : ℕ) → n < length bytes
+    → passed_on format (take (n + 1) bytes) ≡ passed_on format (take n bytes) ++ passed_on format (get_or bytes n other ∷ [])
+one_passed_more format bytes n other within =
     let next : n + 1 ≡ suc n = omega arith in
-    rw next (ap (passed_on form) (take-suc bytes n other within) ∙ passed_behind form (take n bytes) (get_or bytes n other ∷ []))
+    rw next (ap (passed_on format) (take-suc bytes n other within) ∙ passed_after format (take n bytes) (get_or bytes n other ∷ []))

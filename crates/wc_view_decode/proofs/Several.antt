@@ -9,8 +9,8 @@ use Rattle.wc_view_decode.specs.declared.answer.Answer.{Answer}
 use Rattle.wc_view_decode.specs.declared.answer.Answer.TheVariants.{Weight, NotUnderstood}
 
 -- whatever answers the bytes are, the rest is the answers after these
-abbrev pub IsBehind : List ℕ → List Answer → List ℕ → Type 0
-IsBehind bytes answers rest =
+abbrev pub IsAfter : List ℕ → List Answer → List ℕ → Type 0
+IsAfter bytes answers rest =
     (others : List Answer) → AreAllAnswers others → bytes ≡ bytes_of_answers others
     → (left : List Answer) × (others ≡ answers ++ left) × AreAllAnswers left × (rest ≡ bytes_of_answers left)
 
@@ -18,22 +18,22 @@ IsBehind bytes answers rest =
 pub record LeavesRest (bytes : List ℕ) (answers : List Answer) (rest : List ℕ) : Type 0 where
   pub taken : bytes ≡ bytes_of_answers answers ++ rest
   pub all : AreAllAnswers answers
-  pub only : IsBehind bytes answers rest
+  pub only : IsAfter bytes answers rest
 
 -- nothing is taken first
 pub none_taken : (bytes : List ℕ) → LeavesRest bytes [] bytes
 none_taken bytes = record { taken = refl; all = tt; only = λ others all e. (others, refl, all, e) }
 
 -- bytes of one answer more
-bytes_behind : (answers : List Answer) (a : Answer) → bytes_of_answers (answers ++ a ∷ []) ≡ bytes_of_answers answers ++ answer_bytes a
-bytes_behind [] a = append-nil (answer_bytes a)
-bytes_behind (b ∷ answers) a =
-    ap (λ more. answer_bytes b ++ more) (bytes_behind answers a) ∙ sym (append_assoc (answer_bytes b) (bytes_of_answers answers) (answer_bytes a))
+bytes_after : (answers : List Answer) (a : Answer) → bytes_of_answers (answers ++ a ∷ []) ≡ bytes_of_answers answers ++ answer_bytes a
+bytes_after [] a = append-nil (answer_bytes a)
+bytes_after (b ∷ answers) a =
+    ap (λ more. answer_bytes b ++ more) (bytes_after answers a) ∙ sym (append_assoc (answer_bytes b) (bytes_of_answers answers) (answer_bytes a))
 
 -- one answer more
-all_behind : (answers : List Answer) (a : Answer) → AreAllAnswers answers → IsAnswer a → AreAllAnswers (answers ++ a ∷ [])
-all_behind [] a all ok = (ok, tt)
-all_behind (b ∷ answers) a (first, all) ok = (first, all_behind answers a all ok)
+all_after : (answers : List Answer) (a : Answer) → AreAllAnswers answers → IsAnswer a → AreAllAnswers (answers ++ a ∷ [])
+all_after [] a all ok = (ok, tt)
+all_after (b ∷ answers) a (first, all) ok = (first, all_after answers a all ok)
 
 -- an answer has bytes
 some_bytes : (a : Answer) → 0 < length (answer_bytes a)
@@ -52,8 +52,8 @@ at_end bytes answers rest end leaves = (
   leaves.all,
   leaves.taken ∙ ap (λ r. bytes_of_answers answers ++ r) end ∙ append-nil (bytes_of_answers answers),
   λ others all e.
-      let behind = leaves.only others all e in
-      sym (behind.1 ∙ ap (λ l. answers ++ l) (no_bytes behind.0 (sym end ∙ behind.3)) ∙ append-nil answers),
+      let following = leaves.only others all e in
+      sym (following.1 ∙ ap (λ l. answers ++ l) (no_bytes following.0 (sym end ∙ following.3)) ∙ append-nil answers),
 )
 
 -- what is left begins with no answer
@@ -64,14 +64,14 @@ none_left rest some first (a ∷ left) (ok, all) e = first a (bytes_of_answers l
 -- then there are none
 pub at_none : (bytes : List ℕ) (answers : List Answer) (rest : List ℕ) → ¬ (rest ≡ []) → IsFirstAnswer None rest → LeavesRest bytes answers rest → AreAnswersOf None bytes
 at_none bytes answers rest some first leaves =
-    λ others all e. let behind = leaves.only others all e in none_left rest some first behind.0 behind.2 behind.3
+    λ others all e. let following = leaves.only others all e in none_left rest some first following.0 following.2 following.3
 
 -- what is left after an answer
 one_left : (answers : List Answer) (a : Answer) (rest : List ℕ) → ¬ (rest ≡ []) → IsFirstAnswer (Some a) rest
     → (others left : List Answer) → others ≡ answers ++ left → AreAllAnswers left → rest ≡ bytes_of_answers left
     → (more : List Answer) × (others ≡ (answers ++ a ∷ []) ++ more) × AreAllAnswers more × (drop (length (answer_bytes a)) rest ≡ bytes_of_answers more)
 one_left answers a rest some first others [] are all e = absurd (some e)
-one_left answers a rest some (ok, front, only) others (b ∷ left) are (okb, all) e =
+one_left answers a rest some (ok, prefix, only) others (b ∷ left) are (okb, all) e =
     let same : a ≡ b = only b (bytes_of_answers left) okb e in
     let here : rest ≡ answer_bytes a ++ bytes_of_answers left = e ∙ ap (λ x. answer_bytes x ++ bytes_of_answers left) (sym same) in (
       left,
@@ -83,17 +83,17 @@ one_left answers a rest some (ok, front, only) others (b ∷ left) are (okb, all
 -- one answer is taken
 pub one_taken : (bytes : List ℕ) (answers : List Answer) (a : Answer) (rest : List ℕ) → ¬ (rest ≡ []) → IsFirstAnswer (Some a) rest → LeavesRest bytes answers rest
     → LeavesRest bytes (answers ++ a ∷ []) (drop (length (answer_bytes a)) rest)
-one_taken bytes answers a rest some (ok, front, only) leaves =
-    let left : drop (length (answer_bytes a)) rest ≡ front.0 = ap (drop (length (answer_bytes a))) front.1 ∙ drop-append_seam (answer_bytes a) front.0 in
+one_taken bytes answers a rest some (ok, prefix, only) leaves =
+    let left : drop (length (answer_bytes a)) rest ≡ prefix.0 = ap (drop (length (answer_bytes a))) prefix.1 ∙ drop-append_seam (answer_bytes a) prefix.0 in
     record {
-      taken = leaves.taken ∙ ap (λ r. bytes_of_answers answers ++ r) front.1
-          ∙ sym (append_assoc (bytes_of_answers answers) (answer_bytes a) front.0)
-          ∙ ap (λ t. t ++ front.0) (sym (bytes_behind answers a))
+      taken = leaves.taken ∙ ap (λ r. bytes_of_answers answers ++ r) prefix.1
+          ∙ sym (append_assoc (bytes_of_answers answers) (answer_bytes a) prefix.0)
+          ∙ ap (λ t. t ++ prefix.0) (sym (bytes_after answers a))
           ∙ ap (λ r. bytes_of_answers (answers ++ a ∷ []) ++ r) (sym left);
-      all = all_behind answers a leaves.all ok;
+      all = all_after answers a leaves.all ok;
       only = λ others all e.
-          let behind = leaves.only others all e in
-          one_left answers a rest some (ok, front, only) others behind.0 behind.1 behind.2 behind.3;
+          let following = leaves.only others all e in
+          one_left answers a rest some (ok, prefix, only) others following.0 following.1 following.2 following.3;
     }
 
 -- a list of no length is empty

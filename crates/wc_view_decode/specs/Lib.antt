@@ -3,9 +3,9 @@ pub mod AnswerTexts
 pub mod Decoding
 pub mod Entries
 pub mod Fields
-pub mod Forms
+pub mod Formats
 pub mod Found
 pub mod LineAnswers
 pub mod Lines
 pub mod Running
-pub mod Standing
+pub mod Representation

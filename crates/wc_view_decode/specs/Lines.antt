@@ -8,16 +8,16 @@ use Rattle.wc_model.specs.Say.Report.{AnswerLine, ScanLine, line_text}
 use Rattle.wc_model.specs.declared.image.Outputs.{Outputs}
 
 -- what a line says: a scan, the answers to a row, or the refusal at the report's end
-pub data Told : Type 0 where
-  TellsScan : (ms steps : ℕ) (outputs : Outputs) → Told
-  TellsAnswers : (ms : ℕ) (answers : List Answer) → Told
-  TellsRefusal : (number place : ℕ) → Told
+pub data LineContent : Type 0 where
+  ScanContent : (ms steps : ℕ) (outputs : Outputs) → LineContent
+  AnswersContent : (ms : ℕ) (answers : List Answer) → LineContent
+  RefusalContent : (number place : ℕ) → LineContent
 
 -- the line that says it: those that a run and a refusal print
-abbrev pub told_text : Told → List ℕ
-told_text (TellsScan ms steps outputs) = line_text (ScanLine ms steps outputs)
-told_text (TellsAnswers ms answers) = line_text (AnswerLine ms (bytes_of_answers answers))
-told_text (TellsRefusal number place) = refused_text number place
+abbrev pub content_text : LineContent → List ℕ
+content_text (ScanContent ms steps outputs) = line_text (ScanLine ms steps outputs)
+content_text (AnswersContent ms answers) = line_text (AnswerLine ms (bytes_of_answers answers))
+content_text (RefusalContent number place) = refused_text number place
 
 -- four words of 32 bits
 abbrev pub AreWords : List ℤ → Type 0
@@ -29,21 +29,21 @@ AreWords (a ∷ b ∷ c ∷ d ∷ []) = FitsSigned w32 a × FitsSigned w32 b × 
 AreWords (a ∷ b ∷ c ∷ d ∷ e ∷ more) = ⊥
 
 -- each number is in the range of its type, each answer is one, and there is one at least
-abbrev pub InRange : Told → Type 0
-InRange (TellsScan ms steps outputs) = (ms < 2 ^ 64) × (steps < 2 ^ 32) × (outputs.bits < 2 ^ 16) × AreWords outputs.words
-InRange (TellsAnswers ms answers) = (ms < 2 ^ 64) × AreAllAnswers answers × (0 < length answers)
-InRange (TellsRefusal number place) = (number < 2 ^ 16) × (place < 2 ^ 32)
+abbrev pub InRange : LineContent → Type 0
+InRange (ScanContent ms steps outputs) = (ms < 2 ^ 64) × (steps < 2 ^ 32) × (outputs.bits < 2 ^ 16) × AreWords outputs.words
+InRange (AnswersContent ms answers) = (ms < 2 ^ 64) × AreAllAnswers answers × (0 < length answers)
+InRange (RefusalContent number place) = (number < 2 ^ 16) × (place < 2 ^ 32)
 
 -- this is all that the line can say, or it is not a line of a report
-abbrev pub IsToldBy : Option Told → List ℕ → Type 0
-IsToldBy (Some told) line =
-    InRange told × (line ≡ told_text told) × ((other : Told) → InRange other → line ≡ told_text other → told ≡ other)
-IsToldBy None line = (told : Told) → InRange told → ¬ (line ≡ told_text told)
+abbrev pub IsContentOf : Option LineContent → List ℕ → Type 0
+IsContentOf (Some reported) line =
+    InRange reported × (line ≡ content_text reported) × ((other : LineContent) → InRange other → line ≡ content_text other → reported ≡ other)
+IsContentOf None line = (reported : LineContent) → InRange reported → ¬ (line ≡ content_text reported)
 
 -- so of the answers of a row alone
-abbrev pub AreToldBy : ℕ → Option Told → List ℕ → Type 0
-AreToldBy ms (Some told) bytes =
-    (answers : List Answer) × (told ≡ TellsAnswers ms answers) × AreAllAnswers answers × (0 < length answers)
+abbrev pub AreContentOf : ℕ → Option LineContent → List ℕ → Type 0
+AreContentOf ms (Some reported) bytes =
+    (answers : List Answer) × (reported ≡ AnswersContent ms answers) × AreAllAnswers answers × (0 < length answers)
     × (bytes ≡ bytes_of_answers answers)
     × ((others : List Answer) → AreAllAnswers others → bytes ≡ bytes_of_answers others → answers ≡ others)
-AreToldBy ms None bytes = (answers : List Answer) → AreAllAnswers answers → 0 < length answers → ¬ (bytes ≡ bytes_of_answers answers)
+AreContentOf ms None bytes = (answers : List Answer) → AreAllAnswers answers → 0 < length answers → ¬ (bytes ≡ bytes_of_answers answers)

@@ -1,7 +1,7 @@
 ghost use Rattle.std.specs.Prelude.{◌≡◌, ◌<◌, ◌^◌, ℕ, List, IfOk, IsOkUnless, option_map, slice_index};
 ghost use Rattle.hex.specs.Hex.{IsBytes};
-ghost use Rattle.wc_view_decode.specs.Entries.{entry_told};
-ghost use Rattle.wc_view_decode.specs.Lines.{AreToldBy, IsToldBy};
+ghost use Rattle.wc_view_decode.specs.Entries.{entry_content};
+ghost use Rattle.wc_view_decode.specs.Lines.{AreContentOf, IsContentOf};
 ghost use Rattle.wc_model.specs.Run.Hex.{hex_of_bytes};
 ghost use Rattle.wc_model.specs.Say.Report.{AnswerLine, line_text};
 
@@ -55,7 +55,8 @@ fn row_in(alloc: Global, line: &[u8]) -> Result<ByteRow, Fault>
 
 /// The answers of a row, if its bytes are answers.
 fn entry_of(alloc: Global, row: &ByteRow) -> Result<Option<ReportEntry>, Fault>
-    ensures told { IfOk result (λ found. AreToldBy row.now.ms (option_map entry_told found)
+    ensures reported { IfOk result (λ found. AreContentOf row.now.ms
+        (option_map entry_content found)
         row.now.bytes.items) }
     ensures memory { IsOkUnless result Fault.Memory }
 {
@@ -77,7 +78,8 @@ fn entry_of(alloc: Global, row: &ByteRow) -> Result<Option<ReportEntry>, Fault>
 /// The answers of a line that starts with L.
 pub(crate) fn answers_entry(alloc: Global, line: &[u8]) -> Result<Option<ReportEntry>, Fault>
     requires { slice_index line.now 0 ≡ 76 }
-    ensures told { IfOk result (λ found. IsToldBy (option_map entry_told found) line.now) }
+    ensures reported { IfOk result (λ found. IsContentOf
+        (option_map entry_content found) line.now) }
     ensures memory { IsOkUnless result Fault.Memory }
 {
     let row = row_in(alloc, line)?;

@@ -1,11 +1,11 @@
 ghost use Rattle.std.specs.Prelude.{◌≡◌, ◌≤◌, ◌==◌, ◌∷◌, [], true, false, length, IsOkUnless};
 ghost use Rattle.std.specs.List.{position_or_len};
 ghost use Rattle.wc_view_decode.specs.Decoding.{longest_line, without_end};
-ghost use Rattle.wc_view_decode.specs.Forms.{heading};
-ghost use Rattle.wc_view_decode.specs.Standing.{Finishes, PutsLine, Stands, TakesBytes};
+ghost use Rattle.wc_view_decode.specs.Formats.{heading};
+ghost use Rattle.wc_view_decode.specs.Representation.{Finishes, PutsLine, Represents, TakesBytes};
 
-use crate::entry_forms::put_entry;
-use crate::form::DecodeForm;
+use crate::entry_formats::put_entry;
+use crate::format::DecodeFormat;
 use crate::lines::line_entry;
 use crate::unknown_lines::{put_closing, put_opening, put_passed, put_passed_on, put_unknown};
 use std::alloc::Global;
@@ -17,18 +17,18 @@ const LONGEST_LINE: usize = 65536;
 /// A decoder: the current line, as far as it was read, or that it is too long and written as it comes.
 #[derive(Drop)]
 pub(crate) struct Decoder {
-    pub(crate) form: DecodeForm,
+    pub(crate) format: DecodeFormat,
     pub(crate) line: Vec<u8>,
     pub(crate) is_long: bool,
 }
 
 /// A decoder that has taken nothing.
-pub(crate) fn new_decoder(alloc: Global, form: DecodeForm) -> Decoder
-    ensures form { result.form ≡ form }
-    ensures stands { Stands result [] (heading form) }
+pub(crate) fn new_decoder(alloc: Global, format: DecodeFormat) -> Decoder
+    ensures format { result.format ≡ format }
+    ensures represents { Represents result [] (heading format) }
 {
     Decoder {
-        form,
+        format,
         line: Vec::new(alloc),
         is_long: false,
     }
@@ -50,13 +50,18 @@ fn without_end(line: &[u8]) -> &[u8]
 }
 
 /// Appends what is written for a line to a text.
-fn put_line(alloc: Global, form: DecodeForm, line: &[u8], text: &mut Vec<u8>) -> Result<(), Fault>
-    ensures line { PutsLine form line.now result text.old.items text.new.items }
+fn put_line(
+    alloc: Global,
+    format: DecodeFormat,
+    line: &[u8],
+    text: &mut Vec<u8>,
+) -> Result<(), Fault>
+    ensures line { PutsLine format line.now result text.old.items text.new.items }
     ensures memory { IsOkUnless result Fault.Memory }
 {
     match line_entry(alloc, line) {
-        Ok(Some(entry)) => put_entry(text, form, &entry),
-        Ok(None) => put_unknown(text, form, without_end(line)),
+        Ok(Some(entry)) => put_entry(text, format, &entry),
+        Ok(None) => put_unknown(text, format, without_end(line)),
         Err(fault) => Err(fault),
     }
 }
@@ -64,13 +69,13 @@ fn put_line(alloc: Global, form: DecodeForm, line: &[u8], text: &mut Vec<u8>) ->
 /// Takes the line feed of the current line.
 fn end_line(alloc: Global, decoder: &mut Decoder, text: &mut Vec<u8>) -> Result<(), Fault>
     requires { decoder.old.is_long ≡ false }
-    ensures form { decoder.new.form ≡ decoder.old.form }
+    ensures format { decoder.new.format ≡ decoder.old.format }
     ensures takes { TakesBytes decoder.old decoder.new (10 ∷ []) result text.old.items
         text.new.items }
     ensures memory { IsOkUnless result Fault.Memory }
 {
     put_bytes(&mut decoder.line, b"\n")?;
-    put_line(alloc, decoder.form, &decoder.line, text)?;
+    put_line(alloc, decoder.format, &decoder.line, text)?;
     decoder.line.clear();
     Ok(())
 }
@@ -80,14 +85,14 @@ fn begin_long(decoder: &mut Decoder, byte: u8, text: &mut Vec<u8>) -> Result<(),
     requires short { decoder.old.is_long ≡ false }
     requires full { length decoder.old.line.items ≡ longest_line }
     requires inside { ¬ (byte ≡ 10) }
-    ensures form { decoder.new.form ≡ decoder.old.form }
+    ensures format { decoder.new.format ≡ decoder.old.format }
     ensures takes { TakesBytes decoder.old decoder.new (byte ∷ []) result text.old.items
         text.new.items }
     ensures memory { IsOkUnless result Fault.Memory }
 {
-    put_opening(text, decoder.form)?;
-    put_passed_on(text, decoder.form, &decoder.line)?;
-    put_passed(text, decoder.form, byte)?;
+    put_opening(text, decoder.format)?;
+    put_passed_on(text, decoder.format, &decoder.line)?;
+    put_passed(text, decoder.format, byte)?;
     decoder.line.clear();
     decoder.is_long = true;
     Ok(())
@@ -96,16 +101,16 @@ fn begin_long(decoder: &mut Decoder, byte: u8, text: &mut Vec<u8>) -> Result<(),
 /// Takes a byte of a line that is too long.
 fn take_of_long(decoder: &mut Decoder, byte: u8, text: &mut Vec<u8>) -> Result<(), Fault>
     requires { decoder.old.is_long ≡ true }
-    ensures form { decoder.new.form ≡ decoder.old.form }
+    ensures format { decoder.new.format ≡ decoder.old.format }
     ensures takes { TakesBytes decoder.old decoder.new (byte ∷ []) result text.old.items
         text.new.items }
     ensures memory { IsOkUnless result Fault.Memory }
 {
     if byte == b'\n' {
         decoder.is_long = false;
-        return put_closing(text, decoder.form);
+        return put_closing(text, decoder.format);
     }
-    put_passed(text, decoder.form, byte)
+    put_passed(text, decoder.format, byte)
 }
 
 /// Takes a byte of a report.
@@ -115,7 +120,7 @@ fn take_byte(
     byte: u8,
     text: &mut Vec<u8>,
 ) -> Result<(), Fault>
-    ensures form { decoder.new.form ≡ decoder.old.form }
+    ensures format { decoder.new.format ≡ decoder.old.format }
     ensures takes { TakesBytes decoder.old decoder.new (byte ∷ []) result text.old.items
         text.new.items }
     ensures memory { IsOkUnless result Fault.Memory }
@@ -139,7 +144,7 @@ pub(crate) fn take_bytes(
     bytes: &[u8],
     text: &mut Vec<u8>,
 ) -> Result<(), Fault>
-    ensures form { decoder.new.form ≡ decoder.old.form }
+    ensures format { decoder.new.format ≡ decoder.old.format }
     ensures takes { TakesBytes decoder.old decoder.new bytes.now result text.old.items
         text.new.items }
     ensures memory { IsOkUnless result Fault.Memory }
@@ -156,10 +161,10 @@ pub(crate) fn finish(decoder: &Decoder, text: &mut Vec<u8>) -> Result<(), Fault>
     ensures memory { IsOkUnless result Fault.Memory }
 {
     if decoder.is_long {
-        return put_closing(text, decoder.form);
+        return put_closing(text, decoder.format);
     }
     if decoder.line.is_empty() {
         return Ok(());
     }
-    put_unknown(text, decoder.form, &decoder.line)
+    put_unknown(text, decoder.format, &decoder.line)
 }

@@ -1,31 +1,31 @@
 ghost use Rattle.std.specs.Prelude.{◌≡◌, ◌<◌, ◌≤◌, ◌^◌, IfErr, IfOk, IsErrOf, length, take};
-ghost use Rattle.wc_view_decode.specs.Decoding.{DecodesAll, HasReadCause, is_used_up};
-ghost use Rattle.wc_view_decode.specs.Forms.{heading};
-ghost use Rattle.wc_view_decode.specs.Running.{DecodesPiece, DecodesRest, Ends, ReadsPiece, WritesText};
+ghost use Rattle.wc_view_decode.specs.Decoding.{DecodesAll, HasReadCause, is_exhausted};
+ghost use Rattle.wc_view_decode.specs.Formats.{heading};
+ghost use Rattle.wc_view_decode.specs.Running.{DecodesChunk, DecodesRest, Ends, ReadsChunk, WritesText};
 ghost use Rattle.wc_model.specs.Run.Writing.{HasFailedSince};
 
 use crate::decoder::{Decoder, finish, new_decoder, take_bytes};
-use crate::form::{DecodeFault, DecodeForm};
+use crate::format::{DecodeFault, DecodeFormat};
 use std::alloc::Global;
 use wc_model::{ByteIn, ByteOut, write_whole};
 
 /// The number of bytes read at once.
-const PIECE: usize = 4096;
+const CHUNK: usize = 4096;
 
 /// The most bytes and calls that are spent on a report.
 const MOST_SPENT: u64 = 2147483648;
 
 /// Whether as much was read as may be.
-fn is_used_up(start: u64, spent: u64) -> bool
-    ensures { result ≡ is_used_up start spent }
+fn is_exhausted(start: u64, spent: u64) -> bool
+    ensures { result ≡ is_exhausted start spent }
 {
     spent == u64::MAX || spent.saturating_sub(start) >= MOST_SPENT
 }
 
 /// Reads once into a buffer, up to the limit: the number of bytes, 0 at the end.
-fn read_piece<R: ByteIn>(input: &mut R, start: u64, buffer: &mut [u8]) -> Result<usize, DecodeFault>
+fn read_chunk<R: ByteIn>(input: &mut R, start: u64, buffer: &mut [u8]) -> Result<usize, DecodeFault>
     requires { 0 < length buffer.old }
-    ensures piece { ReadsPiece (R.bytes_left input.old) (R.bytes_left input.new) result buffer.new }
+    ensures chunk { ReadsChunk (R.bytes_left input.old) (R.bytes_left input.new) result buffer.new }
     ensures steady { IfOk result (λ n. R.failure_count input.new ≡ R.failure_count input.old) }
     ensures spends { IfOk result (λ n. (R.spent_count input.old < R.spent_count input.new)
         × (R.spent_count input.old < 2 ^ 64)) }
@@ -33,7 +33,7 @@ fn read_piece<R: ByteIn>(input: &mut R, start: u64, buffer: &mut [u8]) -> Result
     ensures cause { IfErr result (λ fault. HasReadCause (R.failure_count input.old)
         (R.failure_count input.new) start (R.spent_count input.new)) }
 {
-    if is_used_up(start, input.spent()) {
+    if is_exhausted(start, input.spent()) {
         return Err(DecodeFault::Read);
     }
     match input.read(buffer) {
@@ -66,14 +66,14 @@ fn write_text<W: ByteOut>(output: &mut W, text: &[u8]) -> Result<(), DecodeFault
 }
 
 /// Decodes a chunk of a report, and writes what is said of it.
-fn decode_piece<W: ByteOut>(
+fn decode_chunk<W: ByteOut>(
     alloc: Global,
     decoder: &mut Decoder,
-    piece: &[u8],
+    chunk: &[u8],
     output: &mut W,
 ) -> Result<(), DecodeFault>
-    ensures form { decoder.new.form ≡ decoder.old.form }
-    ensures piece { DecodesPiece decoder.old decoder.new piece.now result
+    ensures format { decoder.new.format ≡ decoder.old.format }
+    ensures chunk { DecodesChunk decoder.old decoder.new chunk.now result
         (W.bytes_taken output.old) (W.bytes_taken output.new) }
     ensures steady { ¬ IsErrOf result DecodeFault.Write
         → W.failure_count output.new ≡ W.failure_count output.old }
@@ -82,7 +82,7 @@ fn decode_piece<W: ByteOut>(
         → HasFailedSince (W.failure_count output.old) (W.failure_count output.new) }
 {
     let mut text = Vec::new(alloc);
-    match take_bytes(alloc, decoder, piece, &mut text) {
+    match take_bytes(alloc, decoder, chunk, &mut text) {
         Ok(()) => write_text(output, &text),
         Err(_) => Err(DecodeFault::Memory),
     }
@@ -128,29 +128,29 @@ fn decode_rest<R: ByteIn, W: ByteOut>(
         → W.failure_count output.new ≡ W.failure_count output.old }
 {
     let start = input.spent();
-    let mut buffer = [0; PIECE];
-    'pieces: loop {
-        let count = match read_piece(input, start, &mut buffer) {
+    let mut buffer = [0; CHUNK];
+    'chunks: loop {
+        let count = match read_chunk(input, start, &mut buffer) {
             Ok(count) => count,
             Err(fault) => return Err(fault),
         };
         if count == 0 {
             return finish_report(alloc, decoder, output);
         }
-        let piece = first_bytes(&buffer, count);
-        if let Err(fault) = decode_piece(alloc, decoder, piece, output) {
+        let chunk = first_bytes(&buffer, count);
+        if let Err(fault) = decode_chunk(alloc, decoder, chunk, output) {
             return Err(fault);
         }
     }
 }
 
 /// The line before all others.
-fn heading(form: DecodeForm) -> &'static [u8]
-    ensures { result.now ≡ heading form }
+fn heading(format: DecodeFormat) -> &'static [u8]
+    ensures { result.now ≡ heading format }
 {
-    match form {
-        DecodeForm::Text => b"",
-        DecodeForm::Table => {
+    match format {
+        DecodeFormat::Text => b"",
+        DecodeFormat::Table => {
             b"ms,kind,steps,q0,q1,q2,q3,q4,q5,q6,q7,q8,q9,q10,q11,q12,q13,q14,q15,d0,d1,d2,d3,answer\n"
         }
     }
@@ -165,10 +165,10 @@ pub fn decode<R: ByteIn, W: ByteOut>(
     alloc: Global,
     input: &mut R,
     output: &mut W,
-    form: DecodeForm,
+    format: DecodeFormat,
 ) -> Result<(), DecodeFault>
     // Each line of the report is written as what it says.
-    ensures decoded { DecodesAll form result (R.bytes_left input.old) (R.bytes_left input.new)
+    ensures decoded { DecodesAll format result (R.bytes_left input.old) (R.bytes_left input.new)
         (W.bytes_taken output.old) (W.bytes_taken output.new) }
     ensures read { IsErrOf result DecodeFault.Read
         → HasReadCause (R.failure_count input.old) (R.failure_count input.new)
@@ -180,8 +180,8 @@ pub fn decode<R: ByteIn, W: ByteOut>(
     ensures steady { ¬ IsErrOf result DecodeFault.Write
         → W.failure_count output.new ≡ W.failure_count output.old }
 {
-    let mut decoder = new_decoder(alloc, form);
-    if let Err(fault) = write_text(output, heading(form)) {
+    let mut decoder = new_decoder(alloc, format);
+    if let Err(fault) = write_text(output, heading(format)) {
         return Err(fault);
     }
     decode_rest(alloc, &mut decoder, input, output)

@@ -17,7 +17,7 @@ fn field_length(text: &[u8]) -> usize
 }
 
 /// What follows the first byte.
-fn behind_first(text: &[u8]) -> &[u8]
+fn following_first(text: &[u8]) -> &[u8]
     ensures { (first : ℕ) (rest : List ℕ) → text.now ≡ first ∷ rest → result.now ≡ rest }
 {
     if text.is_empty() {
@@ -32,7 +32,7 @@ pub(crate) fn cut_field(text: &[u8]) -> (&[u8], &[u8])
     ensures { CutsField text.now result.0.now result.1.now }
 {
     let (field, rest) = text.split_at(field_length(text));
-    (field, behind_first(rest))
+    (field, following_first(rest))
 }
 
 /// The number of a field.

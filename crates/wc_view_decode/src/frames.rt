@@ -104,7 +104,7 @@ fn push_answer(answers: &mut Vec<Answer>, answer: Answer) -> Result<(), Fault>
 }
 
 /// What follows n bytes.
-fn behind(bytes: &[u8], count: usize) -> &[u8]
+fn following(bytes: &[u8], count: usize) -> &[u8]
     requires { count ≤ length bytes.now }
     ensures { result.now ≡ drop count bytes.now }
 {
@@ -125,7 +125,7 @@ pub(crate) fn answers_of(alloc: Global, bytes: &[u8]) -> Result<Option<Vec<Answe
             Some(answer) => answer,
         };
         push_answer(&mut answers, answer)?;
-        rest = behind(rest, answer_length(&answer));
+        rest = following(rest, answer_length(&answer));
     }
     Ok(Some(answers))
 }

@@ -1,6 +1,6 @@
 ghost use Rattle.std.specs.Prelude.{IfOk, IsOkUnless, option_map};
-ghost use Rattle.wc_view_decode.specs.Entries.{entry_told};
-ghost use Rattle.wc_view_decode.specs.Lines.{IsToldBy};
+ghost use Rattle.wc_view_decode.specs.Entries.{entry_content};
+ghost use Rattle.wc_view_decode.specs.Lines.{IsContentOf};
 
 use crate::answers::answers_entry;
 use crate::entry::ReportEntry;
@@ -11,7 +11,8 @@ use wc_model::Fault;
 
 /// What a line with its line feed says, or none if it is not a line of a report.
 pub(crate) fn line_entry(alloc: Global, line: &[u8]) -> Result<Option<ReportEntry>, Fault>
-    ensures told { IfOk result (λ found. IsToldBy (option_map entry_told found) line.now) }
+    ensures reported { IfOk result (λ found. IsContentOf
+        (option_map entry_content found) line.now) }
     ensures memory { IsOkUnless result Fault.Memory }
 {
     if line.is_empty() {

@@ -1,6 +1,6 @@
 ghost use Rattle.std.specs.Prelude.{◌≡◌, ℕ, IfOk, IsOkUnless, option_map, slice_index};
-ghost use Rattle.wc_view_decode.specs.Entries.{entry_told, refusal_told};
-ghost use Rattle.wc_view_decode.specs.Lines.{InRange, IsToldBy, TellsRefusal, told_text};
+ghost use Rattle.wc_view_decode.specs.Entries.{entry_content, refusal_content};
+ghost use Rattle.wc_view_decode.specs.Lines.{InRange, IsContentOf, RefusalContent, content_text};
 
 use crate::entry::{RefusalRow, ReportEntry};
 use crate::fields::{cut_field, short_number, small_number};
@@ -11,10 +11,10 @@ use wc_report::refused_line;
 
 /// The refusal of a line, if it is one.
 fn refusal_in(line: &[u8]) -> RefusalRow
-    ensures range { InRange (refusal_told result) }
-    ensures refusal { (number place : ℕ) → InRange (TellsRefusal number place)
-        → line.now ≡ told_text (TellsRefusal number place)
-        → refusal_told result ≡ TellsRefusal number place }
+    ensures range { InRange (refusal_content result) }
+    ensures refusal { (number place : ℕ) → InRange (RefusalContent number place)
+        → line.now ≡ content_text (RefusalContent number place)
+        → refusal_content result ≡ RefusalContent number place }
 {
     let (_mark, rest) = cut_field(line);
     let (number, rest) = cut_field(rest);
@@ -28,7 +28,8 @@ fn refusal_in(line: &[u8]) -> RefusalRow
 /// The refusal of a line that starts with r.
 pub(crate) fn refusal_entry(alloc: Global, line: &[u8]) -> Result<Option<ReportEntry>, Fault>
     requires { slice_index line.now 0 ≡ 114 }
-    ensures told { IfOk result (λ found. IsToldBy (option_map entry_told found) line.now) }
+    ensures reported { IfOk result (λ found. IsContentOf
+        (option_map entry_content found) line.now) }
     ensures memory { IsOkUnless result Fault.Memory }
 {
     let row = refusal_in(line);

@@ -1,7 +1,7 @@
 ghost use Rattle.std.specs.Prelude.{◌≡◌, ℕ, ℤ, List, IfOk, IsOkUnless, option_map, slice_index};
-ghost use Rattle.wc_view_decode.specs.Entries.{entry_told, scan_told};
+ghost use Rattle.wc_view_decode.specs.Entries.{entry_content, scan_content};
 ghost use Rattle.wc_view_decode.specs.Fields.{words_text};
-ghost use Rattle.wc_view_decode.specs.Lines.{AreWords, InRange, IsToldBy, TellsScan, told_text};
+ghost use Rattle.wc_view_decode.specs.Lines.{AreWords, InRange, IsContentOf, ScanContent, content_text};
 ghost use Rattle.wc_model.specs.declared.image.Outputs.{Outputs};
 
 use crate::entry::{ReportEntry, ScanRow};
@@ -31,10 +31,10 @@ fn words_in(text: &[u8]) -> [i32; 4]
 
 /// The scan of a line, if it is one.
 fn scan_in(line: &[u8]) -> ScanRow
-    ensures range { InRange (scan_told result) }
-    ensures scan { (ms steps : ℕ) (outputs : Outputs) → InRange (TellsScan ms steps outputs)
-        → line.now ≡ told_text (TellsScan ms steps outputs)
-        → scan_told result ≡ TellsScan ms steps outputs }
+    ensures range { InRange (scan_content result) }
+    ensures scan { (ms steps : ℕ) (outputs : Outputs) → InRange (ScanContent ms steps outputs)
+        → line.now ≡ content_text (ScanContent ms steps outputs)
+        → scan_content result ≡ ScanContent ms steps outputs }
 {
     let (_mark, rest) = cut_field(line);
     let (ms, rest) = cut_field(rest);
@@ -53,7 +53,8 @@ fn scan_in(line: &[u8]) -> ScanRow
 /// The scan of a line that starts with S.
 pub(crate) fn scan_entry(alloc: Global, line: &[u8]) -> Result<Option<ReportEntry>, Fault>
     requires { slice_index line.now 0 ≡ 83 }
-    ensures told { IfOk result (λ found. IsToldBy (option_map entry_told found) line.now) }
+    ensures reported { IfOk result (λ found. IsContentOf
+        (option_map entry_content found) line.now) }
     ensures memory { IsOkUnless result Fault.Memory }
 {
     let row = scan_in(line);

@@ -83,7 +83,7 @@ fn put_flat(out: &mut String, view: &View<'_>, lane: Lane, top: u64) -> Result<(
 }
 
 /// Puts a text at the right of a lane, which begins there.
-fn put_beside(out: &mut String, top: u64) -> Result<(), AllocError> {
+fn put_alongside(out: &mut String, top: u64) -> Result<(), AllocError> {
     let y = Tenths(top.saturating_add(240));
     write!(out, "<text x=\"858\" y=\"{y}\">")
 }
@@ -109,7 +109,7 @@ fn put_word(
     out.push_str("<path class=\"curve\" d=\"")?;
     put_curve(out, view, &range, Curve::Word(number))?;
     out.push_str("\"/>\n")?;
-    put_beside(out, top)?;
+    put_alongside(out, top)?;
     write!(out, "{least} to {greatest}</text>\n")
 }
 
@@ -153,10 +153,10 @@ fn put_bound(out: &mut String, view: &View<'_>, top: u64) -> Result<(), AllocErr
 /// Puts the most steps of a scan and the bound, of the first program, and below of the next one.
 fn put_most(out: &mut String, view: &View<'_>, top: u64) -> Result<(), AllocError> {
     let ScanSteps { most, bound } = view.steps.first;
-    put_beside(out, top)?;
+    put_alongside(out, top)?;
     write!(out, "{most} of {bound}</text>\n")?;
     if let Some(ScanSteps { most, bound }) = view.steps.next {
-        put_beside(out, top.saturating_add(140))?;
+        put_alongside(out, top.saturating_add(140))?;
         write!(out, "then {most} of {bound}</text>\n")?;
     }
     Ok(())

@@ -15,7 +15,7 @@ fn put_request(
     x: u64,
     top: u64,
     height: u64,
-    has_room: bool,
+    has_capacity: bool,
 ) -> Result<(), AllocError> {
     let Some(request) = events.last else {
         return Ok(());
@@ -30,7 +30,7 @@ fn put_request(
     }
     let answered = Answered(request);
     write!(out, "{answered}</title><path d=\"M{x} {base}V{middle}\"/>")?;
-    if has_room {
+    if has_capacity {
         let letter = char::from(request.command.letter());
         write!(out, "<text x=\"{x}\" y=\"{foot}\">{letter}</text>")?;
     }

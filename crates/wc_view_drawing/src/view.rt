@@ -95,15 +95,15 @@ impl<'p> View<'p> {
         };
         let low = least.min(0);
         let high = upper_edge(greatest, scale.max);
-        let room = high.saturating_sub(low) / 20;
+        let capacity = high.saturating_sub(low) / 20;
         View {
             columns,
             start,
             width,
             scale,
             steps,
-            low: low.saturating_sub(room),
-            high: high.saturating_add(room).saturating_add(1),
+            low: low.saturating_sub(capacity),
+            high: high.saturating_add(capacity).saturating_add(1),
         }
     }
 

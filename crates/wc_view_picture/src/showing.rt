@@ -1,5 +1,5 @@
 ghost use Rattle.wc_controller.specs.InputRuns.{RunsUnsaid};
-ghost use Rattle.wc_record.specs.Told.{fields_told};
+ghost use Rattle.wc_record.specs.Reported.{fields_reported};
 
 use crate::picture::Picture;
 use std::alloc::Global;
@@ -14,11 +14,11 @@ pub fn show_files<P: ByteIn, T: ByteIn, N: ByteIn, L: ByteIn, W: ByteOut>(
     alloc: Global,
     inputs: &mut RunInputs<P, T, N, L>,
     writer: &mut W,
-    told: &mut RefusedRow,
+    reported: &mut RefusedRow,
 ) -> Ending
-    ensures { RunsUnsaid inputs.old inputs.new (fields_told told.new) result
+    ensures { RunsUnsaid inputs.old inputs.new (fields_reported reported.new) result
         (W.failure_count writer.old) (W.failure_count writer.new) }
 {
-    let answer = run_inputs(alloc, &mut Picture::new(alloc), inputs, writer, told);
+    let answer = run_inputs(alloc, &mut Picture::new(alloc), inputs, writer, reported);
     Ending::of(answer)
 }

@@ -1,6 +1,6 @@
 ghost use Rattle.std.specs.Prelude.{◌≡◌, ◌+◌, IfErr, IfOk, IfSome, IsOkUnless};
 ghost use Rattle.wc_controller.specs.Blames.{Blames, RefusesProgram, RefusesText, StopsFor};
-ghost use Rattle.wc_controller.specs.Endings.{EndsAs, IsAt, IsReadFaultAt, StopsAt, TellsFailures, TellsReadEndings, TellsReadFaults, TellsWriteFaults, WritesUpTo, met};
+ghost use Rattle.wc_controller.specs.Endings.{EndsAs, IsAt, IsReadFaultAt, StopsAt, ReportsFailures, ReportsReadEndings, ReportsReadFaults, ReportsWriteFaults, WritesUpTo, raised};
 ghost use Rattle.wc_job.specs.Reads.{TakesAtMost};
 ghost use Rattle.wc_model.specs.Run.JobSections.{longest_job};
 ghost use Rattle.wc_view_preview.specs.Previews.{AnswersNew, AnswersPreview, IsOfWriting, IsPreview};
@@ -39,11 +39,11 @@ fn write_preview<W: ByteOut>(
     writer: &mut W,
 ) -> Result<(), Stopped>
     ensures writes { WritesUpTo (IsPreview paths old.now.source new.now.source)
-        (met result) (W.bytes_taken writer.old) (W.bytes_taken writer.new) }
+        (raised result) (W.bytes_taken writer.old) (W.bytes_taken writer.new) }
     // No input is refused here, and none is read.
     ensures held { IfErr result
         (λ stopped. (stopped.input ≡ Input.Next) × IsOfWriting stopped.fault) }
-    ensures failures { TellsWriteFaults (met result) (W.failure_count writer.old)
+    ensures failures { ReportsWriteFaults (raised result) (W.failure_count writer.old)
         (W.failure_count writer.new) }
 {
     let text = match preview_text(alloc, paths, old, new) {
@@ -73,12 +73,12 @@ fn preview_next<W: ByteOut>(
     writer: &mut W,
 ) -> Result<(), Stopped>
     ensures writes { WritesUpTo (AnswersNew paths old.now.source text.now)
-        (met result) (W.bytes_taken writer.old) (W.bytes_taken writer.new) }
+        (raised result) (W.bytes_taken writer.old) (W.bytes_taken writer.new) }
     ensures blames { IfErr result (λ stopped. stopped.input ≡ Input.Next
         → RefusesText text.now stopped.fault) }
     ensures own { IfErr result (λ stopped. stopped.input ≡ Input.Next) }
     ensures held { ¬ IsReadFaultAt Input.Next result }
-    ensures failures { TellsWriteFaults (met result) (W.failure_count writer.old)
+    ensures failures { ReportsWriteFaults (raised result) (W.failure_count writer.old)
         (W.failure_count writer.new) }
 {
     match load(alloc, text) {
@@ -99,7 +99,7 @@ fn preview_inputs<T: ByteIn, N: ByteIn, W: ByteOut>(
     writer: &mut W,
 ) -> Result<(), Stopped>
     ensures writes { IfSome (T.bytes_left program.old) (λ text. IfSome (N.bytes_left next.old)
-        (λ other. WritesUpTo (AnswersPreview paths text other) (met result)
+        (λ other. WritesUpTo (AnswersPreview paths text other) (raised result)
         (W.bytes_taken writer.old) (W.bytes_taken writer.new))) }
     ensures blames_program { StopsFor Input.Program RefusesProgram
         (T.bytes_left program.old) result }
@@ -109,11 +109,11 @@ fn preview_inputs<T: ByteIn, N: ByteIn, W: ByteOut>(
     ensures no_job { ¬ StopsAt Input.Job result }
     ensures no_plate { ¬ StopsAt Input.Plate result }
     ensures no_log { ¬ StopsAt Input.Log result }
-    ensures program { TellsReadFaults Input.Program result (T.failure_count program.old)
+    ensures program { ReportsReadFaults Input.Program result (T.failure_count program.old)
         (T.failure_count program.new) }
-    ensures next { TellsReadFaults Input.Next result (N.failure_count next.old)
+    ensures next { ReportsReadFaults Input.Next result (N.failure_count next.old)
         (N.failure_count next.new) }
-    ensures failures { TellsWriteFaults (met result) (W.failure_count writer.old)
+    ensures failures { ReportsWriteFaults (raised result) (W.failure_count writer.old)
         (W.failure_count writer.new) }
     ensures taken_program { TakesAtMost (longest_job + 1) (T.bytes_left program.old)
         (T.bytes_left program.new) }
@@ -165,11 +165,11 @@ pub fn preview_files<T: ByteIn, N: ByteIn, W: ByteOut>(
     ensures no_job { ¬ IsAt Input.Job result }
     ensures no_plate { ¬ IsAt Input.Plate result }
     ensures no_log { ¬ IsAt Input.Log result }
-    ensures program { TellsReadEndings Input.Program result (T.failure_count program.old)
+    ensures program { ReportsReadEndings Input.Program result (T.failure_count program.old)
         (T.failure_count program.new) }
-    ensures next { TellsReadEndings Input.Next result (N.failure_count next.old)
+    ensures next { ReportsReadEndings Input.Next result (N.failure_count next.old)
         (N.failure_count next.new) }
-    ensures failures { TellsFailures result (W.failure_count writer.old)
+    ensures failures { ReportsFailures result (W.failure_count writer.old)
         (W.failure_count writer.new) }
     // It reads no further than the byte that makes a program too long.
     ensures taken_program { TakesAtMost (longest_job + 1) (T.bytes_left program.old)

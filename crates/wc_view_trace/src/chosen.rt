@@ -37,7 +37,7 @@ fn is_between(from: Option<u64>, to: Option<u64>, ms: u64) -> bool
     ensures chosen { result ≡ true → IsBetween from to ms }
     ensures others { result ≡ false → ¬ IsBetween from to ms }
 {
-    let is_behind = match from {
+    let is_after = match from {
         Some(from) => from <= ms,
         None => true,
     };
@@ -45,5 +45,5 @@ fn is_between(from: Option<u64>, to: Option<u64>, ms: u64) -> bool
         Some(to) => ms <= to,
         None => true,
     };
-    is_behind && is_before
+    is_after && is_before
 }

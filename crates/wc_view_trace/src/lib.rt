@@ -4,10 +4,10 @@
 
 mod chosen;
 mod objects;
-mod trace_form;
+mod trace_format;
 mod tracer;
 mod tracing;
 
 pub use chosen::Chosen;
-pub use trace_form::TraceForm;
+pub use trace_format::TraceFormat;
 pub use tracing::trace_files;

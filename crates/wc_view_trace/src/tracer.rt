@@ -2,7 +2,7 @@ ghost use Rattle.std.specs.Prelude.{IsOkUnless};
 
 use crate::chosen::Chosen;
 use crate::objects::{put_end_object, put_object};
-use crate::trace_form::TraceForm;
+use crate::trace_format::TraceFormat;
 use std::alloc::Global;
 use wc_machine::{Machine, SeenLine};
 use wc_model::ByteOut;
@@ -16,7 +16,7 @@ use wc_view_trace_rows::{Legend, ShownScan, put_none_chosen, put_scan};
 pub(crate) struct Tracer {
     alloc: Global,
     chosen: Chosen,
-    form: TraceForm,
+    format: TraceFormat,
     legend: Option<Legend>,
     next: Option<Legend>,
     scans: u32,
@@ -37,11 +37,11 @@ fn legend_of(alloc: Global, program: Option<Program<'_, '_>>) -> Result<Option<L
 
 impl Tracer {
     /// Before the first scan.
-    pub(crate) fn new(alloc: Global, chosen: Chosen, form: TraceForm) -> Tracer {
+    pub(crate) fn new(alloc: Global, chosen: Chosen, format: TraceFormat) -> Tracer {
         Tracer {
             alloc,
             chosen,
-            form,
+            format,
             legend: None,
             next: None,
             scans: 0,
@@ -69,9 +69,9 @@ impl Tracer {
         let Some(legend) = &self.legend else {
             return Ok(());
         };
-        match self.form {
-            TraceForm::Text => put_scan(self.alloc, &mut self.text, legend, machine, scan)?,
-            TraceForm::Json => put_object(self.alloc, &mut self.text, legend, machine, scan)?,
+        match self.format {
+            TraceFormat::Text => put_scan(self.alloc, &mut self.text, legend, machine, scan)?,
+            TraceFormat::Json => put_object(self.alloc, &mut self.text, legend, machine, scan)?,
         }
         Ok(())
     }
@@ -109,10 +109,15 @@ impl Tracer {
     fn put_end(&mut self) -> Result<(), RunFault>
         ensures { IsOkUnless result RunFault.Memory }
     {
-        match self.form {
-            TraceForm::Json => put_end_object(self.alloc, &mut self.text, self.scans, self.shown)?,
-            TraceForm::Text if self.shown == 0 => put_none_chosen(&mut self.text, self.scans)?,
-            TraceForm::Text => {}
+        match self.format {
+            TraceFormat::Json => put_end_object(
+                self.alloc,
+                &mut self.text,
+                self.scans,
+                self.shown,
+            )?,
+            TraceFormat::Text if self.shown == 0 => put_none_chosen(&mut self.text, self.scans)?,
+            TraceFormat::Text => {}
         }
         Ok(())
     }

@@ -1,8 +1,8 @@
 ghost use Rattle.wc_controller.specs.InputRuns.{RunsUnsaid};
-ghost use Rattle.wc_record.specs.Told.{fields_told};
+ghost use Rattle.wc_record.specs.Reported.{fields_reported};
 
 use crate::chosen::Chosen;
-use crate::trace_form::TraceForm;
+use crate::trace_format::TraceFormat;
 use crate::tracer::Tracer;
 use std::alloc::Global;
 use wc_controller::{Ending, RefusedRow, RunInputs, run_files};
@@ -15,14 +15,14 @@ use wc_model::{ByteIn, ByteOut};
 pub fn trace_files<P: ByteIn, T: ByteIn, N: ByteIn, L: ByteIn, W: ByteOut>(
     alloc: Global,
     chosen: Chosen,
-    form: TraceForm,
+    format: TraceFormat,
     inputs: &mut RunInputs<P, T, N, L>,
     writer: &mut W,
-    told: &mut RefusedRow,
+    reported: &mut RefusedRow,
 ) -> Ending
-    ensures { RunsUnsaid inputs.old inputs.new (fields_told told.new) result
+    ensures { RunsUnsaid inputs.old inputs.new (fields_reported reported.new) result
         (W.failure_count writer.old) (W.failure_count writer.new) }
 {
-    let mut tracer = Tracer::new(alloc, chosen, form);
-    run_files(alloc, &mut tracer, inputs, writer, told)
+    let mut tracer = Tracer::new(alloc, chosen, format);
+    run_files(alloc, &mut tracer, inputs, writer, reported)
 }

@@ -20,22 +20,22 @@ filled (suc n) m (y ∷ xs) x few =
 -- those that are left, and new ones after them
 pub gone : {A B : Type 0} (f : A → B) (x : B) (depth count : ℕ) (old cut new : List A) → count ≡ depth + 1 → cut ≡ take count old
     → map f new ≡ map f cut ++ replicate (count - length cut) x → map f new ≡ take (suc depth) (map f old ++ replicate (suc depth) x)
-gone f x depth count old cut new is is_cut begun =
+gone f x depth count old cut new is is_cut started =
     let same : count ≡ suc depth = omega arith in
     let kept : map f cut ≡ take (suc depth) (map f old) = ap (map f) is_cut ∙ ap (λ n. map f (take n old)) same ∙ sym (take-map f (suc depth) old) in
     let long : count - length cut ≡ suc depth - length (take (suc depth) (map f old)) = (λ i. same i - ((sym (length-map cut f) ∙ ap length kept) i)) in
-    begun ∙ (λ i. kept i ++ replicate (long i) x) ∙ sym (filled (suc depth) (suc depth) (map f old) x (omega arith))
+    started ∙ (λ i. kept i ++ replicate (long i) x) ∙ sym (filled (suc depth) (suc depth) (map f old) x (omega arith))
 
 -- one more that is new
-pub one_begun : {A B : Type 0} (f : A → B) (x : B) (level first : ℕ) (cut : List A) (items new : List B) → first ≤ level → new ≡ items ++ x ∷ []
+pub one_started : {A B : Type 0} (f : A → B) (x : B) (level first : ℕ) (cut : List A) (items new : List B) → first ≤ level → new ≡ items ++ x ∷ []
     → items ≡ map f cut ++ replicate (level - first) x → new ≡ map f cut ++ replicate (level + 1 - first) x
-one_begun f x level first cut items new within put begun =
+one_started f x level first cut items new within put started =
     let more : level - first + 1 ≡ level + 1 - first = omega arith in
-    put ∙ ap (λ l. l ++ x ∷ []) begun ∙ append_assoc (map f cut) (replicate (level - first) x) (x ∷ [])
+    put ∙ ap (λ l. l ++ x ∷ []) started ∙ append_assoc (map f cut) (replicate (level - first) x) (x ∷ [])
     ∙ ap (λ l. map f cut ++ l) (replicate_more (level - first) x) ∙ ap (λ k. map f cut ++ replicate k x) more
 
-pub none_begun : {A B : Type 0} (f : A → B) (x : B) (n : ℕ) (cut : List A) → map f cut ≡ map f cut ++ replicate (n - n) x
-none_begun f x n cut = let none : n - n ≡ 0 = omega arith in sym (append-nil (map f cut)) ∙ ap (λ k. map f cut ++ replicate k x) (sym none)
+pub none_started : {A B : Type 0} (f : A → B) (x : B) (n : ℕ) (cut : List A) → map f cut ≡ map f cut ++ replicate (n - n) x
+none_started f x n cut = let none : n - n ≡ 0 = omega arith in sym (append-nil (map f cut)) ∙ ap (λ k. map f cut ++ replicate k x) (sym none)
 
 -- the body that runs there, before a line and after it
 body_at : {A B : Type 0} (f : A → B) (bodies : List A) (i : ℕ) (body : A) → i < length bodies → body ≡ get_or bodies i body → slice_get (map f bodies) i ≡ Some (f body)

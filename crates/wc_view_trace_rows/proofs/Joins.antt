@@ -5,9 +5,9 @@ use Rattle.std.specs.Prelude.{option_map}
 use Rattle.wc_view_trace_rows.specs.Columns.{gap, with_cell}
 
 -- a space, a name, `=` and a text
-pub four_pieces : (old first second third new name text : List ℕ) → first ≡ old ++ 32 ∷ [] → second ≡ first ++ name → third ≡ second ++ 61 ∷ [] → new ≡ third ++ text
+pub four_chunks : (old first second third new name text : List ℕ) → first ≡ old ++ 32 ∷ [] → second ≡ first ++ name → third ≡ second ++ 61 ∷ [] → new ≡ third ++ text
     → new ≡ old ++ 32 ∷ (name ++ 61 ∷ text)
-four_pieces old first second third new name text one two three four =
+four_chunks old first second third new name text one two three four =
     four ∙ ap (λ l. l ++ text) (three ∙ ap (λ l. l ++ 61 ∷ []) (two ∙ ap (λ l. l ++ name) one))
     ∙ append_assoc ((old ++ 32 ∷ []) ++ name) (61 ∷ []) text
     ∙ append_assoc (old ++ 32 ∷ []) name (61 ∷ text)
@@ -34,16 +34,16 @@ pub numbered : {A B : Type 0} (b : Bool) (f : A → B) (number : Option A) (n : 
 numbered b f number n is there = ap (λ x. cond x None (option_map f number)) is ∙ ap (option_map f) there
 
 -- the row that follows a text
-pub row_put : (old front first second new : List ℕ) (result written : Option (List ℕ)) (r w : ℕ) (start : ℕ) → start ≡ length old → first ≡ old ++ front
+pub row_put : (old prefix first second new : List ℕ) (result written : Option (List ℕ)) (r w : ℕ) (start : ℕ) → start ≡ length old → first ≡ old ++ prefix
     → second ≡ take start first ++ with_cell r result (drop start first)
     → new ≡ take start second ++ with_cell w written (drop start second)
-    → new ++ 10 ∷ [] ≡ old ++ (with_cell w written (with_cell r result front) ++ 10 ∷ [])
-row_put old front first second new result written r w start is one two three =
+    → new ++ 10 ∷ [] ≡ old ++ (with_cell w written (with_cell r result prefix) ++ 10 ∷ [])
+row_put old prefix first second new result written r w start is one two three =
     let cut = λ (t : List ℕ). take_at old t start (sym is) in
     let left = λ (t : List ℕ). drop_at old t start (sym is) in
-    let second_is : second ≡ old ++ with_cell r result front =
-    two ∙ (λ i. take start (one i) ++ with_cell r result (drop start (one i))) ∙ (λ i. cut front i ++ with_cell r result (left front i)) in
-    let new_is : new ≡ old ++ with_cell w written (with_cell r result front) =
+    let second_is : second ≡ old ++ with_cell r result prefix =
+    two ∙ (λ i. take start (one i) ++ with_cell r result (drop start (one i))) ∙ (λ i. cut prefix i ++ with_cell r result (left prefix i)) in
+    let new_is : new ≡ old ++ with_cell w written (with_cell r result prefix) =
     three ∙ (λ i. take start (second_is i) ++ with_cell w written (drop start (second_is i)))
-    ∙ (λ i. cut (with_cell r result front) i ++ with_cell w written (left (with_cell r result front) i)) in
-    ap (λ l. l ++ 10 ∷ []) new_is ∙ append_assoc old (with_cell w written (with_cell r result front)) (10 ∷ [])
+    ∙ (λ i. cut (with_cell r result prefix) i ++ with_cell w written (left (with_cell r result prefix) i)) in
+    ap (λ l. l ++ 10 ∷ []) new_is ∙ append_assoc old (with_cell w written (with_cell r result prefix)) (10 ∷ [])

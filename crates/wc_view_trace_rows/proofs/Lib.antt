@@ -5,6 +5,6 @@ pub mod HandedOn
 pub mod Joins
 pub mod LastCalls
 pub mod NotesFound
-pub mod Pieces
+pub mod Chunks
 pub mod RowsPut
 pub mod SafeLines

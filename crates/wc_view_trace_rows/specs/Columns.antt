@@ -48,9 +48,9 @@ written_column = 58
 
 -- the start of a row that an item has at that depth of calls: the number of its line and the line, up to two columns before the result;
 -- or as many spaces, if the item is a part of a call
-abbrev pub front : Option ℕ → ℕ → List ℕ → List ℕ
-front None depth line = spaces (6 + indent depth)
-front (Some number) depth line = six_columns number ++ (spaces (indent depth) ++ line_shown (result_column - (6 + indent depth + 2)) line)
+abbrev pub prefix : Option ℕ → ℕ → List ℕ → List ℕ
+prefix None depth line = spaces (6 + indent depth)
+prefix (Some number) depth line = six_columns number ++ (spaces (indent depth) ++ line_shown (result_column - (6 + indent depth + 2)) line)
 
 -- what is at a column after the start of a row, or nothing
 abbrev pub with_cell : ℕ → Option (List ℕ) → List ℕ → List ℕ

@@ -2,7 +2,7 @@
 use Rattle.std.specs.Prelude.{◌≡◌, ℕ, ◌+◌, ◌<◌, ◌==◌, Bool, false, List, [], ◌∷◌, min, Option, Some, None, ℤ, FitsSigned, if◌then◌else◌}
 use Rattle.std.specs.Int.{w32}
 use Rattle.wc_text_flat.specs.Contents.{frame_of_text, number_in}
-use Rattle.wc_machine.specs.Machines.{MachineState, StandsFor}
+use Rattle.wc_machine.specs.Machines.{MachineState, RepresentsText}
 use Rattle.wc_machine.specs.declared.seen.SeenLine.{SeenLine}
 use Rattle.wc_model.specs.Language.Frames.{place_number}
 use Rattle.wc_model.specs.Language.Store.{Location, Store}
@@ -18,7 +18,7 @@ IsNumberHeld place None held = place < 65536 → (n : ℤ) → held ≡ Some n �
 
 abbrev pub IsNumberAt : MachineState → ℕ → Option ℤ → Type 0
 IsNumberAt machine place number =
-    (text : Text) (store : Store) (location : Location) → StandsFor machine text store → place_number (frame_of_text text) location ≡ Some place → IsNumberHeld place number (number_in store location)
+    (text : Text) (store : Store) (location : Location) → RepresentsText machine text store → place_number (frame_of_text text) location ≡ Some place → IsNumberHeld place number (number_in store location)
 
 -- a sum as far as 64 bits count
 abbrev pub up_to_most : ℕ → ℕ

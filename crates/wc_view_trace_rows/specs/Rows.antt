@@ -14,7 +14,7 @@ use Rattle.wc_model.specs.declared.source.Section.{Section}
 use Rattle.wc_model.specs.declared.source.Section.TheVariants as sections
 use Rattle.wc_model.specs.declared.value.Value.{Value}
 use Rattle.wc_model.specs.declared.value.Value.TheVariants.{Bool as Truth, Dint, Time}
-use Rattle.wc_view_trace_rows.specs.Columns.{front, row}
+use Rattle.wc_view_trace_rows.specs.Columns.{prefix, row}
 use Rattle.wc_view_trace_rows.specs.Legends.{line_of, name_of}
 use Rattle.wc_view_trace_rows.specs.declared.item.Item.{Item}
 use Rattle.wc_view_trace_rows.specs.declared.legend.Legend.{Legend}
@@ -116,4 +116,4 @@ written_cell legend item = if has_written item.seen.line item.seen.written then 
 -- the row of an item: its line as the text has it, the result, and what is written
 abbrev pub row_of : Legend → Item → List ℕ
 row_of legend item =
-    row (front (number_shown item.seen.line item.seen.source) item.seen.depth (line_of legend item.seen.source)) (result_cell item) (written_cell legend item)
+    row (prefix (number_shown item.seen.line item.seen.source) item.seen.depth (line_of legend item.seen.source)) (result_cell item) (written_cell legend item)

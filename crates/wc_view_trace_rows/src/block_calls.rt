@@ -31,7 +31,8 @@ pub(crate) fn block_of(seen: &SeenLine) -> Option<(StandardBlock, usize)>
 fn mark(items: &mut Vec<usize>, seen: &SeenLine, number: usize)
     ensures count { length items.new.items ≡ length items.old.items }
     ensures marks { (place : ℕ) → place < length items.old.items → slice_index items.new.items place
-        ≡ (if is_call_at place (block_of seen.now) then number else slice_index items.old.items place) }
+        ≡ (if is_call_at place
+        (block_of seen.now) then number else slice_index items.old.items place) }
 {
     let Some((_, place)) = block_of(seen) else {
         return;
@@ -56,7 +57,8 @@ impl LastCalls {
 
     /// Whether the item of that number, from 1, made the last call of the block that starts there.
     pub(crate) fn is_last(&self, number: usize, place: usize) -> bool
-        ensures { (places : ℕ) (lines : List SeenLine) → AreLastCalls self.now.items.items places lines
+        ensures { (places : ℕ) (lines : List SeenLine)
+            → AreLastCalls self.now.items.items places lines
             → result ≡ is_last_call places lines number place }
     {
         match self.items.get(place) {

@@ -1,5 +1,5 @@
 ghost use Rattle.std.specs.Prelude.{◌≡◌, ◌-◌, ◌++◌, IsOkUnless, OnOk, drop, length, decimal};
-ghost use Rattle.wc_view_trace_rows.specs.Columns.{front, gap, six_columns, spaces};
+ghost use Rattle.wc_view_trace_rows.specs.Columns.{prefix, gap, six_columns, spaces};
 
 use crate::shown::{bytes_from, columns_of, put_line};
 use wc_model::{Fault, put_bytes};
@@ -63,7 +63,7 @@ pub(crate) fn put_place(
     depth: u32,
     line: &[u8],
 ) -> Result<(), Fault>
-    ensures puts { OnOk result (text.new.items ≡ text.old.items ++ front number depth line.now) }
+    ensures puts { OnOk result (text.new.items ≡ text.old.items ++ prefix number depth line.now) }
     ensures memory { IsOkUnless result Fault.Memory }
 {
     let indent = 2 + 2 * depth.min(8) as usize;

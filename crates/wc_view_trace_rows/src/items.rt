@@ -101,9 +101,11 @@ impl Items {
     ) -> Result<Item, Fault>
         ensures item { IfOk result (λ item. (lines : List SeenLine)
             → AreLastCalls self.old.calls.items.items (length legend.now.kinds.items) lines
-            → IsItem legend.now machine.now lines number seen.now (levels_view self.old.levels) item) }
+            → IsItem legend.now machine.now lines number seen.now
+            (levels_view self.old.levels) item) }
         ensures levels { OnOk result
-            (levels_view self.new.levels ≡ levels_after legend.now seen.now (levels_view self.old.levels)) }
+            (levels_view self.new.levels
+            ≡ levels_after legend.now seen.now (levels_view self.old.levels)) }
         ensures calls { self.new.calls ≡ self.old.calls }
         ensures memory { IsOkUnless result Fault.Memory }
     {

@@ -46,7 +46,8 @@ fn put_starts(starts: &mut Vec<usize>, text: &[u8]) -> Result<(), Fault>
 impl Legend {
     /// The legend of a text that is loaded. `Memory` is the only fault.
     pub fn new(alloc: Global, text: &[u8], loaded: &Loaded<'_>) -> Result<Legend, Fault>
-        ensures legend { IfOk result (λ legend. IsLegendOf legend text.now (text_view loaded.now.source)) }
+        ensures legend { IfOk result (λ legend. IsLegendOf legend text.now
+            (text_view loaded.now.source)) }
         ensures memory { IsOkUnless result Fault.Memory }
     {
         let mut legend = Legend {

@@ -67,7 +67,8 @@ impl BodyLevel {
     /// Closes a parenthesis: the operator takes the result that was last put by.
     fn close(&mut self, operator: Operator)
         ensures { level_view self.new
-            ≡ closed (level_view self.old) (level_view self.old).put_by (kind_after_operator operator) }
+            ≡ closed (level_view self.old) (level_view self.old).put_by
+            (kind_after_operator operator) }
     {
         match self.put_by.pop() {
             Some(kind) => self.kind = kind_after_operator(operator, kind),

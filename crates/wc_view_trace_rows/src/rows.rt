@@ -119,7 +119,8 @@ fn put_name(text: &mut Vec<u8>, legend: &Legend, item: &Item) -> Result<(), Faul
 /// outputs after its last call in the scan.
 fn put_written(alloc: Global, text: &mut Vec<u8>, legend: &Legend, item: &Item) -> Result<(), Fault>
     ensures puts { OnOk result
-        (text.new.items ≡ text.old.items ++ written_text legend.now item.now item.now.seen.written) }
+        (text.new.items ≡ text.old.items
+        ++ written_text legend.now item.now item.now.seen.written) }
     ensures memory { IsOkUnless result Fault.Memory }
 {
     put_name(text, legend, item)?;
@@ -204,7 +205,8 @@ fn put_rows(
     machine: &Machine<'_, SlotStore>,
     lines: &[SeenLine],
 ) -> Result<(), Fault>
-    ensures puts { OnOk result (AreRows legend.now machine.now lines.now text.old.items text.new.items) }
+    ensures puts { OnOk result
+        (AreRows legend.now machine.now lines.now text.old.items text.new.items) }
     ensures memory { IsOkUnless result Fault.Memory }
 {
     let mut items = Items::new(alloc, legend, lines)?;
@@ -225,7 +227,8 @@ pub fn put_scan(
     machine: &Machine<'_, SlotStore>,
     scan: &ShownScan<'_>,
 ) -> Result<(), Fault>
-    ensures puts { OnOk result (PutsScan legend.now machine.now scan.now text.old.items text.new.items) }
+    ensures puts { OnOk result
+        (PutsScan legend.now machine.now scan.now text.old.items text.new.items) }
     ensures memory { IsOkUnless result Fault.Memory }
 {
     put_heading(text, scan.number, scan.ms, scan.is_changed)?;

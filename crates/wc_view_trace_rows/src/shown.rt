@@ -42,7 +42,7 @@ pub(crate) fn columns_of(text: &[u8]) -> usize
 
 /// The number of bytes of a text that take that many columns.
 fn bytes_of(text: &[u8], columns: usize) -> usize
-    ensures front { take result text.now ≡ first_columns columns text.now }
+    ensures prefix { take result text.now ≡ first_columns columns text.now }
     ensures within { result ≤ length text.now }
 {
     let mut left = columns;
@@ -78,7 +78,8 @@ fn first_shown(length: usize, byte: u8, is_utf8: bool) -> u8
 
 /// Puts a byte, unless it is a space that follows a space.
 fn put_single(text: &mut Vec<u8>, before: u8, byte: u8) -> Result<(), Fault>
-    ensures puts { OnOk result (text.new.items ≡ text.old.items ++ single_spaces before (byte ∷ [])) }
+    ensures puts { OnOk result (text.new.items ≡ text.old.items
+        ++ single_spaces before (byte ∷ [])) }
     ensures memory { IsOkUnless result Fault.Memory }
 {
     if byte == b' ' && before == b' ' {

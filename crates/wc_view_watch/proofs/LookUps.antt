@@ -53,8 +53,8 @@ pub all_names : (g : List ℕ → List ℕ) (names : List (List ℕ)) (index : �
 all_names g names index old line past so_far = so_far ∙ ap (λ t. old ++ flat_map g t) (take_all index names past)
 
 -- the parts of a line
-pub four_pieces : (old first second third new a b c d : List ℕ) → first ≡ old ++ a → second ≡ first ++ b → third ≡ second ++ c → new ≡ third ++ d → new ≡ old ++ (a ++ (b ++ (c ++ d)))
-four_pieces old first second third new a b c d one two three four =
+pub four_chunks : (old first second third new a b c d : List ℕ) → first ≡ old ++ a → second ≡ first ++ b → third ≡ second ++ c → new ≡ third ++ d → new ≡ old ++ (a ++ (b ++ (c ++ d)))
+four_chunks old first second third new a b c d one two three four =
     four ∙ ap (λ l. l ++ d) (three ∙ ap (λ l. l ++ c) (two ∙ ap (λ l. l ++ b) one))
     ∙ append_assoc ((old ++ a) ++ b) c d ∙ append_assoc (old ++ a) b (c ++ d) ∙ append_assoc old a (b ++ (c ++ d))
 

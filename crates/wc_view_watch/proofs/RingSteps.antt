@@ -73,10 +73,10 @@ none_kept texts n some same = record {
 }
 
 -- empty texts are nothing before the others
-behind_blank : (k n : ℕ) (all : List (List ℕ)) → joined (drop k (blank n ++ all)) ≡ joined (drop (k - n) all)
-behind_blank k zero all = ap (λ m. joined (drop m all)) (let same : k ≡ k - 0 = omega (arith) in same)
-behind_blank zero (suc n) all = behind_blank zero n all ∙ ap (λ m. joined (drop m all)) (let same : 0 - n ≡ 0 - suc n = omega (arith) in same)
-behind_blank (suc k) (suc n) all = behind_blank k n all ∙ ap (λ m. joined (drop m all)) (let same : k - n ≡ suc k - suc n = omega (arith) in same)
+after_blank : (k n : ℕ) (all : List (List ℕ)) → joined (drop k (blank n ++ all)) ≡ joined (drop (k - n) all)
+after_blank k zero all = ap (λ m. joined (drop m all)) (let same : k ≡ k - 0 = omega (arith) in same)
+after_blank zero (suc n) all = after_blank zero n all ∙ ap (λ m. joined (drop m all)) (let same : 0 - n ≡ 0 - suc n = omega (arith) in same)
+after_blank (suc k) (suc n) all = after_blank k n all ∙ ap (λ m. joined (drop m all)) (let same : k - n ≡ suc k - suc n = omega (arith) in same)
 
 -- what the ring holds, one text after another
 pub all_joined : (texts : List (List ℕ)) (first n : ℕ) (all : List (List ℕ)) → HoldsLast (ring_of texts first) n all → joined (drop first texts) ++ joined (take first texts) ≡ joined (last_items n all)
@@ -85,7 +85,7 @@ all_joined texts first n all holds =
     ∙ ap (λ k. joined (drop k (blank n ++ all)))
     (let counted : length (blank n ++ all) ≡ n + length all = length-append (blank n) all ∙ ap (λ k. k + length all) (length-blank n) in
     let left : length (blank n ++ all) - n ≡ length all = omega (arith, counted) in left)
-    ∙ behind_blank (length all) n all
+    ∙ after_blank (length all) n all
 
 -- the texts from the oldest on and those before it, if the oldest may be said to come after all
 pub both_parts : (texts : List (List ℕ)) (first at : ℕ) → at ≡ min first (length texts) → joined (drop at texts) ++ joined (take at texts) ≡ joined (drop first texts) ++ joined (take first texts)
@@ -104,15 +104,15 @@ both_parts texts first at least = by (order first (length texts))
         ∙ (λ i. joined ((drop_all (length texts) texts (omega (arith)) ∙ sym (drop_all first texts past)) i) ++ joined ((take_all (length texts) texts (omega (arith)) ∙ sym (take_all first texts past)) i))
 
 -- what is put of both parts is what the ring holds
-pub both_put : {V : Type 0} (items : V → List ℕ) (old middle new : List ℕ) (kept behind front : List V) (first at n : ℕ) (all : List (List ℕ))
-    → at ≡ min first (length kept) → middle ≡ old ++ joined (map items behind) → behind ≡ drop at kept → new ≡ middle ++ joined (map items front) → front ≡ take at kept
+pub both_put : {V : Type 0} (items : V → List ℕ) (old middle new : List ℕ) (kept following prefix : List V) (first at n : ℕ) (all : List (List ℕ))
+    → at ≡ min first (length kept) → middle ≡ old ++ joined (map items following) → following ≡ drop at kept → new ≡ middle ++ joined (map items prefix) → prefix ≡ take at kept
     → HoldsLast (ring_of (map items kept) first) n all → new ≡ old ++ joined (last_items n all)
-both_put items old middle new kept behind front first at n all least one rest two start holds =
+both_put items old middle new kept following prefix first at n all least one rest two start holds =
     let texts : List (List ℕ) = map items kept in
     let counted : length texts ≡ length kept = length-map kept items in
     two
     ∙ (λ i. one i ++ joined (map items (start i)))
-    ∙ append_assoc old (joined (map items behind)) (joined (map items (take at kept)))
+    ∙ append_assoc old (joined (map items following)) (joined (map items (take at kept)))
     ∙ ap (λ texts. old ++ texts)
     ((λ i. joined ((ap (map items) rest ∙ sym (drop-map items at kept)) i) ++ joined (sym (take-map items at kept) i))
     ∙ both_parts texts first at (least ∙ ap (min first) (sym counted)) ∙ all_joined texts first n all holds)

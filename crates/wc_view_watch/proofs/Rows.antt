@@ -5,33 +5,33 @@ use Rattle.std.proofs.lemmas.List.{append_assoc, reverse-append}
 use Rattle.std.proofs.lemmas.List.Elements.{filter-append}
 use Rattle.std.specs.List.{flat_map}
 use Rattle.std.specs.Prelude.{filter, map, reverse}
-use Rattle.wc_machine.specs.Machines.{MachineState, StandsFor}
+use Rattle.wc_machine.specs.Machines.{MachineState, RepresentsText}
 use Rattle.wc_model.specs.Instrument.Plates.{PlateData}
 use Rattle.wc_model.specs.Language.Store.{Store}
 use Rattle.wc_model.specs.Language.Tree.{Text}
 use Rattle.wc_model.specs.Run.Rows.{Change, LogRow, Past, RowData}
-use Rattle.wc_model.specs.Say.ProgramReport.{Logic, change_to, logic_behind, programs}
+use Rattle.wc_model.specs.Say.ProgramReport.{Logic, change_to, logic_following, programs}
 use Rattle.wc_model.specs.Say.Report.{AnswerLine, answer_line, is_answer_line, is_scan_line, line_text, report_text, state_with}
 use Rattle.wc_record.specs.declared.last_scans.Record.{Record}
 use Rattle.wc_run.proofs.Lines.{answer_dropped, answer_kept}
 use Rattle.wc_run.specs.Logics.{lines_of_row, logic_after}
 use Rattle.wc_run.specs.Observing.{IsShown, lines_of_scan, onto, row_of}
 use Rattle.wc_run.specs.Outputs.{line_of_record}
-use Rattle.wc_run.specs.Standing.{Stands, program_of}
-use Rattle.wc_open_scale.specs.Standing.{IsRunning}
+use Rattle.wc_run.specs.Representation.{Represents, program_of}
+use Rattle.wc_open_scale.specs.Representation.{IsRunning}
 use Rattle.wc_run.specs.declared.row_seen.RowSeen.{RowSeen}
 use Rattle.wc_run.specs.declared.row_seen.ScanSeen.{ScanSeen}
 use Rattle.wc_run.specs.declared.scale.Scale.{Scale}
 use Rattle.wc_view_watch.specs.Plans.{line_with_values, row_text, scans_so_far}
 use Rattle.wc_view_watch.specs.Ring.{RingState}
 use Rattle.wc_view_watch.specs.Values.{values_line}
-use Rattle.wc_view_watch.specs.Watching.{AreLookedUp, FitLogic, KeepsLast, RunsLogic, text_behind, written_now}
+use Rattle.wc_view_watch.specs.Watching.{AreLookedUp, FitLogic, KeepsLast, RunsLogic, text_after, written_now}
 use Rattle.wc_view_watch.specs.declared.watched_names.WatchedNames.{WatchedNames}
 
 -- the line of a scan, and that of its values
 pub scan_put : (list : List ℕ) (logic : Option Logic) (machine : MachineState) (names : WatchedNames) (record' : Record) (old first new : List ℕ)
     → FitLogic names list logic → RunsLogic (Some machine) logic → first ≡ old ++ line_text (line_of_record record')
-    → ((text : Text) (next : Option Text) (store : Store) → AreLookedUp names list text next → StandsFor machine text store → new ≡ first ++ values_line list text store record'.ms)
+    → ((text : Text) (next : Option Text) (store : Store) → AreLookedUp names list text next → RepresentsText machine text store → new ≡ first ++ values_line list text store record'.ms)
     → new ≡ old ++ line_with_values list logic (line_of_record record')
 scan_put list None machine names record' old first new fit runs one two = absurd runs
 scan_put list (Some logic) machine names record' old first new fit runs one two =
@@ -39,25 +39,25 @@ scan_put list (Some logic) machine names record' old first new fit runs one two 
     ∙ append_assoc old (line_text (line_of_record record')) (values_line list logic.text logic.store record'.ms)
 
 -- at a change the next text runs, if there is one
-changed_to : (names : WatchedNames) (list : List ℕ) (logic : Logic) (next : Option Text) → logic.next ≡ next → AreLookedUp names list (text_behind logic.text logic.next) None
+changed_to : (names : WatchedNames) (list : List ℕ) (logic : Logic) (next : Option Text) → logic.next ≡ next → AreLookedUp names list (text_after logic.text logic.next) None
     → AreLookedUp names list (change_to logic next).text (change_to logic next).next
 changed_to names list logic None is looked =
-    subst (λ other. AreLookedUp names list logic.text other) (sym is) (subst (λ other. AreLookedUp names list (text_behind logic.text other) None) is looked)
-changed_to names list logic (Some other) is looked = subst (λ next. AreLookedUp names list (text_behind logic.text next) None) is looked
+    subst (λ other. AreLookedUp names list logic.text other) (sym is) (subst (λ other. AreLookedUp names list (text_after logic.text other) None) is looked)
+changed_to names list logic (Some other) is looked = subst (λ next. AreLookedUp names list (text_after logic.text next) None) is looked
 
 pub changed : (old new : WatchedNames) (list : List ℕ) (plate : PlateData) (logic : Option Logic) (past : Past) (row : LogRow) → row.brings ≡ Change
-    → ((text : Text) (next : Option Text) → AreLookedUp old list text next → AreLookedUp new list (text_behind text next) None)
+    → ((text : Text) (next : Option Text) → AreLookedUp old list text next → AreLookedUp new list (text_after text next) None)
     → FitLogic old list (logic_after plate logic past) → FitLogic new list (logic_after plate logic (row ∷ past))
 changed old new list plate None past row is change fit = tt
 changed old new list plate (Some logic) past row is change fit =
-    let state : Logic = logic_behind plate logic past in
+    let state : Logic = logic_following plate logic past in
     subst (λ (brings : RowData). AreLookedUp new list (state_with plate programs brings row.ms past state).text (state_with plate programs brings row.ms past state).next) (sym is)
     (changed_to new list state state.next refl (change state.text state.next fit))
 
 -- the machine of a scale runs the logic after the rows
-pub runs_logic : {S : Type 0} (scale : Scale S) (plate : PlateData) (logic : Option Logic) (past : Past) → Stands scale plate logic past
+pub runs_logic : {S : Type 0} (scale : Scale S) (plate : PlateData) (logic : Option Logic) (past : Past) → Represents scale plate logic past
     → RunsLogic scale.opened.machine (logic_after plate logic past)
-runs_logic scale plate logic past stands = by scale.opened.machine (logic_after plate logic past) stands.opened.program
+runs_logic scale plate logic past represents = by scale.opened.machine (logic_after plate logic past) represents.opened.program
   where
     by : (machine : Option MachineState) (after : Option Logic) → IsRunning machine (program_of after) → RunsLogic machine after
     by None None runs = tt

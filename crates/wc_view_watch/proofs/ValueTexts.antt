@@ -4,7 +4,7 @@ use Rattle.std.proofs.lemmas.List.{append_assoc}
 use Rattle.std.specs.Prelude.{is_some}
 use Rattle.wc_view_changes.specs.ChangeReport.{content_text}
 use Rattle.wc_text_flat.specs.Contents.{number_in}
-use Rattle.wc_machine.specs.Machines.{MachineState, StandsFor}
+use Rattle.wc_machine.specs.Machines.{MachineState, RepresentsText}
 use Rattle.wc_model.specs.Language.CarriedPlaces.{frame_of_text}
 use Rattle.wc_model.specs.Language.Frames.{content_number, place_number}
 use Rattle.wc_model.specs.Language.Scopes.{kind_of}
@@ -26,10 +26,10 @@ pub record Shows (text : Text) (store : Store) (name : List ℕ) (watched : Name
   pub held : number_in store place ≡ Some (content_number (Plain value))
   pub shown : value_text text store name ≡ 32 ∷ (name ++ 61 ∷ content_text (Plain value))
 
-pub shows : (machine : MachineState) (text : Text) (store : Store) (name : List ℕ) (watched : NamedVariable) → StandsFor machine text store → variable_named text name ≡ Some watched
+pub shows : (machine : MachineState) (text : Text) (store : Store) (name : List ℕ) (watched : NamedVariable) → RepresentsText machine text store → variable_named text name ≡ Some watched
     → Shows text store name watched
-shows machine text store name watched stands e =
-    let r : Reads text store name watched = reads text store name watched stands.slots e in record {
+shows machine text store name watched represents e =
+    let r : Reads text store name watched = reads text store name watched represents.slots e in record {
       place = r.place;
       number = r.number;
       value = r.value;
@@ -48,9 +48,9 @@ shows_nothing text store name e = by (named_location text name) refl e
     by (Some place) is f = absurd (cc (f))
 
 -- a space, a name, `=` and a text, put one after another
-pub pieces : (old first second third new name text : List ℕ) → first ≡ old ++ 32 ∷ [] → second ≡ first ++ name → third ≡ second ++ 61 ∷ [] → new ≡ third ++ text
+pub chunks : (old first second third new name text : List ℕ) → first ≡ old ++ 32 ∷ [] → second ≡ first ++ name → third ≡ second ++ 61 ∷ [] → new ≡ third ++ text
     → new ≡ old ++ 32 ∷ (name ++ 61 ∷ text)
-pieces old first second third new name text one two three four =
+chunks old first second third new name text one two three four =
     four ∙ ap (λ l. l ++ text) (three ∙ ap (λ l. l ++ 61 ∷ []) (two ∙ ap (λ l. l ++ name) one))
     ∙ append_assoc ((old ++ 32 ∷ []) ++ name) (61 ∷ []) text
     ∙ append_assoc (old ++ 32 ∷ []) name (61 ∷ text)

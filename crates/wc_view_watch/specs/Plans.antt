@@ -13,13 +13,13 @@ use Rattle.wc_view_watch.specs.Values.{values_line}
 
 -- what is after a line of the report, by the logic after its row: after that of a scan the values in the store that it left, after
 -- an answer's nothing
-abbrev pub values_behind : List ℕ → Option Logic → ReportLine → List ℕ
-values_behind list None line = []
-values_behind list (Some logic) (AnswerLine ms bytes) = []
-values_behind list (Some logic) (ScanLine ms steps outputs) = values_line list logic.text logic.store ms
+abbrev pub values_after : List ℕ → Option Logic → ReportLine → List ℕ
+values_after list None line = []
+values_after list (Some logic) (AnswerLine ms bytes) = []
+values_after list (Some logic) (ScanLine ms steps outputs) = values_line list logic.text logic.store ms
 
 abbrev pub line_with_values : List ℕ → Option Logic → ReportLine → List ℕ
-line_with_values list logic line = line_text line ++ values_behind list logic line
+line_with_values list logic line = line_text line ++ values_after list logic line
 
 -- the scans of a row, and of the rows so far, each with its values
 abbrev pub scans_of_row : List ℕ → PlateData → Option Logic → Past → LogRow → List (List ℕ)

@@ -1,6 +1,6 @@
 -- What an observer that watches variables has looked up, and what it has kept. (No rule of the language.)
 use Rattle.std.specs.Prelude.{◌≡◌, ⊤, ℕ, List, [], map, Option, Some, None, option_map}
-use Rattle.wc_machine.specs.Machines.{MachineState, StandsFor}
+use Rattle.wc_machine.specs.Machines.{MachineState, RepresentsText}
 use Rattle.wc_model.specs.Instrument.Plates.{PlateData}
 use Rattle.wc_model.specs.Language.Tree.{Text}
 use Rattle.wc_model.specs.Run.Rows.{Past}
@@ -24,9 +24,9 @@ pub record AreLookedUp (names : WatchedNames) (list : List ℕ) (text : Text) (n
   pub ahead : option_map (λ all. all.items) names.next ≡ option_map (λ other. map (variable_named other) (names_in list)) next
 
 -- the text that runs after a change: the next one, if there is one
-abbrev pub text_behind : Text → Option Text → Text
-text_behind text None = text
-text_behind text (Some other) = other
+abbrev pub text_after : Text → Option Text → Text
+text_after text None = text
+text_after text (Some other) = other
 
 -- so of a logic; with none nothing is looked up
 abbrev pub FitLogic : WatchedNames → List ℕ → Option Logic → Type 0
@@ -38,7 +38,7 @@ abbrev pub RunsLogic : Option MachineState → Option Logic → Type 0
 RunsLogic None None = ⊤
 RunsLogic None (Some logic) = ⊥
 RunsLogic (Some machine) None = ⊥
-RunsLogic (Some machine) (Some logic) = StandsFor machine logic.text logic.store
+RunsLogic (Some machine) (Some logic) = RepresentsText machine logic.text logic.store
 
 -- the last n texts are kept, if these are asked for
 abbrev pub KeepsLast : Option RingState → Option ℕ → List (List ℕ) → Type 0

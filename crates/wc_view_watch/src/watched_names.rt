@@ -1,5 +1,5 @@
 ghost use Rattle.std.specs.Prelude.{◌≡◌, ◌<◌, ◌^◌, ◌++◌, ◌||◌, List, ℕ, IfOk, IsOkUnless, None, OnOk, Option, Some, flat_map, is_some, length, map, option_and_then, option_map, slice_get};
-ghost use Rattle.wc_machine.specs.Machines.{StandsFor};
+ghost use Rattle.wc_machine.specs.Machines.{RepresentsText};
 ghost use Rattle.wc_model.specs.Language.Store.{Store as Contents};
 ghost use Rattle.wc_model.specs.Language.Tree.{Text};
 ghost use Rattle.wc_model.specs.Language.Views.{text_view};
@@ -9,7 +9,7 @@ ghost use Rattle.wc_text_variables.specs.Numbered.{variable_named};
 ghost use Rattle.wc_view_watch.specs.Names.{names_in};
 ghost use Rattle.wc_view_watch.specs.Unknown.{IsUnknown};
 ghost use Rattle.wc_view_watch.specs.Values.{value_text, values_line};
-ghost use Rattle.wc_view_watch.specs.Watching.{AreLookedUp, text_behind};
+ghost use Rattle.wc_view_watch.specs.Watching.{AreLookedUp, text_after};
 
 use crate::names::{UnknownName, names_of};
 use crate::values::put_value;
@@ -37,7 +37,7 @@ fn put_named(
     name: &[u8],
     watched: &NamedVariable,
 ) -> Result<(), Fault>
-    ensures puts { (text : Text) (store : Contents) → StandsFor machine.now text store
+    ensures puts { (text : Text) (store : Contents) → RepresentsText machine.now text store
         → variable_named text name.now ≡ Some watched.now
         → OnOk result (line.new.items ≡ line.old.items ++ value_text text store name.now) }
     ensures memory { IsOkUnless result Fault.Memory }
@@ -58,7 +58,7 @@ fn put_if_watched(
     name: &[u8],
     watched: &Option<NamedVariable>,
 ) -> Result<(), Fault>
-    ensures puts { (text : Text) (store : Contents) → StandsFor machine.now text store
+    ensures puts { (text : Text) (store : Contents) → RepresentsText machine.now text store
         → variable_named text name.now ≡ watched.now
         → OnOk result (line.new.items ≡ line.old.items ++ value_text text store name.now) }
     ensures memory { IsOkUnless result Fault.Memory }
@@ -141,8 +141,10 @@ impl<'n> WatchedNames<'n> {
 
     /// Whether the name of that number means something in the first program or in the next one.
     fn is_known(&self, index: usize) -> bool
-        ensures { result ≡ (is_some (option_and_then (λ found. found) (slice_get self.now.watched.items index))
-            || is_some (option_and_then (λ all. option_and_then (λ found. found) (slice_get all.items index)) self.now.next)) }
+        ensures { result ≡ (is_some (option_and_then (λ found. found)
+            (slice_get self.now.watched.items index))
+            || is_some (option_and_then (λ all. option_and_then (λ found. found)
+            (slice_get all.items index)) self.now.next)) }
     {
         if is_watched(&self.watched, index) {
             return true;
@@ -178,7 +180,7 @@ impl<'n> WatchedNames<'n> {
     pub(crate) fn change(&mut self)
         ensures { (list : List ℕ) (text : Text) (next : Option Text)
             → AreLookedUp self.old list text next
-            → AreLookedUp self.new list (text_behind text next) None }
+            → AreLookedUp self.new list (text_after text next) None }
     {
         if let Some(next) = self.next.take() {
             self.watched = next;
@@ -188,7 +190,7 @@ impl<'n> WatchedNames<'n> {
     /// Puts the names that the program has, each with its value. `Memory` is the only fault.
     fn put_values(&self, line: &mut Vec<u8>, machine: &Machine<'_, SlotStore>) -> Result<(), Fault>
         ensures puts { (list : List ℕ) (text : Text) (next : Option Text) (store : Contents)
-            → AreLookedUp self.now list text next → StandsFor machine.now text store
+            → AreLookedUp self.now list text next → RepresentsText machine.now text store
             → OnOk result (line.new.items ≡ line.old.items
             ++ flat_map (value_text text store) (names_in list)) }
         ensures memory { IsOkUnless result Fault.Memory }
@@ -213,7 +215,7 @@ impl<'n> WatchedNames<'n> {
         machine: &Machine<'_, SlotStore>,
     ) -> Result<(), Fault>
         ensures puts { (list : List ℕ) (text : Text) (next : Option Text) (store : Contents)
-            → AreLookedUp self.now list text next → StandsFor machine.now text store
+            → AreLookedUp self.now list text next → RepresentsText machine.now text store
             → OnOk result (line.new.items ≡ line.old.items ++ values_line list text store ms) }
         ensures memory { IsOkUnless result Fault.Memory }
     {

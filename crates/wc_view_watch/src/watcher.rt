@@ -6,7 +6,7 @@ ghost use Rattle.wc_model.specs.Say.ProgramReport.{Logic, first_logic};
 ghost use Rattle.wc_run.specs.Logics.{logic_after, text_of_next};
 ghost use Rattle.wc_run.specs.Observing.{IsShown, loaded_of, row_of};
 ghost use Rattle.wc_run.specs.Outputs.{line_of_record};
-ghost use Rattle.wc_run.specs.Standing.{Stands};
+ghost use Rattle.wc_run.specs.Representation.{Represents};
 ghost use Rattle.wc_view_watch.specs.Plans.{end_text, line_with_values, row_text, scans_so_far};
 ghost use Rattle.wc_view_watch.specs.Unknown.{IsUnknown};
 ghost use Rattle.wc_view_watch.specs.Watching.{FitLogic, KeepsLast, RefusesFor, RunsLogic, WatchesAs, written_now};
@@ -25,7 +25,7 @@ use wc_store::SlotStore;
 /// The number of bytes the line of a scan has at most, and the number each name has at most besides its own.
 const SCAN: usize = 96;
 
-const BESIDE: usize = 24;
+const ALONGSIDE: usize = 24;
 
 /// Observes a run, and writes its report and after the line of each scan one with the values that are watched.
 #[derive(Drop)]
@@ -42,10 +42,10 @@ pub(crate) struct Watcher<'n> {
 
 /// The number of bytes the text of a scan has at most, with the values of these names.
 fn scan_length(list: &[u8]) -> usize {
-    let mut length = list.len().saturating_add(SCAN).saturating_add(BESIDE);
+    let mut length = list.len().saturating_add(SCAN).saturating_add(ALONGSIDE);
     for byte in list {
         if *byte == b',' {
-            length = length.saturating_add(BESIDE);
+            length = length.saturating_add(ALONGSIDE);
         }
     }
     length
@@ -195,9 +195,11 @@ impl<'n> Watcher<'n> {
     /// Keeps the text of a scan, or appends it to the text of the row.
     fn keep_scan(&mut self) -> Result<(), RunFault>
         ensures same { WatchesAs self.old self.new }
-        ensures keeps { OnOk result ((scans : List (List ℕ)) → KeepsLast self.old.last self.old.number scans
+        ensures keeps { OnOk result ((scans : List (List ℕ))
+            → KeepsLast self.old.last self.old.number scans
             → KeepsLast self.new.last self.old.number (scans ++ self.old.scan.items ∷ [])) }
-        ensures text { OnOk result ((scans : List (List ℕ)) → KeepsLast self.old.last self.old.number scans
+        ensures text { OnOk result ((scans : List (List ℕ))
+            → KeepsLast self.old.last self.old.number scans
             → self.new.text.items
             ≡ self.old.text.items ++ written_now self.old.number self.old.scan.items) }
         ensures names { self.new.names ≡ self.old.names }
@@ -221,18 +223,20 @@ impl<'n> Watcher<'n> {
         ensures names { self.new.names ≡ self.old.names }
         ensures text { OnOk result ((plate : PlateData) (logic : Option Logic) (past : Past)
             → IsShown seen.now plate logic past
-            → Stands scale.now plate logic (row_of seen.now ∷ past)
+            → Represents scale.now plate logic (row_of seen.now ∷ past)
             → FitLogic self.old.names self.old.list.now
             (logic_after plate logic (row_of seen.now ∷ past))
-            → KeepsLast self.old.last self.old.number (scans_so_far self.old.list.now plate logic past)
+            → KeepsLast self.old.last self.old.number
+            (scans_so_far self.old.list.now plate logic past)
             → self.new.text.items
             ≡ row_text self.old.list.now self.old.number plate logic past (row_of seen.now)) }
         ensures scans { OnOk result ((plate : PlateData) (logic : Option Logic) (past : Past)
             → IsShown seen.now plate logic past
-            → Stands scale.now plate logic (row_of seen.now ∷ past)
+            → Represents scale.now plate logic (row_of seen.now ∷ past)
             → FitLogic self.old.names self.old.list.now
             (logic_after plate logic (row_of seen.now ∷ past))
-            → KeepsLast self.old.last self.old.number (scans_so_far self.old.list.now plate logic past)
+            → KeepsLast self.old.last self.old.number
+            (scans_so_far self.old.list.now plate logic past)
             → KeepsLast self.new.last self.old.number
             (scans_so_far self.old.list.now plate logic (row_of seen.now ∷ past))) }
         ensures memory { IsOkUnless result RunFault.Memory }

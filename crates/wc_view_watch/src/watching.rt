@@ -3,7 +3,7 @@ ghost use Rattle.wc_controller.specs.Endings.{IsAt};
 ghost use Rattle.wc_controller.specs.InputRuns.{RunsAs, TakesInputs};
 ghost use Rattle.wc_controller.specs.InputStates.{writer_of};
 ghost use Rattle.wc_controller.specs.TakenLogs.{OfPrograms};
-ghost use Rattle.wc_record.specs.Told.{fields_told};
+ghost use Rattle.wc_record.specs.Reported.{fields_reported};
 ghost use Rattle.wc_view_watch.specs.Runs.{watch_observed};
 ghost use Rattle.wc_view_watch.specs.Unknown.{IsFirstUnknown};
 
@@ -41,7 +41,7 @@ pub fn watch_files<P: ByteIn, T: ByteIn, N: ByteIn, L: ByteIn, W: ByteOut>(
     last: Option<u16>,
     inputs: &mut RunInputs<P, T, N, L>,
     writer: &mut W,
-    told: &mut RefusedRow,
+    reported: &mut RefusedRow,
 ) -> Result<Ending, UnknownName>
     requires few { IfSome last (λ n. (1 ≤ n) × (n ≤ 1000)) }
     // The name is the first one of the list that no program has.
@@ -52,7 +52,7 @@ pub fn watch_files<P: ByteIn, T: ByteIn, N: ByteIn, L: ByteIn, W: ByteOut>(
     ensures unread { IfErr result (λ name. inputs.new.log ≡ inputs.old.log) }
     // If a name is unknown, no run begins: `RunsAs` allows then the line of that refusal alone.
     ensures runs { IfOk result (λ ending. RunsAs (watch_observed names.now last)
-        inputs.old inputs.new (fields_told told.new) ending
+        inputs.old inputs.new (fields_reported reported.new) ending
         (writer_of W.bytes_taken W.failure_count writer.old)
         (writer_of W.bytes_taken W.failure_count writer.new)) }
     // So no ending names them.
@@ -63,7 +63,7 @@ pub fn watch_files<P: ByteIn, T: ByteIn, N: ByteIn, L: ByteIn, W: ByteOut>(
         Ok(watcher) => watcher,
         Err(_) => return Ok(Ending::NoMemory),
     };
-    let ending = run_files(alloc, &mut watcher, inputs, writer, told);
+    let ending = run_files(alloc, &mut watcher, inputs, writer, reported);
     if is_at_names(&ending) {
         return Err(within(watcher.unknown(), names));
     }

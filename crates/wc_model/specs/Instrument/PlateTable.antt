@@ -129,14 +129,14 @@ unless_broken None plate = Ok plate
 unless_broken (Some rule) plate = Err rule.0
 
 -- the plate of what is written, or the first broken rule
-abbrev pub judged : Written → Option (List ℕ) → Result PlateData ℕ
-judged w None = Err 503
-judged w (Some unit) = unless_broken (find (λ rule. not rule.1) (rules_after_unit w unit)) (plate_from w unit)
+abbrev pub validated : Written → Option (List ℕ) → Result PlateData ℕ
+validated w None = Err 503
+validated w (Some unit) = unless_broken (find (λ rule. not rule.1) (rules_after_unit w unit)) (plate_from w unit)
 
 -- the same, if all keys are there in their kinds
 abbrev pub plate_of_written : Option Written → Result PlateData ℕ
 plate_of_written None = Err 502
-plate_of_written (Some w) = judged w (line_unit w.unit)
+plate_of_written (Some w) = validated w (line_unit w.unit)
 
 -- the plate that a table gives, or the number of its refusal; with no table the text was not TOML
 abbrev pub plate_of : Option Table → Result PlateData ℕ

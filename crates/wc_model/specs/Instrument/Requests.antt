@@ -37,7 +37,7 @@ requests (byte ∷ rest) = cons_option (request_at byte rest) (requests rest)
 
 -- the texts of the requests that a chunk completes, after the bytes before it, which may have left a request cut short
 abbrev pub requests_in : List ℕ → List ℕ → List (List ℕ)
-requests_in before piece = drop (length (requests before)) (requests (before ++ piece))
+requests_in before chunk = drop (length (requests before)) (requests (before ++ chunk))
 
 -- the text so far of a request that begins with this byte and that nothing has closed or aborted
 abbrev pub open_at : ℕ → List ℕ → Option (List ℕ)
@@ -50,18 +50,18 @@ open_request (byte ∷ rest) = option_or (open_request rest) (open_at byte rest)
 
 -- the requests that one more byte completes: CR completes the open one
 abbrev pub completed_by : ℕ → Option (List ℕ) → List (List ℕ)
-completed_by byte begun = if byte == carriage_return then option_to_list begun else []
+completed_by byte started = if byte == carriage_return then option_to_list started else []
 
 -- what one more byte makes of the open request: LF opens a new one, a byte of text goes on, CR and ESC leave none
 abbrev pub opened_by : ℕ → Option (List ℕ) → Option (List ℕ)
-opened_by byte begun =
+opened_by byte started =
     if byte == line_feed then Some []
-    else if is_text byte then option_map (λ text. text ++ (byte ∷ [])) begun else None
+    else if is_text byte then option_map (λ text. text ++ (byte ∷ [])) started else None
 
 -- the requests that each of some chunks completes, in order
-abbrev pub requests_in_pieces : List ℕ → List (List ℕ) → List (List ℕ)
-requests_in_pieces before [] = []
-requests_in_pieces before (piece ∷ pieces) = requests_in before piece ++ requests_in_pieces (before ++ piece) pieces
+abbrev pub requests_in_chunks : List ℕ → List (List ℕ) → List (List ℕ)
+requests_in_chunks before [] = []
+requests_in_chunks before (chunk ∷ chunks) = requests_in before chunk ++ requests_in_chunks (before ++ chunk) chunks
 
 -- Where a stream is cut makes no difference.
 --     whole      the chunks of a stream complete the requests of the whole stream
@@ -69,7 +69,7 @@ requests_in_pieces before (piece ∷ pieces) = requests_in before piece ++ reque
 --     byte       one byte completes the open request, or nothing
 --     opens      and it opens a new one, goes on with it, or leaves none
 pub record IsCutAnywhere : Type 0 where
-  pub whole : (pieces : List (List ℕ)) → requests_in_pieces [] pieces ≡ requests (concat pieces)
+  pub whole : (chunks : List (List ℕ)) → requests_in_chunks [] chunks ≡ requests (concat chunks)
   pub again : (before first second : List ℕ) →
       requests_in before (first ++ second) ≡ requests_in before first ++ requests_in (before ++ first) second
   pub byte : (before : List ℕ) (byte : ℕ) → requests_in before (byte ∷ []) ≡ completed_by byte (open_request before)

@@ -133,13 +133,13 @@ abbrev pub tp_over : TpFields → ℕ → TpFields
 tp_over f start = if f.input then tp_held f start else tp_idle f
 
 -- a pulse that began at the moment `start` is over once the preset time has passed
-abbrev pub tp_begun : TpFields → ℕ → ℕ → TpFields
-tp_begun f now start = if nat_le (preset f.pt) (now - start) then tp_over f start else tp_pulsing f now start
+abbrev pub tp_started : TpFields → ℕ → ℕ → TpFields
+tp_started f now start = if nat_le (preset f.pt) (now - start) then tp_over f start else tp_pulsing f now start
 
 -- a call of TP, by the phase that it finds
 abbrev pub tp_from : ℕ → TpFields → ℕ → TpFields
-tp_from zero f now = if f.input then tp_begun f now now else tp_idle f
-tp_from (suc zero) f now = tp_begun f now f.start
+tp_from zero f now = if f.input then tp_started f now now else tp_idle f
+tp_from (suc zero) f now = tp_started f now f.start
 tp_from (suc (suc phase)) f now = tp_over f f.start
 
 -- a call of TP at a moment

@@ -2,10 +2,10 @@
 -- 2.5.2; kinds, the order and the rule on labels ahead are the profile's own).
 use Rattle.std.specs.Prelude.{ℕ, zero, Bool, true, false, not, ◌&&◌, ◌||◌, List, [], ◌∷◌, ◌++◌, Option, Some, None, is_some, if◌then◌else◌, pos}
 use Rattle.std.specs.List.{flat_map, list_any}
-use Rattle.wc_model.specs.Language.Checks.{Check, asks, Spot, spots_of}
+use Rattle.wc_model.specs.Language.Checks.{Check, asks, Position, positions_of}
 use Rattle.wc_model.specs.Language.DeclarationRules.{is_bit}
 use Rattle.wc_model.specs.Language.Declarations.{VariableType, Elementary, Standard, Block, Member, same_name, members_of, member_named}
-use Rattle.wc_model.specs.Language.Kinds.{is_kind, same_result, elementary_kind, term_kind, kind_after_operator, kind_after_step, BodyLine, AloneLine, PlainLine, NestedLine, lines_of, label_of, kind_at, opening_kind, kind_behind}
+use Rattle.wc_model.specs.Language.Kinds.{is_kind, same_result, elementary_kind, term_kind, kind_after_operator, kind_after_step, BodyLine, AloneLine, PlainLine, NestedLine, lines_of, label_of, kind_at, opening_kind, kind_following}
 use Rattle.wc_model.specs.Language.Meaning.{carries, takes_truth}
 use Rattle.wc_model.specs.Language.Names.{Name}
 use Rattle.wc_model.specs.Language.Scopes.{Scope, Entity, entity_of, type_of, is_input, is_result}
@@ -161,10 +161,10 @@ actual_checks scope line OutOf formal term = writing_checks scope line term ++ a
 
 -- one of a call's list: 409 there is such an input or output, 410 it is not named before, and then what goes in or where it
 -- goes
-abbrev pub argument_checks : Scope → ℕ → List Member → Spot Assignment → List Check
-argument_checks scope line members spot =
-    asks 409 line (is_some (formal_named spot.item.direction members spot.item.formal)) ∷ asks 410 line (not (list_any (λ a. same_name a.formal spot.item.formal) spot.before))
-    ∷ actual_checks scope line spot.item.direction (formal_named spot.item.direction members spot.item.formal) spot.item.actual
+abbrev pub argument_checks : Scope → ℕ → List Member → Position Assignment → List Check
+argument_checks scope line members position =
+    asks 409 line (is_some (formal_named position.item.direction members position.item.formal)) ∷ asks 410 line (not (list_any (λ a. same_name a.formal position.item.formal) position.before))
+    ∷ actual_checks scope line position.item.direction (formal_named position.item.direction members position.item.formal) position.item.actual
 
 -- an instance is what is called
 abbrev pub is_instance : Option VariableType → Bool
@@ -180,20 +180,20 @@ members_called scope (Some type) = members_of scope.before type
 abbrev pub call_checks : Scope → ℕ → Condition → Name → List Assignment → Option Kind → List Check
 call_checks scope line condition instance arguments kind =
     asks 401 line (is_some (type_of scope instance)) ∷ asks 402 line (is_instance (type_of scope instance)) ∷ condition_checks condition line kind
-    ++ flat_map (argument_checks scope line (members_called scope (type_of scope instance))) (spots_of arguments)
+    ++ flat_map (argument_checks scope line (members_called scope (type_of scope instance))) (positions_of arguments)
 
 -- 406: a later line of the body has the label
 abbrev pub is_ahead : List BodyLine → Name → Bool
-is_ahead behind label = list_any (λ line. carries (label_of line) label) behind
+is_ahead following label = list_any (λ line. carries (label_of line) label) following
 
 abbrev pub step_rules : Scope → ℕ → Step → List BodyLine → Option Kind → List Check
-step_rules scope line (Load negated operand) behind kind = load_checks scope line negated operand
-step_rules scope line (Store storing target) behind kind = store_checks scope line storing target kind
-step_rules scope line (Apply operator operand) behind kind = apply_checks scope line operator operand kind
-step_rules scope line Negate behind kind = truth_checks line kind
-step_rules scope line (Jump condition label) behind kind = asks 406 line (is_ahead behind label) ∷ condition_checks condition line kind
-step_rules scope line (Call condition instance arguments) behind kind = call_checks scope line condition instance arguments kind
-step_rules scope line (Return condition) behind kind = condition_checks condition line kind
+step_rules scope line (Load negated operand) following kind = load_checks scope line negated operand
+step_rules scope line (Store storing target) following kind = store_checks scope line storing target kind
+step_rules scope line (Apply operator operand) following kind = apply_checks scope line operator operand kind
+step_rules scope line Negate following kind = truth_checks line kind
+step_rules scope line (Jump condition label) following kind = asks 406 line (is_ahead following label) ∷ condition_checks condition line kind
+step_rules scope line (Call condition instance arguments) following kind = call_checks scope line condition instance arguments kind
+step_rules scope line (Return condition) following kind = condition_checks condition line kind
 
 -- an opening line: DIV and MOD may not be deferred, and the operand may be no instance
 abbrev pub opening_operand_checks : Scope → ℕ → Option Term → List Check
@@ -218,7 +218,7 @@ inside_rules scope End kind = []
 inside_rules scope (Alone label rest) kind = inside_rules scope rest kind
 inside_rules scope (Plain label line step rest) kind = step_rules scope line step [] kind ++ inside_rules scope rest (kind_after_step scope step kind)
 inside_rules scope (Nested label line operator operand inside close rest) kind =
-    opening_checks scope line operator operand kind ++ inside_rules scope inside (opening_kind scope operand) ++ closing_checks close kind (kind_behind scope inside (opening_kind scope operand))
+    opening_checks scope line operator operand kind ++ inside_rules scope inside (opening_kind scope operand) ++ closing_checks close kind (kind_following scope inside (opening_kind scope operand))
     ++ inside_rules scope rest (kind_after_operator operator kind)
 
 -- 407: a label is given once
@@ -227,18 +227,18 @@ label_rules before None = []
 label_rules before (Some word) = asks 407 word.line (not (list_any (λ line. carries (label_of line) word.name) before)) ∷ []
 
 abbrev pub line_rules : Scope → BodyLine → List BodyLine → Option Kind → List Check
-line_rules scope (AloneLine label) behind kind = []
-line_rules scope (PlainLine label line step) behind kind = step_rules scope line step behind kind
-line_rules scope (NestedLine label line operator operand inside close) behind kind =
-    opening_checks scope line operator operand kind ++ inside_rules scope inside (opening_kind scope operand) ++ closing_checks close kind (kind_behind scope inside (opening_kind scope operand))
+line_rules scope (AloneLine label) following kind = []
+line_rules scope (PlainLine label line step) following kind = step_rules scope line step following kind
+line_rules scope (NestedLine label line operator operand inside close) following kind =
+    opening_checks scope line operator operand kind ++ inside_rules scope inside (opening_kind scope operand) ++ closing_checks close kind (kind_following scope inside (opening_kind scope operand))
 
 -- a line with those before and after it: its label, and then its instruction
-abbrev pub spot_rules : Scope → Spot BodyLine → List Check
-spot_rules scope spot = label_rules spot.before (label_of spot.item) ++ line_rules scope spot.item spot.behind (kind_at scope spot.before spot.item)
+abbrev pub rules_at_position : Scope → Position BodyLine → List Check
+rules_at_position scope position = label_rules position.before (label_of position.item) ++ line_rules scope position.item position.following (kind_at scope position.before position.item)
 
 abbrev pub body_rules : Scope → List Check
-body_rules scope = flat_map (spot_rules scope) (spots_of (lines_of scope.unit.body))
+body_rules scope = flat_map (rules_at_position scope) (positions_of (lines_of scope.unit.body))
 
 -- what the pass on bodies asks of a text
 abbrev pub text_body_checks : Text → List Check
-text_body_checks text = flat_map (λ spot. body_rules (record { before = spot.before; unit = spot.item })) (spots_of text)
+text_body_checks text = flat_map (λ position. body_rules (record { before = position.before; unit = position.item })) (positions_of text)

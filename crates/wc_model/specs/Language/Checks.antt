@@ -26,21 +26,21 @@ first_broken (check ∷ checks) = if check.holds then first_broken checks else S
 pub record IsFirstBroken (checks : List Check) (refusal : Refusal) : Type 0 where
   pub before : List Check
   pub broken : Check
-  pub behind : List Check
-  pub asked : checks ≡ before ++ broken ∷ behind
+  pub following : List Check
+  pub asked : checks ≡ before ++ broken ∷ following
   pub fails : broken.holds ≡ false
   pub is_it : refusal ≡ record { number = broken.number; line = broken.line }
   pub none_before : list_all (λ check. check.holds) before ≡ true
 
 -- each item of a list with those before it, newest first, and those after it
-pub record Spot (X : Type 0) : Type 0 where
+pub record Position (X : Type 0) : Type 0 where
   pub before : List X
   pub item : X
-  pub behind : List X
+  pub following : List X
 
-abbrev pub spots_behind : {X : Type 0} → List X → List X → List (Spot X)
-spots_behind before [] = []
-spots_behind before (x ∷ xs) = record { before = before; item = x; behind = xs } ∷ spots_behind (x ∷ before) xs
+abbrev pub positions_after : {X : Type 0} → List X → List X → List (Position X)
+positions_after before [] = []
+positions_after before (x ∷ xs) = record { before = before; item = x; following = xs } ∷ positions_after (x ∷ before) xs
 
-abbrev pub spots_of : {X : Type 0} → List X → List (Spot X)
-spots_of xs = spots_behind [] xs
+abbrev pub positions_of : {X : Type 0} → List X → List (Position X)
+positions_of xs = positions_after [] xs

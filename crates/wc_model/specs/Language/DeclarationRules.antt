@@ -2,7 +2,7 @@
 -- 2.4 and 2.5; limits and reserved words are the profile's own).
 use Rattle.std.specs.Prelude.{ℕ, ◌+◌, ◌*◌, nat_le, Bool, true, false, not, ◌&&◌, ◌||◌, List, [], ◌∷◌, ◌++◌, map, length, Option, Some, None, is_some, if◌then◌else◌, ℤ, pos, negsuc}
 use Rattle.std.specs.List.{flat_map, list_any}
-use Rattle.wc_model.specs.Language.Checks.{Check, asks, spots_of}
+use Rattle.wc_model.specs.Language.Checks.{Check, asks, positions_of}
 use Rattle.wc_model.specs.Language.Declarations.{VariableType, Elementary, Standard, Block, same_name, is_block, block_named, type_named}
 use Rattle.wc_model.specs.Language.DirectVariables.{variable_at, direct_variables}
 use Rattle.wc_model.specs.Language.Names.{Name}
@@ -37,7 +37,7 @@ abbrev pub name_of_word : Word → Name
 name_of_word word = word.name
 
 abbrev pub names_are_new : List Name → List Word → List Check
-names_are_new names words = flat_map (λ spot. not_reserved spot.item ∷ is_new (map name_of_word spot.before ++ names) spot.item ∷ []) (spots_of words)
+names_are_new names words = flat_map (λ position. not_reserved position.item ∷ is_new (map name_of_word position.before ++ names) position.item ∷ []) (positions_of words)
 
 -- an instance is in VAR alone
 abbrev pub is_own : Section → Bool
@@ -58,13 +58,13 @@ abbrev pub is_closed_before : Text → List ProgramUnit → Name → Bool
 is_closed_before text before name = is_among type_words name || is_some (block_named before name) || not (names_block_of text name)
 
 -- 302: a type that there is, in a section where it may be
-abbrev pub may_stand : Section → VariableType → Bool
-may_stand section (Elementary kind) = true
-may_stand section (Standard block) = is_own section
-may_stand section (Block name) = is_own section
+abbrev pub may_occur : Section → VariableType → Bool
+may_occur section (Elementary kind) = true
+may_occur section (Standard block) = is_own section
+may_occur section (Block name) = is_own section
 
 abbrev pub is_usable_type : List ProgramUnit → Section → Name → Bool
-is_usable_type before section name = elim (type_named before name) [ Some type ↦ may_stand section type | None ↦ false ]
+is_usable_type before section name = elim (type_named before name) [ Some type ↦ may_occur section type | None ↦ false ]
 
 abbrev pub type_checks : Text → List ProgramUnit → Declaration → List Check
 type_checks text before d =
@@ -111,20 +111,20 @@ pub record Taken : Type 0 where
 abbrev pub places_of_type : List ProgramUnit → Name → ℕ
 places_of_type before type_name = length (variable_places (block_places before) (type_named before type_name) None)
 
-abbrev pub has_room : Taken → Bool
-has_room taken = nat_le taken.variables most_variables && nat_le taken.places most_places
+abbrev pub has_capacity : Taken → Bool
+has_capacity taken = nat_le taken.variables most_variables && nat_le taken.places most_places
 
 -- what is taken once a number of names of a type is declared
 abbrev pub and_more : Taken → ℕ → ℕ → Taken
 and_more taken count size = record { variables = taken.variables + count; places = taken.places + count * size }
 
-abbrev pub room_checks : Taken → ℕ → List Word → List Check
-room_checks taken size words = map (λ spot. asks 306 spot.item.line (has_room (and_more taken (length spot.before + 1) size))) (spots_of words)
+abbrev pub capacity_checks : Taken → ℕ → List Word → List Check
+capacity_checks taken size words = map (λ position. asks 306 position.item.line (has_capacity (and_more taken (length position.before + 1) size))) (positions_of words)
 
 -- the rules of a declaration, after the names and the places that the unit has taken before
 abbrev pub declaration_checks : Text → List ProgramUnit → List Name → Taken → Declaration → List Check
 declaration_checks text before names taken d =
-    names_are_new names d.names ++ type_checks text before d ++ initial_checks before d ++ room_checks taken (places_of_type before d.type_name.name) d.names
+    names_are_new names d.names ++ type_checks text before d ++ initial_checks before d ++ capacity_checks taken (places_of_type before d.type_name.name) d.names
 
 -- the names of declarations, and what they take on top of what is taken
 abbrev pub names_declared : List Declaration → List Name
@@ -140,7 +140,7 @@ taken_at_first unit = record { variables = 0; places = if is_block unit then 0 e
 
 abbrev pub unit_declaration_checks : Text → List ProgramUnit → ProgramUnit → List Check
 unit_declaration_checks text before unit =
-    flat_map (λ spot. declaration_checks text before (names_declared spot.before) (taken_by before (taken_at_first unit) spot.before) spot.item) (spots_of unit.declarations)
+    flat_map (λ position. declaration_checks text before (names_declared position.before) (taken_by before (taken_at_first unit) position.before) position.item) (positions_of unit.declarations)
 
 -- 305: no address in a function block; 304: an address that there is
 abbrev pub address_check : ProgramUnit → Word → Check
@@ -184,4 +184,4 @@ unit_checks text before unit =
 
 -- what the pass on declarations asks of a text
 abbrev pub text_declaration_checks : Text → List Check
-text_declaration_checks text = flat_map (λ spot. unit_checks text spot.before spot.item) (spots_of text)
+text_declaration_checks text = flat_map (λ position. unit_checks text position.before position.item) (positions_of text)

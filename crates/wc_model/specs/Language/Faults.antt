@@ -1,7 +1,7 @@
 -- The first fault of the passes after reading. (The passes and their order are the profile's own.)
 use Rattle.std.specs.Prelude.{◌≡◌, ℕ, ◌<◌, ◌≤◌, List, [], ◌∷◌, Option, Some, None, length, ◌⊎◌}
 use Rattle.wc_model.specs.Language.BodyRules.{text_body_checks}
-use Rattle.wc_model.specs.Language.Checks.{Refusal, Spot, spots_of, first_broken}
+use Rattle.wc_model.specs.Language.Checks.{Refusal, Position, positions_of, first_broken}
 use Rattle.wc_model.specs.Language.DeclarationRules.{text_declaration_checks}
 use Rattle.wc_model.specs.Language.Paths.{IsPath}
 use Rattle.wc_model.specs.Language.Traces.{Item}
@@ -19,17 +19,17 @@ abbrev pub MOST_STEPS : ℕ
 MOST_STEPS = 1000000
 
 -- a unit has a path that is too long, or none that is
-abbrev pub IsTooLong : Spot ProgramUnit → Type 0
-IsTooLong spot = (path : List Item) × IsPath (record { before = spot.before; unit = spot.item }) path × (MOST_STEPS < length path)
+abbrev pub IsTooLong : Position ProgramUnit → Type 0
+IsTooLong position = (path : List Item) × IsPath (record { before = position.before; unit = position.item }) path × (MOST_STEPS < length path)
 
-abbrev pub IsShortEnough : Spot ProgramUnit → Type 0
-IsShortEnough spot = (path : List Item) → IsPath (record { before = spot.before; unit = spot.item }) path → length path ≤ MOST_STEPS
+abbrev pub IsShortEnough : Position ProgramUnit → Type 0
+IsShortEnough position = (path : List Item) → IsPath (record { before = position.before; unit = position.item }) path → length path ≤ MOST_STEPS
 
 -- 411, at the first unit with a path that is too long
-abbrev pub FirstTooLong : List (Spot ProgramUnit) → Option Refusal → Type 0
+abbrev pub FirstTooLong : List (Position ProgramUnit) → Option Refusal → Type 0
 FirstTooLong [] refusal = refusal ≡ None
-FirstTooLong (spot ∷ spots) refusal =
-    (IsTooLong spot × (refusal ≡ Some (record { number = 411; line = spot.item.line }))) ⊎ (IsShortEnough spot × FirstTooLong spots refusal)
+FirstTooLong (position ∷ positions) refusal =
+    (IsTooLong position × (refusal ≡ Some (record { number = 411; line = position.item.line }))) ⊎ (IsShortEnough position × FirstTooLong positions refusal)
 
 abbrev pub IsCostFault : Text → Option Refusal → Type 0
-IsCostFault text refusal = FirstTooLong (spots_of text) refusal
+IsCostFault text refusal = FirstTooLong (positions_of text) refusal

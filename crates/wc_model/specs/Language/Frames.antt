@@ -3,7 +3,7 @@
 use Rattle.std.specs.Prelude.{ℕ, List, [], ◌∷◌, map, Option, Some, None, option_map, option_and_then, ℤ, pos, ◌≤ℤ◌, FitsSigned, if◌then◌else◌, Bool, true, false}
 use Rattle.std.specs.Int.{w32}
 use Rattle.std.specs.List.{flat_map, position_from}
-use Rattle.wc_model.specs.Language.Checks.{Spot, spots_of}
+use Rattle.wc_model.specs.Language.Checks.{Position, positions_of}
 use Rattle.wc_model.specs.Language.Declarations.{Variable, VariableType, Elementary, Standard, Block, is_block, type_named, variables_of}
 use Rattle.wc_model.specs.Language.DirectVariables.{variable_at}
 use Rattle.wc_model.specs.Language.Names.{Name, name_of}
@@ -36,11 +36,11 @@ abbrev pub number_of_path : Scope → WrittenPath → Option ℕ
 number_of_path scope path = option_and_then (place_number (frame_of scope)) (location_of path)
 
 -- a unit of a text, in text order from 0, with those before it
-abbrev pub scope_of_spot : Spot ProgramUnit → Scope
-scope_of_spot spot = record { before = spot.before; unit = spot.item }
+abbrev pub scope_of_position : Position ProgramUnit → Scope
+scope_of_position position = record { before = position.before; unit = position.item }
 
 abbrev pub scopes_of : Text → List Scope
-scopes_of text = map scope_of_spot (spots_of text)
+scopes_of text = map scope_of_position (positions_of text)
 
 -- what a place holds, as its kind of slot
 abbrev pub slot_kind_of : Content → SlotKind

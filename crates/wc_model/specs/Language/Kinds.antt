@@ -123,17 +123,17 @@ kinds_from_above scope [] = None ∷ []
 kinds_from_above scope (known ∷ earlier) = if leaves known.line then [] else kind_after scope known.line known.before ∷ []
 
 -- the kinds of all incoming paths of a line, whose earlier lines are known
-abbrev pub ways_in : Scope → List Known → BodyLine → List (Option Kind)
-ways_in scope earlier line = kinds_from_above scope earlier ++ kinds_from_label (label_of line) earlier
+abbrev pub edges_in : Scope → List Known → BodyLine → List (Option Kind)
+edges_in scope earlier line = kinds_from_above scope earlier ++ kinds_from_label (label_of line) earlier
 
 -- the kind on which all incoming paths agree; none if they do not, or if there is no path
 abbrev pub agreed : List (Option Kind) → Option Kind
 agreed [] = None
-agreed (way ∷ ways) = if list_all (same_result way) ways then way else None
+agreed (way ∷ edges) = if list_all (same_result way) edges then way else None
 
 -- the lines with the kinds before them, newest first
 abbrev pub with_line : Scope → BodyLine → List Known → List Known
-with_line scope line earlier = record { line = line; before = agreed (ways_in scope earlier line) } ∷ earlier
+with_line scope line earlier = record { line = line; before = agreed (edges_in scope earlier line) } ∷ earlier
 
 abbrev pub known_kinds : Scope → List BodyLine → List Known
 known_kinds scope [] = []
@@ -142,7 +142,7 @@ known_kinds scope (line ∷ before) = with_line scope line (known_kinds scope be
 -- the kind of the result at a line after these lines, newest first: of a label, the kind on which all incoming paths agree
 -- (label kinds)
 abbrev pub kind_at : Scope → List BodyLine → BodyLine → Option Kind
-kind_at scope before line = agreed (ways_in scope (known_kinds scope before) line)
+kind_at scope before line = agreed (edges_in scope (known_kinds scope before) line)
 
 -- the kind with which the lines inside a parenthesis start: that of the operand, or none
 abbrev pub opening_kind : Scope → Option Term → Option Kind
@@ -150,8 +150,8 @@ opening_kind scope None = None
 opening_kind scope (Some operand) = term_kind scope operand
 
 -- the kind after lines inside a parenthesis, which none of them leaves and no jump enters
-abbrev pub kind_behind : Scope → Lines → Option Kind → Option Kind
-kind_behind scope End result = result
-kind_behind scope (Alone label rest) result = kind_behind scope rest result
-kind_behind scope (Plain label line step rest) result = kind_behind scope rest (kind_after_step scope step result)
-kind_behind scope (Nested label line operator operand inside close rest) result = kind_behind scope rest (kind_after_operator operator result)
+abbrev pub kind_following : Scope → Lines → Option Kind → Option Kind
+kind_following scope End result = result
+kind_following scope (Alone label rest) result = kind_following scope rest result
+kind_following scope (Plain label line step rest) result = kind_following scope rest (kind_after_step scope step result)
+kind_following scope (Nested label line operator operand inside close rest) result = kind_following scope rest (kind_after_operator operator result)

@@ -18,10 +18,10 @@ spent_after_read old (Err e) = counted old 1
 
 -- one more if the write failed: an error, or nothing taken of a nonempty chunk
 abbrev pub failures_after_write : {E : Type 0} → ℕ → Result ℕ E → List ℕ → ℕ
-failures_after_write old (Ok zero) (byte ∷ piece) = counted old 1
+failures_after_write old (Ok zero) (byte ∷ chunk) = counted old 1
 failures_after_write old (Ok zero) [] = old
-failures_after_write old (Ok (suc n)) piece = old
-failures_after_write old (Err e) piece = counted old 1
+failures_after_write old (Ok (suc n)) chunk = old
+failures_after_write old (Err e) chunk = counted old 1
 
 -- the reader or writer inside
 abbrev pub device_inner : {D : Type 0} → Device D → D

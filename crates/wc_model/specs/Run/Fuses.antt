@@ -5,12 +5,12 @@ use Rattle.wc_model.specs.declared.fuse_out.FuseOut.{FuseOut}
 
 -- a chunk n times
 abbrev pub repeated : List ℕ → ℕ → List ℕ
-repeated piece zero = []
-repeated piece (suc times) = piece ++ repeated piece times
+repeated chunk zero = []
+repeated chunk (suc times) = chunk ++ repeated chunk times
 
 -- what a reader still gives
 abbrev pub fuse_bytes : FuseIn → List ℕ
-fuse_bytes fuse = fuse.left.now ++ repeated fuse.piece.now fuse.times
+fuse_bytes fuse = fuse.left.now ++ repeated fuse.chunk.now fuse.times
 
 -- if nothing is left of a chunk, nothing is left at all
 abbrev pub has_burnt_in : FuseIn → Type 0
@@ -18,4 +18,4 @@ has_burnt_in fuse = fuse.left.now ≡ [] → fuse_bytes fuse ≡ []
 
 -- what a writer took
 abbrev pub taken_by : FuseOut → List ℕ
-taken_by fuse = take fuse.taken fuse.room.items
+taken_by fuse = take fuse.taken fuse.capacity.items

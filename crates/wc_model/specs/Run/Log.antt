@@ -40,8 +40,8 @@ abbrev pub greatest_moment : ℕ
 greatest_moment = 1099511627775
 
 -- the greatest number of bytes that a row brings to the line
-abbrev pub longest_piece : ℕ
-longest_piece = 4096
+abbrev pub longest_chunk : ℕ
+longest_chunk = 4096
 
 -- the greatest number of a row
 abbrev pub most_rows : ℕ
@@ -63,8 +63,8 @@ abbrev pub counts_of : List ℕ → Option ℤ
 counts_of text = where_passes (λ counts. int_le least_sample counts && int_le counts greatest_sample) (whole_of text)
 
 -- line bytes: hexadecimal digits of no more bytes than a row may bring
-abbrev pub line_piece_of : List ℕ → Option (List ℕ)
-line_piece_of text = where_passes (λ bytes. nat_le (length bytes) longest_piece) (bytes_of_hex text)
+abbrev pub line_chunk_of : List ℕ → Option (List ℕ)
+line_chunk_of text = where_passes (λ bytes. nat_le (length bytes) longest_chunk) (bytes_of_hex text)
 
 -- inputs: four hexadecimal digits
 abbrev pub inputs_word_of : List ℕ → Option ℕ
@@ -73,8 +73,8 @@ inputs_word_of text =
 
 -- what a row brings, or the number of its refusal if the data is at fault
 abbrev pub brings_or : {A : Type 0} → ℕ → (A → RowData) → Option A → Result RowData ℕ
-brings_or refusal form None = Err refusal
-brings_or refusal form (Some value) = Ok (form value)
+brings_or refusal format None = Err refusal
+brings_or refusal format (Some value) = Ok (format value)
 
 -- a scan has no data
 abbrev pub scan_of_data : List ℕ → Result RowData ℕ
@@ -90,7 +90,7 @@ change_of_data (byte ∷ bytes) = Err 608
 abbrev pub row_data_of : List ℕ → List ℕ → Result RowData ℕ
 row_data_of kind text =
     if bytes_eq kind (codes "C") then brings_or 605 Counts (counts_of text)
-    else if bytes_eq kind (codes "L") then brings_or 606 Bytes (line_piece_of text)
+    else if bytes_eq kind (codes "L") then brings_or 606 Bytes (line_chunk_of text)
     else if bytes_eq kind (codes "I") then brings_or 606 Inputs (inputs_word_of text)
     else if bytes_eq kind (codes "S") then scan_of_data text
     else if bytes_eq kind (codes "P") then change_of_data text

@@ -7,9 +7,9 @@ abbrev pub HasFailedSince : ℕ → ℕ → Type 0
 HasFailedSince old new = (old < new) ⊎ (new ≡ 2 ^ 64 - 1)
 
 -- it has taken a prefix of the text, and not all of it
-pub record TakesFront (old new : Option (List ℕ)) (text : List ℕ) : Type 0 where
-  pub front : List ℕ
+pub record TakesPrefix (old new : Option (List ℕ)) (text : List ℕ) : Type 0 where
+  pub prefix : List ℕ
   pub rest : List ℕ
-  pub cut : text ≡ front ++ rest
+  pub cut : text ≡ prefix ++ rest
   pub short : 0 < length rest
-  pub taken : Appends old new front
+  pub taken : Appends old new prefix

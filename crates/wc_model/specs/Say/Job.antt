@@ -23,15 +23,15 @@ abbrev pub refusing : ℕ → ℕ → JobAnswer
 refusing number place = record { output = refused_text number place; status = 1 }
 
 -- the report of the rows up to the first refused one, and the refusal after it
-abbrev pub behind_report : List ℕ → Option LogRefusal → JobAnswer
-behind_report text None = record { output = text; status = 0 }
-behind_report text (Some refusal) = record { output = text ++ refused_text refusal.number refusal.row; status = 1 }
+abbrev pub after_report : List ℕ → Option LogRefusal → JobAnswer
+after_report text None = record { output = text; status = 0 }
+after_report text (Some refusal) = record { output = text ++ refused_text refusal.number refusal.row; status = 1 }
 
 -- the answer of a run with this logic
 abbrev pub run_answer : PlateData → Logic → LogOf → JobAnswer
 run_answer plate logic log =
     let taken = log_for (Some logic) log in
-    behind_report (program_report plate logic taken.rows) taken.refusal
+    after_report (program_report plate logic taken.rows) taken.refusal
 
 -- the refusal of a program's text, or what is answered with it once it is loaded
 pub data AnswersProgram (program : List ℕ) (rest : Text → JobAnswer → Type 0) (answer : JobAnswer) : Type 0 where

@@ -61,5 +61,5 @@ abbrev pub program_report_last : ℕ → PlateData → Logic → List LogRow →
 program_report_last n plate logic rows = report_last n plate programs logic rows
 
 -- the logic after rows, the newest first
-abbrev pub logic_behind : PlateData → Logic → Past → Logic
-logic_behind plate logic past = state_after plate programs logic past
+abbrev pub logic_following : PlateData → Logic → Past → Logic
+logic_following plate logic past = state_after plate programs logic past

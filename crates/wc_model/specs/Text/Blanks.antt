@@ -23,14 +23,14 @@ from_bracket [] = []
 from_bracket (b ∷ rest) = if starts_with_bracket (b ∷ rest) then b ∷ rest else from_bracket rest
 
 -- the slice is a comment: after its opening the first `(*` or `*)` is the one that closes it
-pub record IsComment (piece after : List ℕ) : Type 0 where
+pub record IsComment (chunk after : List ℕ) : Type 0 where
   pub inside : List ℕ
-  pub opens : piece ++ after ≡ comment_opening ++ inside
+  pub opens : chunk ++ after ≡ comment_opening ++ inside
   pub closes : from_bracket inside ≡ comment_closing ++ after
 
 -- the slice is between tokens if `after` follows it
-pub data Blank (piece after : List ℕ) : Type 0 where
-  Space : piece ≡ codes " " → Blank piece after
-  Tab : piece ≡ 9 ∷ [] → Blank piece after
-  Return : piece ≡ 13 ∷ [] → IsTrue (begins is_line_feed after) → Blank piece after
-  Comment : IsComment piece after → Blank piece after
+pub data Blank (chunk after : List ℕ) : Type 0 where
+  Space : chunk ≡ codes " " → Blank chunk after
+  Tab : chunk ≡ 9 ∷ [] → Blank chunk after
+  Return : chunk ≡ 13 ∷ [] → IsTrue (begins is_line_feed after) → Blank chunk after
+  Comment : IsComment chunk after → Blank chunk after

@@ -81,17 +81,17 @@ abbrev pub whole_of : Part → ℕ
 whole_of part = value_of_digits 10 (whole_digits part)
 
 -- at most 12 digits, with single underscores between them
-abbrev pub has_whole_form : Part → Bool
-has_whole_form part = are_digits 10 (whole_digits part) && nat_le (count_by (λ b. not (is_underscore b)) (whole_digits part)) 12
+abbrev pub has_whole_format : Part → Bool
+has_whole_format part = are_digits 10 (whole_digits part) && nat_le (count_by (λ b. not (is_underscore b)) (whole_digits part)) 12
 
 -- no point, or a point and 1 to 9 digits
-abbrev pub has_fraction_form : Part → Bool
-has_fraction_form part =
+abbrev pub has_fraction_format : Part → Bool
+has_fraction_format part =
     not (has_point part) || (nat_le 1 (length (fraction_digits part)) && nat_le (length (fraction_digits part)) 9 && list_all is_ascii_digit (fraction_digits part))
 
 -- a number and a unit
 abbrev pub is_part : Part → Bool
-is_part part = is_some (unit_named part.letters) && has_whole_form part && has_fraction_form part
+is_part part = is_some (unit_named part.letters) && has_whole_format part && has_fraction_format part
 
 -- a part after another
 abbrev pub is_later_part : Part → Bool

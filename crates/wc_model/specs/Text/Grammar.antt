@@ -5,7 +5,7 @@ use Rattle.std.specs.Bool.{⊤}
 use Rattle.wc_model.specs.Language.Names.{Name, name_of}
 use Rattle.wc_model.specs.Language.Tree.{Word, Term, Constant, Address, Variable, Field, Assignment, Step, Load, Store, Apply, Negate, Jump, Call, Return, Lines, End, Alone, Plain, Nested, Declaration, ProgramUnit, Text}
 use Rattle.wc_model.specs.Text.Marks.{Symbol, Identifier, Whole, Duration, Truth, Ampersand, AmpersandN, OpeningBracket, ClosingBracket, Comma, Colon, Semicolon, Point, Assign, Arrow, LineEnd, Mark, is_line_end, IsSymbol, IsNamed, IsWord, IsAddress}
-use Rattle.wc_model.specs.Text.Languages.{Language, nothing, empty, one, many, ◌then◌, ◌or◌, ◌given◌, optional, each, separated, skipping, front_of}
+use Rattle.wc_model.specs.Text.Languages.{Language, nothing, empty, one, many, ◌then◌, ◌or◌, ◌given◌, optional, each, separated, skipping, prefix_of}
 use Rattle.wc_model.specs.Text.Keywords.{unit_word, end_word, section_word, end_var, truth_word, load_word, store_word, operator_word, not_word, jump_word, call_word, return_word}
 use Rattle.wc_model.specs.declared.operator.Direction.{Direction}
 use Rattle.wc_model.specs.declared.operator.Direction.TheVariants.{Into, OutOf}
@@ -110,9 +110,9 @@ IsTransfer (Return condition) = ⊤
 IsTransfer _ = ⊥
 
 -- inside parentheses there is no jump, no call and no return
-abbrev pub MayStand : Setting → Step → Type 0
-MayStand InBody step = ⊤
-MayStand InParentheses step = ¬ (IsTransfer step)
+abbrev pub MayOccur : Setting → Step → Type 0
+MayOccur InBody step = ⊤
+MayOccur InParentheses step = ¬ (IsTransfer step)
 
 -- a label and its colon; inside parentheses there is none
 abbrev pub label_in : Setting → Option Word → Language Mark
@@ -139,7 +139,7 @@ lines setting End = line_ends
 lines setting (Alone label rest) = line_ends then label_in setting (Some label) then symbol LineEnd then lines setting rest
 lines setting (Plain label line step rest) =
     line_ends then label_in setting label then instruction line step then symbol LineEnd then lines setting rest
-    given MayStand setting step
+    given MayOccur setting step
 lines setting (Nested label line operator x inside close rest) =
     line_ends then label_in setting label then opening line operator x then lines InParentheses inside
     then one (IsOn close (IsSymbol ClosingBracket)) then symbol LineEnd then lines setting rest
@@ -203,5 +203,5 @@ pub record Spells (tokens : List Mark) (text : Text) : Type 0 where
   pub order : IsProgramLast text
 
 -- some further tokens complete these to a text, limits apart
-abbrev pub IsFront : List Mark → Type 0
-IsFront = front_of (λ tokens. (text : Text) × Spells tokens text)
+abbrev pub IsPrefix : List Mark → Type 0
+IsPrefix = prefix_of (λ tokens. (text : Text) × Spells tokens text)

@@ -29,10 +29,10 @@ many IsSort tokens = AllByRecursion IsSort tokens
 
 -- the tokens are a prefix of one language, and then the rest of the other
 pub record Sequence {T : Type 0} (first second : List T → Type 0) (tokens : List T) : Type 0 where
-  pub front : List T
+  pub prefix : List T
   pub rest : List T
-  pub whole : tokens ≡ front ++ rest
-  pub begins : first front
+  pub whole : tokens ≡ prefix ++ rest
+  pub begins : first prefix
   pub goes_on : second rest
 
 -- one, then the other
@@ -67,13 +67,13 @@ abbrev pub skipping : {T : Type 0} → (T → Bool) → Language T → Language 
 skipping is_skipped language tokens = language (filter (λ token. not (is_skipped token)) tokens)
 
 -- what some further tokens complete
-abbrev pub front_of : {T : Type 0} → Language T → Language T
-front_of {T} language tokens = (more : List T) × language (tokens ++ more)
+abbrev pub prefix_of : {T : Type 0} → Language T → Language T
+prefix_of {T} language tokens = (more : List T) × language (tokens ++ more)
 
 -- what is not yet whole: some token has still to come
 abbrev pub unfinished : {T : Type 0} → Language T → Language T
 unfinished {T} language tokens = (next : T) × (more : List T) × language (tokens ++ next ∷ more)
 
 -- what has started, and is not yet whole
-abbrev pub begun : {T : Type 0} → Language T → Language T
-begun language tokens = (tokens ≢ []) × unfinished language tokens
+abbrev pub started : {T : Type 0} → Language T → Language T
+started language tokens = (tokens ≢ []) × unfinished language tokens

@@ -3,8 +3,8 @@
 use Rattle.std.specs.Prelude.{ℕ, List, [], ◌∷◌, Option}
 use Rattle.wc_model.specs.Language.Tree.{Word, Term, Step, Lines, ProgramUnit}
 use Rattle.wc_model.specs.Text.Marks.{Mark, ClosingBracket, LineEnd}
-use Rattle.wc_model.specs.Text.Languages.{Language, empty, ◌then◌, ◌or◌, ◌given◌, optional, unfinished, begun}
-use Rattle.wc_model.specs.Text.Grammar.{symbol, operand, bracket, opening, instruction, Setting, InBody, InParentheses, MayStand, label_in, HasContent, lines, head, unit_of, units}
+use Rattle.wc_model.specs.Text.Languages.{Language, empty, ◌then◌, ◌or◌, ◌given◌, optional, unfinished, started}
+use Rattle.wc_model.specs.Text.Grammar.{symbol, operand, bracket, opening, instruction, Setting, InBody, InParentheses, MayOccur, label_in, HasContent, lines, head, unit_of, units}
 use Rattle.wc_model.specs.declared.operator.Operator.{Operator}
 
 -- a parenthesis that is open: the lines before it in its list, and its opening line
@@ -57,7 +57,7 @@ closed setting tokens =
 abbrev pub cut_short : Setting → Language Mark
 cut_short setting tokens =
     (label : Option Word) × (line : ℕ) × (step : Step)
-    × (unfinished (label_in setting label then instruction line step then symbol LineEnd) given MayStand setting step) tokens
+    × (unfinished (label_in setting label then instruction line step then symbol LineEnd) given MayOccur setting step) tokens
 
 -- a line that no parenthesis of its own is left open in, before its end
 abbrev pub part_of_line : Setting → Language Mark
@@ -65,7 +65,7 @@ part_of_line setting = cut_short setting or closed setting
 
 -- The tokens stop after whole units and in a further one: some of its tokens have come, and some have not.
 abbrev pub StopsInUnit : ProgramUnit → List Mark → Type 0
-StopsInUnit unit tokens = (before : List ProgramUnit) × (units before then begun (unit_of unit)) tokens
+StopsInUnit unit tokens = (before : List ProgramUnit) × (units before then started (unit_of unit)) tokens
 
 -- a body's tokens that stop on an opening line, after its bracket
 abbrev pub opening_cut_short : List Opening → Opening → Language Mark

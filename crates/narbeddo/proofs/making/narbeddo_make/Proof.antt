@@ -2,7 +2,7 @@
 use Rattle.narbeddo.proofs.Steps.{List, [], ◌∷◌, ◌++◌, refl, proved, full_share, id⊢, sep, ftrue, Val, fact, tables, sem, ‵, raw, ◌⊛◌, some, later, prop, ◌$◌, ◌∵◌, !, qed, done, move, keep, drop, use1, use2, split, join, pick, show, await, regoal, suffices, frame, group, enter, of_opd, stop, no_more, and_then, returns, alloc_all, pass_all, free_all, look_at, get, through, sets, lands_as, yes, Is, shows, Ptr, RawPtr, block_ptr, lies_at, in_a_block, rawptr_vals, rawptr_Tells, plain, nothing, heard, peeks, calls_at, lasts, triple_of, Stays, walk_of, says, stay_dropped, Goes-dropped, ends_at, framed, WpFn, feq_i}
 use types.Run.{unit_lit, assigns, init}
 use mir.Val.{vunit}
-use Rattle.wc_scale.specs.Standing.{IsClosed}
+use Rattle.wc_scale.specs.Representation.{IsClosed}
 use borrow.Table.OneValue.{part_in}
 use denote.RawPtr.{room_at}
 use Rattle.std.specs.contracts.alloc.Global.{the_row as Z}

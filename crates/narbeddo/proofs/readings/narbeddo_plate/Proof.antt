@@ -1,8 +1,8 @@
 -- The scale at the pointer is borrowed for one call of `engraved_of`.
 use Rattle.narbeddo.proofs.Steps.{◌≡◌, [], ◌∷◌, ◌++◌, refl, proved, full_share, id⊢, sep, GName, ftrue, flft, flent, named, vptr, fact, tables, sem, Body, lft_new, lft_end, ‵, raw, ◌⊛◌, some, later, prop, ◌$◌, ◌∵◌, !, qed, done, move, keep, drop, use1, use2, use3, split, join, fsplit, pick, show, await, regoal, suffices, frame, group, enter, of_opd, addr, stop, no_more, and_then, returns, alloc_all, pass_all, free_all, look_at, get, through, sets, lands_as, yes, Is, shows, lends_ref, ref_back, mem, Ptr, RawPtr, block_ptr, lies_at, in_a_block, rawptr_vals, rawptr_Tells, MutRef, plain, nothing, heard, peeks, calls_at, lasts, on_entry, triple_of, Stays, walk_of, says, stay_dropped, Goes-dropped, ends_at, framed, WpFn}
 use Rattle.wc_scale.specs.contracts.scale.Scale.{the_row as R}
-use Rattle.wc_scale.specs.Calls.{ShowsNoPlate, TellsEngraved}
-use Rattle.wc_scale.specs.Standing.{IsClosed}
+use Rattle.wc_scale.specs.Calls.{ShowsNoPlate, ReportsEngraved}
+use Rattle.wc_scale.specs.Representation.{IsClosed}
 use Rattle.wc_scale.specs.contracts.results.Engraved.{the_row as T}
 use Rattle.wc_scale.proofs.results.Engraved.TheLaws.{the_row_laws as T-laws}
 use Rattle.narbeddo.specs.contracts.readings.narbeddo_plate as f
@@ -35,7 +35,7 @@ narbeddo_plate_spec 𝓤 𝓛 𝓜 𝓡 wired =
     calls_at ! (framed 𝓤 𝓛.H 𝓜 (tables 𝓤 𝓛.H 𝓜 𝓡 𝓡.env)) G (met 𝓤 𝓛 𝓜 𝓡 (code.calls-narbeddo::readings::engraved_of 𝓡.env wired)) z
     (and_then ! (get ! refl) (no_more !)) (λ v.
     use1 𝓛 (later (some (λ (r : T.Denot). ((‵ (flft (α ∷ []) full_share) ⊛ ‵ ftrue) ⊛ ‵ (T.own_val r (v ∷ []))) ⊛
-    some (λ (ws : (R.Denot × Unit {0})). ‵ (lasts g.ended z.0.0 z.0.3 ws) ⊛ (raw (fact 𝓤 (TellsEngraved h r)) ⊛ (raw (fact 𝓤 (IsClosed h → ShowsNoPlate r)) ⊛ raw (fact 𝓤 (ws.0 ≡ h)))))))) (id⊢ 𝓤 _) $
+    some (λ (ws : (R.Denot × Unit {0})). ‵ (lasts g.ended z.0.0 z.0.3 ws) ⊛ (raw (fact 𝓤 (ReportsEngraved h r)) ⊛ (raw (fact 𝓤 (IsClosed h → ShowsNoPlate r)) ⊛ raw (fact 𝓤 (ws.0 ≡ h)))))))) (id⊢ 𝓤 _) $
     await ! tt $ pick ! (λ r. split ! $ split ! $ split ! $ lft_end ! tt $
     -- [α is over; the other tokens; the result; its facts; what the lender keeps]
     move ! (2 ∷ []) $ peeks ! T (Is T) (shows 𝓛 T) r (v ∷ []) (λ is. lands_as ! refl refl ((T-laws.lawful 𝓛).typed r _ is).0 $
@@ -45,4 +45,4 @@ narbeddo_plate_spec 𝓤 𝓛 𝓜 𝓡 wired =
     returns ! (look_at ! 0 refl) $ free_all ! refl $ keep ! (3 ∷ 0 ∷ []) $
     suffices ! _ (ends_at 𝓛 f.ended stayed c (y (block_ptr b o)) v r (tt, tt) (tt, tt)) $
     nothing ! $ nothing ! $ join ! $ nothing ! $ group ! 3 $ frame ! $
-    show ! (λ (k : R.Denot). sep 𝓤 (sem 𝓛 (lies_at R full_share (block_ptr b o) k)) (fact 𝓤 ((TellsEngraved h r) × (IsClosed h → ShowsNoPlate r) × (k ≡ h)))) ws.0 $ says ! (f0, f1, f2) $ done !))))))))))))
+    show ! (λ (k : R.Denot). sep 𝓤 (sem 𝓛 (lies_at R full_share (block_ptr b o) k)) (fact 𝓤 ((ReportsEngraved h r) × (IsClosed h → ShowsNoPlate r) × (k ≡ h)))) ws.0 $ says ! (f0, f1, f2) $ done !))))))))))))

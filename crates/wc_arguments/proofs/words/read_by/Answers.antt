@@ -1,12 +1,12 @@
 use Rattle.wc_arguments.specs.Asked.{texts_of}
-use Rattle.wc_arguments.proofs.FormWords.{asked_is, form_is, parsed, refused_by}
+use Rattle.wc_arguments.proofs.FormatWords.{asked_is, format_is, parsed, refused_by}
 use Rattle.wc_arguments.proofs.words.read_by.Goals as goal
 
 pub returns-in-Ok-clause-asked : goal.returns-in-Ok-clause-asked
 returns-in-Ok-clause-asked c = asked_is _ (texts_of c.args.words.now) _ _ _ c.requires c.in-Ok.ensures.ok.2 c.asked_in.ensures.asked
 
-pub returns-in-Ok-clause-form : goal.returns-in-Ok-clause-form
-returns-in-Ok-clause-form c = form_is _ (texts_of c.args.words.now) _ _ _ _ c.requires c.in-Ok.ensures.ok.2 c.asked_in.ensures.form c.form_of.ensures
+pub returns-in-Ok-clause-format : goal.returns-in-Ok-clause-format
+returns-in-Ok-clause-format c = format_is _ (texts_of c.args.words.now) _ _ _ _ c.requires c.in-Ok.ensures.ok.2 c.asked_in.ensures.format c.format_of.ensures
 
 pub returns-in-Ok-clause-refused : goal.returns-in-Ok-clause-refused
 returns-in-Ok-clause-refused c = parsed _ (texts_of c.args.words.now) c.requires c.in-Ok.ensures.kinds

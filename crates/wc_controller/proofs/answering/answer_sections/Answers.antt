@@ -14,7 +14,7 @@ use Rattle.wc_model.specs.Language.Views.{text_view}
 use Rattle.wc_model.specs.Run.Log.{log_of}
 use Rattle.wc_model.specs.Say.Job.{AnswersNext, AnswersPrograms, loads_program, run_answer}
 use Rattle.wc_record.specs.Reading.{records_of}
-use Rattle.wc_record.specs.Told.{fields_told}
+use Rattle.wc_record.specs.Reported.{fields_reported}
 use Rattle.wc_run.specs.declared.fault.RunFault.TheVariants as fault
 
 pub returns-in-Err-load_input-clause-writes : goal.returns-in-Err-load_input-clause-writes
@@ -52,15 +52,15 @@ returns-in-Err-answer_log-clause-writes g c =
 
 pub returns-in-Err-clause-blames : goal.returns-in-Err-clause-blames
 returns-in-Err-clause-blames g c =
-    subst (λ why. StopsAsPart (fields_told c.args.told.now) (Ok (sections_view c.args.sections)) input.Plate why) (sym c.from.ensures)
-    (plate_part (fields_told c.args.told.now) (sections_view c.args.sections) c.in-Err.fault c.in-Err.ensures.verdict)
+    subst (λ why. StopsAsPart (fields_reported c.args.reported.now) (Ok (sections_view c.args.sections)) input.Plate why) (sym c.from.ensures)
+    (plate_part (fields_reported c.args.reported.now) (sections_view c.args.sections) c.in-Err.fault c.in-Err.ensures.verdict)
 
 pub returns-in-Err-load_input-clause-blames : goal.returns-in-Err-load_input-clause-blames
 returns-in-Err-load_input-clause-blames g c =
-    let told = fields_told c.args.told.now in
+    let reported = fields_reported c.args.reported.now in
     let sections = sections_view c.args.sections in
     let stopped = c.in-Err-load_input.stopped in
-    subst (λ at. StopsAsPart told (Ok sections) at stopped.fault) (sym c.in-Err-load_input.ensures.input) (program_part told sections stopped.fault c.in-Err-load_input.ensures.refused)
+    subst (λ at. StopsAsPart reported (Ok sections) at stopped.fault) (sym c.in-Err-load_input.ensures.input) (program_part reported sections stopped.fault c.in-Err-load_input.ensures.refused)
 
 pub returns-in-Err-load_input-clause-held : goal.returns-in-Err-load_input-clause-held
 returns-in-Err-load_input-clause-held g c = λ e.
@@ -70,10 +70,10 @@ returns-in-Err-load_input-clause-held g c = λ e.
 
 pub returns-in-Err-answer_log-clause-blames : goal.returns-in-Err-answer_log-clause-blames
 returns-in-Err-answer_log-clause-blames g c =
-    let told = fields_told c.answer_log.new.told in
+    let reported = fields_reported c.answer_log.new.reported in
     let sections = sections_view c.args.sections in
     let stopped = c.in-Err-answer_log.stopped in
     let said = c.in-Err-answer_log.ensures in
-    subst (λ at. StopsAsPart told (Ok sections) at c.stopped_in_memory.result.fault) (sym c.stopped_in_memory.ensures.input)
-    (subst (λ why. StopsAsPart told (Ok sections) stopped.input why) (sym c.stopped_in_memory.ensures.fault)
-    (run_part told sections stopped.input stopped.fault said.blames_next said.blames_log said.later said.no_names))
+    subst (λ at. StopsAsPart reported (Ok sections) at c.stopped_in_memory.result.fault) (sym c.stopped_in_memory.ensures.input)
+    (subst (λ why. StopsAsPart reported (Ok sections) stopped.input why) (sym c.stopped_in_memory.ensures.fault)
+    (run_part reported sections stopped.input stopped.fault said.blames_next said.blames_log said.later said.no_names))

@@ -9,4 +9,4 @@ returns-clause-gives g c =
     let old = g.W.ByteOut.bytes_taken c.args.writer.now in
     let new = g.W.ByteOut.bytes_taken c.answer_job.new.writer in
     on_known (g.R.ByteIn.bytes_left c.args.reader.now) _ _
-    (λ bytes told. subst (λ status. Gives (Allows bytes) status old new) (sym c.status.ensures) (gives (Allows bytes) c.answer_job.result old new told)) c.answer_job.ensures.ends
+    (λ bytes reported. subst (λ status. Gives (Allows bytes) status old new) (sym c.status.ensures) (gives (Allows bytes) c.answer_job.result old new reported)) c.answer_job.ensures.ends

@@ -3,10 +3,10 @@ use Rattle.wc_controller.proofs.Allowing.{file_not_read, file_read, of_known, to
 use Rattle.wc_controller.proofs.Givings.{checked}
 use Rattle.wc_controller.proofs.checking.check_input.Goals as goal
 use Rattle.wc_controller.specs.Checking.{Checks}
-use Rattle.wc_controller.specs.Endings.{WritesUpTo, met}
+use Rattle.wc_controller.specs.Endings.{WritesUpTo, raised}
 use Rattle.wc_controller.specs.Files.{AnswersCheck, AnswersCheckFile}
 use Rattle.wc_controller.specs.declared.input.Stopped.{Stopped}
-use Rattle.wc_run.proofs.HandedOn.{handed_on}
+use Rattle.wc_run.proofs.HandedOn.{propagated}
 use Rattle.std.specs.Prelude.{IfSome, Some, None}
 
 pub returns-in-Ok-clause-writes : goal.returns-in-Ok-clause-writes
@@ -33,5 +33,5 @@ returns-in_err-text-clause-writes g c =
     let taken = g.W.ByteOut.bytes_taken c.args.writer.now in
     let known = g.T.ByteIn.bytes_left c.args.program.now in
     let stopped = c.in_err-text.field-0.0 in
-    handed_on (λ (r : Result (Unit {0}) Stopped). IfSome known (λ bytes. WritesUpTo (AnswersCheckFile c.args.paths bytes) (met r) taken taken)) stopped c.from_residual.result c.from_residual.ensures
+    propagated (λ (r : Result (Unit {0}) Stopped). IfSome known (λ bytes. WritesUpTo (AnswersCheckFile c.args.paths bytes) (raised r) taken taken)) stopped c.from_residual.result c.from_residual.ensures
     (file_not_read known _ stopped.fault (λ bytes longer. too_long_file bytes (AnswersCheck c.args.paths bytes) stopped.fault taken longer) c.in_err-text.ensures.too_long)

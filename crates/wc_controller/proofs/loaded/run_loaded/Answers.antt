@@ -1,12 +1,12 @@
 use Rattle.std.proofs.Common.{◌≡◌, ◌∙◌, [], Some, subst, sym, true}
 use Rattle.std.specs.Prelude.{option_map}
 use Rattle.wc_controller.proofs.Allowing.{on_each, on_known}
-use Rattle.wc_controller.proofs.Blaming.{taken_beside}
-use Rattle.wc_controller.proofs.Givings.{answered_so, next_loaded, next_unloaded, not_begun}
+use Rattle.wc_controller.proofs.Blaming.{taken_alongside}
+use Rattle.wc_controller.proofs.Givings.{answered_so, next_loaded, next_unloaded, not_started}
 use Rattle.wc_controller.proofs.RefusedNames.{next_refused}
 use Rattle.wc_controller.proofs.loaded.run_loaded.Goals as goal
 use Rattle.wc_controller.specs.Blames.{RefusesLog, StopsFor}
-use Rattle.wc_controller.specs.Endings.{met, of_no_cause}
+use Rattle.wc_controller.specs.Endings.{raised, of_no_cause}
 use Rattle.wc_controller.specs.Files.{AnswersPrinting}
 use Rattle.wc_controller.specs.InputStates.{observed_by}
 use Rattle.wc_controller.specs.declared.input.Input.TheVariants as input
@@ -14,7 +14,7 @@ use Rattle.wc_model.specs.Language.Views.{text_view}
 use Rattle.wc_model.specs.Run.Log.{log_of}
 use Rattle.wc_model.specs.Say.ProgramReport.{first_logic}
 use Rattle.wc_record.specs.Reading.{records_of}
-use Rattle.wc_record.specs.Told.{fields_told}
+use Rattle.wc_record.specs.Reported.{fields_reported}
 use Rattle.wc_run.specs.Logics.{text_of_next}
 use Rattle.wc_run.specs.Observing.{RefusesToBegin, logic_of, said_by}
 
@@ -39,7 +39,7 @@ returns-in-Err-begin-clause-writes g c =
     c.next_program.ensures c.in-Err-begin.ensures.refused in
     on_each (g.L.ByteIn.bytes_left c.args.log.now) _
     (λ bytes. next_loaded held c.in-Ok.next (AnswersPrinting observed c.args.programs.plate (log_of (records_of bytes)) first) (Some why) old old c.in-Ok.ensures.loaded
-    (not_begun observed c.args.programs.plate logic (log_of (records_of bytes)) (o.has_refused c.args.observer.now c.begin.new.observer logic) why old refused))
+    (not_started observed c.args.programs.plate logic (log_of (records_of bytes)) (o.has_refused c.args.observer.now c.begin.new.observer logic) why old refused))
 
 pub returns-in-Ok-scale_of-clause-writes : goal.returns-in-Ok-scale_of-clause-writes
 returns-in-Ok-scale_of-clause-writes g c =
@@ -53,9 +53,9 @@ returns-in-Ok-scale_of-clause-writes g c =
     let seen = subst (λ next. o.has_seen c.begin.new.observer c.args.programs.plate (logic_of (Some c.args.programs.loaded) next) []) c.next_program.ensures (c.in_default.ensures.seen c.args.programs.plate) in
     let begins = subst (λ next. o.begins c.args.observer.now (logic_of (Some c.args.programs.loaded) next) ≡ true) c.next_program.ensures c.in_default.ensures.begins in
     on_known (g.L.ByteIn.bytes_left c.args.log.now) _ _
-    (λ bytes told. next_loaded held c.in-Ok.next (AnswersPrinting observed c.args.programs.plate (log_of (records_of bytes)) first) (met c.run_scale.result) old new c.in-Ok.ensures.loaded
-    (answered_so observed c.args.programs.plate (Some logic) (log_of (records_of bytes)) (met c.run_scale.result) old new begins (rw c.begin.ensures.plan at told)))
-    (c.run_scale.ensures.writes c.args.programs.plate (Some logic) c.in-Ok-scale_of.ensures.stands seen)
+    (λ bytes reported. next_loaded held c.in-Ok.next (AnswersPrinting observed c.args.programs.plate (log_of (records_of bytes)) first) (raised c.run_scale.result) old new c.in-Ok.ensures.loaded
+    (answered_so observed c.args.programs.plate (Some logic) (log_of (records_of bytes)) (raised c.run_scale.result) old new begins (rw c.begin.ensures.plan at reported)))
+    (c.run_scale.ensures.writes c.args.programs.plate (Some logic) c.in-Ok-scale_of.ensures.represents seen)
 
 pub returns-in-Ok-scale_of-clause-blames_log : goal.returns-in-Ok-scale_of-clause-blames_log
 returns-in-Ok-scale_of-clause-blames_log g c =
@@ -64,9 +64,9 @@ returns-in-Ok-scale_of-clause-blames_log g c =
     let held = option_map (λ text. text.now) c.args.programs.next in
     let logic = first_logic first (text_of_next c.in-Ok.next) in
     let seen = subst (λ next. o.has_seen c.begin.new.observer c.args.programs.plate (logic_of (Some c.args.programs.loaded) next) []) c.next_program.ensures (c.in_default.ensures.seen c.args.programs.plate) in
-    subst (λ taken. StopsFor input.Log (RefusesLog taken (fields_told c.run_scale.new.told)) (g.L.ByteIn.bytes_left c.args.log.now) c.run_scale.result)
-    (λ i bytes. taken_beside held c.in-Ok.next first bytes c.in-Ok.ensures.loaded i)
-    (c.run_scale.ensures.blames c.args.programs.plate (Some logic) c.in-Ok-scale_of.ensures.stands seen)
+    subst (λ taken. StopsFor input.Log (RefusesLog taken (fields_reported c.run_scale.new.reported)) (g.L.ByteIn.bytes_left c.args.log.now) c.run_scale.result)
+    (λ i bytes. taken_alongside held c.in-Ok.next first bytes c.in-Ok.ensures.loaded i)
+    (c.run_scale.ensures.blames c.args.programs.plate (Some logic) c.in-Ok-scale_of.ensures.represents seen)
 
 pub returns-in-Ok-scale_of-clause-memory : goal.returns-in-Ok-scale_of-clause-memory
 returns-in-Ok-scale_of-clause-memory g c = λ e. of_no_cause (c.run_scale.ensures.memory e)

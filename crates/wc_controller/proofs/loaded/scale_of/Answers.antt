@@ -5,8 +5,8 @@ use Rattle.wc_model.specs.Language.Views.{text_view}
 use Rattle.wc_model.specs.Say.ProgramReport.{first_logic}
 use Rattle.wc_run.specs.Logics.{text_of_next}
 
-pub returns-clause-stands : goal.returns-clause-stands
-returns-clause-stands c =
+pub returns-clause-represents : goal.returns-clause-represents
+returns-clause-represents c =
     on_success c.new-2.result _ _
-    (λ scale stands. stands (Some (first_logic (text_view c.args.loaded.source) (text_of_next c.args.next))) (c.in_ok-machine.ensures.stands, refl))
-    c.new-2.ensures.stands
+    (λ scale represents. represents (Some (first_logic (text_view c.args.loaded.source) (text_of_next c.args.next))) (c.in_ok-machine.ensures.represents, refl))
+    c.new-2.ensures.represents

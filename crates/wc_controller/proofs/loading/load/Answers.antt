@@ -8,35 +8,35 @@ use Rattle.wc_cost.specs.Costs.{IsCosted}
 use Rattle.wc_names.specs.declared.kept.Tables.{Tables}
 use Rattle.wc_model.specs.Language.Views.{text_view}
 use Rattle.wc_model.specs.declared.source.Source.{Source}
-use Rattle.wc_run.proofs.HandedOn.{handed_on}
+use Rattle.wc_run.proofs.HandedOn.{propagated}
 use Rattle.wc_verify.specs.CheckedTexts.{CheckedText}
 
 pub returns-in_err-source-clause-refused : goal.returns-in_err-source-clause-refused
 returns-in_err-source-clause-refused c =
-    let met = c.in_err-source.field-0.0 in
-    handed_on (λ r. IfErr r (λ fault. IsRefusedLoad c.args.text.now fault)) met c.from_residual.result c.from_residual.ensures
-    (not_read c.args.text.now met c.in_err-source.ensures.refused)
+    let raised = c.in_err-source.field-0.0 in
+    propagated (λ r. IfErr r (λ fault. IsRefusedLoad c.args.text.now fault)) raised c.from_residual.result c.from_residual.ensures
+    (not_read c.args.text.now raised c.in_err-source.ensures.refused)
 
 pub returns-in_err-tables-clause-refused : goal.returns-in_err-tables-clause-refused
 returns-in_err-tables-clause-refused c =
-    let met = c.in_err-tables.field-0.0 in
-    handed_on (λ r. IfErr r (λ fault. IsRefusedLoad c.args.text.now fault)) met c.from_residual-in_err-tables.result c.from_residual-in_err-tables.ensures
-    (not_declared c.args.text.now (text_view c.in_ok-source.source) c.in_ok-source.ensures.read Tables met c.in_err-tables.ensures.judged)
+    let raised = c.in_err-tables.field-0.0 in
+    propagated (λ r. IfErr r (λ fault. IsRefusedLoad c.args.text.now fault)) raised c.from_residual-in_err-tables.result c.from_residual-in_err-tables.ensures
+    (not_declared c.args.text.now (text_view c.in_ok-source.source) c.in_ok-source.ensures.read Tables raised c.in_err-tables.ensures.validated)
 
 pub returns-in_err-checked-clause-refused : goal.returns-in_err-checked-clause-refused
 returns-in_err-checked-clause-refused c =
-    let met = c.in_err-checked.field-0.0 in
-    handed_on (λ r. IfErr r (λ fault. IsRefusedLoad c.args.text.now fault)) met c.from_residual-in_err-checked.result c.from_residual-in_err-checked.ensures
-    (not_verified c.args.text.now (text_view c.in_ok-source.source) c.in_ok-source.ensures.read c.in_ok-tables.ensures.judged CheckedText met c.in_err-checked.ensures.judged)
+    let raised = c.in_err-checked.field-0.0 in
+    propagated (λ r. IfErr r (λ fault. IsRefusedLoad c.args.text.now fault)) raised c.from_residual-in_err-checked.result c.from_residual-in_err-checked.ensures
+    (not_verified c.args.text.now (text_view c.in_ok-source.source) c.in_ok-source.ensures.read c.in_ok-tables.ensures.validated CheckedText raised c.in_err-checked.ensures.validated)
 
 pub returns-clause-refused : goal.returns-clause-refused
 returns-clause-refused c =
-    not_costed c.args.text.now (text_view c.in_ok-source.source) c.in_ok-source.ensures.read c.in_ok-tables.ensures.judged c.in_ok-checked.ensures.judged c.in_ok-source.source c.cost.result
+    not_costed c.args.text.now (text_view c.in_ok-source.source) c.in_ok-source.ensures.read c.in_ok-tables.ensures.validated c.in_ok-checked.ensures.validated c.in_ok-source.source c.cost.result
     (subst (λ (s : Source). IsCosted (text_view s) s c.cost.result) c.in_ok-checked.ensures.source c.cost.ensures)
 
 pub returns-clause-loaded : goal.returns-clause-loaded
 returns-clause-loaded c =
-    is_loaded c.args.text.now c.in_ok-source.source c.in_ok-source.ensures.read c.in_ok-tables.ensures.judged c.in_ok-checked.ensures.judged c.cost.result
+    is_loaded c.args.text.now c.in_ok-source.source c.in_ok-source.ensures.read c.in_ok-tables.ensures.validated c.in_ok-checked.ensures.validated c.cost.result
     (subst (λ (s : Source). IsCosted (text_view s) s c.cost.result) c.in_ok-checked.ensures.source c.cost.ensures)
 
 pub returns-clause-headline : goal.returns-clause-headline

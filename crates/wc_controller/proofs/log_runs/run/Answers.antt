@@ -9,10 +9,10 @@ use Rattle.wc_run.proofs.Lines.{writes_report}
 
 pub returns-in-Ok-clause-reports : goal.returns-in-Ok-clause-reports
 returns-in-Ok-clause-reports g c = IfSome_then (g.R.ByteIn.bytes_left c.args.reader.now) c.run.ensures.writes
-    (λ bytes says logic stands. writes_report None c.args.plate.now logic (log_for logic (log_of (records_of bytes))) c.run.result
-    (g.W.ByteOut.bytes_taken c.args.writer.now) (g.W.ByteOut.bytes_taken c.run.new.writer) (says c.args.plate.now logic (c.in-Ok.ensures.stands logic stands) tt))
+    (λ bytes says logic represents. writes_report None c.args.plate.now logic (log_for logic (log_of (records_of bytes))) c.run.result
+    (g.W.ByteOut.bytes_taken c.args.writer.now) (g.W.ByteOut.bytes_taken c.run.new.writer) (says c.args.plate.now logic (c.in-Ok.ensures.represents logic represents) tt))
 
 pub returns-in-Ok-clause-line : goal.returns-in-Ok-clause-line
 returns-in-Ok-clause-line g c = IfSome_then (g.R.ByteIn.bytes_left c.args.reader.now) (returns-in-Ok-clause-reports g c)
-    (λ bytes says logic stands. run_leaves None c.args.plate.now logic (log_for logic (log_of (records_of bytes))) c.run.result
-    (g.W.ByteOut.bytes_taken c.args.writer.now) (g.W.ByteOut.bytes_taken c.run.new.writer) (says logic stands))
+    (λ bytes says logic represents. run_leaves None c.args.plate.now logic (log_for logic (log_of (records_of bytes))) c.run.result
+    (g.W.ByteOut.bytes_taken c.args.writer.now) (g.W.ByteOut.bytes_taken c.run.new.writer) (says logic represents))

@@ -7,32 +7,32 @@ use Rattle.wc_model.specs.Say.LogFor.{log_for}
 use Rattle.wc_record.specs.Reading.{records_of}
 use Rattle.wc_run.proofs.LeftLines.{run_leaves}
 use Rattle.wc_run.proofs.Lines.{none_reported, writes_report}
-use Rattle.wc_run.specs.Doing.{IsJudged, WritesBy}
+use Rattle.wc_run.specs.Doing.{IsValidated, WritesBy}
 use Rattle.wc_run.specs.Reports.{HoldsScans, last_plan}
 
 pub returns-in-Err-clause-line : goal.returns-in-Err-clause-line
 returns-in-Err-clause-line g c =
     let taken = g.W.ByteOut.bytes_taken c.args.writer.now in
     on_each (g.R.ByteIn.bytes_left c.args.reader.now) _
-    (λ bytes logic stands.
+    (λ bytes logic represents.
     let log : LogOf = log_for logic (log_of (records_of bytes)) in
-    run_leaves (Some c.args.last) c.args.plate.now logic log (Err c.not_begun.result) taken taken
-    (none_reported (Some c.args.last) c.args.plate.now logic log c.not_begun.result taken
-    (subst (λ fault. IsJudged fault c.not_begun.result) c.in-Err.ensures.memory c.not_begun.ensures.judged)))
+    run_leaves (Some c.args.last) c.args.plate.now logic log (Err c.not_started.result) taken taken
+    (none_reported (Some c.args.last) c.args.plate.now logic log c.not_started.result taken
+    (subst (λ fault. IsValidated fault c.not_started.result) c.in-Err.ensures.memory c.not_started.ensures.validated)))
 
 pub returns-in-Ok-new-clause-reports : goal.returns-in-Ok-new-clause-reports
 returns-in-Ok-new-clause-reports g c =
     let old = g.W.ByteOut.bytes_taken c.args.writer.now in
     let new = g.W.ByteOut.bytes_taken c.run.new.writer in
     IfSome_then (g.R.ByteIn.bytes_left c.args.reader.now) c.run.ensures.writes
-    (λ bytes says logic stands.
+    (λ bytes says logic represents.
     let log : LogOf = log_for logic (log_of (records_of bytes)) in
     writes_report (Some c.args.last) c.args.plate.now logic log c.run.result old new
     (subst (λ number. WritesBy (last_plan number) c.args.plate.now logic log c.run.result old new) c.in-Ok.ensures.number
-    (says c.args.plate.now logic (c.in-Ok-new.ensures.stands logic stands)
+    (says c.args.plate.now logic (c.in-Ok-new.ensures.represents logic represents)
     (subst (λ number. HoldsScans c.in-Ok.scans.recorder number []) (sym c.in-Ok.ensures.number) c.in-Ok.ensures.holds))))
 
 pub returns-in-Ok-new-clause-line : goal.returns-in-Ok-new-clause-line
 returns-in-Ok-new-clause-line g c = IfSome_then (g.R.ByteIn.bytes_left c.args.reader.now) (returns-in-Ok-new-clause-reports g c)
-    (λ bytes says logic stands. run_leaves (Some c.args.last) c.args.plate.now logic (log_for logic (log_of (records_of bytes))) c.run.result
-    (g.W.ByteOut.bytes_taken c.args.writer.now) (g.W.ByteOut.bytes_taken c.run.new.writer) (says logic stands))
+    (λ bytes says logic represents. run_leaves (Some c.args.last) c.args.plate.now logic (log_for logic (log_of (records_of bytes))) c.run.result
+    (g.W.ByteOut.bytes_taken c.args.writer.now) (g.W.ByteOut.bytes_taken c.run.new.writer) (says logic represents))

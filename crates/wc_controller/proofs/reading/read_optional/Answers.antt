@@ -2,7 +2,7 @@ use Rattle.std.proofs.Common.{[], arith, sym, subst}
 use Rattle.std.proofs.KnownBytes.{Consumes-nil}
 use Rattle.std.specs.Prelude.{None, Some, Ok, Err}
 use Rattle.wc_controller.proofs.reading.read_optional.Goals as goal
-use Rattle.wc_controller.specs.Endings.{RefusesLength, TakesInput, TellsReadFaults}
+use Rattle.wc_controller.specs.Endings.{RefusesLength, TakesInput, ReportsReadFaults}
 use Rattle.wc_controller.specs.InputStates.{optional_of}
 use Rattle.wc_controller.specs.TakenLogs.{AreReadOf, failures_of, known_of}
 
@@ -19,12 +19,12 @@ returns-in-Err-clause-too_long g c =
 
 pub returns-in-Ok-clause-failures : goal.returns-in-Ok-clause-failures
 returns-in-Ok-clause-failures g c =
-    subst (λ reader. TellsReadFaults {X = Unit {0}} c.args.input (Ok tt) (failures_of (optional_of g.R.ByteIn.bytes_left g.R.ByteIn.failure_count g.R.ByteIn.spent_count reader)) (g.R.ByteIn.failure_count c.read_input.new.reader))
+    subst (λ reader. ReportsReadFaults {X = Unit {0}} c.args.input (Ok tt) (failures_of (optional_of g.R.ByteIn.bytes_left g.R.ByteIn.failure_count g.R.ByteIn.spent_count reader)) (g.R.ByteIn.failure_count c.read_input.new.reader))
     (sym c.in-Some.is) c.in-Ok.ensures.failures
 
 pub returns-in-Err-clause-failures : goal.returns-in-Err-clause-failures
 returns-in-Err-clause-failures g c =
-    subst (λ reader. TellsReadFaults {X = Unit {0}} c.args.input (Err c.in-Err.stopped) (failures_of (optional_of g.R.ByteIn.bytes_left g.R.ByteIn.failure_count g.R.ByteIn.spent_count reader)) (g.R.ByteIn.failure_count c.read_input.new.reader))
+    subst (λ reader. ReportsReadFaults {X = Unit {0}} c.args.input (Err c.in-Err.stopped) (failures_of (optional_of g.R.ByteIn.bytes_left g.R.ByteIn.failure_count g.R.ByteIn.spent_count reader)) (g.R.ByteIn.failure_count c.read_input.new.reader))
     (sym c.in-Some.is) c.in-Err.ensures.failures
 
 pub returns-in-Ok-clause-taken : goal.returns-in-Ok-clause-taken

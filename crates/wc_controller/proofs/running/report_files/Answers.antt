@@ -2,12 +2,12 @@ use Rattle.std.proofs.Common.{None, subst, true}
 use Rattle.wc_controller.proofs.running.report_files.Goals as goal
 use Rattle.wc_controller.specs.InputRuns.{RunsAs}
 use Rattle.wc_controller.specs.InputStates.{writer_of}
-use Rattle.wc_record.specs.Told.{fields_told}
+use Rattle.wc_record.specs.Reported.{fields_reported}
 use Rattle.wc_run.proofs.Lines.{whole_written}
 use Rattle.wc_run.specs.Observing.{Written}
 
 pub returns : goal.returns
 returns g c =
     let writer = writer_of g.W.ByteOut.bytes_taken g.W.ByteOut.failure_count in
-    subst (λ (written : Written). RunsAs (record { written = written; begins = λ logic. true }) c.args.inputs.now c.run_files.new.inputs (fields_told c.run_files.new.told) c.run_files.result
+    subst (λ (written : Written). RunsAs (record { written = written; begins = λ logic. true }) c.args.inputs.now c.run_files.new.inputs (fields_reported c.run_files.new.reported) c.run_files.result
     (writer c.args.writer.now) (writer c.run_files.new.writer)) (whole_written None) c.run_files.ensures.runs

@@ -3,7 +3,7 @@ use Rattle.wc_controller.proofs.Givings.{ends_said}
 use Rattle.wc_controller.proofs.RefusedNames.{stopped_at_names}
 use Rattle.wc_controller.proofs.running.run_files.Goals as goal
 use Rattle.wc_controller.specs.InputStates.{observed_by, writer_of}
-use Rattle.wc_record.specs.Told.{fields_told}
+use Rattle.wc_record.specs.Reported.{fields_reported}
 use Rattle.wc_run.specs.Observing.{said_by}
 
 pub returns-clause-runs : goal.returns-clause-runs
@@ -13,7 +13,7 @@ returns-clause-runs g c =
     let failures = g.W.ByteOut.failure_count in
     let writer = writer_of (said_by speaks taken) failures in
     let ran = c.run_inputs-answer.ensures.runs in
-    run_ended (observed_by g.O.Observer.plan g.O.Observer.begins c.args.observer.now) c.args.inputs.now c.run_inputs-answer.new.inputs (fields_told c.run_inputs-answer.new.told)
+    run_ended (observed_by g.O.Observer.plan g.O.Observer.begins c.args.observer.now) c.args.inputs.now c.run_inputs-answer.new.inputs (fields_reported c.run_inputs-answer.new.reported)
     c.run_inputs-answer.result c.end.result
     (writer c.args.writer.now) (writer c.run_inputs-answer.new.writer) (writer c.end.new.writer)
     ran (ends_said speaks c.run_inputs-answer.result c.end.result (taken c.run_inputs-answer.new.writer) (taken c.end.new.writer) c.end.ensures.ends)

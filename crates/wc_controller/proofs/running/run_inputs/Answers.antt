@@ -4,11 +4,11 @@ use Rattle.wc_controller.proofs.RefusedNames.{alone_read, programs_read}
 use Rattle.wc_controller.proofs.RunSteps.{at_line, at_log, at_next, at_plate, at_program, at_text}
 use Rattle.wc_controller.proofs.running.run_inputs.Goals as goal
 use Rattle.wc_controller.specs.Blames.{IsNextUnloaded, IsUnloaded, RefusesLog, StopsFor}
-use Rattle.wc_controller.specs.Endings.{TellsMemory, WritesUpTo, met}
+use Rattle.wc_controller.specs.Endings.{ReportsMemory, WritesUpTo, raised}
 use Rattle.wc_controller.specs.Files.{AnswersPrinting}
 use Rattle.wc_controller.specs.InputRuns.{RunsUpTo}
 use Rattle.wc_controller.specs.InputStates.{InputStates, inputs_of, observed_by, optional_of, reader_of, writer_of}
-use Rattle.wc_controller.specs.TakenLogs.{AreReadOf, OfLogic, OfPrograms, log_beside}
+use Rattle.wc_controller.specs.TakenLogs.{AreReadOf, OfLogic, OfPrograms, log_alongside}
 use Rattle.wc_controller.specs.declared.input.Input.TheVariants as input
 use Rattle.wc_model.specs.Language.Loading.{IsLoaded}
 use Rattle.wc_model.specs.Language.Views.{text_view}
@@ -16,7 +16,7 @@ use Rattle.wc_model.specs.Run.Log.{log_of}
 use Rattle.wc_model.specs.Say.Job.{AnswersNext}
 use Rattle.wc_model.specs.Say.ProgramReport.{Logic}
 use Rattle.wc_record.specs.Reading.{records_of}
-use Rattle.wc_record.specs.Told.{fields_told}
+use Rattle.wc_record.specs.Reported.{fields_reported}
 use Rattle.wc_run.specs.Observing.{said_by}
 use Rattle.wc_run.specs.declared.fault.RunFault.TheVariants as fault
 
@@ -28,9 +28,9 @@ returns-in-Err-clause-runs g c =
     let log = reader_of g.L.ByteIn.bytes_left g.L.ByteIn.failure_count g.L.ByteIn.spent_count c.inputs.inside.log in
     let writer = writer_of (said_by g.O.Observer.speaks g.W.ByteOut.bytes_taken) g.W.ByteOut.failure_count c.args.writer.now in
     let observed = observed_by g.O.Observer.plan g.O.Observer.begins c.args.observer.now in
-    let told = fields_told c.args.told.now in
-    subst (λ before. RunsUpTo observed before (inputs_of (plate c.read_plate.new.reader) program next log) told (Err c.in-Err.stopped) writer writer) c.inputs.view_is
-    (at_plate observed told (plate c.inputs.inside.plate) (plate c.read_plate.new.reader) program program next next log c.in-Err.stopped writer
+    let reported = fields_reported c.args.reported.now in
+    subst (λ before. RunsUpTo observed before (inputs_of (plate c.read_plate.new.reader) program next log) reported (Err c.in-Err.stopped) writer writer) c.inputs.view_is
+    (at_plate observed reported (plate c.inputs.inside.plate) (plate c.read_plate.new.reader) program program next next log c.in-Err.stopped writer
     c.in-Err.ensures.input c.in-Err.ensures.plate c.in-Err.ensures.failures c.in-Err.ensures.taken (c.in-Err.ensures.silent (g.W.ByteOut.failure_count c.args.writer.now)))
 
 pub returns-in-Err-read_optional-clause-runs : goal.returns-in-Err-read_optional-clause-runs
@@ -41,9 +41,9 @@ returns-in-Err-read_optional-clause-runs g c =
     let log = reader_of g.L.ByteIn.bytes_left g.L.ByteIn.failure_count g.L.ByteIn.spent_count c.inputs.inside.log in
     let writer = writer_of (said_by g.O.Observer.speaks g.W.ByteOut.bytes_taken) g.W.ByteOut.failure_count c.args.writer.now in
     let observed = observed_by g.O.Observer.plan g.O.Observer.begins c.args.observer.now in
-    let told = fields_told c.args.told.now in
-    subst (λ before. RunsUpTo observed before (inputs_of (plate c.read_plate.new.reader) (program c.read_optional.new.reader) next log) told (Err c.in-Err-read_optional.stopped) writer writer) c.inputs.view_is
-    (at_program observed told (plate c.inputs.inside.plate) (plate c.read_plate.new.reader) (program c.inputs.inside.program) (program c.read_optional.new.reader) next next log c.in-Err-read_optional.stopped writer
+    let reported = fields_reported c.args.reported.now in
+    subst (λ before. RunsUpTo observed before (inputs_of (plate c.read_plate.new.reader) (program c.read_optional.new.reader) next log) reported (Err c.in-Err-read_optional.stopped) writer writer) c.inputs.view_is
+    (at_program observed reported (plate c.inputs.inside.plate) (plate c.read_plate.new.reader) (program c.inputs.inside.program) (program c.read_optional.new.reader) next next log c.in-Err-read_optional.stopped writer
     c.in-Ok.plate c.in-Ok.ensures.plate (c.in-Ok.ensures.failures.1 (λ none. none)) c.in-Ok.ensures.taken
     c.in-Err-read_optional.ensures.input c.in-Err-read_optional.ensures.too_long c.in-Err-read_optional.ensures.there c.in-Err-read_optional.ensures.failures c.in-Err-read_optional.ensures.taken)
 
@@ -55,12 +55,12 @@ returns-in-None-clause-runs g c =
     let log = reader_of g.L.ByteIn.bytes_left g.L.ByteIn.failure_count g.L.ByteIn.spent_count in
     let writer = writer_of (said_by g.O.Observer.speaks g.W.ByteOut.bytes_taken) g.W.ByteOut.failure_count in
     let observed = observed_by g.O.Observer.plan g.O.Observer.begins c.args.observer.now in
-    let told = fields_told c.run_alone.new.told in
+    let reported = fields_reported c.run_alone.new.reported in
     let after = inputs_of (plate c.read_plate.new.reader) (program c.read_optional.new.reader) next (log c.run_alone.new.log) in
     let read = c.in-Ok-read_optional.ensures in
     let said = c.run_alone.ensures in
-    subst (λ before. RunsUpTo observed before after told c.run_alone.result (writer c.args.writer.now) (writer c.run_alone.new.writer)) c.inputs.view_is
-    (at_line observed told (plate c.inputs.inside.plate) (plate c.read_plate.new.reader) (program c.inputs.inside.program) (program c.read_optional.new.reader) next (log c.inputs.inside.log) (log c.run_alone.new.log)
+    subst (λ before. RunsUpTo observed before after reported c.run_alone.result (writer c.args.writer.now) (writer c.run_alone.new.writer)) c.inputs.view_is
+    (at_line observed reported (plate c.inputs.inside.plate) (plate c.read_plate.new.reader) (program c.inputs.inside.program) (program c.read_optional.new.reader) next (log c.inputs.inside.log) (log c.run_alone.new.log)
     c.in-Ok.plate c.in-Ok.ensures.plate (c.in-Ok.ensures.failures.1 (λ none. none)) c.in-Ok.ensures.taken (read.failures.1 (λ none. none)) read.taken
     c.run_alone.result (writer c.args.writer.now) (writer c.run_alone.new.writer)
     (subst (λ (text : Option _). AreReadOf (program c.inputs.inside.program) (option_map (λ held. held.items) text)) c.in-None.is read.whole)
@@ -74,11 +74,11 @@ returns-in-Err-load_input-clause-runs g c =
     let log = reader_of g.L.ByteIn.bytes_left g.L.ByteIn.failure_count g.L.ByteIn.spent_count c.inputs.inside.log in
     let writer = writer_of (said_by g.O.Observer.speaks g.W.ByteOut.bytes_taken) g.W.ByteOut.failure_count c.args.writer.now in
     let observed = observed_by g.O.Observer.plan g.O.Observer.begins c.args.observer.now in
-    let told = fields_told c.args.told.now in
+    let reported = fields_reported c.args.reported.now in
     let read = c.in-Ok-read_optional.ensures in
     let stopped = c.in-Err-load_input.stopped in
-    subst (λ before. RunsUpTo observed before (inputs_of (plate c.read_plate.new.reader) (program c.read_optional.new.reader) next log) told (Err stopped) writer writer) c.inputs.view_is
-    (at_text observed told (plate c.inputs.inside.plate) (plate c.read_plate.new.reader) (program c.inputs.inside.program) (program c.read_optional.new.reader) next next log stopped writer
+    subst (λ before. RunsUpTo observed before (inputs_of (plate c.read_plate.new.reader) (program c.read_optional.new.reader) next log) reported (Err stopped) writer writer) c.inputs.view_is
+    (at_text observed reported (plate c.inputs.inside.plate) (plate c.read_plate.new.reader) (program c.inputs.inside.program) (program c.read_optional.new.reader) next next log stopped writer
     c.in-Ok.plate c.in-Ok.ensures.plate (c.in-Ok.ensures.failures.1 (λ none. none)) c.in-Ok.ensures.taken (read.failures.1 (λ none. none)) read.taken
     c.in-Some.text.items (subst (λ (text : Option _). AreReadOf (program c.inputs.inside.program) (option_map (λ held. held.items) text)) c.in-Some.is read.whole)
     c.in-Err-load_input.ensures.input (subst (λ text. IsUnloaded text stopped.fault) c.deref.ensures.value c.in-Err-load_input.ensures.refused)
@@ -92,13 +92,13 @@ returns-in-Err-read_optional-2-clause-runs g c =
     let log = reader_of g.L.ByteIn.bytes_left g.L.ByteIn.failure_count g.L.ByteIn.spent_count c.inputs.inside.log in
     let writer = writer_of (said_by g.O.Observer.speaks g.W.ByteOut.bytes_taken) g.W.ByteOut.failure_count c.args.writer.now in
     let observed = observed_by g.O.Observer.plan g.O.Observer.begins c.args.observer.now in
-    let told = fields_told c.args.told.now in
+    let reported = fields_reported c.args.reported.now in
     let read = c.in-Ok-read_optional.ensures in
     let said = c.in-Err-read_optional-2.ensures in
     let stopped = c.in-Err-read_optional-2.stopped in
     let first = text_view c.in-Ok-load_input.loaded.source in
-    subst (λ before. RunsUpTo observed before (inputs_of (plate c.read_plate.new.reader) (program c.read_optional.new.reader) (next c.read_optional-2.new.reader) log) told (Err stopped) writer writer) c.inputs.view_is
-    (at_next observed told (plate c.inputs.inside.plate) (plate c.read_plate.new.reader) (program c.inputs.inside.program) (program c.read_optional.new.reader) (next c.inputs.inside.next) (next c.read_optional-2.new.reader) log stopped writer
+    subst (λ before. RunsUpTo observed before (inputs_of (plate c.read_plate.new.reader) (program c.read_optional.new.reader) (next c.read_optional-2.new.reader) log) reported (Err stopped) writer writer) c.inputs.view_is
+    (at_next observed reported (plate c.inputs.inside.plate) (plate c.read_plate.new.reader) (program c.inputs.inside.program) (program c.read_optional.new.reader) (next c.inputs.inside.next) (next c.read_optional-2.new.reader) log stopped writer
     c.in-Ok.plate c.in-Ok.ensures.plate (c.in-Ok.ensures.failures.1 (λ none. none)) c.in-Ok.ensures.taken (read.failures.1 (λ none. none)) read.taken
     c.in-Some.text.items (subst (λ (text : Option _). AreReadOf (program c.inputs.inside.program) (option_map (λ held. held.items) text)) c.in-Some.is read.whole)
     first (subst (λ text. IsLoaded text first) c.deref.ensures.value c.in-Ok-load_input.ensures.loaded)
@@ -112,7 +112,7 @@ returns-clause-runs g c =
     let log = reader_of g.L.ByteIn.bytes_left g.L.ByteIn.failure_count g.L.ByteIn.spent_count in
     let writer = writer_of (said_by g.O.Observer.speaks g.W.ByteOut.bytes_taken) g.W.ByteOut.failure_count in
     let observed = observed_by g.O.Observer.plan g.O.Observer.begins c.args.observer.now in
-    let told = fields_told c.run_loaded.new.told in
+    let reported = fields_reported c.run_loaded.new.reported in
     let after = inputs_of (plate c.read_plate.new.reader) (program c.read_optional.new.reader) (next c.read_optional-2.new.reader) (log c.run_loaded.new.log) in
     let read = c.in-Ok-read_optional.ensures in
     let other = c.in-Ok-read_optional-2.ensures in
@@ -124,18 +124,18 @@ returns-clause-runs g c =
     let taken_after = said_by g.O.Observer.speaks g.W.ByteOut.bytes_taken c.run_loaded.new.writer in
     let result = c.run_loaded.result in
     let said = c.run_loaded.ensures in
-    subst (λ before. RunsUpTo observed before after told result (writer c.args.writer.now) (writer c.run_loaded.new.writer)) c.inputs.view_is
-    (at_log observed told (plate c.inputs.inside.plate) (plate c.read_plate.new.reader) (program c.inputs.inside.program) (program c.read_optional.new.reader) (next c.inputs.inside.next) old new
+    subst (λ before. RunsUpTo observed before after reported result (writer c.args.writer.now) (writer c.run_loaded.new.writer)) c.inputs.view_is
+    (at_log observed reported (plate c.inputs.inside.plate) (plate c.read_plate.new.reader) (program c.inputs.inside.program) (program c.read_optional.new.reader) (next c.inputs.inside.next) old new
     c.in-Ok.plate c.in-Ok.ensures.plate (c.in-Ok.ensures.failures.1 (λ none. none)) c.in-Ok.ensures.taken (read.failures.1 (λ none. none)) read.taken
     result (writer c.args.writer.now) (writer c.run_loaded.new.writer)
     c.in-Some.text.items (subst (λ (text : Option _). AreReadOf (program c.inputs.inside.program) (option_map (λ held. held.items) text)) c.in-Some.is read.whole)
     first (subst (λ text. IsLoaded text first) c.deref.ensures.value c.in-Ok-load_input.ensures.loaded)
     (next c.read_optional-2.new.reader) held other.whole (other.failures.1 (λ none. none)) other.taken
-    (subst (λ (known : Option (List ℕ)). IfSome old.bytes (λ bytes. WritesUpTo (AnswersNext known (AnswersPrinting observed c.in-Ok.plate (log_of (records_of bytes)) first)) (met result) taken_before taken_after)) c.lent.ensures said.writes)
-    (subst (λ (known : Option (List ℕ)). IfErr result (λ stopped. stopped.input ≡ input.Next → IsNextUnloaded known stopped.fault)) c.lent.ensures said.blames_next)
-    (subst (λ (known : Option (List ℕ)). StopsFor input.Log (RefusesLog (log_beside (is_some known)) told) old.bytes result) c.lent.ensures said.blames_log)
+    (subst (λ (known : Option (List ℕ)). IfSome old.bytes (λ bytes. WritesUpTo (AnswersNext known (AnswersPrinting observed c.in-Ok.plate (log_of (records_of bytes)) first)) (raised result) taken_before taken_after)) c.borrowed.ensures said.writes)
+    (subst (λ (known : Option (List ℕ)). IfErr result (λ stopped. stopped.input ≡ input.Next → IsNextUnloaded known stopped.fault)) c.borrowed.ensures said.blames_next)
+    (subst (λ (known : Option (List ℕ)). StopsFor input.Log (RefusesLog (log_alongside (is_some known)) reported) old.bytes result) c.borrowed.ensures said.blames_log)
     said.unread said.names said.later said.held said.read
-    (subst (λ (known : Option (List ℕ)). met result ≡ Some fault.Memory → TellsMemory (log_beside (is_some known)) old.bytes old.failures new.failures old.spent new.spent) c.lent.ensures said.memory)
+    (subst (λ (known : Option (List ℕ)). raised result ≡ Some fault.Memory → ReportsMemory (log_alongside (is_some known)) old.bytes old.failures new.failures old.spent new.spent) c.borrowed.ensures said.memory)
     said.reader said.failures)
 
 pub returns-in-None-clause-refused : goal.returns-in-None-clause-refused
@@ -160,4 +160,4 @@ returns-clause-refused g c = λ at.
     (subst (λ (text : Option _). AreReadOf (program c.inputs.inside.program) (option_map (λ held. held.items) text)) c.in-Some.is c.in-Ok-read_optional.ensures.whole)
     c.in-Ok-read_optional-2.ensures.whole
     (subst (λ text. IsLoaded text first) c.deref.ensures.value c.in-Ok-load_input.ensures.loaded)
-    (subst (λ (known : Option (List ℕ)). OfLogic first known holds) c.lent.ensures (c.run_loaded.ensures.refused at)))
+    (subst (λ (known : Option (List ℕ)). OfLogic first known holds) c.borrowed.ensures (c.run_loaded.ensures.refused at)))

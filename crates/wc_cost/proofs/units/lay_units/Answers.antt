@@ -1,15 +1,15 @@
 use Rattle.std.proofs.Common.{◌≡◌, ◌+◌, ◌∷◌, [], List, Err, map, drop, refl, sym, subst, ap, ◌∙◌, arith, rules, ◌++◌}
 use Rattle.std.proofs.lemmas.List.{drop_all}
-use Rattle.wc_names.specs.StandsFor.{AreTables, onto}
+use Rattle.wc_names.specs.RepresentsText.{AreTables, onto}
 use Rattle.wc_model.specs.Language.Scopes.{Scope}
 use Rattle.wc_model.specs.Language.Tree.{Text}
 use Rattle.wc_model.specs.Language.Views.{text_view, unit_view}
 use Rattle.wc_model.specs.declared.source.Unit.{Unit as CodeUnit}
 use Rattle.wc_cost.specs.Faultless.{AreLoaded, IsFaultless, IsMeasured, LoadsUnits, MeasuresUnit}
 use Rattle.wc_cost.specs.LoadedInside.{bounds_of}
-use Rattle.wc_cost.specs.Ways.{AreSmall}
-use Rattle.wc_cost.specs.declared.laid.LaidUnit.{LaidUnit}
-use Rattle.wc_names.proofs.HandedOn.{handed_on}
+use Rattle.wc_cost.specs.PathLengths.{AreSmall}
+use Rattle.wc_cost.specs.declared.lowered.LoweredUnit.{LoweredUnit}
+use Rattle.wc_names.proofs.HandedOn.{propagated}
 use Rattle.wc_names.proofs.Lists.{from_index}
 use Rattle.wc_cost.proofs.Measured.{all_loaded, unit_refused}
 use Rattle.wc_cost.proofs.Measured.{bounds_small, measured_sound}
@@ -37,15 +37,15 @@ loop-number-preserved c =
           let so_far = h.3 tables faultless in
           let scope : Scope = record { before = h.0; unit = unit } in
           let is = unit_at text h.0 unit left i split h.2 in
-          let measured = subst (λ (xs : List LaidUnit). IsMeasured (bounds_of xs) scope c.in_ok-laid.laid) c.deref.ensures.value
-          (c.in_ok-laid.ensures scope (record { text = text; tables_are = tables; unit_is = is }) refl (unit_layable text faultless i scope is) (unit_short text faultless i scope is)
-          (subst (λ (xs : List LaidUnit). AreSmall (bounds_of xs)) (sym c.deref.ensures.value) (bounds_small h.0 c.loop-number.units.items so_far)))
+          let measured = subst (λ (xs : List LoweredUnit). IsMeasured (bounds_of xs) scope c.in_ok-lowered.lowered) c.deref.ensures.value
+          (c.in_ok-lowered.ensures scope (record { text = text; tables_are = tables; unit_is = is }) refl (unit_layable text faultless i scope is) (unit_short text faultless i scope is)
+          (subst (λ (xs : List LoweredUnit). AreSmall (bounds_of xs)) (sym c.deref.ensures.value) (bounds_small h.0 c.loop-number.units.items so_far)))
           in
-          (c.loop-number.units.items, c.in_ok-laid.laid, (let more : c.push.new.self.items ≡ c.loop-number.units.items ++ c.in_ok-laid.laid ∷ [] = search rules in more), measured_sound h.0 c.loop-number.units.items unit c.in_ok-laid.laid so_far (unit_nests text faultless i scope is) measured, so_far),
+          (c.loop-number.units.items, c.in_ok-lowered.lowered, (let more : c.push.new.self.items ≡ c.loop-number.units.items ++ c.in_ok-lowered.lowered ∷ [] = search rules in more), measured_sound h.0 c.loop-number.units.items unit c.in_ok-lowered.lowered so_far (unit_nests text faultless i scope is) measured, so_far),
     )
 
-pub returns-in_err-laid : goal.returns-in_err-laid
-returns-in_err-laid c = λ tables faultless.
+pub returns-in_err-lowered : goal.returns-in_err-lowered
+returns-in_err-lowered c = λ tables faultless.
     let i = c.loop-number.number in
     let items = c.deref-unit-items.result.now in
     let text = map unit_view items in
@@ -60,12 +60,12 @@ returns-in_err-laid c = λ tables faultless.
     let so_far = h.3 those right in
     let scope : Scope = record { before = h.0; unit = unit } in
     let is = unit_at text h.0 unit left i split h.2 in
-    let judged = subst (λ (xs : List LaidUnit). MeasuresUnit (bounds_of xs) scope (Err c.in_err-laid.field-0.0)) c.deref.ensures.value
-    (c.in_err-laid.ensures scope (record { text = text; tables_are = those; unit_is = is }) refl (unit_layable text right i scope is) (unit_short text right i scope is)
-    (subst (λ (xs : List LaidUnit). AreSmall (bounds_of xs)) (sym c.deref.ensures.value) (bounds_small h.0 c.loop-number.units.items so_far)))
+    let validated = subst (λ (xs : List LoweredUnit). MeasuresUnit (bounds_of xs) scope (Err c.in_err-lowered.field-0.0)) c.deref.ensures.value
+    (c.in_err-lowered.ensures scope (record { text = text; tables_are = those; unit_is = is }) refl (unit_layable text right i scope is) (unit_short text right i scope is)
+    (subst (λ (xs : List LoweredUnit). AreSmall (bounds_of xs)) (sym c.deref.ensures.value) (bounds_small h.0 c.loop-number.units.items so_far)))
     in
-    handed_on (LoadsUnits (text_view c.args.source.now)) c.in_err-laid.field-0.0 c.from_residual.result c.from_residual.ensures
-    (subst (λ (t : Text). LoadsUnits t (Err c.in_err-laid.field-0.0)) (sym same) (unit_refused text h.0 c.loop-number.units.items unit left c.in_err-laid.field-0.0 split so_far (unit_nests text right i scope is) judged))
+    propagated (LoadsUnits (text_view c.args.source.now)) c.in_err-lowered.field-0.0 c.from_residual.result c.from_residual.ensures
+    (subst (λ (t : Text). LoadsUnits t (Err c.in_err-lowered.field-0.0)) (sym same) (unit_refused text h.0 c.loop-number.units.items unit left c.in_err-lowered.field-0.0 split so_far (unit_nests text right i scope is) validated))
 
 pub returns : goal.returns
 returns c = λ tables faultless.

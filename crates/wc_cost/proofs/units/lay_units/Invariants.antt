@@ -1,5 +1,5 @@
 use Rattle.std.proofs.Common.{◌≡◌, List, map, drop, length}
-use Rattle.wc_names.specs.StandsFor.{AreTables, onto}
+use Rattle.wc_names.specs.RepresentsText.{AreTables, onto}
 use Rattle.wc_model.specs.Language.Tree.{ProgramUnit}
 use Rattle.wc_model.specs.Language.Views.{unit_view}
 use Rattle.wc_cost.proofs.Measured.{AreSoFar}

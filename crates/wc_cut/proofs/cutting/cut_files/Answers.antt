@@ -3,11 +3,11 @@ use Rattle.wc_controller.specs.InputRuns.{RunsAs}
 use Rattle.wc_controller.specs.InputStates.{writer_of}
 use Rattle.wc_cut.proofs.Plans.{observed_is}
 use Rattle.wc_cut.proofs.cutting.cut_files.Goals as goal
-use Rattle.wc_record.specs.Told.{fields_told}
+use Rattle.wc_record.specs.Reported.{fields_reported}
 
 pub returns : goal.returns
 returns g c =
     let writer = writer_of g.W.ByteOut.bytes_taken g.W.ByteOut.failure_count in
-    subst (λ observed. RunsAs observed c.args.inputs.now c.run_files.new.inputs (fields_told c.run_files.new.told) c.run_files.result
+    subst (λ observed. RunsAs observed c.args.inputs.now c.run_files.new.inputs (fields_reported c.run_files.new.reported) c.run_files.result
     (writer c.args.writer.now) (writer c.run_files.new.writer))
     (observed_is c.args.count c.new.result.count c.new.ensures.count) c.run_files.ensures.runs

@@ -1,4 +1,4 @@
-use Rattle.wc_diag_messages.proofs.Assembled.{four_pieces}
+use Rattle.wc_diag_messages.proofs.Assembled.{four_excerpts}
 use Rattle.wc_diag_messages.proofs.long.write_explanation.Goals as goal
 
 pub returns : goal.returns
@@ -6,13 +6,13 @@ returns c =
     let parts = c.args.parts.now in
     let known = c.requires.known in
     record {
-      finding = parts.finding;
-      told = parts.told.bytes.items;
+      diagnostic = parts.diagnostic;
+      reported = parts.reported.bytes.items;
       knows = known.knows;
       words = parts.expected.bytes.items;
       words_are = known.expected_are;
       line = parts.line;
       line_is = known.line_is;
       advice = known.advice_is.0;
-      all = four_pieces _ _ _ _ _ _ _ _ _ c.requires.empty c.in_ok-write_headline.ensures c.in_ok-write_place.ensures c.in_ok-write_excerpt.ensures (c.in_ok-write_help.ensures known.advice_is.0 known.advice_is.1);
+      all = four_excerpts _ _ _ _ _ _ _ _ _ c.requires.empty c.in_ok-write_headline.ensures c.in_ok-write_place.ensures c.in_ok-write_excerpt.ensures (c.in_ok-write_help.ensures known.advice_is.0 known.advice_is.1);
     }

@@ -9,8 +9,8 @@ returns c =
     let tokens = c.write_object.new.writer.tokens in
     let are = c.in_ok-write_object.ensures.tokens in
     record {
-      finding = parts.finding;
-      told = parts.told.bytes.items;
+      diagnostic = parts.diagnostic;
+      reported = parts.reported.bytes.items;
       knows = known.knows;
       line = parts.line;
       line_is = known.line_is;
@@ -25,6 +25,6 @@ returns c =
       one = record {
         line = print tokens;
         ends = c.in_ok-line.ensures.all;
-        controls = object_above c.args.refusal.now c.args.name.now parts.line parts.finding parts.told.bytes.items parts.advice.bytes.items tokens are;
+        controls = object_above c.args.refusal.now c.args.name.now parts.line parts.diagnostic parts.reported.bytes.items parts.advice.bytes.items tokens are;
       };
     }

@@ -8,7 +8,7 @@ returns-then-line-last-eq13 c =
     let line = c.args.line.now in
     let other = eqb-false (length line) 0 (sym c.is_empty.ensures ∙ c.if-is_empty.false) in
     let within : min (length line - 1) (length line) ≡ length line - 1 = omega arith in
-    c.front.ensures ∙ ap (λ k. take k line) within ∙ return_dropped line (omega (arith, other)) c.if-line-last-eq13.true
+    c.prefix.ensures ∙ ap (λ k. take k line) within ∙ return_dropped line (omega (arith, other)) c.if-line-last-eq13.true
 
 pub returns : goal.returns
 returns c = line_kept c.args.line.now c.if-line-last-eq13.false

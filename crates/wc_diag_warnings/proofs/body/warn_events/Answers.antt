@@ -20,7 +20,7 @@ loop-index-preserved c =
     let events = events_view items in
     let before = reverse (take i events) in
     let more = reverse (take (i + 1) events) in
-    let begun = map known_view c.args.begun.now in
+    let started = map known_view c.args.started.now in
     let rows = map row_view c.args.stored.now in
     let below : i < length items = c.loop-index-test.true in
     let inside : i < length events = subst (λ n. i < n) (sym (length-map items event_view)) below in
@@ -30,12 +30,12 @@ loop-index-preserved c =
     let more_is : more ≡ e ∷ before = one_more_before events i e inside is in
     record {
       asked = asked_step events before more e c.loop-index.asked c.reads_weight.result c.is_asked_now-asked.result more_is c.loop-index.invariant.asked c.reads_weight.ensures c.is_asked_now-asked.ensures;
-      above = λ ways. above_step before more e c.begins.result c.is_on.result c.loop-index.above c.is_above-above.result more_is c.begins.ensures
-          (c.is_on.ensures ∙ reached_at events begun i e place (turned begun _ ways)) (c.loop-index.invariant.above ways) c.is_above-above.ensures;
-      found = λ numbers ways stored. found_step numbers events before more (drop i events) (drop (i + 1) events) e c.number_of.result
+      above = λ edges. above_step before more e c.begins.result c.is_on.result c.loop-index.above c.is_above-above.result more_is c.begins.ensures
+          (c.is_on.ensures ∙ reached_at events started i e place (turned started _ edges)) (c.loop-index.invariant.above edges) c.is_above-above.ensures;
+      found = λ numbers edges stored. found_step numbers events before more (drop i events) (drop (i + 1) events) e c.number_of.result
           (warnings_view c.loop-index.warnings.items) (warnings_view c.warn_event.new.warnings.items) _ more_is left c.in_ok-warn_event.ensures.added
           (number_is numbers events before e c.begins.result c.loop-index.above c.is_on.result c.stored_again.result c.reads_weight.result c.loop-index.asked c.number_of.result
-          c.number_of.ensures c.begins.ensures (c.loop-index.invariant.above ways) (c.is_on.ensures ∙ reached_at events begun i e place (turned begun _ ways))
+          c.number_of.ensures c.begins.ensures (c.loop-index.invariant.above edges) (c.is_on.ensures ∙ reached_at events started i e place (turned started _ edges))
           (c.stored_again.ensures ∙ stored_at events rows i e place numbers stored) c.reads_weight.ensures c.loop-index.invariant.asked)
-          (c.loop-index.invariant.found numbers ways stored);
+          (c.loop-index.invariant.found numbers edges stored);
     }

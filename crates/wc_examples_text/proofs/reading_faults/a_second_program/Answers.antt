@@ -6,8 +6,8 @@ use Rattle.wc_model.specs.declared.source.UnitKind.TheVariants.{Program}
 use Rattle.wc_examples_text.specs.Texts.{program_of}
 use Rattle.wc_examples_text.proofs.reading_faults.a_second_program.Goals as goal
 
-pub returns-clause-front : goal.returns-clause-front
-returns-clause-front c = ([], (program_of (End) ∷ [], record { spelled = search spelling depth 60 fits 20000; order = refl }))
+pub returns-clause-prefix : goal.returns-clause-prefix
+returns-clause-prefix c = ([], (program_of (End) ∷ [], record { spelled = search spelling depth 60 fits 20000; order = refl }))
 
-pub returns-clause-met : goal.returns-clause-met
-returns-clause-met c = (program_of End ∷ [], search spelling depth 60 fits 20000, (0, program_of End, omega arith, refl, refl), (Program, refl), refl)
+pub returns-clause-raised : goal.returns-clause-raised
+returns-clause-raised c = (program_of End ∷ [], search spelling depth 60 fits 20000, (0, program_of End, omega arith, refl, refl), (Program, refl), refl)

@@ -6,7 +6,7 @@ use Rattle.wc_laws_grammar.proofs.Languages.{next, pass, cut_at, joined}
 use Rattle.wc_laws_grammar.proofs.Spelling.{spelling}
 use Rattle.wc_model.specs.declared.operator.Operator.TheVariants.{And}
 use Rattle.wc_examples_text.specs.Texts.{ident, end_of}
-use Rattle.wc_examples_text.specs.Faulty.{behind_eight_openings, empty_opening, inner_opening, opening_line}
+use Rattle.wc_examples_text.specs.Faulty.{after_eight_openings, empty_opening, inner_opening, opening_line}
 use Rattle.std.proofs.Common.{ℕ, List}
 use Rattle.wc_model.specs.Text.Languages.{◌then◌}
 use Rattle.wc_model.specs.Text.Grammar.{InParentheses, lines, label_in, opening}
@@ -33,4 +33,4 @@ all_open (line ∷ []) = joined (tokens_at []) (opening_line line) first (one_li
 all_open (line ∷ next ∷ outer) = joined (tokens_at (next ∷ outer)) (opening_line line) (all_open (next ∷ outer)) (one_line line)
 
 pub returns : goal.returns
-returns c = (behind_eight_openings, None, And, cut_at 30 (cut_at 30 (cut_at 0 (pass refl tt) (cut_at 2 (next (refl, refl) (next (refl, refl, refl) ([], refl, refl))) (cut_at 28 (all_open (10 ∷ 9 ∷ 8 ∷ 7 ∷ 6 ∷ 5 ∷ 4 ∷ [])) tt))) refl) (inl refl, refl), omega arith, refl)
+returns c = (after_eight_openings, None, And, cut_at 30 (cut_at 30 (cut_at 0 (pass refl tt) (cut_at 2 (next (refl, refl) (next (refl, refl, refl) ([], refl, refl))) (cut_at 28 (all_open (10 ∷ 9 ∷ 8 ∷ 7 ∷ 6 ∷ 5 ∷ 4 ∷ [])) tt))) refl) (inl refl, refl), omega arith, refl)

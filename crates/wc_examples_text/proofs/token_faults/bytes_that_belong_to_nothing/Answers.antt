@@ -5,11 +5,11 @@ use Rattle.wc_examples_text.proofs.token_faults.bytes_that_belong_to_nothing.Goa
 pub returns-clause-hash : goal.returns-clause-hash
 returns-clause-hash c = found_fault _ _ _ (lit≤ tt) refl
 
-pub returns-clause-hash_behind_operator : goal.returns-clause-hash_behind_operator
-returns-clause-hash_behind_operator c = found_fault _ _ _ (lit≤ tt) refl
+pub returns-clause-hash_after_operator : goal.returns-clause-hash_after_operator
+returns-clause-hash_after_operator c = found_fault _ _ _ (lit≤ tt) refl
 
-pub returns-clause-hash_behind_address : goal.returns-clause-hash_behind_address
-returns-clause-hash_behind_address c = found_fault _ _ _ (lit≤ tt) refl
+pub returns-clause-hash_after_address : goal.returns-clause-hash_after_address
+returns-clause-hash_after_address c = found_fault _ _ _ (lit≤ tt) refl
 
 pub returns-clause-greater : goal.returns-clause-greater
 returns-clause-greater c = found_fault _ _ _ (lit≤ tt) refl

@@ -17,8 +17,8 @@ returns-clause-type_name c = found_fault _ _ _ (lit≤ tt) refl
 pub returns-clause-duration : goal.returns-clause-duration
 returns-clause-duration c = found_fault _ _ _ (lit≤ tt) refl
 
-pub returns-clause-behind_a_comment : goal.returns-clause-behind_a_comment
-returns-clause-behind_a_comment c = found_fault _ _ _ (lit≤ tt) refl
+pub returns-clause-after_a_comment : goal.returns-clause-after_a_comment
+returns-clause-after_a_comment c = found_fault _ _ _ (lit≤ tt) refl
 
 pub returns-clause-first_of_two : goal.returns-clause-first_of_two
 returns-clause-first_of_two c = found_fault _ _ _ (lit≤ tt) refl

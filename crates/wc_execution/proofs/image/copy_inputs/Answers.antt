@@ -1,7 +1,7 @@
 -- Four more bits are written.
 use Rattle.std.proofs.Common.{◌≡◌, ℕ, ℤ, ◌+◌, ◌*◌, ◌≤◌, ◌++◌, true, map, drop, length, sym, ap, ◌∙◌, subst, arith, zero-add}
 use Rattle.std.specs.Prelude.{slice_get}
-use Rattle.wc_execution.proofs.Behind.{next_four}
+use Rattle.wc_execution.proofs.After.{next_four}
 use Rattle.wc_execution.proofs.Bits.{shifted_bit}
 use Rattle.wc_execution.proofs.image.copy_inputs.Goals as goal
 use Rattle.wc_text_flat.specs.NumberBlocks.{is_slot}

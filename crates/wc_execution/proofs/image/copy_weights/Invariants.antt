@@ -7,8 +7,8 @@ use Rattle.wc_model.specs.Language.DirectVariables.{numbers_below}
 
 abbrev pub invariant-loop-number : goal.invariant-loop-number
 invariant-loop-number g l = record {
-  written : (front rest : List ℤ) → length front ≡ l.first → g.S.Store.numbers l.initial.store ≡ front ++ rest →
-      g.S.Store.numbers l.store ≡ front ++ map (λ i. slice_index_or l.weights i (pos 0)) (numbers_below l.number) ++ drop l.number rest;
+  written : (prefix rest : List ℤ) → length prefix ≡ l.first → g.S.Store.numbers l.initial.store ≡ prefix ++ rest →
+      g.S.Store.numbers l.store ≡ prefix ++ map (λ i. slice_index_or l.weights i (pos 0)) (numbers_below l.number) ++ drop l.number rest;
   size : length (g.S.Store.numbers l.store) ≡ length (g.S.Store.numbers l.initial.store);
   kinds : g.S.Store.slot_kinds l.store ≡ g.S.Store.slot_kinds l.initial.store;
   moments : (now : ℕ) → AreBefore now (g.S.Store.slot_kinds l.initial.store) (g.S.Store.numbers l.initial.store) → AreBefore now (g.S.Store.slot_kinds l.store) (g.S.Store.numbers l.store);

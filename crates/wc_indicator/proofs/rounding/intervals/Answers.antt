@@ -15,8 +15,8 @@ returns-then-counts-lt0-clause-nearest c =
     ∙ ap (λ m. nearest_above_zero (unsigned_abs c.args.counts * m) c.args.span) c.from.ensures in
     let few = no_more (unsigned_abs c.args.counts) c.args.n c.args.span c.requires.span.0 c.requires.span.1 in
     let low : c.args.counts <ℤ pos 0 = omega (arith, ints) in
-    let told = below_zero c.args.counts c.args.n c.args.span c.nearest_above_zero-distance.result c.requires.span.0 low is in
-    omega (arith, ints, is, few, neg_is (pos c.nearest_above_zero-distance.result), told)
+    let reported = below_zero c.args.counts c.args.n c.args.span c.nearest_above_zero-distance.result c.requires.span.0 low is in
+    omega (arith, ints, is, few, neg_is (pos c.nearest_above_zero-distance.result), reported)
 
 pub returns-then-counts-lt0-clause-few : goal.returns-then-counts-lt0-clause-few
 returns-then-counts-lt0-clause-few c =

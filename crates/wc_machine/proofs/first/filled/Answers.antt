@@ -1,7 +1,7 @@
 -- One more first number is written.
 use Rattle.std.proofs.Common.{◌≡◌, ◌<◌, length, get_or, pos, sym, ap, ◌∙◌, subst, arith, rules, to_z, of_z, w64}
 use Rattle.std.specs.Prelude.{slice_set}
-use Rattle.wc_execution.proofs.Behind.{next_over}
+use Rattle.wc_execution.proofs.After.{next_over}
 use Rattle.wc_machine.proofs.FirstNumbers.{FirstAt, first_at, first_count, first_fits, first_keeps}
 use Rattle.wc_machine.proofs.first.filled.Goals as goal
 use Rattle.wc_execution.specs.Lines.{AreBefore}

@@ -44,7 +44,7 @@ run_seen-steps-requires g t c κs within =
               (
                 omega (arith, c.requires.depth, called.earlier, c.called_at-inner.ensures.depth),
                 (
-                  subst (λ k. length k ≤ 65536) (sym c.loop-at.invariant.kinds) c.requires.room,
+                  subst (λ k. length k ≤ 65536) (sym c.loop-at.invariant.kinds) c.requires.capacity,
                   (
                     omega (arith, c.requires.moment, c.called_at-inner.ensures.moment),
                     subst (λ m. AreBefore m (g.S.Store.slot_kinds c.loop-at.store) numbers) (sym c.called_at-inner.ensures.moment) c.loop-at.invariant.moments,
@@ -119,7 +119,7 @@ see_line-moved-requires g t c =
     record {
       own = own;
       there = own_there c.args.instance.base c.args.instance.now kinds (g.S.Store.slot_kinds c.loop-at.store) calls items c.loop-at.at (LoadNumber (pos 0)) s whole c.loop-at.steps c.loop-at-test.true own c.loop-at.invariant.kinds c.loop-at.invariant.left;
-      room = subst (λ k. length k ≤ 65536) (sym c.loop-at.invariant.kinds) c.requires.room;
+      capacity = subst (λ k. length k ≤ 65536) (sym c.loop-at.invariant.kinds) c.requires.capacity;
       moment = c.requires.moment;
       forward = c.loop-at.invariant.moments;
     }
@@ -161,17 +161,17 @@ loop-at-preserved g t c =
     let left = real_done base now kinds kinds_now calls items at (LoadNumber (pos 0)) c.loop-at.present s whole c.loop-at.steps said deferred after c.next_line-at.result c.loop-at-test.true own c.loop-at.invariant.kinds c.see_line-moved.ensures.leaves c.next_line-at.ensures.line c.loop-at.invariant.left in
     let seen = real_seen base now kinds kinds_now calls flats sources items at (LoadNumber (pos 0)) c.loop-at.present s said deferred after c.next_line-at.result c.loop-at-test.true own c.loop-at.invariant.kinds c.see_line-moved.ensures.leaves c.next_line-at.ensures.line in
     let bits : to_z w32 (of_z w32 said.current) ≡ said.current = search rules in
-    let behind : (left_real c.loop-at.present line said deferred after).state ≡ real_state c.has_result-present.result (to_z w32 (of_z w32 said.current)) deferred after =
+    let following : (left_real c.loop-at.present line said deferred after).state ≡ real_state c.has_result-present.result (to_z w32 (of_z w32 said.current)) deferred after =
     ap (λ b. real_state b said.current deferred after) (sym c.has_result-present.ensures) ∙ ap (λ n. real_state c.has_result-present.result n deferred after) (sym bits) in
     let lines : List SeenLine = map (kept_at depth) (seen_moved (here_at base now kinds_now no_calls) c.source_at-source.result s line (Some (left_real c.loop-at.present line said deferred after))) in
     let rest : State → List FlatSeen = λ state. flat_seen here flats (drop c.next_line-at.result sources) (drop c.next_line-at.result items) (Skips 0) state in
     record {
-      left = subst (λ (state : State). IsLeft whole (c.loop-at.steps + 1) (runs here (drop c.next_line-at.result items) (Skips 0) state)) behind left;
+      left = subst (λ (state : State). IsLeft whole (c.loop-at.steps + 1) (runs here (drop c.next_line-at.result items) (Skips 0) state)) following left;
       seen = so_far_on c.args.sight.now c.loop-at.sight c.see_line-moved.new.sight _ _ lines _ c.loop-at.invariant.seen
           (ap (λ (l : List FlatSeen). map (kept_at depth) l) seen
           ∙ (map-append (kept_at depth) (seen_moved (here_at base now kinds_now no_calls) (first_source (drop at sources)) s line (Some (left_real c.loop-at.present line said deferred after))) (rest (left_real c.loop-at.present line said deferred after).state)
           ∙ (ap (λ source. map (kept_at depth) (seen_moved (here_at base now kinds_now no_calls) source s line (Some (left_real c.loop-at.present line said deferred after))) ++ map (kept_at depth) (rest (left_real c.loop-at.present line said deferred after).state)) (sym c.source_at-source.ensures)
-          ∙ ap (λ (state : State). lines ++ map (kept_at depth) (rest state)) behind)))
+          ∙ ap (λ (state : State). lines ++ map (kept_at depth) (rest state)) following)))
           c.see_line-moved.ensures.keeps;
       kinds = c.see_line-moved.ensures.kinds ∙ c.loop-at.invariant.kinds;
       moments = c.see_line-moved.ensures.moments;

@@ -5,13 +5,13 @@ use Rattle.wc_model.specs.Language.Declarations.{type_named}
 use Rattle.wc_model.specs.Language.Names.{Name, name_of}
 use Rattle.wc_model.specs.Language.Store.{Content, unit_places}
 use Rattle.wc_names.specs.Carrying.{field_within, kept_from}
-use Rattle.wc_names.specs.StandsFor.{IsTableOf, first_place}
+use Rattle.wc_names.specs.RepresentsText.{IsTableOf, first_place}
 use Rattle.wc_names.specs.declared.declared_type.DeclaredType.TheVariants as numbered
 use Rattle.wc_names.proofs.KeptPlaces.{block_kept, field_kept, in_block, kept_nowhere, meets, plain_kept, unlike_block}
 use Rattle.wc_names.proofs.Lists.{same_found}
 use Rattle.wc_names.proofs.Lookups.{from_nothing, named_rows}
 use Rattle.wc_names.proofs.Places.{type_case}
-use Rattle.wc_names.proofs.Positions.{behind_is}
+use Rattle.wc_names.proofs.Positions.{after_is}
 use Rattle.wc_names.proofs.carry.+kept_number.Goals as goal
 
 pub returns-in_default-row : goal.returns-in_default-row
@@ -32,8 +32,8 @@ returns-in-Elementary t c = λ before u old_before old entry h e o f least there
     let m = meets c.args.old_units.now before u old_before old c.args.number entry name c.in-Some-variable_with.found.row c.in-Some-row.old place o (sym (c.row.ensures o.table old_there (named_rows c.args.old_units.now old_before old o)) ∙ c.in-Some-row.is) in
     let old_case = type_case old_before (type_named old_before m.w.type_name) c.in-Some-row.old.declared m.old_type in
     let case = type_case before (type_named before m.v.type_name) (numbered.Elementary c.in-Elementary.kind) (m.type ∙ ap Some c.in-Elementary.is) in
-    behind_is c.in-Some-row.old.first c.plain_within.result c.behind.result _ c.behind.ensures.some c.behind.ensures.none
-    (c.plain_within.ensures ∙ plain_kept before (type_named before m.v.type_name) m.v.initial c.in-Elementary.kind (c.args.number - c.in-Some-variable_with.found.row.first) m.inner old_before (type_named old_before m.w.type_name) c.in-Some-row.old.declared m.w.initial case m.stands old_case) m.room
+    after_is c.in-Some-row.old.first c.plain_within.result c.following.result _ c.following.ensures.some c.following.ensures.none
+    (c.plain_within.ensures ∙ plain_kept before (type_named before m.v.type_name) m.v.initial c.in-Elementary.kind (c.args.number - c.in-Some-variable_with.found.row.first) m.inner old_before (type_named old_before m.w.type_name) c.in-Some-row.old.declared m.w.initial case m.represents old_case) m.capacity
     ∙ m.is
 
 pub returns-in-Standard : goal.returns-in-Standard
@@ -45,8 +45,8 @@ returns-in-Standard t c = λ before u old_before old entry h e o f least there.
     let m = meets c.args.old_units.now before u old_before old c.args.number entry name c.in-Some-variable_with.found.row c.in-Some-row.old place o (sym (c.row.ensures o.table old_there (named_rows c.args.old_units.now old_before old o)) ∙ c.in-Some-row.is) in
     let old_case = type_case old_before (type_named old_before m.w.type_name) c.in-Some-row.old.declared m.old_type in
     let case = type_case before (type_named before m.v.type_name) (numbered.Standard c.in-Standard.block) (m.type ∙ ap Some c.in-Standard.is) in
-    behind_is c.in-Some-row.old.first c.field_within.result c.behind-in-Standard.result _ c.behind-in-Standard.ensures.some c.behind-in-Standard.ensures.none
-    (c.field_within.ensures ∙ ap (λ n. field_within c.in-Standard.block n c.in-Some-row.old.declared) c.saturating_sub-inner.ensures ∙ field_kept before (type_named before m.v.type_name) m.v.initial c.in-Standard.block (c.args.number - c.in-Some-variable_with.found.row.first) m.inner old_before (type_named old_before m.w.type_name) c.in-Some-row.old.declared m.w.initial case m.stands old_case) m.room
+    after_is c.in-Some-row.old.first c.field_within.result c.following-in-Standard.result _ c.following-in-Standard.ensures.some c.following-in-Standard.ensures.none
+    (c.field_within.ensures ∙ ap (λ n. field_within c.in-Standard.block n c.in-Some-row.old.declared) c.saturating_sub-inner.ensures ∙ field_kept before (type_named before m.v.type_name) m.v.initial c.in-Standard.block (c.args.number - c.in-Some-variable_with.found.row.first) m.inner old_before (type_named old_before m.w.type_name) c.in-Some-row.old.declared m.w.initial case m.represents old_case) m.capacity
     ∙ m.is
 
 pub returns-then-block-unit : goal.returns-then-block-unit
@@ -62,11 +62,11 @@ returns-then-block-unit t c = λ before u old_before old entry h e o f least the
     let ob = in_block c.args.old_units.now old_before old o (type_named old_before m.w.type_name) m.w.initial c.in-Block-declared.other (type_case old_before (type_named old_before m.w.type_name) (numbered.Block c.in-Block-declared.other) (m.old_type ∙ ap Some c.in-Block-declared.is)) in
     let at : slice_get (unit_places b.earlier b.unit) (c.saturating_sub-inner.result - first_place b.unit) ≡ Some m.inner =
     ap (λ n. slice_get (unit_places b.earlier b.unit) (c.saturating_sub-inner.result - n)) b.first ∙ ap (λ n. slice_get (unit_places b.earlier b.unit) n) (let s = c.saturating_sub-inner.ensures in let z : c.saturating_sub-inner.result - 0 ≡ c.args.number - c.in-Some-variable_with.found.row.first = omega (arith, s) in z)
-    ∙ ap (λ places. slice_get places (c.args.number - c.in-Some-variable_with.found.row.first)) (sym b.places) ∙ m.stands
+    ∙ ap (λ places. slice_get places (c.args.number - c.in-Some-variable_with.found.row.first)) (sym b.places) ∙ m.represents
     in
-    let inner = c.kept_number.ensures b.earlier b.unit ob.earlier ob.unit m.inner b.stands b.counted ob.stands ob.counted (let z = b.first in omega (arith, z)) at in
-    behind_is c.in-Some-row.old.first c.kept_number.result c.behind-then-block-unit.result _ c.behind-then-block-unit.ensures.some c.behind-then-block-unit.ensures.none
-    (inner ∙ block_kept c.args.units.now c.args.old_units.now before old_before (type_named before m.v.type_name) (type_named old_before m.w.type_name) m.v.initial m.w.initial c.in-Block.block c.in-Block-declared.other b ob m.inner.0) m.room
+    let inner = c.kept_number.ensures b.earlier b.unit ob.earlier ob.unit m.inner b.represents b.counted ob.represents ob.counted (let z = b.first in omega (arith, z)) at in
+    after_is c.in-Some-row.old.first c.kept_number.result c.following-then-block-unit.result _ c.following-then-block-unit.ensures.some c.following-then-block-unit.ensures.none
+    (inner ∙ block_kept c.args.units.now c.args.old_units.now before old_before (type_named before m.v.type_name) (type_named old_before m.w.type_name) m.v.initial m.w.initial c.in-Block.block c.in-Block-declared.other b ob m.inner.0) m.capacity
     ∙ m.is
 
 pub returns-else-block-unit : goal.returns-else-block-unit

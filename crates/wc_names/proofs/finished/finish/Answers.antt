@@ -7,9 +7,9 @@ pub returns-clause-finished : goal.returns-clause-finished
 returns-clause-finished c = λ done.
     let frame = c.push_unit.new.frame in
     let more : c.push.new.self.items ≡ c.args.finished.now.items ++ frame ∷ [] = search rules in
-    let lent = subst (λ fs. AreFinished c.args.units.now c.args.unit fs) (sym c.deref.ensures.value) done in
+    let borrowed = subst (λ fs. AreFinished c.args.units.now c.args.unit fs) (sym c.deref.ensures.value) done in
     finished_on c.args.units.now c.args.unit c.args.finished.now.items c.push.new.self.items c.no_slots-frame.result frame c.no_slots-frame.ensures.kinds c.no_slots-frame.ensures.initials more
-    (λ before u h e. c.in_ok-push_unit.ensures.grown before u h e lent) done
+    (λ before u h e. c.in_ok-push_unit.ensures.grown before u h e borrowed) done
 
 pub returns-clause-first : goal.returns-clause-first
 returns-clause-first c = λ each.

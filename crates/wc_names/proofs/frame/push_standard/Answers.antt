@@ -9,7 +9,7 @@ use Rattle.wc_model.specs.declared.kind.SlotKind.{SlotKind}
 use Rattle.wc_built_in.specs.declared.fields.StandardField.{StandardField}
 use Rattle.wc_names.proofs.FirstSlots.{slot_of_zero, zero_is_first, zero_number}
 use Rattle.wc_names.proofs.Lists.{from_index_or}
-use Rattle.wc_names.proofs.Spread.{piece_added}
+use Rattle.wc_names.proofs.Spread.{chunk_added}
 use Rattle.wc_names.proofs.frame.push_standard.Goals as goal
 
 abbrev slot : StandardField → SlotKind
@@ -31,10 +31,10 @@ loop-field-preserved c =
     let cut = from_index_or items i _ c.loop-field-test.true in
     record {
       kinds =
-          piece_added old.kinds.items new.kinds.items (slot field ∷ []) (map slot (drop (i + 1) items)) (c.args.frame.now.kinds.items ++ map slot items)
+          chunk_added old.kinds.items new.kinds.items (slot field ∷ []) (map slot (drop (i + 1) items)) (c.args.frame.now.kinds.items ++ map slot items)
           (ap (λ xs. old.kinds.items ++ map slot xs) (sym cut) ∙ c.loop-field.invariant.kinds) (c.in_ok-push.ensures.kinds ∙ ap (λ k. old.kinds.items ++ k ∷ []) (sym (slot_of_zero field.slot)));
       initials =
-          piece_added old.initials.items new.initials.items (number field ∷ []) (map number (drop (i + 1) items)) (c.args.frame.now.initials.items ++ map number items)
+          chunk_added old.initials.items new.initials.items (number field ∷ []) (map number (drop (i + 1) items)) (c.args.frame.now.initials.items ++ map number items)
           (ap (λ xs. old.initials.items ++ map number xs) (sym cut) ∙ c.loop-field.invariant.initials) (c.in_ok-push.ensures.initials ∙ ap (λ n. old.initials.items ++ n ∷ []) (sym (zero_number field.slot)));
       first = λ h. c.in_ok-push.ensures.first (zero_is_first field.slot) (c.loop-field.invariant.first h);
     }

@@ -4,7 +4,7 @@ use Rattle.std.specs.Prelude.{pos, replicate}
 use Rattle.wc_model.specs.declared.kind.SlotKind.TheVariants as SlotKind
 use Rattle.wc_names.proofs.FirstSlots.{zero_is_first}
 use Rattle.wc_names.proofs.Lists.{from_index_or}
-use Rattle.wc_names.proofs.Spread.{piece_added}
+use Rattle.wc_names.proofs.Spread.{chunk_added}
 use Rattle.wc_names.proofs.frame.push_zeros.Goals as goal
 
 pub loop-kind-init : goal.loop-kind-init
@@ -19,10 +19,10 @@ loop-kind-preserved c =
     let cut = from_index_or kinds i SlotKind.Bool c.loop-kind-test.true in
     record {
       kinds =
-          piece_added old.kinds.items new.kinds.items (get_or kinds i SlotKind.Bool ∷ []) (drop (i + 1) kinds) (c.args.frame.now.kinds.items ++ kinds)
+          chunk_added old.kinds.items new.kinds.items (get_or kinds i SlotKind.Bool ∷ []) (drop (i + 1) kinds) (c.args.frame.now.kinds.items ++ kinds)
           (ap (λ xs. old.kinds.items ++ xs) (sym cut) ∙ c.loop-kind.invariant.kinds) c.in_ok-push.ensures.kinds;
       initials =
-          piece_added old.initials.items new.initials.items (pos 0 ∷ []) (replicate (length (drop (i + 1) kinds)) (pos 0)) (c.args.frame.now.initials.items ++ replicate (length kinds) (pos 0))
+          chunk_added old.initials.items new.initials.items (pos 0 ∷ []) (replicate (length (drop (i + 1) kinds)) (pos 0)) (c.args.frame.now.initials.items ++ replicate (length kinds) (pos 0))
           (ap (λ xs. old.initials.items ++ replicate (length xs) (pos 0)) (sym cut) ∙ c.loop-kind.invariant.initials) c.in_ok-push.ensures.initials;
       first = λ h. c.in_ok-push.ensures.first (zero_is_first (get_or kinds i SlotKind.Bool)) (c.loop-kind.invariant.first h);
     }

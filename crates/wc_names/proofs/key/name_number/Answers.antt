@@ -2,7 +2,7 @@ use Rattle.std.proofs.Common.{◌≡◌, ◌+◌, ◌-◌, ◌<◌, ◌≤◌, [
 use Rattle.std.proofs.lemmas.List.{drop_all, drop-drop, drop-map, length-drop, length-map, take_rest}
 use Rattle.std.specs.Char.{to_ascii_lowercase}
 use Rattle.wc_model.specs.Language.Names.{name_of}
-use Rattle.wc_names.specs.Keys.{caseless, mix, number_behind, word_of}
+use Rattle.wc_names.specs.Keys.{caseless, mix, number_after, word_of}
 use Rattle.wc_names.proofs.KeyWords.{byte_next, word_next}
 use Rattle.wc_names.proofs.Lists.{from_index_or}
 use Rattle.wc_names.proofs.key.name_number.Goals as goal
@@ -21,7 +21,7 @@ loop-at-preserved-then-text-at-lt8 c =
     let mixed = c.mix-number.ensures ∙ ap (mix number) (c.from.ensures ∙ c.caseless.ensures) in
     let within : i + 1 ≤ length text = omega (arith, more) in (
       within,
-      ap (λ n. number_behind n name) mixed ∙ sym (byte_next number byte name short) ∙ ap (λ xs. number_behind number (name_of xs)) (sym (from_index_or text i 0 more)) ∙ c.loop-at.invariant.1,
+      ap (λ n. number_after n name) mixed ∙ sym (byte_next number byte name short) ∙ ap (λ xs. number_after number (name_of xs)) (sym (from_index_or text i 0 more)) ∙ c.loop-at.invariant.1,
     )
 
 pub loop-at-preserved : goal.loop-at-preserved
@@ -38,10 +38,10 @@ loop-at-preserved c =
     let mixed = c.mix-number-else-text-at-lt8.ensures ∙ ap (mix number) word in
     let within : i + 8 ≤ length text = omega (arith, many) in (
       within,
-      ap (λ n. number_behind n (name_of (drop (i + 8) text))) mixed ∙ ap (number_behind (mix number (word_of (take 8 (name_of left))))) (sym rest) ∙ sym (word_next number (name_of left) long) ∙ c.loop-at.invariant.1,
+      ap (λ n. number_after n (name_of (drop (i + 8) text))) mixed ∙ ap (number_after (mix number (word_of (take 8 (name_of left))))) (sym rest) ∙ sym (word_next number (name_of left) long) ∙ c.loop-at.invariant.1,
     )
 
 pub returns : goal.returns
 returns c =
     let end : drop c.loop-at.at c.args.text.now ≡ [] = drop_all c.loop-at.at c.args.text.now c.loop-at-test.false in
-    sym (ap (λ xs. number_behind c.loop-at.number (name_of xs)) end) ∙ c.loop-at.invariant.1
+    sym (ap (λ xs. number_after c.loop-at.number (name_of xs)) end) ∙ c.loop-at.invariant.1

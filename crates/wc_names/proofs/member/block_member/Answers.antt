@@ -12,7 +12,7 @@ returns-in-Some-clause-seen c = λ before u h e.
 
 pub returns-in-Some-clause-place : goal.returns-in-Some-clause-place
 returns-in-Some-clause-place c = λ before u h e.
-    c.number_behind.ensures before u h (name_of c.args.name.now) (sym (c.row.ensures h.table (ap (slice_get c.args.units.now) e ∙ h.there) (named_rows c.args.units.now before u h)) ∙ c.in-Some.is)
+    c.number_after.ensures before u h (name_of c.args.name.now) (sym (c.row.ensures h.table (ap (slice_get c.args.units.now) e ∙ h.there) (named_rows c.args.units.now before u h)) ∙ c.in-Some.is)
 
 pub returns-in-None-clause-seen : goal.returns-in-None-clause-seen
 returns-in-None-clause-seen c = λ before u h e.

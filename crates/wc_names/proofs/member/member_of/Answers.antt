@@ -12,9 +12,9 @@ returns-in-Standard-clause-place c = λ before u type h e.
 pub returns-in-Block-clause-seen : goal.returns-in-Block-clause-seen
 returns-in-Block-clause-seen c = λ before u type h e.
     let m = members_by c.args.units.now before u h type c.in-Block.block (name_of c.args.name.now) (e ∙ ap Some c.in-Block.is) in
-    c.block_member.ensures.seen m.earlier m.unit m.stands m.counted ∙ m.members
+    c.block_member.ensures.seen m.earlier m.unit m.represents m.counted ∙ m.members
 
 pub returns-in-Block-clause-place : goal.returns-in-Block-clause-place
 returns-in-Block-clause-place c = λ before u type h e.
     let m = members_by c.args.units.now before u h type c.in-Block.block (name_of c.args.name.now) (e ∙ ap Some c.in-Block.is) in
-    subst (λ place. IfSome c.block_member.result (λ m. m.place ≡ place)) (m.places (name_of c.args.name.now ∷ [])) (c.block_member.ensures.place m.earlier m.unit m.stands m.counted)
+    subst (λ place. IfSome c.block_member.result (λ m. m.place ≡ place)) (m.places (name_of c.args.name.now ∷ [])) (c.block_member.ensures.place m.earlier m.unit m.represents m.counted)

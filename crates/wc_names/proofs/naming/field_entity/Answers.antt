@@ -7,9 +7,9 @@ use Rattle.wc_model.specs.Language.Store.{block_places, same_path, variable_plac
 use Rattle.wc_names.specs.Members.{found_seen}
 use Rattle.wc_names.specs.Numbered.{numbered_type}
 use Rattle.wc_names.specs.declared.entity.Entity.{Entity}
-use Rattle.wc_names.proofs.Lookups.{from_row, has_room, named_rows, none_named, same_within, type_at_found, type_not_found}
+use Rattle.wc_names.proofs.Lookups.{from_row, has_capacity, named_rows, none_named, same_within, type_at_found, type_not_found}
 use Rattle.wc_names.proofs.Frames.{own_places}
-use Rattle.wc_names.proofs.Positions.{behind_is}
+use Rattle.wc_names.proofs.Positions.{after_is}
 use Rattle.wc_names.proofs.ScopeTables.{frame_path}
 use Rattle.wc_model.specs.Language.Declarations.{VariableType}
 use Rattle.wc_names.specs.declared.declared_type.DeclaredType.{DeclaredType}
@@ -39,7 +39,7 @@ returns-in-Some-member_of c = λ scope h e.
     let own = ap (λ o. position_from (λ e. same_path e.0 (field ∷ [])) 0 (variable_places (block_places scope.before) o f.v.initial)) (sym (type_at_found scope name f.v f.named) ∙ k.1) ∙ same_within scope.before k.0 f.v.initial (field ∷ []) in
     let inner = c.in-Some-member_of.ensures.place scope.before scope.unit k.0 h k.2 ∙ sym own in
     let at =
-    behind_is c.in-Some.row.first seen.place c.behind.result _ c.behind.ensures.some c.behind.ensures.none inner (has_room c.in-Some.row.first (own_places scope.before f.v) (field ∷ []) h.table.size f.room h.is.small)
+    after_is c.in-Some.row.first seen.place c.following.result _ c.following.ensures.some c.following.ensures.none inner (has_capacity c.in-Some.row.first (own_places scope.before f.v) (field ∷ []) h.table.size f.capacity h.is.small)
     ∙ sym f.at_is
     in
     let place = c.place_at.ensures.place ∙ ap (option_map (λ n. record { 0 = n })) (at ∙ sym (frame_path scope (name ∷ field ∷ []))) in

@@ -13,7 +13,7 @@ returns-in-Some c = λ scope h e.
     let there = ap (slice_get c.args.units.now) e ∙ h.there in
     let row = sym (c.row.ensures h.table there (named_rows c.args.units.now scope.before scope.unit h)) ∙ c.in-Some.is in
     let f = from_row c.args.units.now scope.before scope.unit h name [] c.in-Some.row row in
-    let place = c.place_at.ensures.place ∙ ap (option_map (λ n. record { 0 = n })) (c.number_behind.ensures scope.before scope.unit h name row ∙ sym (frame_path scope (name ∷ []))) in
+    let place = c.place_at.ensures.place ∙ ap (option_map (λ n. record { 0 = n })) (c.number_after.ensures scope.before scope.unit h name row ∙ sym (frame_path scope (name ∷ []))) in
     let found : Entity = record { kind = c.kind_of.result; readable = true; writable = not c.is_input.result; place = c.place_at.result } in
     (λ i. Some (record found { kind = c.kind_of.ensures i; writable = not (c.is_input.ensures i); place = place i })) ∙ name_named scope name f.v c.in-Some.row f.named f.declared f.section f.spelled
 

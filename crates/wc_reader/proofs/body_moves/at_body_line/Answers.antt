@@ -1,5 +1,5 @@
 use Rattle.std.proofs.Common.{sym, ap, ◌∙◌}
-use Rattle.wc_laws_grammar.specs.Moves.{begun_line}
+use Rattle.wc_laws_grammar.specs.Moves.{started_line}
 use Rattle.wc_reader.proofs.FirstTokens.{body-other}
 use Rattle.wc_text_lines.proofs.Outcomes.{ok-map}
 use Rattle.wc_text_bodies.specs.BodyViews.{position_view}
@@ -8,8 +8,8 @@ use Rattle.wc_reader.proofs.body_moves.at_body_line.Goals as goal
 pub returns-in_default : goal.returns-in_default
 returns-in_default c =
     record {
-      behind = ok-map c.on_line.result (λ next h units. h units
-          ∙ (ap (begun_line (position_view units c.args.body.now)) c.at_start.ensures
-          ∙ sym (body-other (position_view units c.args.body.now) c.args.token.line c.args.colon c.args.token.shape c.args.token.text.now c.in_default.not-Identifier))) c.on_line.ensures.behind;
+      following = ok-map c.on_line.result (λ next h units. h units
+          ∙ (ap (started_line (position_view units c.args.body.now)) c.at_start.ensures
+          ∙ sym (body-other (position_view units c.args.body.now) c.args.token.line c.args.colon c.args.token.shape c.args.token.text.now c.in_default.not-Identifier))) c.on_line.ensures.following;
       counted = c.on_line.ensures.counted;
     }

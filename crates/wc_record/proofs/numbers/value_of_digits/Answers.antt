@@ -1,5 +1,5 @@
 use Rattle.std.proofs.Common.{◌≤◌, ◌-◌, length, arith}
-use Rattle.wc_record.proofs.DigitValues.{digits_behind, few_behind, shorter_behind, ten_rises, whole_behind}
+use Rattle.wc_record.proofs.DigitValues.{digits_after, few_after, shorter_after, ten_rises, whole_after}
 use Rattle.wc_record.proofs.numbers.value_of_digits.Goals as goal
 
 pub overflow_mul-value : goal.overflow_mul-value
@@ -21,8 +21,8 @@ loop-rest-preserved c =
     let some = c.in-len1-up.len_at_least in
     let digit = c.if-not-is_ascii_digit.ensures.value in
     record {
-      digits = digits_behind rest _ some digit i.digits;
-      whole = whole_behind c.loop-rest.value c.from.result _ rest some c.from.ensures i.whole;
-      shorter = shorter_behind rest (length c.args.text.now) some i.shorter;
-      few = few_behind c.loop-rest.value c.from.result (length c.args.text.now) rest some i.shorter digit c.from.ensures i.few;
+      digits = digits_after rest _ some digit i.digits;
+      whole = whole_after c.loop-rest.value c.from.result _ rest some c.from.ensures i.whole;
+      shorter = shorter_after rest (length c.args.text.now) some i.shorter;
+      few = few_after c.loop-rest.value c.from.result (length c.args.text.now) rest some i.shorter digit c.from.ensures i.few;
     }

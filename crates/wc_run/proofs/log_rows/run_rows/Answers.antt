@@ -2,36 +2,36 @@ use Rattle.wc_run.specs.Observing.{said_by}
 use Rattle.std.proofs.Common.{Ok, Err, ap, sym, subst, ◌∙◌, arith}
 use Rattle.wc_model.specs.Say.LogFor.{log_for}
 use Rattle.wc_run.proofs.RunsOn.{at_end, at_fault, at_row, one_more}
-use Rattle.wc_record.specs.Left.{end_behind}
-use Rattle.wc_record.specs.Told.{at_hand}
-use Rattle.wc_run.proofs.HandedOn.{handed_on}
+use Rattle.wc_record.specs.Left.{end_after}
+use Rattle.wc_record.specs.Reported.{at_hand}
+use Rattle.wc_run.proofs.HandedOn.{propagated}
 use Rattle.wc_run.specs.Faults.{from_log_fault}
-use Rattle.wc_run.specs.Runs.{TellsRow}
-use Rattle.wc_run.proofs.ToldRows.{told_at_end, told_at_row}
+use Rattle.wc_run.specs.Runs.{ReportsRow}
+use Rattle.wc_run.proofs.ReportedRows.{reported_at_end, reported_at_row}
 use Rattle.wc_record.specs.Views.{head_view}
 use Rattle.wc_run.specs.Doing.{Does, RunsRows}
-use Rattle.wc_run.specs.Standing.{IsNotBehind}
+use Rattle.wc_run.specs.Representation.{IsNotAfter}
 use Rattle.wc_run.proofs.log_rows.run_rows.Goals as goal
 
 pub returns-in_err-run_row-clause-runs : goal.returns-in_err-run_row-clause-runs
-returns-in_err-run_row-clause-runs g c = λ log has plate logic stands seen.
+returns-in_err-run_row-clause-runs g c = λ log has plate logic represents seen.
     let o = g.O.Observer in
     let taken = said_by g.O.Observer.speaks g.W.ByteOut.bytes_taken in
     let now = c.loop-row in
     let plan = o.plan c.args.observer.now in
     let fault = c.in_err-run_row.field-0.0 in
-    let r = now.invariant.running log has plate logic stands seen in
-    handed_on (λ result. RunsRows o.has_seen plan plate logic (log_for logic log) c.run_row.new.observer result (taken c.args.writer.now) (taken c.run_row.new.writer))
+    let r = now.invariant.running log has plate logic represents seen in
+    propagated (λ result. RunsRows o.has_seen plan plate logic (log_for logic log) c.run_row.new.observer result (taken c.args.writer.now) (taken c.run_row.new.writer))
     fault c.from_residual-in_err-run_row.result c.from_residual-in_err-run_row.ensures
     (at_row g.R.ByteIn.bytes_left now.rows now.scale o.has_seen now.observer plan plate logic (log_for logic log) now.count
     (taken c.args.writer.now) (taken now.writer) r c.next_head.new.self c.run_row.new.scale c.run_row.new.observer (taken c.run_row.new.writer)
     c.in-Some.row (Unit {0})
     (rw c.in-Some.is at (c.in_ok-row.ensures.takes r.left r.has_left)) fault
-    (subst (λ p. Does {X = Unit {0}} o.has_seen p plate logic r.past (head_view c.next_head.new.self.room.items c.in-Some.row) c.run_row.new.scale c.run_row.new.observer
+    (subst (λ p. Does {X = Unit {0}} o.has_seen p plate logic r.past (head_view c.next_head.new.self.capacity.items c.in-Some.row) c.run_row.new.scale c.run_row.new.observer
     (Err fault) (taken now.writer) (taken c.run_row.new.writer)) now.invariant.plan
     (subst (λ bytes. Does {X = Unit {0}} o.has_seen (o.plan now.observer) plate logic r.past (head_view bytes c.in-Some.row) c.run_row.new.scale c.run_row.new.observer
     (Err fault) (taken now.writer) (taken c.run_row.new.writer)) c.bytes.ensures
-    (c.in_err-run_row.ensures.does plate logic r.past r.stands r.seen))))
+    (c.in_err-run_row.ensures.does plate logic r.past r.represents r.seen))))
 
 pub loop-row-preserved : goal.loop-row-preserved
 loop-row-preserved g c =
@@ -41,53 +41,53 @@ loop-row-preserved g c =
     let next = rw c.in-Some.is at c.in_ok-row.ensures.row in
     let done = c.in_ok-run_row.ensures in
     record {
-      running = λ log has plate logic stands seen.
-          let r = now.invariant.running log has plate logic stands seen in
+      running = λ log has plate logic represents seen.
+          let r = now.invariant.running log has plate logic represents seen in
           let takes = rw c.in-Some.is at (c.in_ok-row.ensures.takes r.left r.has_left) in
           one_more g.R.ByteIn.bytes_left now.rows now.scale o.has_seen now.observer (o.plan c.args.observer.now) plate logic (log_for logic log) now.count
           (taken c.args.writer.now) (taken now.writer) r c.next_head.new.self c.run_row.new.scale c.run_row.new.observer (taken c.run_row.new.writer)
           c.in-Some.row {X = Unit {0}} tt
           takes
-          (rw (now.invariant.plan, c.bytes.ensures) at done.does plate logic r.past r.stands r.seen);
+          (rw (now.invariant.plan, c.bytes.ensures) at done.does plate logic r.past r.represents r.seen);
       plan = c.run_row.ensures.plan ∙ now.invariant.plan;
-      told = λ records reads. c.in_ok-row.ensures.records records (now.invariant.told records reads);
-      in_order = subst (λ ms. IsNotBehind c.run_row.new.scale ms) (sym next.kept) done.in_order;
+      reported = λ records reads. c.in_ok-row.ensures.records records (now.invariant.reported records reads);
+      in_order = subst (λ ms. IsNotAfter c.run_row.new.scale ms) (sym next.kept) done.in_order;
       numbered = omega (arith, now.invariant.numbered, next.number_is, next.counted);
       few = omega (arith, next.counted, next.few);
       steady = done.failures ∙ now.invariant.steady;
     }
 
 pub returns-in_default-clause-runs : goal.returns-in_default-clause-runs
-returns-in_default-clause-runs g c = λ log has plate logic stands seen.
+returns-in_default-clause-runs g c = λ log has plate logic represents seen.
     let o = g.O.Observer in
     let taken = said_by g.O.Observer.speaks g.W.ByteOut.bytes_taken in
     let now = c.loop-row in
-    let r = now.invariant.running log has plate logic stands seen in
+    let r = now.invariant.running log has plate logic represents seen in
     at_end g.R.ByteIn.bytes_left now.rows now.scale o.has_seen now.observer (o.plan c.args.observer.now) plate logic (log_for logic log) now.count
     (taken c.args.writer.now) (taken now.writer) r c.next_head.new.self (rw c.in_default.is at (c.in_ok-row.ensures.takes r.left r.has_left))
 
 pub returns-in_err-row-clause-runs : goal.returns-in_err-row-clause-runs
-returns-in_err-row-clause-runs g c = λ log has plate logic stands seen.
+returns-in_err-row-clause-runs g c = λ log has plate logic represents seen.
     let o = g.O.Observer in
     let taken = said_by g.O.Observer.speaks g.W.ByteOut.bytes_taken in
     let now = c.loop-row in
-    let met = c.in_err-row.field-0.0 in
-    let r = now.invariant.running log has plate logic stands seen in
-    handed_on (λ result. RunsRows o.has_seen (o.plan c.args.observer.now) plate logic (log_for logic log) now.observer result (taken c.args.writer.now) (taken now.writer))
-    (from_log_fault met) c.from_residual.result c.from_residual.ensures
+    let raised = c.in_err-row.field-0.0 in
+    let r = now.invariant.running log has plate logic represents seen in
+    propagated (λ result. RunsRows o.has_seen (o.plan c.args.observer.now) plate logic (log_for logic log) now.observer result (taken c.args.writer.now) (taken now.writer))
+    (from_log_fault raised) c.from_residual.result c.from_residual.ensures
     (at_fault g.R.ByteIn.bytes_left now.rows now.scale o.has_seen now.observer (o.plan c.args.observer.now) plate logic (log_for logic log) now.count
-    (taken c.args.writer.now) (taken now.writer) r c.next_head.new.self met (c.in_err-row.ensures.takes r.left r.has_left))
+    (taken c.args.writer.now) (taken now.writer) r c.next_head.new.self raised (c.in_err-row.ensures.takes r.left r.has_left))
 
-pub returns-in_err-run_row-clause-told : goal.returns-in_err-run_row-clause-told
-returns-in_err-run_row-clause-told g c = λ records reads.
+pub returns-in_err-run_row-clause-reported : goal.returns-in_err-run_row-clause-reported
+returns-in_err-run_row-clause-reported g c = λ records reads.
     let next = rw c.in-Some.is at c.in_ok-row.ensures.row in
     let fault = c.in_err-run_row.field-0.0 in
-    handed_on (TellsRow records (at_hand c.next_head.new.self)) fault c.from_residual-in_err-run_row.result c.from_residual-in_err-run_row.ensures
-    (told_at_row g.R.ByteIn.bytes_left c.next_head.new.self records c.in-Some.row.number (c.in_ok-row.ensures.ends ∙ ap (λ given. end_behind (Ok given)) c.in-Some.is) next.counted
-    (omega (arith, next.number_is)) (c.in_ok-row.ensures.records records (c.loop-row.invariant.told records reads)) fault c.in_err-run_row.ensures.place)
+    propagated (ReportsRow records (at_hand c.next_head.new.self)) fault c.from_residual-in_err-run_row.result c.from_residual-in_err-run_row.ensures
+    (reported_at_row g.R.ByteIn.bytes_left c.next_head.new.self records c.in-Some.row.number (c.in_ok-row.ensures.ends ∙ ap (λ given. end_after (Ok given)) c.in-Some.is) next.counted
+    (omega (arith, next.number_is)) (c.in_ok-row.ensures.records records (c.loop-row.invariant.reported records reads)) fault c.in_err-run_row.ensures.place)
 
-pub returns-in_err-row-clause-told : goal.returns-in_err-row-clause-told
-returns-in_err-row-clause-told g c = λ records reads.
-    let met = c.in_err-row.field-0.0 in
-    handed_on (TellsRow records (at_hand c.next_head.new.self)) (from_log_fault met) c.from_residual.result c.from_residual.ensures
-    (told_at_end g.R.ByteIn.bytes_left c.next_head.new.self records met c.in_err-row.ensures.ends (c.in_err-row.ensures.records records (c.loop-row.invariant.told records reads)))
+pub returns-in_err-row-clause-reported : goal.returns-in_err-row-clause-reported
+returns-in_err-row-clause-reported g c = λ records reads.
+    let raised = c.in_err-row.field-0.0 in
+    propagated (ReportsRow records (at_hand c.next_head.new.self)) (from_log_fault raised) c.from_residual.result c.from_residual.ensures
+    (reported_at_end g.R.ByteIn.bytes_left c.next_head.new.self records raised c.in_err-row.ensures.ends (c.in_err-row.ensures.records records (c.loop-row.invariant.reported records reads)))

@@ -3,11 +3,11 @@ use Rattle.std.specs.Prelude.{max}
 use Rattle.wc_model.specs.Run.Log.{LogOf, Record}
 use Rattle.wc_model.specs.Instrument.Plates.{PlateData}
 use Rattle.wc_record.specs.Left.{HasLeft, last_ms, rows_read}
-use Rattle.wc_record.specs.Told.{Reads}
+use Rattle.wc_record.specs.Reported.{Reads}
 use Rattle.wc_model.specs.Say.LogFor.{log_for}
 use Rattle.wc_model.specs.Say.ProgramReport.{Logic}
 use Rattle.wc_run.specs.Observing.{said}
-use Rattle.wc_run.specs.Standing.{IsNotBehind, Stands}
+use Rattle.wc_run.specs.Representation.{IsNotAfter, Represents}
 use Rattle.wc_run.proofs.RunsOn.{Running}
 use Rattle.wc_run.proofs.log_rows.run_rows.Given as goal
 
@@ -15,12 +15,12 @@ use Rattle.wc_run.proofs.log_rows.run_rows.Given as goal
 abbrev pub invariant-loop-row : goal.invariant-loop-row
 invariant-loop-row g l = record {
   running : (log : LogOf) → HasLeft g.R.ByteIn.bytes_left l.initial.rows log → (plate : PlateData) (logic : Option Logic)
-      → Stands l.initial.scale plate logic [] → g.O.Observer.has_seen l.initial.observer plate logic []
+      → Represents l.initial.scale plate logic [] → g.O.Observer.has_seen l.initial.observer plate logic []
       → Running g.R.ByteIn.bytes_left l.rows l.scale g.O.Observer.has_seen l.observer (g.O.Observer.plan l.initial.observer) plate logic (log_for logic log) l.count
       (said g.O.Observer.speaks (g.W.ByteOut.bytes_taken l.initial.writer)) (said g.O.Observer.speaks (g.W.ByteOut.bytes_taken l.writer));
   plan : g.O.Observer.plan l.observer ≡ g.O.Observer.plan l.initial.observer;
-  told : (records : List Record) → Reads g.R.ByteIn.bytes_left l.initial.rows records → Reads g.R.ByteIn.bytes_left l.rows records;
-  in_order : IsNotBehind l.scale (last_ms l.rows);
+  reported : (records : List Record) → Reads g.R.ByteIn.bytes_left l.initial.rows records → Reads g.R.ByteIn.bytes_left l.rows records;
+  in_order : IsNotAfter l.scale (last_ms l.rows);
   numbered : l.count + 1 ≡ max 1 (rows_read l.rows);
   few : rows_read l.rows ≤ 1000000;
   steady : g.W.ByteOut.failure_count l.writer ≡ g.W.ByteOut.failure_count l.initial.writer;

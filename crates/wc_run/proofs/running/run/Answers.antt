@@ -3,9 +3,9 @@ use Rattle.std.proofs.lemmas.Option.{IfSome_then}
 use Rattle.wc_model.specs.Run.Log.{LogOf, log_of}
 use Rattle.wc_model.specs.Say.LogFor.{log_for}
 use Rattle.wc_record.specs.Reading.{records_of}
-use Rattle.wc_record.specs.Told.{fields_told, records_read}
-use Rattle.wc_run.proofs.RunEnds.{judged_says}
-use Rattle.wc_run.proofs.ToldRows.{told_still}
+use Rattle.wc_record.specs.Reported.{fields_reported, records_read}
+use Rattle.wc_run.proofs.RunEnds.{validated_says}
+use Rattle.wc_run.proofs.ReportedRows.{reported_still}
 use Rattle.wc_run.proofs.running.run.Goals as goal
 use Rattle.wc_run.specs.Observing.{said_by, text_coming, text_in_all}
 
@@ -15,11 +15,11 @@ returns-in-Err-clause-writes g c =
     let taken = said_by g.O.Observer.speaks g.W.ByteOut.bytes_taken in
     let plan = o.plan c.args.observer.now in
     IfSome_then (g.R.ByteIn.bytes_left c.args.reader.now) c.in-Err.ensures.writes
-    (λ bytes says plate logic stands seen.
+    (λ bytes says plate logic represents seen.
     let log : LogOf = log_for logic (log_of (records_of bytes)) in
-    judged_says (text_in_all plan plate logic log.refusal) (text_coming plan plate logic []) log (taken c.args.writer.now) (taken c.run_to_end.new.writer)
-    c.in-Err.fault c.judged.result c.judged.ensures.judged (says plate logic stands seen))
+    validated_says (text_in_all plan plate logic log.refusal) (text_coming plan plate logic []) log (taken c.args.writer.now) (taken c.run_to_end.new.writer)
+    c.in-Err.fault c.validated.result c.validated.ensures.validated (says plate logic represents seen))
 
-pub returns-in-Err-clause-told : goal.returns-in-Err-clause-told
-returns-in-Err-clause-told g c = IfSome_then (g.R.ByteIn.bytes_left c.args.reader.now) c.in-Err.ensures.told
-    (λ bytes says. told_still (records_read bytes) (fields_told c.run_to_end.new.told) c.in-Err.fault c.judged.result c.judged.ensures.judged says)
+pub returns-in-Err-clause-reported : goal.returns-in-Err-clause-reported
+returns-in-Err-clause-reported g c = IfSome_then (g.R.ByteIn.bytes_left c.args.reader.now) c.in-Err.ensures.reported
+    (λ bytes says. reported_still (records_read bytes) (fields_reported c.run_to_end.new.reported) c.in-Err.fault c.validated.result c.validated.ensures.validated says)

@@ -3,15 +3,15 @@ use Rattle.std.proofs.lemmas.Option.{IfSome_then}
 use Rattle.wc_model.specs.Run.Log.{LogOf, log_of}
 use Rattle.wc_model.specs.Say.LogFor.{log_for}
 use Rattle.wc_record.specs.Reading.{records_of}
-use Rattle.wc_record.specs.Told.{fields_told}
-use Rattle.wc_run.proofs.HandedOn.{handed_on}
+use Rattle.wc_record.specs.Reported.{fields_reported}
+use Rattle.wc_run.proofs.HandedOn.{propagated}
 use Rattle.wc_run.proofs.ReaderFailures.{short_says_nothing, whole_writes}
 use Rattle.wc_run.proofs.RunEnds.{all_done, cut_at_end, ends_plan, ends_short, ends_whole}
-use Rattle.wc_run.proofs.ToldRows.{none_told}
+use Rattle.wc_run.proofs.ReportedRows.{none_reported}
 use Rattle.wc_run.proofs.running.run_to_end.Goals as goal
 use Rattle.wc_run.specs.Doing.{Writes, WritesBy, is_cut_short, refused_in}
 use Rattle.wc_run.specs.Observing.{said_by, onto, refusal_of}
-use Rattle.wc_run.specs.Runs.{TellsRefused, TellsWrite, TellsWrites}
+use Rattle.wc_run.specs.Runs.{ReportsRefused, ReportsWrite, ReportsWrites}
 
 pub returns-then-is_cut_short-clause-writes : goal.returns-then-is_cut_short-clause-writes
 returns-then-is_cut_short-clause-writes g c =
@@ -19,10 +19,10 @@ returns-then-is_cut_short-clause-writes g c =
     let taken = said_by g.O.Observer.speaks g.W.ByteOut.bytes_taken in
     let short : is_cut_short c.run_log-answer.result ≡ true = sym c.is_cut_short.ensures ∙ c.if-is_cut_short.true in
     IfSome_then (g.R.ByteIn.bytes_left c.args.reader.now) c.run_log-answer.ensures.runs
-    (λ bytes says plate logic stands seen.
+    (λ bytes says plate logic represents seen.
     ends_short o.has_seen (o.plan c.args.observer.now) plate logic (log_for logic (log_of (records_of bytes)))
     (taken c.args.writer.now) (taken c.run_log-answer.new.writer) (taken c.run_log-answer.new.writer)
-    c.run_log-answer.new.observer c.run_log-answer.result short (says plate logic stands seen))
+    c.run_log-answer.new.observer c.run_log-answer.result short (says plate logic represents seen))
 
 pub returns-then-is_cut_short-clause-reader : goal.returns-then-is_cut_short-clause-reader
 returns-then-is_cut_short-clause-reader g c =
@@ -34,10 +34,10 @@ returns-then-failures-before-clause-writes g c =
     let taken = said_by g.O.Observer.speaks g.W.ByteOut.bytes_taken in
     let whole : is_cut_short c.run_log-answer.result ≡ false = sym c.is_cut_short.ensures ∙ c.if-is_cut_short.false in
     IfSome_then (g.R.ByteIn.bytes_left c.args.reader.now) c.run_log-answer.ensures.runs
-    (λ bytes says plate logic stands seen.
+    (λ bytes says plate logic represents seen.
     let log : LogOf = log_for logic (log_of (records_of bytes)) in
     let done = all_done o.has_seen (o.plan c.args.observer.now) plate logic log (taken c.args.writer.now) (taken c.run_log-answer.new.writer)
-    (taken c.run_log-answer.new.writer) c.run_log-answer.new.observer c.run_log-answer.result whole (says plate logic stands seen) in
+    (taken c.run_log-answer.new.writer) c.run_log-answer.new.observer c.run_log-answer.result whole (says plate logic represents seen) in
     (log.rows, [], sym (append-nil log.rows), done.written))
 
 pub returns-then-failures-before-clause-failures : goal.returns-then-failures-before-clause-failures
@@ -56,10 +56,10 @@ returns-in_err-end-clause-writes g c =
     let new = taken c.end.new.writer in
     let fault = c.in_err-end.field-0.0 in
     IfSome_then (g.R.ByteIn.bytes_left c.args.reader.now) c.run_log-answer.ensures.runs
-    (λ bytes says plate logic stands seen.
+    (λ bytes says plate logic represents seen.
     let log : LogOf = log_for logic (log_of (records_of bytes)) in
-    let done = all_done o.has_seen plan plate logic log old mid new c.run_log-answer.new.observer c.run_log-answer.result whole (says plate logic stands seen) in
-    handed_on (λ result. WritesBy plan plate logic log result old new) fault c.from_residual.result c.from_residual.ensures
+    let done = all_done o.has_seen plan plate logic log old mid new c.run_log-answer.new.observer c.run_log-answer.result whole (says plate logic represents seen) in
+    propagated (λ result. WritesBy plan plate logic log result old new) fault c.from_residual.result c.from_residual.ensures
     (cut_at_end o.has_seen plan plate logic log old mid new fault done.written
     (ends_plan o.has_seen plan plate logic log old mid new {X = Unit {0}} c.run_log-answer.new.observer c.run_log-answer.result (Err fault) done
     (λ past has. subst (λ p. Writes {X = Unit {0}} (p.at_end plate logic (onto past []) (refusal_of (refused_in c.run_log-answer.result))) (Err fault) mid new) c.run_log-answer.ensures.plan
@@ -70,17 +70,17 @@ pub returns-in_err-end-clause-failures : goal.returns-in_err-end-clause-failures
 returns-in_err-end-clause-failures g c =
     let failures = g.W.ByteOut.failure_count in
     let fault = c.in_err-end.field-0.0 in
-    handed_on (λ result. TellsWrites result (failures c.args.writer.now) (failures c.end.new.writer)) fault c.from_residual.result c.from_residual.ensures
-    (subst (λ before. TellsWrite fault before (failures c.end.new.writer))
+    propagated (λ result. ReportsWrites result (failures c.args.writer.now) (failures c.end.new.writer)) fault c.from_residual.result c.from_residual.ensures
+    (subst (λ before. ReportsWrite fault before (failures c.end.new.writer))
     (whole_writes c.run_log-answer.result (failures c.args.writer.now) (failures c.run_log-answer.new.writer) (sym c.is_cut_short.ensures ∙ c.if-is_cut_short.false) c.run_log-answer.ensures.failures)
     c.in_err-end.ensures.failures)
 
-pub returns-in_err-end-clause-told : goal.returns-in_err-end-clause-told
-returns-in_err-end-clause-told g c =
-    let told = fields_told c.run_log-answer.new.told in
+pub returns-in_err-end-clause-reported : goal.returns-in_err-end-clause-reported
+returns-in_err-end-clause-reported g c =
+    let reported = fields_reported c.run_log-answer.new.reported in
     let fault = c.in_err-end.field-0.0 in
-    handed_on (TellsRefused (g.R.ByteIn.bytes_left c.args.reader.now) told) fault c.from_residual.result c.from_residual.ensures
-    (none_told (g.R.ByteIn.bytes_left c.args.reader.now) told fault c.in_err-end.ensures.held)
+    propagated (ReportsRefused (g.R.ByteIn.bytes_left c.args.reader.now) reported) fault c.from_residual.result c.from_residual.ensures
+    (none_reported (g.R.ByteIn.bytes_left c.args.reader.now) reported fault c.in_err-end.ensures.held)
 
 pub returns-clause-writes : goal.returns-clause-writes
 returns-clause-writes g c =
@@ -92,9 +92,9 @@ returns-clause-writes g c =
     let mid = taken c.run_log-answer.new.writer in
     let new = taken c.end.new.writer in
     IfSome_then (g.R.ByteIn.bytes_left c.args.reader.now) c.run_log-answer.ensures.runs
-    (λ bytes says plate logic stands seen.
+    (λ bytes says plate logic represents seen.
     let log : LogOf = log_for logic (log_of (records_of bytes)) in
-    let ran = says plate logic stands seen in
+    let ran = says plate logic represents seen in
     let done = all_done o.has_seen plan plate logic log old mid new c.run_log-answer.new.observer c.run_log-answer.result whole ran in
     ends_whole o.has_seen plan plate logic log old mid new c.run_log-answer.new.observer c.run_log-answer.result whole ran
     (ends_plan o.has_seen plan plate logic log old mid new {X = Unit {0}} c.run_log-answer.new.observer c.run_log-answer.result (Ok tt) done
@@ -105,4 +105,4 @@ returns-clause-writes g c =
 pub returns-clause-failures : goal.returns-clause-failures
 returns-clause-failures g c =
     let failures = g.W.ByteOut.failure_count in
-    subst (λ after. TellsWrites c.run_log-answer.result (failures c.args.writer.now) after) (sym c.in_ok-end.ensures.failures) c.run_log-answer.ensures.failures
+    subst (λ after. ReportsWrites c.run_log-answer.result (failures c.args.writer.now) after) (sym c.in_ok-end.ensures.failures) c.run_log-answer.ensures.failures

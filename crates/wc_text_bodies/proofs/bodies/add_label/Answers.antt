@@ -4,8 +4,8 @@ use Rattle.wc_model.specs.Language.Views.{lines_view, word_view}
 use Rattle.wc_text_bodies.proofs.LineLists.{lines_view-push, line_count-and, seen-push}
 use Rattle.wc_text_bodies.proofs.bodies.add_label.Goals as goal
 
-pub returns-clause-behind : goal.returns-clause-behind
-returns-clause-behind c = λ units. rw (lines_view-push c.args.body.now.done.items c.push.new.self.items c.label_line.result c.in_ok-push.ensures.items, c.label_line.ensures End) refl
+pub returns-clause-following : goal.returns-clause-following
+returns-clause-following c = λ units. rw (lines_view-push c.args.body.now.done.items c.push.new.self.items c.label_line.result c.in_ok-push.ensures.items, c.label_line.ensures End) refl
 
 pub returns-clause-counted : goal.returns-clause-counted
 returns-clause-counted c = record {

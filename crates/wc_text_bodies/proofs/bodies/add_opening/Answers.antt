@@ -5,8 +5,8 @@ use Rattle.wc_text_bodies.proofs.Openings.{opened-append}
 use Rattle.wc_text_bodies.specs.BodyViews.{position_view}
 use Rattle.wc_text_bodies.proofs.bodies.add_opening.Goals as goal
 
-pub returns-clause-behind : goal.returns-clause-behind
-returns-clause-behind c = λ units. rw (c.in_ok-push.ensures.items, opened-append, c.replace-before.ensures.after, c.new.ensures.items, c.replace-before.ensures.value) refl
+pub returns-clause-following : goal.returns-clause-following
+returns-clause-following c = λ units. rw (c.in_ok-push.ensures.items, opened-append, c.replace-before.ensures.after, c.new.ensures.items, c.replace-before.ensures.value) refl
 
 pub returns-clause-counted : goal.returns-clause-counted
 returns-clause-counted c =

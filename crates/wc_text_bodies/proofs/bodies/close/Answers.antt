@@ -9,8 +9,8 @@ use Rattle.wc_text_bodies.proofs.Openings.{opened-append}
 use Rattle.wc_text_bodies.specs.BodyViews.{position_view, opening_view, openings_view}
 use Rattle.wc_text_bodies.proofs.bodies.close.Goals as goal
 
-pub returns-in_ok-push-in-Some-clause-behind : goal.returns-in_ok-push-in-Some-clause-behind
-returns-in_ok-push-in-Some-clause-behind c = λ units innermost outer e.
+pub returns-in_ok-push-in-Some-clause-following : goal.returns-in_ok-push-in-Some-clause-following
+returns-in_ok-push-in-Some-clause-following c = λ units innermost outer e.
     let split : opening_view c.in-Some.opening ∷ openings_view [] c.pop.new.self.items ≡ innermost ∷ outer =
     sym (opened-append [] c.pop.new.self.items c.in-Some.opening) ∙ (ap (openings_view []) (sym c.in-Some.ensures.items) ∙ e) in
     let first : opening_view c.in-Some.opening ≡ innermost = cc in
@@ -41,8 +41,8 @@ returns-in_ok-push-in-Some-clause-counted c = λ closed.
       seen = seen-push c.in-Some.opening.before.items c.push.new.self.items c.nested_line.result items (rw (c.nested_line.ensures End) refl);
     }
 
-pub returns-else-has_content-clause-behind : goal.returns-else-has_content-clause-behind
-returns-else-has_content-clause-behind c = λ units innermost outer e.
+pub returns-else-has_content-clause-following : goal.returns-else-has_content-clause-following
+returns-else-has_content-clause-following c = λ units innermost outer e.
     let split : opening_view c.in-Some.opening ∷ openings_view [] c.pop.new.self.items ≡ innermost ∷ outer =
     sym (opened-append [] c.pop.new.self.items c.in-Some.opening) ∙ (ap (openings_view []) (sym c.in-Some.ensures.items) ∙ e) in
     let first : opening_view c.in-Some.opening ≡ innermost = cc in

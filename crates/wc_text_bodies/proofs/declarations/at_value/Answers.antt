@@ -13,11 +13,11 @@ use Rattle.wc_text_bodies.proofs.declarations.at_value.Goals as goal
 -- a token that is not a line end
 value-other : (units : List ProgramUnit) (unit : ProgramUnit) (section : Section) (names : List Word) (type_name : Word) (line : ℕ) (shape : Shape) (bytes : List ℕ) → (shape ≡ LineEnd → ⊥)
     → moves.at_value units unit section names type_name line (literal_of (symbol_of (shape_view shape) bytes))
-    ≡ moves.declaration_move units unit section (moves.BehindAssign names type_name) (symbol_of (shape_view shape) bytes) line
+    ≡ moves.declaration_move units unit section (moves.AfterAssign names type_name) (symbol_of (shape_view shape) bytes) line
 value-other units unit section names type_name line LineEnd bytes h = absurd (h refl)
 value-other units unit section names type_name line shape bytes h = refl
 
 pub returns-in_default : goal.returns-in_default
 returns-in_default c = λ units unit section.
-    c.behind_literal.ensures units unit section
+    c.after_literal.ensures units unit section
     ∙ value-other units unit section (map word_view c.args.names.items) (word_view c.args.type_name) c.args.token.line c.args.token.shape c.args.token.text.now c.in_default.not-LineEnd

@@ -1,12 +1,12 @@
 use Rattle.std.proofs.Common.{◌∙◌, sym, ap}
 use Rattle.std.specs.Prelude.{option_and_then}
-use Rattle.wc_text_lines.specs.Meanings.{section_meant}
+use Rattle.wc_text_lines.specs.Meanings.{section_for}
 use Rattle.wc_model.specs.Language.Names.{name_of}
-use Rattle.wc_text_lines.proofs.MeantWords.{section_is}
+use Rattle.wc_text_lines.proofs.KeywordMeanings.{section_is}
 use Rattle.wc_text_lines.proofs.words.section_named.Goals as goal
 
 pub returns-in-Some : goal.returns-in-Some
-returns-in-Some c = c.section_meant.ensures ∙ ap (option_and_then section_meant) (sym c.in-Some.is ∙ c.keyword_named.ensures) ∙ section_is (name_of c.args.text.now)
+returns-in-Some c = c.section_for.ensures ∙ ap (option_and_then section_for) (sym c.in-Some.is ∙ c.keyword_named.ensures) ∙ section_is (name_of c.args.text.now)
 
 pub returns-in-None : goal.returns-in-None
-returns-in-None c = ap (option_and_then section_meant) (sym c.in-None.is ∙ c.keyword_named.ensures) ∙ section_is (name_of c.args.text.now)
+returns-in-None c = ap (option_and_then section_for) (sym c.in-None.is ∙ c.keyword_named.ensures) ∙ section_is (name_of c.args.text.now)

@@ -1,12 +1,12 @@
 use Rattle.std.proofs.Common.{◌∙◌, sym, ap}
 use Rattle.std.specs.Prelude.{option_and_then}
-use Rattle.wc_text_lines.specs.Meanings.{unit_meant}
+use Rattle.wc_text_lines.specs.Meanings.{unit_for}
 use Rattle.wc_model.specs.Language.Names.{name_of}
-use Rattle.wc_text_lines.proofs.MeantWords.{unit_is}
+use Rattle.wc_text_lines.proofs.KeywordMeanings.{unit_is}
 use Rattle.wc_text_lines.proofs.words.unit_kind.Goals as goal
 
 pub returns-in-Some : goal.returns-in-Some
-returns-in-Some c = c.unit_meant.ensures ∙ ap (option_and_then unit_meant) (sym c.in-Some.is ∙ c.keyword_named.ensures) ∙ unit_is (name_of c.args.text.now)
+returns-in-Some c = c.unit_for.ensures ∙ ap (option_and_then unit_for) (sym c.in-Some.is ∙ c.keyword_named.ensures) ∙ unit_is (name_of c.args.text.now)
 
 pub returns-in-None : goal.returns-in-None
-returns-in-None c = ap (option_and_then unit_meant) (sym c.in-None.is ∙ c.keyword_named.ensures) ∙ unit_is (name_of c.args.text.now)
+returns-in-None c = ap (option_and_then unit_for) (sym c.in-None.is ∙ c.keyword_named.ensures) ∙ unit_is (name_of c.args.text.now)

@@ -6,7 +6,7 @@ use Rattle.wc_model.specs.Language.Store.{Path}
 use Rattle.wc_model.specs.Language.Views.{text_view}
 use Rattle.wc_model.specs.declared.source.Source.{Source}
 use Rattle.wc_names.proofs.Lists.{from_index}
-use Rattle.wc_names.specs.StandsFor.{AreTables}
+use Rattle.wc_names.specs.RepresentsText.{AreTables}
 use Rattle.wc_names.specs.declared.declared_type.DeclaredType.TheVariants as numbered
 use Rattle.wc_text_variables.proofs.Walks.{Walks, at_block, at_end, at_nothing, at_plain, at_standard, from_program}
 use Rattle.wc_text_variables.proofs.variables.leads_to_hidden.Goals as goal
@@ -35,7 +35,7 @@ returns-in-Standard c =
     let walks = subst (λ (left : List (Bor Name)). Walks text c.loop-index.unit (map (λ name. name_of name.now) left) whole)
     (from_index c.args.names.now c.loop-index.index c.in-Some.name.now c.in-Some.ensures.lookup.3.0 c.in-Some.ensures.lookup.1) c.loop-index.invariant in
     let tables = subst (λ t. AreTables t text) (sym c.tables-tables.ensures.tables)
-    (subst (λ (s : Source). AreTables c.checked.result.now.tables (text_view s)) c.checked.ensures c.tables-tables.ensures.stand) in
+    (subst (λ (s : Source). AreTables c.checked.result.now.tables (text_view s)) c.checked.ensures c.tables-tables.ensures.occur) in
     c.is_hidden_at.ensures
     ∙ at_standard text c.loop-index.unit (name_of c.in-Some.name.now.now) left whole walks c.in-Standard.block
     (sym (c.in-Some-declared_type.ensures text walks.scope tables walks.is) ∙ ap Some c.in-Standard.is)
@@ -48,7 +48,7 @@ returns-in_default-declared_type c =
     let walks = subst (λ (left : List (Bor Name)). Walks text c.loop-index.unit (map (λ name. name_of name.now) left) whole)
     (from_index c.args.names.now c.loop-index.index c.in-Some.name.now c.in-Some.ensures.lookup.3.0 c.in-Some.ensures.lookup.1) c.loop-index.invariant in
     let tables = subst (λ t. AreTables t text) (sym c.tables-tables.ensures.tables)
-    (subst (λ (s : Source). AreTables c.checked.result.now.tables (text_view s)) c.checked.ensures c.tables-tables.ensures.stand) in
+    (subst (λ (s : Source). AreTables c.checked.result.now.tables (text_view s)) c.checked.ensures c.tables-tables.ensures.occur) in
     at_nothing text c.loop-index.unit (name_of c.in-Some.name.now.now) left whole walks
     (sym (c.declared_type.ensures text walks.scope tables walks.is) ∙ c.in_default-declared_type.is)
 
@@ -60,7 +60,7 @@ returns-in-Elementary c =
     let walks = subst (λ (left : List (Bor Name)). Walks text c.loop-index.unit (map (λ name. name_of name.now) left) whole)
     (from_index c.args.names.now c.loop-index.index c.in-Some.name.now c.in-Some.ensures.lookup.3.0 c.in-Some.ensures.lookup.1) c.loop-index.invariant in
     let tables = subst (λ t. AreTables t text) (sym c.tables-tables.ensures.tables)
-    (subst (λ (s : Source). AreTables c.checked.result.now.tables (text_view s)) c.checked.ensures c.tables-tables.ensures.stand) in
+    (subst (λ (s : Source). AreTables c.checked.result.now.tables (text_view s)) c.checked.ensures c.tables-tables.ensures.occur) in
     at_plain text c.loop-index.unit (name_of c.in-Some.name.now.now) left whole walks c.in-Elementary.field-0
     (sym (c.in-Some-declared_type.ensures text walks.scope tables walks.is) ∙ ap Some c.in-Elementary.is)
 
@@ -72,6 +72,6 @@ loop-index-preserved c =
     let walks = subst (λ (left : List (Bor Name)). Walks text c.loop-index.unit (map (λ name. name_of name.now) left) whole)
     (from_index c.args.names.now c.loop-index.index c.in-Some.name.now c.in-Some.ensures.lookup.3.0 c.in-Some.ensures.lookup.1) c.loop-index.invariant in
     let tables = subst (λ t. AreTables t text) (sym c.tables-tables.ensures.tables)
-    (subst (λ (s : Source). AreTables c.checked.result.now.tables (text_view s)) c.checked.ensures c.tables-tables.ensures.stand) in
+    (subst (λ (s : Source). AreTables c.checked.result.now.tables (text_view s)) c.checked.ensures c.tables-tables.ensures.occur) in
     at_block text c.loop-index.unit (name_of c.in-Some.name.now.now) left whole walks c.in-Block.block
     (sym (c.in-Some-declared_type.ensures text walks.scope tables walks.is) ∙ ap Some c.in-Block.is)

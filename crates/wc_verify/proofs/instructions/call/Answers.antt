@@ -6,5 +6,5 @@ use Rattle.std.proofs.Common.{map, refl}
 use Rattle.wc_verify.proofs.instructions.call.Goals as goal
 
 pub returns : goal.returns
-returns c = λ scope label behind more is.
-    c.kind_behind.ensures scope (PlainLine label c.args.line (Call c.args.condition (name_of c.args.instance.now) (map assignment_view c.args.arguments.now))) behind c.args.kind more (c.judge_call-judged.ensures.judged scope more is) refl
+returns c = λ scope label following more is.
+    c.kind_following.ensures scope (PlainLine label c.args.line (Call c.args.condition (name_of c.args.instance.now) (map assignment_view c.args.arguments.now))) following c.args.kind more (c.validate_call-validated.ensures.validated scope more is) refl

@@ -10,8 +10,8 @@ use Rattle.std.proofs.Common.{[], ◌∷◌}
 use Rattle.wc_verify.proofs.instructions.jump.Goals as goal
 
 pub returns : goal.returns
-returns c = λ scope word behind more ahead.
+returns c = λ scope word following more ahead.
     let name = name_of c.args.label.now in
-    c.kind_behind.ensures scope (PlainLine word c.args.line (Jump c.args.condition name)) behind c.args.kind more
-    (c.refuse.ensures.judges _ (first_broken more) (joined (λ line. asks 406 line (is_ahead behind name) ∷ []) (λ line. condition_checks c.args.condition line c.args.kind) c.unless.result c.judge_condition.result c.first_of-broken.result
-    (asked_as 406 c.args.is_ahead (is_ahead behind name) c.unless.result c.unless.ensures (sym ahead)) c.judge_condition.ensures c.first_of-broken.ensures c.args.line more)) refl
+    c.kind_following.ensures scope (PlainLine word c.args.line (Jump c.args.condition name)) following c.args.kind more
+    (c.refuse.ensures.validates _ (first_broken more) (joined (λ line. asks 406 line (is_ahead following name) ∷ []) (λ line. condition_checks c.args.condition line c.args.kind) c.unless.result c.validate_condition.result c.first_of-broken.result
+    (asked_as 406 c.args.is_ahead (is_ahead following name) c.unless.result c.unless.ensures (sym ahead)) c.validate_condition.ensures c.first_of-broken.ensures c.args.line more)) refl

@@ -5,5 +5,5 @@ use Rattle.std.proofs.Common.{refl}
 use Rattle.wc_verify.proofs.instructions.leave.Goals as goal
 
 pub returns : goal.returns
-returns c = λ scope label behind more.
-    c.kind_behind.ensures scope (PlainLine label c.args.line (Return c.args.condition)) behind c.args.kind more (c.refuse.ensures.judges _ (first_broken more) (c.judge_condition.ensures c.args.line more)) refl
+returns c = λ scope label following more.
+    c.kind_following.ensures scope (PlainLine label c.args.line (Return c.args.condition)) following c.args.kind more (c.refuse.ensures.validates _ (first_broken more) (c.validate_condition.ensures c.args.line more)) refl

@@ -5,5 +5,5 @@ use Rattle.std.proofs.Common.{refl}
 use Rattle.wc_verify.proofs.instructions.negate.Goals as goal
 
 pub returns : goal.returns
-returns c = λ scope label behind more.
-    c.kind_behind.ensures scope (PlainLine label c.args.line Negate) behind c.args.kind more (c.refuse.ensures.judges _ (first_broken more) (c.judge_truth.ensures c.args.line more)) refl
+returns c = λ scope label following more.
+    c.kind_following.ensures scope (PlainLine label c.args.line Negate) following c.args.kind more (c.refuse.ensures.validates _ (first_broken more) (c.validate_truth.ensures c.args.line more)) refl

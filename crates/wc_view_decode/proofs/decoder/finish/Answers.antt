@@ -1,29 +1,29 @@
 use Rattle.std.proofs.Common.{◌∙◌, ◌++◌, true, false, ◌<◌, length, ap, subst, arith}
 use Rattle.std.proofs.lemmas.Grind.{common_steps}
 use Rattle.wc_view_decode.proofs.Standings.{finished_kept, finished_long}
-use Rattle.wc_view_decode.proofs.Takings.{behind_text, finishes_if}
+use Rattle.wc_view_decode.proofs.Takings.{after_text, finishes_if}
 use Rattle.wc_view_decode.specs.Decoding.{Decodes}
-use Rattle.wc_view_decode.specs.Forms.{unknown}
-use Rattle.wc_view_decode.specs.Standing.{StandsIn}
+use Rattle.wc_view_decode.specs.Formats.{unknown}
+use Rattle.wc_view_decode.specs.Representation.{IsInState}
 use Rattle.wc_view_decode.proofs.decoder.finish.Goals as goal
 
 pub returns-then-decoder-clause-finishes : goal.returns-then-decoder-clause-finishes
 returns-then-decoder-clause-finishes c =
-    let form = c.args.decoder.now.form in
+    let format = c.args.decoder.now.format in
     let kept = c.args.decoder.now.line.items in
     let old = c.args.text.now.items in
     finishes_if c.put_closing.result c.args.decoder.now _ _ _ c.put_closing.ensures.closing
-    (λ e read text stands.
-    subst (Decodes form read) (behind_text text old c.put_closing.new.text.items _ e)
-    (finished_long form read kept (text ++ old) (subst (λ b. StandsIn form read kept b (text ++ old)) c.if-decoder.true stands)))
+    (λ e read text represents.
+    subst (Decodes format read) (after_text text old c.put_closing.new.text.items _ e)
+    (finished_long format read kept (text ++ old) (subst (λ b. IsInState format read kept b (text ++ old)) c.if-decoder.true represents)))
 
 pub returns-clause-finishes : goal.returns-clause-finishes
 returns-clause-finishes c =
-    let form = c.args.decoder.now.form in
+    let format = c.args.decoder.now.format in
     let kept = c.args.decoder.now.line.items in
     let old = c.args.text.now.items in
     let some : 0 < length kept = grind (arith, common_steps) in
     finishes_if c.put_unknown.result c.args.decoder.now _ _ _ c.put_unknown.ensures.line
-    (λ e read text stands.
-    subst (Decodes form read) (behind_text text old c.put_unknown.new.text.items (unknown form kept) (e ∙ ap (λ l. old ++ unknown form l) c.deref.ensures.value))
-    (finished_kept form read kept (text ++ old) (λ none. omega (arith, some, ap length none)) (subst (λ b. StandsIn form read kept b (text ++ old)) c.if-decoder.false stands)))
+    (λ e read text represents.
+    subst (Decodes format read) (after_text text old c.put_unknown.new.text.items (unknown format kept) (e ∙ ap (λ l. old ++ unknown format l) c.deref.ensures.value))
+    (finished_kept format read kept (text ++ old) (λ none. omega (arith, some, ap length none)) (subst (λ b. IsInState format read kept b (text ++ old)) c.if-decoder.false represents)))

@@ -1,4 +1,4 @@
-use Rattle.wc_view_decode.proofs.Pieces.{end_refused, end_written}
+use Rattle.wc_view_decode.proofs.Chunks.{end_refused, end_written}
 use Rattle.wc_view_decode.proofs.decoding.finish_report.Goals as goal
 
 pub returns-in-Ok-clause-ends : goal.returns-in-Ok-clause-ends

@@ -6,4 +6,4 @@ pub loop-byte-preserved : goal.loop-byte-preserved
 loop-byte-preserved c =
     let old = c.args.text.now.items in
     one_more old _ _ _ _ c.loop-byte.invariant c.in_ok-put_passed.ensures.byte
-    ∙ ap (λ text. old ++ text) (sym (one_passed_more c.args.form c.args.bytes.now c.loop-byte.byte-index _ c.loop-byte-test.true))
+    ∙ ap (λ text. old ++ text) (sym (one_passed_more c.args.format c.args.bytes.now c.loop-byte.byte-index _ c.loop-byte-test.true))

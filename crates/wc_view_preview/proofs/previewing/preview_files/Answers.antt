@@ -10,9 +10,9 @@ pub returns-clause-ends : goal.returns-clause-ends
 returns-clause-ends g c =
     let taken = g.W.ByteOut.bytes_taken in
     on_known (g.T.ByteIn.bytes_left c.args.program.now) _ _
-    (λ text told. on_known (g.N.ByteIn.bytes_left c.args.next.now) _ _
+    (λ text reported. on_known (g.N.ByteIn.bytes_left c.args.next.now) _ _
     (λ other upto. ends (AnswersPreview c.args.paths text other) c.preview_inputs-answer.result c.end.result (taken c.args.writer.now) (taken c.preview_inputs-answer.new.writer) (taken c.end.new.writer)
-    upto c.end.ensures.ends) told) c.preview_inputs-answer.ensures.writes
+    upto c.end.ensures.ends) reported) c.preview_inputs-answer.ensures.writes
 
 pub returns-clause-blames_program : goal.returns-clause-blames_program
 returns-clause-blames_program g c =

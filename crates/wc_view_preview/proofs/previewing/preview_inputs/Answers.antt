@@ -5,7 +5,7 @@ use Rattle.wc_controller.proofs.Allowing.{file_not_read, file_read, of_known, on
 use Rattle.wc_controller.proofs.Blaming.{load_refused, program_read}
 use Rattle.wc_controller.proofs.Givings.{not_loaded, upto_more}
 use Rattle.wc_controller.specs.Blames.{RefusesText}
-use Rattle.wc_controller.specs.Endings.{WritesUpTo, met}
+use Rattle.wc_controller.specs.Endings.{WritesUpTo, raised}
 use Rattle.wc_controller.specs.Files.{AnswersFile}
 use Rattle.wc_controller.specs.Loads.{IsRefusedLoad}
 use Rattle.wc_controller.specs.declared.input.Input.TheVariants as input
@@ -29,12 +29,12 @@ returns-in-Err-clause-writes g c =
 pub returns-in-Err-load-clause-writes : goal.returns-in-Err-load-clause-writes
 returns-in-Err-load-clause-writes g c =
     let old = g.W.ByteOut.bytes_taken c.args.writer.now in
-    let behind = g.N.ByteIn.bytes_left c.args.next.now in
+    let following = g.N.ByteIn.bytes_left c.args.next.now in
     let items = c.in-Ok.text.items in
     let why = c.in-Err-load.fault in
-    subst (λ one. IfSome (g.T.ByteIn.bytes_left c.args.program.now) (λ text. IfSome behind (λ other. WritesUpTo (AnswersPreview c.args.paths text other) (Some one) old old))) (sym c.from.ensures)
-    (of_known (g.T.ByteIn.bytes_left c.args.program.now) items (λ text. IfSome behind (λ other. WritesUpTo (AnswersPreview c.args.paths text other) (Some (from_fault why)) old old)) c.in-Ok.ensures.whole.1
-    (on_each behind _
+    subst (λ one. IfSome (g.T.ByteIn.bytes_left c.args.program.now) (λ text. IfSome following (λ other. WritesUpTo (AnswersPreview c.args.paths text other) (Some one) old old))) (sym c.from.ensures)
+    (of_known (g.T.ByteIn.bytes_left c.args.program.now) items (λ text. IfSome following (λ other. WritesUpTo (AnswersPreview c.args.paths text other) (Some (from_fault why)) old old)) c.in-Ok.ensures.whole.1
+    (on_each following _
     (λ other. let rest : Text → JobAnswer → Type 0 = AnswersTree (λ source. AnswersFile other (AnswersNew c.args.paths source other)) in
     file_read items (AnswersProgram items rest) (Some (from_fault why)) old old c.in-Ok.ensures.whole.0
     (not_loaded items rest why old (subst (λ text. IsRefusedLoad text why) c.deref.ensures.value c.in-Err-load.ensures.refused)))))
@@ -56,16 +56,16 @@ returns-in-Err-load-clause-taken_next g c = ([], Consumes-nil (g.N.ByteIn.bytes_
 pub returns-in-Ok-read_input-clause-writes : goal.returns-in-Ok-read_input-clause-writes
 returns-in-Ok-read_input-clause-writes g c =
     let taken = g.W.ByteOut.bytes_taken in
-    let behind = g.N.ByteIn.bytes_left c.args.next.now in
+    let following = g.N.ByteIn.bytes_left c.args.next.now in
     let items = c.in-Ok.text.items in
     let others = c.in-Ok-read_input.other.items in
     let first = c.in-Ok-load.loaded.source in
-    let answer = met c.preview_next.result in
+    let answer = raised c.preview_next.result in
     let old = taken c.args.writer.now in
     let new = taken c.preview_next.new.writer in
     let rest : Text → JobAnswer → Type 0 = AnswersTree (λ source. AnswersFile others (AnswersNew c.args.paths source others)) in
-    of_known (g.T.ByteIn.bytes_left c.args.program.now) items (λ text. IfSome behind (λ other. WritesUpTo (AnswersPreview c.args.paths text other) answer old new)) c.in-Ok.ensures.whole.1
-    (of_known behind others (λ other. WritesUpTo (AnswersPreview c.args.paths items other) answer old new) c.in-Ok-read_input.ensures.whole.1
+    of_known (g.T.ByteIn.bytes_left c.args.program.now) items (λ text. IfSome following (λ other. WritesUpTo (AnswersPreview c.args.paths text other) answer old new)) c.in-Ok.ensures.whole.1
+    (of_known following others (λ other. WritesUpTo (AnswersPreview c.args.paths items other) answer old new) c.in-Ok-read_input.ensures.whole.1
     (file_read items (AnswersProgram items rest) answer old new c.in-Ok.ensures.whole.0
     (upto_more (AnswersFile others (AnswersNew c.args.paths first others)) (AnswersProgram items rest) answer old new
     (λ one e. loads_program (text_view first) (subst (λ text. IsLoaded text (text_view first)) c.deref.ensures.value c.in-Ok-load.ensures.loaded) (record { source = first; is = refl; says = e }))
@@ -81,12 +81,12 @@ returns-in-Ok-read_input-clause-blames_next g c =
 pub returns-clause-writes : goal.returns-clause-writes
 returns-clause-writes g c =
     let old = g.W.ByteOut.bytes_taken c.args.writer.now in
-    let behind = g.N.ByteIn.bytes_left c.args.next.now in
+    let following = g.N.ByteIn.bytes_left c.args.next.now in
     let items = c.in-Ok.text.items in
     let first = c.in-Ok-load.loaded.source in
     let why = c.in-Err-read_input.stopped.fault in
-    of_known (g.T.ByteIn.bytes_left c.args.program.now) items (λ text. IfSome behind (λ other. WritesUpTo (AnswersPreview c.args.paths text other) (Some why) old old)) c.in-Ok.ensures.whole.1
-    (file_not_read behind _ why
+    of_known (g.T.ByteIn.bytes_left c.args.program.now) items (λ text. IfSome following (λ other. WritesUpTo (AnswersPreview c.args.paths text other) (Some why) old old)) c.in-Ok.ensures.whole.1
+    (file_not_read following _ why
     (λ other longer.
     let rest : Text → JobAnswer → Type 0 = AnswersTree (λ source. AnswersFile other (AnswersNew c.args.paths source other)) in
     file_read items (AnswersProgram items rest) (Some why) old old c.in-Ok.ensures.whole.0

@@ -1,7 +1,7 @@
 use Rattle.std.proofs.Common.{◌≡◌, ◌∙◌, ◌++◌, arith, length}
 use Rattle.wc_view_trace_rows.proofs.HandedOn.{on_ok}
 use Rattle.wc_view_trace_rows.proofs.Joins.{row_put}
-use Rattle.wc_view_trace_rows.specs.Columns.{front, result_column, written_column}
+use Rattle.wc_view_trace_rows.specs.Columns.{prefix, result_column, written_column}
 use Rattle.wc_view_trace_rows.specs.Legends.{line_of}
 use Rattle.wc_view_trace_rows.specs.Rows.{number_shown, result_cell, written_cell}
 use Rattle.wc_view_trace_rows.proofs.rows.put_row.Goals as goal
@@ -12,6 +12,6 @@ returns-clause-puts c =
     let start : c.len-start.result ≡ length c.args.text.now.items = omega (arith, c.args.text.now.ok.0) in
     on_ok c.put_bytes.result
     (λ put. put
-    ∙ row_put c.args.text.now.items (front (number_shown item.seen.line item.seen.source) item.seen.depth (line_of c.args.legend.now item.seen.source)) c.put_place.new.text.items c.put_result.new.text.items c.put_if_written.new.text.items (result_cell item) (written_cell c.args.legend.now item)
-    result_column written_column c.len-start.result start (c.in_ok-put_place.ensures.puts ∙ (λ i. c.args.text.now.items ++ front (c.number_shown.ensures i) item.seen.depth (c.line.ensures i))) c.in_ok-put_result.ensures.puts c.in_ok-put_if_written.ensures.puts)
+    ∙ row_put c.args.text.now.items (prefix (number_shown item.seen.line item.seen.source) item.seen.depth (line_of c.args.legend.now item.seen.source)) c.put_place.new.text.items c.put_result.new.text.items c.put_if_written.new.text.items (result_cell item) (written_cell c.args.legend.now item)
+    result_column written_column c.len-start.result start (c.in_ok-put_place.ensures.puts ∙ (λ i. c.args.text.now.items ++ prefix (c.number_shown.ensures i) item.seen.depth (c.line.ensures i))) c.in_ok-put_result.ensures.puts c.in_ok-put_if_written.ensures.puts)
     c.put_bytes.ensures.bytes

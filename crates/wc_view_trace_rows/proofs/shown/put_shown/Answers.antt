@@ -1,5 +1,5 @@
 use Rattle.std.proofs.Common.{◌∙◌, ◌++◌, ap}
-use Rattle.wc_view_trace_rows.proofs.Pieces.{passed, put_next}
+use Rattle.wc_view_trace_rows.proofs.Chunks.{passed, put_next}
 use Rattle.wc_view_trace_rows.specs.Shown.{single_spaces}
 use Rattle.wc_view_trace_rows.proofs.shown.put_shown.Goals as goal
 

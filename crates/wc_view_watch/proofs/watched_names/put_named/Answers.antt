@@ -4,22 +4,22 @@ use Rattle.wc_view_changes.specs.ChangeReport.{content_text}
 use Rattle.wc_model.specs.Language.Frames.{content_number}
 use Rattle.wc_model.specs.Language.Store.{Plain}
 use Rattle.wc_names.proofs.HandedOn.{on_ok}
-use Rattle.wc_view_watch.proofs.ValueTexts.{pieces, shows}
+use Rattle.wc_view_watch.proofs.ValueTexts.{chunks, shows}
 use Rattle.wc_view_watch.proofs.watched_names.put_named.Goals as goal
 
 pub returns-in_default-clause-puts : goal.returns-in_default-clause-puts
-returns-in_default-clause-puts c = λ text store stands e.
-    let s = shows c.args.machine.now text store c.args.name.now c.args.watched.now stands e in
-    let never : None ≡ Some (content_number (Plain s.value)) = c.in_default.ensures text store s.place stands s.number ∙ s.held in
+returns-in_default-clause-puts c = λ text store represents e.
+    let s = shows c.args.machine.now text store c.args.name.now c.args.watched.now represents e in
+    let never : None ≡ Some (content_number (Plain s.value)) = c.in_default.ensures text store s.place represents s.number ∙ s.held in
     absurd (cc (never))
 
 pub returns-clause-puts : goal.returns-clause-puts
-returns-clause-puts c = λ text store stands e.
-    let s = shows c.args.machine.now text store c.args.name.now c.args.watched.now stands e in
-    let found : Some c.in-Some.number ≡ Some (content_number (Plain s.value)) = c.in-Some.ensures text store s.place stands s.number ∙ s.held in
+returns-clause-puts c = λ text store represents e.
+    let s = shows c.args.machine.now text store c.args.name.now c.args.watched.now represents e in
+    let found : Some c.in-Some.number ≡ Some (content_number (Plain s.value)) = c.in-Some.ensures text store s.place represents s.number ∙ s.held in
     let raw : to_z w64 (of_z w64 c.in-Some.number) ≡ c.in-Some.number = omega (arith, ints) in
     let number : to_z w64 (of_z w64 c.in-Some.number) ≡ content_number (Plain s.value) = raw ∙ cc (found) in
     on_ok c.put_value.result
-    (λ put. pieces c.args.line.now.items c.put_bytes.new.text.items c.put_bytes-2.new.text.items c.put_bytes-3.new.text.items c.put_value.new.text.items c.args.name.now (content_text (Plain s.value))
+    (λ put. chunks c.args.line.now.items c.put_bytes.new.text.items c.put_bytes-2.new.text.items c.put_bytes-3.new.text.items c.put_value.new.text.items c.args.name.now (content_text (Plain s.value))
     c.in_ok-put_bytes.ensures.bytes c.in_ok-put_bytes-2.ensures.bytes c.in_ok-put_bytes-3.ensures.bytes put ∙ ap (λ t. c.args.line.now.items ++ t) (sym s.shown))
     (c.put_value.ensures.value s.value s.kind number)

@@ -1,7 +1,7 @@
 use Rattle.std.proofs.Common.{◌≡◌, false, subst}
 use Rattle.wc_controller.specs.InputRuns.{RunsAs}
 use Rattle.wc_controller.specs.InputStates.{writer_of}
-use Rattle.wc_record.specs.Told.{fields_told}
+use Rattle.wc_record.specs.Reported.{fields_reported}
 use Rattle.wc_view_watch.proofs.Observed.{found_name, observed_is, programs_more}
 use Rattle.wc_view_watch.proofs.watching.watch_files.Goals as goal
 use Rattle.wc_view_watch.specs.Unknown.{IsFirstUnknown, begins_with}
@@ -19,6 +19,6 @@ returns-then-is_at_names-clause-unknown g c =
 pub returns-clause-runs : goal.returns-clause-runs
 returns-clause-runs g c =
     let writer = writer_of g.W.ByteOut.bytes_taken g.W.ByteOut.failure_count in
-    subst (λ observed. RunsAs observed c.args.inputs.now c.run_files-ending.new.inputs (fields_told c.run_files-ending.new.told) c.run_files-ending.result
+    subst (λ observed. RunsAs observed c.args.inputs.now c.run_files-ending.new.inputs (fields_reported c.run_files-ending.new.reported) c.run_files-ending.result
     (writer c.args.writer.now) (writer c.run_files-ending.new.writer))
     (observed_is c.in-Ok.watcher c.args.names.now c.args.last c.in-Ok.ensures.watches.0 c.in-Ok.ensures.watches.1) c.run_files-ending.ensures.runs

@@ -1,14 +1,14 @@
 use Rattle.std.proofs.Common.{◌≡◌, ◌-◌, ◌<◌, length, option_map, Some, sym, subst, ap, ◌∙◌, rules}
 use Rattle.std.specs.Prelude.{IfSome, slice_get}
 use Rattle.wc_cost.proofs.CarriedKinds.{kind_answered, kind_kept}
-use Rattle.wc_cost.proofs.WholeTexts.{carried_alike, laid_count, last_unit}
+use Rattle.wc_cost.proofs.WholeTexts.{carried_alike, lowered_count, last_unit}
 use Rattle.wc_cost.specs.LoadedTexts.{LoadedText}
 use Rattle.wc_model.specs.Language.CarriedPlaces.{carried_number, frame_of_text}
 use Rattle.wc_model.specs.Language.Frames.{place_number, slot_kinds}
 use Rattle.wc_model.specs.Language.Store.{Location, Content}
 use Rattle.wc_model.specs.Language.Views.{text_view}
 use Rattle.wc_model.specs.declared.place.Place.{Place}
-use Rattle.wc_names.specs.StandsFor.{AreTables}
+use Rattle.wc_names.specs.RepresentsText.{AreTables}
 use Rattle.wc_cost.proofs.loaded.Loaded.carry.Goals as goal
 
 pub returns-clause-carried : goal.returns-clause-carried
@@ -19,10 +19,10 @@ returns-clause-carried c =
     let old_text = text_view old.checked.source in
     let counted : c.len.result ≡ length inside.units.items = search rules in
     let old_counted : c.len-2.result ≡ length old.units.items = search rules in
-    let last : c.saturating_sub-last.result ≡ length new_text - 1 = c.saturating_sub-last.ensures ∙ ap (λ n. n - 1) (counted ∙ laid_count new_text inside.units.items c.self.invariant.sound.laid) in
-    let old_last : c.saturating_sub-old_last.result ≡ length old_text - 1 = c.saturating_sub-old_last.ensures ∙ ap (λ n. n - 1) (old_counted ∙ laid_count old_text old.units.items c.old.invariant.sound.laid) in
-    let tables = subst (λ t. AreTables t new_text) (sym c.tables.ensures.tables) c.tables.ensures.stand in
-    let old_tables = subst (λ t. AreTables t old_text) (sym c.tables-2.ensures.tables) c.tables-2.ensures.stand in
+    let last : c.saturating_sub-last.result ≡ length new_text - 1 = c.saturating_sub-last.ensures ∙ ap (λ n. n - 1) (counted ∙ lowered_count new_text inside.units.items c.self.invariant.sound.lowered) in
+    let old_last : c.saturating_sub-old_last.result ≡ length old_text - 1 = c.saturating_sub-old_last.ensures ∙ ap (λ n. n - 1) (old_counted ∙ lowered_count old_text old.units.items c.old.invariant.sound.lowered) in
+    let tables = subst (λ t. AreTables t new_text) (sym c.tables.ensures.tables) c.tables.ensures.occur in
+    let old_tables = subst (λ t. AreTables t old_text) (sym c.tables-2.ensures.tables) c.tables-2.ensures.occur in
     let to = last_unit new_text c.self.invariant.sound.read.1.spelled.order c.saturating_sub-last.result last in
     let from = last_unit old_text c.old.invariant.sound.read.1.spelled.order c.saturating_sub-old_last.result old_last in
     let within : c.args.place.0 < length (frame_of_text new_text) = subst (λ (v : LoadedText). c.args.place.0 < length (frame_of_text (text_view v.source))) (sym c.self.view_is) c.requires in
@@ -38,10 +38,10 @@ returns-clause-kind c =
     let old_text = text_view old.checked.source in
     let counted : c.len.result ≡ length inside.units.items = search rules in
     let old_counted : c.len-2.result ≡ length old.units.items = search rules in
-    let last : c.saturating_sub-last.result ≡ length new_text - 1 = c.saturating_sub-last.ensures ∙ ap (λ n. n - 1) (counted ∙ laid_count new_text inside.units.items c.self.invariant.sound.laid) in
-    let old_last : c.saturating_sub-old_last.result ≡ length old_text - 1 = c.saturating_sub-old_last.ensures ∙ ap (λ n. n - 1) (old_counted ∙ laid_count old_text old.units.items c.old.invariant.sound.laid) in
-    let tables = subst (λ t. AreTables t new_text) (sym c.tables.ensures.tables) c.tables.ensures.stand in
-    let old_tables = subst (λ t. AreTables t old_text) (sym c.tables-2.ensures.tables) c.tables-2.ensures.stand in
+    let last : c.saturating_sub-last.result ≡ length new_text - 1 = c.saturating_sub-last.ensures ∙ ap (λ n. n - 1) (counted ∙ lowered_count new_text inside.units.items c.self.invariant.sound.lowered) in
+    let old_last : c.saturating_sub-old_last.result ≡ length old_text - 1 = c.saturating_sub-old_last.ensures ∙ ap (λ n. n - 1) (old_counted ∙ lowered_count old_text old.units.items c.old.invariant.sound.lowered) in
+    let tables = subst (λ t. AreTables t new_text) (sym c.tables.ensures.tables) c.tables.ensures.occur in
+    let old_tables = subst (λ t. AreTables t old_text) (sym c.tables-2.ensures.tables) c.tables-2.ensures.occur in
     let to = last_unit new_text c.self.invariant.sound.read.1.spelled.order c.saturating_sub-last.result last in
     let from = last_unit old_text c.old.invariant.sound.read.1.spelled.order c.saturating_sub-old_last.result old_last in
     let own = λ (entry : Location × Content) (there : slice_get (frame_of_text new_text) c.args.place.0 ≡ Some entry).

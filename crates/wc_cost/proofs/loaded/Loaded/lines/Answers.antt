@@ -6,7 +6,7 @@ use Rattle.wc_text_flat.specs.FlatPaths.{sources_of}
 use Rattle.wc_model.specs.Language.Views.{text_view}
 use Rattle.wc_cost.proofs.WorstLines.{unit_lines}
 use Rattle.wc_cost.specs.LoadedTexts.{LoadedText}
-use Rattle.wc_cost.specs.declared.laid.LaidUnit.{LaidUnit}
+use Rattle.wc_cost.specs.declared.lowered.LoweredUnit.{LoweredUnit}
 use Rattle.wc_cost.proofs.loaded.Loaded.lines.Goals as goal
 
 pub returns : goal.returns
@@ -14,7 +14,7 @@ returns c =
     let inside = c.self.inside in
     let within : c.args.unit < length inside.units.items =
     let l = subst (λ (v : LoadedText). c.args.unit < length v.codes) (sym c.self.view_is) c.requires in
-    let e = length-map inside.units.items (λ (u : LaidUnit). u.code.items) in
+    let e = length-map inside.units.items (λ (u : LoweredUnit). u.code.items) in
     omega (arith, l, e) in
     let there = slice_get_read inside.units.items (length inside.units.items) c.args.unit c.index.result.now refl within c.index.ensures in
     subst (λ (v : LoadedText). slice_get (map (λ u. sources_of u.body) (text_view v.source)) c.args.unit ≡ Some c.as_slice.result.now) c.self.view_is

@@ -14,7 +14,7 @@ pub index-requires : goal.index-requires
 index-requires c =
     let inside = c.self.inside in
     let l = subst (λ (v : LoadedText). c.args.unit < length v.codes) (sym c.self.view_is) c.requires in
-    let w = unit_within inside.checked.source c.source.result.now (codes_of inside.units.items) c.args.unit c.self.invariant.sound.laid c.source.ensures.source l in
+    let w = unit_within inside.checked.source c.source.result.now (codes_of inside.units.items) c.args.unit c.self.invariant.sound.lowered c.source.ensures.source l in
     let v : vec_len c.source.result.now.units ≡ length c.source.result.now.units.items = search rules in
     omega (arith, w, v)
 
@@ -23,7 +23,7 @@ returns-in-Ok c =
     let inside = c.self.inside in
     let given = c.source.result.now in
     let l = subst (λ (v : LoadedText). c.args.unit < length v.codes) (sym c.self.view_is) c.requires in
-    let within = unit_within inside.checked.source given (codes_of inside.units.items) c.args.unit c.self.invariant.sound.laid c.source.ensures.source l in
+    let within = unit_within inside.checked.source given (codes_of inside.units.items) c.args.unit c.self.invariant.sound.lowered c.source.ensures.source l in
     let there = slice_get_read given.units.items (length given.units.items) c.args.unit c.index.result.now refl within c.index.ensures in
     subst (λ (v : LoadedText). option_map (λ (u : ProgramUnit). u.spelled) (slice_get (text_view v.source) c.args.unit) ≡ Some c.in-Ok.name.now) c.self.view_is
     (ap (λ (o : Option ProgramUnit). option_map (λ (u : ProgramUnit). u.spelled) o) (unit_found inside.checked.source given c.args.unit c.index.result.now c.source.ensures.source there)
@@ -36,7 +36,7 @@ returns-in-Err c =
     let read = c.self.invariant.sound.read in
     let given = c.source.result.now in
     let l = subst (λ (v : LoadedText). c.args.unit < length v.codes) (sym c.self.view_is) c.requires in
-    let within = unit_within inside.checked.source given (codes_of inside.units.items) c.args.unit c.self.invariant.sound.laid c.source.ensures.source l in
+    let within = unit_within inside.checked.source given (codes_of inside.units.items) c.args.unit c.self.invariant.sound.lowered c.source.ensures.source l in
     let there = slice_get_read given.units.items (length given.units.items) c.args.unit c.index.result.now refl within c.index.ensures in
     absurd (c.in-Err.ensures.cases.0 (IsUtf8-from_ascii c.index.result.now.name.text.now
     (unit_ascii read.0 (text_view inside.checked.source) read.1 c.args.unit (unit_view c.index.result.now) (unit_found inside.checked.source given c.args.unit c.index.result.now c.source.ensures.source there))))

@@ -5,33 +5,33 @@ use Rattle.wc_cut.proofs.Observed.{always, has_opened, keeps, writes_first, writ
 use Rattle.wc_cut.proofs.cutter.CutterObserverSlotStore.see.Goals as goal
 use Rattle.wc_cut.proofs.cutter.CutterObserverSlotStore.see.Goals.{then-self, else-self+in_ok-put_opening}
 use Rattle.wc_cut.specs.Cuts.{row_written}
-use Rattle.wc_cut.specs.Keeping.{HasSeenBy}
+use Rattle.wc_cut.specs.TeeReader.{HasSeenBy}
 use Rattle.wc_cut.specs.RowTexts.{row_text}
 use Rattle.wc_cut.specs.declared.cutter.Cutter.{Cutter}
 use Rattle.wc_model.specs.Run.Rows.{LogRow}
 use Rattle.wc_open_scale.specs.Rows.{came_by}
-use Rattle.wc_open_scale.specs.Standing as open_scale
-use Rattle.wc_open_scale.specs.Standing.{Came}
+use Rattle.wc_open_scale.specs.Representation as open_scale
+use Rattle.wc_open_scale.specs.Representation.{Came}
 use Rattle.wc_run.specs.Doing.{Writes}
 use Rattle.wc_run.specs.Logics.{logic_after}
 use Rattle.wc_run.specs.Observing.{row_of}
-use Rattle.wc_run.specs.Standing.{program_of}
+use Rattle.wc_run.specs.Representation.{program_of}
 
 pub returns-then-self-gt0-clause-seen : goal.returns-then-self-gt0-clause-seen
-returns-then-self-gt0-clause-seen g c plate logic past shown stands seen =
+returns-then-self-gt0-clause-seen g c plate logic past shown represents seen =
     let came : Came = came_by (row_of c.args.seen.now ∷ past) (program_of (logic_after plate logic (row_of c.args.seen.now ∷ past))) in
-    let opened : open_scale.Stands c.opened.result.now plate came = subst (λ s. open_scale.Stands s plate came) (sym c.opened.ensures) stands.opened in
+    let opened : open_scale.Represents c.opened.result.now plate came = subst (λ s. open_scale.Represents s plate came) (sym c.opened.ensures) represents.opened in
     keeps c.args.self.now.opened c.args.self.now _ c.prelude.result plate past (row_of c.args.seen.now) seen c.if-self-gt0.true refl refl refl refl
     (c.prelude.ensures.window plate came opened) (c.prelude.ensures.state plate came opened)
 
 pub returns-then-self-gt0-clause-writes : goal.returns-then-self-gt0-clause-writes
-returns-then-self-gt0-clause-writes g c plate logic past shown stands seen =
+returns-then-self-gt0-clause-writes g c plate logic past shown represents seen =
     subst (λ text. Appends (g.W.ByteOut.bytes_taken c.args.writer.now) (g.W.ByteOut.bytes_taken c.args.writer.now) text)
     (sym (writes_none c.args.self.now.opened c.args.self.now plate logic past (row_of c.args.seen.now) seen c.if-self-gt0.true))
     (Appends-nil (g.W.ByteOut.bytes_taken c.args.writer.now))
 
 pub returns-clause-writes : goal.returns-clause-writes
-returns-clause-writes g c plate logic past shown stands seen =
+returns-clause-writes g c plate logic past shown represents seen =
     let row : LogRow = row_of c.args.seen.now in
     let old : Cutter = c.args.self.now in
     let none : old.left ≡ 0 = omega (arith, c.if-self-gt0.false) in
@@ -45,7 +45,7 @@ returns-clause-writes g c plate logic past shown stands seen =
     (c.deref.ensures.value ∙ c.in_ok-put_row.ensures.text ∙ start) c.write_text.ensures.writes
 
 pub returns-clause-seen : goal.returns-clause-seen
-returns-clause-seen g c = always c.write_text.result (λ plate logic past shown stands seen.
+returns-clause-seen g c = always c.write_text.result (λ plate logic past shown represents seen.
     let row : LogRow = row_of c.args.seen.now in
     let old : Cutter = c.args.self.now in
     let new : Cutter = record c.if-self.self { text = c.put_row.new.text } in

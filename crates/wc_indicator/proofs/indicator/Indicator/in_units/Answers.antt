@@ -2,14 +2,14 @@ use Rattle.std.proofs.Common.{◌≡◌, ◌≤◌, ap, sym, ◌∙◌, subst, a
 use Rattle.std.proofs.lemmas.Int.{ints}
 use Rattle.std.specs.Prelude.{pos}
 use Rattle.wc_model.specs.Instrument.Indication.{in_units}
-use Rattle.wc_indicator.specs.Kept.{StandsForHistory}
+use Rattle.wc_indicator.specs.Kept.{RepresentsHistory}
 use Rattle.wc_indicator.specs.Fields.{kept_view}
 use Rattle.wc_indicator.proofs.Units.{few_units, units_kept}
 use Rattle.wc_indicator.proofs.indicator.Indicator.in_units.Goals as goal
 
 pub returns : goal.returns
 returns c = λ p history st.
-    let before : StandsForHistory (kept_view c.self.inside) p history = subst (λ k. StandsForHistory k p history) (sym c.self.view_is) st in
+    let before : RepresentsHistory (kept_view c.self.inside) p history = subst (λ k. RepresentsHistory k p history) (sym c.self.view_is) st in
     let few : c.self.inside.plate.e ≤ 50 = few_units c.self.inside.plate c.self.invariant.ranges.plate in
     let units : c.from.result ≡ pos c.self.inside.plate.e = omega (arith, ints, few, c.from.ensures, c.e.ensures.e) in
     units_kept c.args.intervals c.from.result c.self.inside.plate.e c.requires few units ∙ ap (λ q. in_units q c.args.intervals) before.same_plate

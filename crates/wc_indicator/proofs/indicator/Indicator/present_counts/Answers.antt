@@ -2,14 +2,14 @@ use Rattle.std.proofs.Common.{◌≡◌, ap, sym, ◌∙◌, subst, arith, to_z,
 use Rattle.std.proofs.lemmas.Int.{ints}
 use Rattle.std.specs.Prelude.{unwrap_or}
 use Rattle.wc_model.specs.Instrument.WeighingHistories.{last_sample}
-use Rattle.wc_indicator.specs.Kept.{StandsForHistory, IsCount}
+use Rattle.wc_indicator.specs.Kept.{RepresentsHistory, IsCount}
 use Rattle.wc_indicator.specs.Fields.{kept_view}
 use Rattle.wc_indicator.proofs.Units.{either_range}
 use Rattle.wc_indicator.proofs.indicator.Indicator.present_counts.Goals as goal
 
-pub returns-clause-told : goal.returns-clause-told
-returns-clause-told c = λ p history st.
-    let before : StandsForHistory (kept_view c.self.inside) p history = subst (λ k. StandsForHistory k p history) (sym c.self.view_is) st in
+pub returns-clause-reported : goal.returns-clause-reported
+returns-clause-reported c = λ p history st.
+    let before : RepresentsHistory (kept_view c.self.inside) p history = subst (λ k. RepresentsHistory k p history) (sym c.self.view_is) st in
     let range = c.self.invariant.ranges.plate.zero_in_range in
     let raw : to_z w32 (of_z w32 c.zero_counts.result) ≡ c.self.inside.plate.zero_counts = omega (arith, ints, range, c.zero_counts.ensures.zero_counts) in
     let same : to_z w32 (of_z w32 c.unwrap_or.result) ≡ c.unwrap_or.result = omega (arith, ints) in

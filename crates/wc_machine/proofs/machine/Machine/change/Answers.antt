@@ -33,21 +33,21 @@ invariant_of-result g c =
     record {
       sound = sound;
       kinds_are = kinds ∙ c.kinds.ensures.kinds;
-      room = omega (arith, ap length kinds, c.kinds.ensures.few);
+      capacity = omega (arith, ap length kinds, c.kinds.ensures.few);
       held = (carried old inv.held.0 text, carried_holds old text inv.held.0 inv.sound.read.1.spelled.order sound.read.1.spelled.order inv.held.1, held old text inv.sound.read.1.spelled.order sound.read.1.spelled.order inv.held.0 inv.held.1 (g.S.Store.numbers c.self.inside.store) inv.held.2 (g.S.Store.numbers c.in-Ok.first) (g.S.Store.numbers c.carried_over-store.result) (c.in-Ok.ensures.numbers ∙ c.initials.ensures.numbers) c.carried_over-store.ensures.numbers);
       before = c.carried_over-store.ensures.moments c.self.inside.last (before_later 0 c.self.inside.last (g.S.Store.slot_kinds c.in-Ok.first) (g.S.Store.numbers c.in-Ok.first) (omega arith) c.in-Ok.ensures.moments) inv.before;
       bounded = last_bound text (c.units-units.result - 1) c.bound-bound.result (omega (arith, c.units-units.ensures.count, has_a_unit sound.read.0 text sound.read.1)) c.bound-bound.ensures;
       fits = search rules;
     }
 
-pub returns-clause-stands : goal.returns-clause-stands
-returns-clause-stands g c = λ text store stands.
+pub returns-clause-represents : goal.returns-clause-represents
+returns-clause-represents g c = λ text store represents.
     let here = text_view c.self.inside.loaded.source in
     let new = text_view c.args.loaded.source in
-    let same : text ≡ here = sym stands.same_text ∙ ap (λ (m : MachineState). text_of m) (sym c.self.view_is) in
-    let slots : SameSlots (initial_of here) store = subst (λ t. SameSlots (initial_of t) store) same stands.slots in
+    let same : text ≡ here = sym represents.same_text ∙ ap (λ (m : MachineState). text_of m) (sym c.self.view_is) in
+    let slots : SameSlots (initial_of here) store = subst (λ t. SameSlots (initial_of t) store) same represents.slots in
     let contents : AreContents (frame_of_text here) store (g.S.Store.numbers c.self.inside.store) =
-    subst (λ ns. AreContents (frame_of_text here) store ns) (ap (λ (m : MachineState). m.numbers) (sym c.self.view_is)) (subst (λ t. AreContents (frame_of_text t) store c.args.self.numbers) same stands.contents) in
+    subst (λ ns. AreContents (frame_of_text here) store ns) (ap (λ (m : MachineState). m.numbers) (sym c.self.view_is)) (subst (λ t. AreContents (frame_of_text t) store c.args.self.numbers) same represents.contents) in
     record {
       same_text = refl;
       slots = subst (λ t. SameSlots (initial_of new) (carried t store new)) (sym same) (carried_holds here new store c.self.invariant.sound.read.1.spelled.order c.units-units.ensures.sound.read.1.spelled.order slots);

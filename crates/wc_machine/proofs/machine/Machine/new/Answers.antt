@@ -23,15 +23,15 @@ invariant_of-result g c =
     record {
       sound = sound;
       kinds_are = c.in-Ok.ensures.kinds ∙ c.kinds.ensures.kinds;
-      room = omega (arith, ap length c.in-Ok.ensures.kinds, c.kinds.ensures.few);
+      capacity = omega (arith, ap length c.in-Ok.ensures.kinds, c.kinds.ensures.few);
       held = (initial_of text, SameSlots-refl (initial_of text), first_held g c);
       before = c.in-Ok.ensures.moments;
       bounded = last_bound text (c.units-units.result - 1) c.bound-bound.result (omega (arith, c.units-units.ensures.count, has_a_unit sound.read.0 text sound.read.1)) c.bound-bound.ensures;
       fits = search rules;
     }
 
-pub returns-clause-stands : goal.returns-clause-stands
-returns-clause-stands g c =
+pub returns-clause-represents : goal.returns-clause-represents
+returns-clause-represents g c =
     let text = text_view c.args.loaded.source in
     record { same_text = Rattle.std.proofs.Common.refl; slots = SameSlots-refl (initial_of text); contents = first_held g c }
 

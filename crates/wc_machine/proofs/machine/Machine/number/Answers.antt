@@ -5,7 +5,7 @@ use Rattle.wc_machine.proofs.machine.Machine.number.Goals as goal
 use Rattle.wc_machine.specs.Machines.{MachineState}
 
 pub returns : goal.returns
-returns g c = λ text store location stands at.
+returns g c = λ text store location represents at.
     c.number_at.ensures
     ∙ ap (λ (m : MachineState). slice_get m.numbers c.args.place.0) c.self.view_is
-    ∙ stands.contents.each location c.args.place.0 at
+    ∙ represents.contents.each location c.args.place.0 at

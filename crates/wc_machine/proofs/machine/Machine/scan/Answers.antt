@@ -40,7 +40,7 @@ invariant_of-self g c =
     record {
       sound = inv.sound;
       kinds_are = same ∙ inv.kinds_are;
-      room = subst (λ k. length k ≤ 65536) (sym same) inv.room;
+      capacity = subst (λ k. length k ≤ 65536) (sym same) inv.capacity;
       held = (run.store, run.slots, subst (λ ns. AreContents (frame_of_text text) run.store ns) both.0 run.contents);
       before = c.run-steps.ensures.moments;
       bounded = inv.bounded;
@@ -48,12 +48,12 @@ invariant_of-self g c =
     }
 
 pub returns-clause-means : goal.returns-clause-means
-returns-clause-means g c = λ text store stands.
+returns-clause-means g c = λ text store represents.
     let here = text_view c.self.inside.loaded.source in
-    let same : text ≡ here = sym stands.same_text ∙ ap (λ (m : MachineState). text_of m) (sym c.self.view_is) in
-    let slots : SameSlots (initial_of here) store = subst (λ t. SameSlots (initial_of t) store) same stands.slots in
+    let same : text ≡ here = sym represents.same_text ∙ ap (λ (m : MachineState). text_of m) (sym c.self.view_is) in
+    let slots : SameSlots (initial_of here) store = subst (λ t. SameSlots (initial_of t) store) same represents.slots in
     let contents : AreContents (frame_of_text here) store (g.S.Store.numbers c.self.inside.store) =
-    subst (λ ns. AreContents (frame_of_text here) store ns) (ap (λ (m : MachineState). m.numbers) (sym c.self.view_is)) (subst (λ t. AreContents (frame_of_text t) store c.args.self.now.numbers) same stands.contents) in
+    subst (λ ns. AreContents (frame_of_text here) store ns) (ap (λ (m : MachineState). m.numbers) (sym c.self.view_is)) (subst (λ t. AreContents (frame_of_text t) store c.args.self.now.numbers) same represents.contents) in
     let run = machine_runs c.self.inside.loaded (g.S.Store.slot_kinds c.self.inside.store) (g.S.Store.numbers c.self.inside.store) c.self.inside.last c.self.inside.bound c.self.invariant c.args.image.now c.args.now (c.units-program.result - 1) c.self.inside.bound
     (omega (arith, c.units-program.ensures.count, has_a_unit c.self.invariant.sound.read.0 (text_view c.self.inside.loaded.source) c.self.invariant.sound.read.1)) c.self.invariant.bounded
     (g.S.Store.slot_kinds c.copy_image.new.store) (g.S.Store.numbers c.copy_image.new.store) c.copy_image.ensures.kinds c.copy_image.ensures.numbers store slots contents in

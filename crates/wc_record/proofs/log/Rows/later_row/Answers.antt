@@ -4,14 +4,14 @@ use Rattle.wc_record.specs.Steps.{GivesRecord}
 
 pub returns-in-Ok-true-clause-gives : goal.returns-in-Ok-true-clause-gives
 returns-in-Ok-true-clause-gives g c =
-    λ first before left stands.
-    let read = (rw c.in-Ok-true.field-0-test at c.in-Ok-true.ensures.next) left stands.has in
+    λ first before left represents.
+    let read = (rw c.in-Ok-true.field-0-test at c.in-Ok-true.ensures.next) left represents.has in
     let keeps = c.in-Ok-true.ensures.keeps in
-    subst (λ l. GivesRecord g.R.ByteIn.bytes_left (first ∷ before) l c.judged.result c.judged.new.self) (sym read.1)
-    (c.judged.ensures.gives first before read.0 (record { has = read.2; number = keeps.number ∙ stands.number; last = keeps.last ∙ stands.last; few = omega (arith, keeps.number, stands.few) }))
+    subst (λ l. GivesRecord g.R.ByteIn.bytes_left (first ∷ before) l c.validated.result c.validated.new.self) (sym read.1)
+    (c.validated.ensures.gives first before read.0 (record { has = read.2; number = keeps.number ∙ represents.number; last = keeps.last ∙ represents.last; few = omega (arith, keeps.number, represents.few) }))
 
 pub returns-in-Ok-false-clause-gives : goal.returns-in-Ok-false-clause-gives
 returns-in-Ok-false-clause-gives g c =
-    λ first before left stands.
-    let none = (rw c.in-Ok-false.field-0-test at c.in-Ok-false.ensures.next) left stands.has in
+    λ first before left represents.
+    let none = (rw c.in-Ok-false.field-0-test at c.in-Ok-false.ensures.next) left represents.has in
     rw none refl

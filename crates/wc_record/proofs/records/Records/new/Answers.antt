@@ -2,7 +2,7 @@ use Rattle.std.proofs.Common.{◌≡◌, true, false, inr, ap, ◌∙◌, option
 use Rattle.csv.specs.Reading.{builder_config, builder_is_flexible, builder_names_headers, builder_trim, strip_bom, with_flexible, with_names_headers}
 use Rattle.wc_record.proofs.RecordEnds.{records_are_all}
 use Rattle.wc_record.proofs.records.Records.new.Goals as goal
-use Rattle.wc_record.specs.Reading.{lent}
+use Rattle.wc_record.specs.Reading.{borrowed}
 
 pub returns-clause-records : goal.returns-clause-records
 returns-clause-records g c =
@@ -19,8 +19,8 @@ returns-clause-records g c =
       are_left = rw fr.state (records_are_all _ (strip_bom bytes));
     }
 
-pub returns-clause-lent : goal.returns-clause-lent
-returns-clause-lent g c = ap lent c.from_reader.ensures.rdr
+pub returns-clause-borrowed : goal.returns-clause-borrowed
+returns-clause-borrowed g c = ap borrowed c.from_reader.ensures.rdr
 
 pub returns-clause-whole : goal.returns-clause-whole
 returns-clause-whole g c = c.from_reader.ensures.rdr

@@ -3,36 +3,36 @@ use Rattle.std.proofs.lemmas.Int.{ints}
 use Rattle.wc_model.specs.Run.Rows.{Bytes, Change, Counts, Inputs, Scan}
 use Rattle.wc_record.specs.Views.{head_data_view, head_view, IsDataInRange}
 use Rattle.wc_run.specs.Taking.{StopsAtRow, TakesRow}
-use Rattle.wc_run.proofs.HandedOn.{handed_on}
+use Rattle.wc_run.proofs.HandedOn.{propagated}
 use Rattle.wc_run.proofs.ScaleRows.{items_at, on_ok, runs_row, runs_this, stops_at, stops_for_memory, takes_row}
 use Rattle.wc_run.proofs.scale.Scale.take.Goals as goal
 
-pub returns-in-Counts-clause-stands : goal.returns-in-Counts-clause-stands
-returns-in-Counts-clause-stands g c =
+pub returns-in-Counts-clause-represents : goal.returns-in-Counts-clause-represents
+returns-in-Counts-clause-represents g c =
     let range : IsDataInRange (Counts c.in-Counts.counts) = subst IsDataInRange (ap (head_data_view c.args.bytes.now) c.in-Counts.is) c.requires.in_range in
     let raw : to_z w32 (of_z w32 c.in-Counts.counts) ≡ c.in-Counts.counts = omega (arith, ints, range.0, range.1) in
     takes_row c.args.self.now c.take_sample.new.self c.args.bytes.now c.args.row (Counts c.in-Counts.counts) (ap (head_data_view c.args.bytes.now) c.in-Counts.is)
-    (subst (λ counts. TakesRow c.args.self.now c.take_sample.new.self c.args.row.ms (Counts counts)) raw (c.take_sample.ensures.stands c.args.row.ms))
+    (subst (λ counts. TakesRow c.args.self.now c.take_sample.new.self c.args.row.ms (Counts counts)) raw (c.take_sample.ensures.represents c.args.row.ms))
 
-pub returns-in_ok-take_bytes-in-Bytes-clause-stands : goal.returns-in_ok-take_bytes-in-Bytes-clause-stands
-returns-in_ok-take_bytes-in-Bytes-clause-stands g c =
+pub returns-in_ok-take_bytes-in-Bytes-clause-represents : goal.returns-in_ok-take_bytes-in-Bytes-clause-represents
+returns-in_ok-take_bytes-in-Bytes-clause-represents g c =
     takes_row c.args.self.now c.take_bytes.new.self c.args.bytes.now c.args.row (Bytes c.args.bytes.now) (ap (head_data_view c.args.bytes.now) c.in-Bytes.is)
-    (c.in_ok-take_bytes-in-Bytes.ensures.stands c.args.row.ms)
+    (c.in_ok-take_bytes-in-Bytes.ensures.represents c.args.row.ms)
 
-pub returns-in-Inputs-clause-stands : goal.returns-in-Inputs-clause-stands
-returns-in-Inputs-clause-stands g c =
+pub returns-in-Inputs-clause-represents : goal.returns-in-Inputs-clause-represents
+returns-in-Inputs-clause-represents g c =
     takes_row c.args.self.now c.take_inputs.new.self c.args.bytes.now c.args.row (Inputs c.in-Inputs.inputs) (ap (head_data_view c.args.bytes.now) c.in-Inputs.is)
-    (c.take_inputs.ensures.stands c.args.row.ms)
+    (c.take_inputs.ensures.represents c.args.row.ms)
 
-pub returns-in-Scan-clause-stands : goal.returns-in-Scan-clause-stands
-returns-in-Scan-clause-stands g c =
+pub returns-in-Scan-clause-represents : goal.returns-in-Scan-clause-represents
+returns-in-Scan-clause-represents g c =
     on_ok _ c.take_scan.result
-    (takes_row c.args.self.now c.take_scan.new.self c.args.bytes.now c.args.row Scan (ap (head_data_view c.args.bytes.now) c.in-Scan.is) c.take_scan.ensures.stands)
+    (takes_row c.args.self.now c.take_scan.new.self c.args.bytes.now c.args.row Scan (ap (head_data_view c.args.bytes.now) c.in-Scan.is) c.take_scan.ensures.represents)
 
-pub returns-in_ok-take_change-in-Change-clause-stands : goal.returns-in_ok-take_change-in-Change-clause-stands
-returns-in_ok-take_change-in-Change-clause-stands g c =
+pub returns-in_ok-take_change-in-Change-clause-represents : goal.returns-in_ok-take_change-in-Change-clause-represents
+returns-in_ok-take_change-in-Change-clause-represents g c =
     takes_row c.args.self.now c.take_change.new.self c.args.bytes.now c.args.row Change (ap (head_data_view c.args.bytes.now) c.in-Change.is)
-    (c.in_ok-take_change-in-Change.ensures.stands c.args.row.ms)
+    (c.in_ok-take_change-in-Change.ensures.represents c.args.row.ms)
 
 pub returns-in-Scan-clause-items : goal.returns-in-Scan-clause-items
 returns-in-Scan-clause-items g c =
@@ -61,6 +61,6 @@ returns-in-Scan-clause-stops g c = stops_for_memory c.args.self.now (head_view c
 pub returns-in_err-take_change-in-Change-clause-stops : goal.returns-in_err-take_change-in-Change-clause-stops
 returns-in_err-take_change-in-Change-clause-stops g c =
     let fault = c.in_err-take_change-in-Change.field-0.0 in
-    handed_on (λ result. IfErr result (λ why. StopsAtRow c.args.self.now (head_view c.args.bytes.now c.args.row) why)) fault c.from_residual-in_err-take_change-in-Change.result c.from_residual-in_err-take_change-in-Change.ensures
+    propagated (λ result. IfErr result (λ why. StopsAtRow c.args.self.now (head_view c.args.bytes.now c.args.row) why)) fault c.from_residual-in_err-take_change-in-Change.result c.from_residual-in_err-take_change-in-Change.ensures
     (stops_at c.args.self.now c.args.bytes.now c.args.row Change fault (ap (head_data_view c.args.bytes.now) c.in-Change.is)
     (c.in_err-take_change-in-Change.ensures.stops c.args.row.ms))

@@ -1,8 +1,8 @@
 use Rattle.wc_run.proofs.ScaleRows.{gives_answer, takes_bytes}
 use Rattle.wc_run.proofs.scale.Scale.take_bytes.Goals as goal
 
-pub returns-in-Ok-clause-stands : goal.returns-in-Ok-clause-stands
-returns-in-Ok-clause-stands g c = takes_bytes c.args.self.now c.feed.new.self c.args.bytes.now c.in-Ok.ensures.stands
+pub returns-in-Ok-clause-represents : goal.returns-in-Ok-clause-represents
+returns-in-Ok-clause-represents g c = takes_bytes c.args.self.now c.feed.new.self c.args.bytes.now c.in-Ok.ensures.represents
 
 pub returns-in-Ok-clause-lines : goal.returns-in-Ok-clause-lines
 returns-in-Ok-clause-lines g c =

@@ -5,8 +5,8 @@ use Rattle.wc_run.proofs.ScaleRows.{takes_sample}
 use Rattle.wc_run.specs.Taking.{TakesRow}
 use Rattle.wc_run.proofs.scale.Scale.take_sample.Goals as goal
 
-pub returns-clause-stands : goal.returns-clause-stands
-returns-clause-stands g c =
+pub returns-clause-represents : goal.returns-clause-represents
+returns-clause-represents g c =
     let raw : to_z w32 (of_z w32 c.args.counts) ≡ c.args.counts = omega (arith, ints, c.requires.0, c.requires.1) in
     subst (λ counts. (ms : ℕ) → TakesRow c.args.self.now (record c.args.self.now { opened = c.sample.new.self }) ms (Counts counts)) raw
-    (takes_sample c.args.self.now c.sample.new.self _ c.sample.ensures.stands)
+    (takes_sample c.args.self.now c.sample.new.self _ c.sample.ensures.represents)

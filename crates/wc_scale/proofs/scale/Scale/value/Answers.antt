@@ -11,8 +11,8 @@ returns-in-Ok-None-clause-refused c =
     refuses_value scale opened machine c.in-Some.is has c.args.name.now c.no_value-in-Ok-None.result c.no_value-in-Ok-None.ensures
     (leads_nowhere scale opened machine c.in-Some.is has c.loaded.result.now.source c.args.name.now c.loaded.ensures (sym c.in-Ok-None.field-0-is ∙ c.in-Ok-None.ensures.means))
 
-pub returns-in-Some-number-clause-tells : goal.returns-in-Some-number-clause-tells
-returns-in-Some-number-clause-tells c = λ _.
+pub returns-in-Some-number-clause-reports : goal.returns-in-Some-number-clause-reports
+returns-in-Some-number-clause-reports c = λ _.
     let scale = c.args.self.now in let opened = c.in-Some.opened in let machine = c.in-Some-machine.machine.now in
     let has : opened.machine ≡ Some machine = sym c.machine.ensures ∙ ap option_copied c.in-Some-machine.is in
     let raw : to_z w64 (of_z w64 c.in-Some-number.number) ≡ c.in-Some-number.number = omega (arith, ints) in

@@ -3,7 +3,7 @@ use Rattle.std.proofs.Math.Seq.{take-add, drop-cons}
 use Rattle.std.proofs.lemmas.List.{take-append-drop}
 use Rattle.std.specs.Prelude.{Result, Ok, Err, IfErr}
 use Rattle.wc_sma.specs.Feeding.{Feeds, Fails}
-use Rattle.wc_sma.proofs.Pieces.{feeds_on, fails_on, fails_early}
+use Rattle.wc_sma.proofs.Chunks.{feeds_on, fails_on, fails_early}
 use Rattle.wc_sma.proofs.line.Line.feed.Goals as goal
 
 -- what holds at all holds of a fault
@@ -21,12 +21,12 @@ cut_at i bytes h = ap (λ r. take i bytes ++ r) (sym (drop-cons bytes i 0 h)) �
 
 pub returns-in_err-take_byte-clause-fails : goal.returns-in_err-take_byte-clause-fails
 returns-in_err-take_byte-clause-fails g c =
-    let bytes : List ℕ = c.args.piece.now in
+    let bytes : List ℕ = c.args.chunk.now in
     let i : ℕ = c.loop-byte.byte-index in
     let taken = g.W.ByteOut.bytes_taken in
     let here : i < length bytes = omega (arith, c.loop-byte-test.true) in
     of_fault _ c.from_residual.result
-    (subst (λ piece. Fails c.args.self.now c.args.indicator.now (taken c.args.writer.now) c.take_byte.new.self c.take_byte.new.indicator (taken c.take_byte.new.writer) piece)
+    (subst (λ chunk. Fails c.args.self.now c.args.indicator.now (taken c.args.writer.now) c.take_byte.new.self c.take_byte.new.indicator (taken c.take_byte.new.writer) chunk)
     (cut_at i bytes here)
     (fails_on c.args.self.now c.loop-byte.self c.take_byte.new.self c.args.indicator.now c.loop-byte.indicator c.take_byte.new.indicator
     (taken c.args.writer.now) (taken c.loop-byte.writer) (taken c.take_byte.new.writer) (take i bytes) (get_or bytes i 0 ∷ drop (suc i) bytes)
@@ -36,12 +36,12 @@ returns-in_err-take_byte-clause-fails g c =
 
 pub loop-byte-preserved : goal.loop-byte-preserved
 loop-byte-preserved g c =
-    let bytes : List ℕ = c.args.piece.now in
+    let bytes : List ℕ = c.args.chunk.now in
     let i : ℕ = c.loop-byte.byte-index in
     let taken = g.W.ByteOut.bytes_taken in
     let here : i < length bytes = omega (arith, c.loop-byte-test.true) in
     record {
-      feeds = subst (λ piece. Feeds c.args.self.now c.args.indicator.now (taken c.args.writer.now) c.take_byte.new.self c.take_byte.new.indicator (taken c.take_byte.new.writer) piece)
+      feeds = subst (λ chunk. Feeds c.args.self.now c.args.indicator.now (taken c.args.writer.now) c.take_byte.new.self c.take_byte.new.indicator (taken c.take_byte.new.writer) chunk)
           (sym (one_byte_more i bytes here))
           (feeds_on c.args.self.now c.loop-byte.self c.take_byte.new.self c.args.indicator.now c.loop-byte.indicator c.take_byte.new.indicator
           (taken c.args.writer.now) (taken c.loop-byte.writer) (taken c.take_byte.new.writer) (take i bytes) (get_or bytes i 0 ∷ [])

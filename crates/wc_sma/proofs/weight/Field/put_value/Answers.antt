@@ -11,12 +11,12 @@ put_decimal-requires c =
     let raw : to_z w32 (of_z w32 c.args.value) ≡ c.args.value = omega (arith, ints) in
     let size : c.unsigned_abs-magnitude.result ≡ unsigned_abs c.args.value = c.unsigned_abs-magnitude.ensures.value ∙ ap unsigned_abs raw in
     let whole : c.digits_before.result ≡ unsigned_abs c.args.value / 10 ^ c.args.decimals = c.digits_before.ensures ∙ (λ i. size i / 10 ^ c.args.decimals) in
-    let behind : c.put_fraction.new.self ≡ fraction_text c.args.decimals (unsigned_abs c.args.value) =
+    let following : c.put_fraction.new.self ≡ fraction_text c.args.decimals (unsigned_abs c.args.value) =
     c.put_fraction.ensures ∙ (λ i. fraction_text c.args.decimals (size i) ++ c.requires.empty i) ∙ append-nil (fraction_text c.args.decimals (unsigned_abs c.args.value)) in
     omega (
       arith,
       ap (λ n. length (decimal n)) whole,
-      ap length behind,
+      ap length following,
       length_three (minus_of c.args.value) (decimal (unsigned_abs c.args.value / 10 ^ c.args.decimals)) (fraction_text c.args.decimals (unsigned_abs c.args.value)),
       length_value c.args.decimals c.args.value c.requires.few c.requires.short,
     )
@@ -27,12 +27,12 @@ put-requires c =
     let low : c.args.value <ℤ pos 0 = omega (arith, ints) in
     let size : c.unsigned_abs-magnitude.result ≡ unsigned_abs c.args.value = c.unsigned_abs-magnitude.ensures.value ∙ ap unsigned_abs raw in
     let whole : c.digits_before.result ≡ unsigned_abs c.args.value / 10 ^ c.args.decimals = c.digits_before.ensures ∙ (λ i. size i / 10 ^ c.args.decimals) in
-    let behind : c.put_fraction.new.self ≡ fraction_text c.args.decimals (unsigned_abs c.args.value) =
+    let following : c.put_fraction.new.self ≡ fraction_text c.args.decimals (unsigned_abs c.args.value) =
     c.put_fraction.ensures ∙ (λ i. fraction_text c.args.decimals (size i) ++ c.requires.empty i) ∙ append-nil (fraction_text c.args.decimals (unsigned_abs c.args.value)) in
     omega (
       arith,
       ap (λ n. length (decimal n)) whole,
-      ap length behind,
+      ap length following,
       ap length c.put_decimal.ensures,
       length-append (decimal c.digits_before.result) c.put_fraction.new.self,
       minus_below_zero c.args.value low,

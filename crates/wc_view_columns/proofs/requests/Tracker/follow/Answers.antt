@@ -3,7 +3,7 @@ use Rattle.std.proofs.lemmas.List.{take_all}
 use Rattle.wc_view_columns.proofs.Followed.{counted_on, counted_small, one_byte_more}
 use Rattle.wc_view_columns.specs.Happened.{counted}
 use Rattle.wc_model.specs.Instrument.Requests.{requests_in}
-use Rattle.wc_sma.specs.Standing.{HasRead}
+use Rattle.wc_sma.specs.Representation.{HasRead}
 use Rattle.wc_view_columns.proofs.requests.Tracker.follow.Goals as goal
 
 pub loop-byte-preserved : goal.loop-byte-preserved

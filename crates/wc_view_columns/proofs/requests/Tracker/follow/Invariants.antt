@@ -1,7 +1,7 @@
 use Rattle.std.proofs.Common.{◌≡◌, ℕ, List, ◌++◌, length, take}
 use Rattle.wc_view_columns.specs.Happened.{counted}
 use Rattle.wc_model.specs.Instrument.Requests.{requests_in}
-use Rattle.wc_sma.specs.Standing.{HasRead}
+use Rattle.wc_sma.specs.Representation.{HasRead}
 use Rattle.wc_view_columns.proofs.requests.Tracker.follow.Given as goal
 
 -- the bytes so far are followed

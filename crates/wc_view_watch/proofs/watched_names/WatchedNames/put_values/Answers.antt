@@ -10,7 +10,7 @@ use Rattle.wc_view_watch.specs.Values.{value_text}
 use Rattle.wc_text_variables.specs.declared.variables.NamedVariable.{NamedVariable}
 
 pub loop-index-preserved : goal.loop-index-preserved
-loop-index-preserved c = λ list text next store looked stands.
+loop-index-preserved c = λ list text next store looked represents.
     let names = c.args.self.now in
     let index = c.loop-index.index in
     let name_there : slice_get names.names.items index ≡ Some c.in-Some.name.now =
@@ -21,15 +21,15 @@ loop-index-preserved c = λ list text next store looked stands.
     ∙ got_some c.deref-in-loop-index.result.now index c.in-Some-get.watched.now c.in-Some-get.ensures.lookup.3.0 c.in-Some-get.ensures.lookup.1 in
     let there = name_at names.names.items list index c.in-Some.name.now looked.listed name_there in
     one_name_more (value_text text store) (names_in list) index c.in-Some.name.now.now c.args.line.now.items c.loop-index.line.items c.put_if_watched.new.line.items there
-    (c.loop-index.invariant list text next store looked stands)
-    (c.in_ok-put_if_watched.ensures.puts text store stands
+    (c.loop-index.invariant list text next store looked represents)
+    (c.in_ok-put_if_watched.ensures.puts text store represents
     (same_meaning (variable_named text) names.watched.items (names_in list) index c.in-Some.name.now.now c.in-Some-get.watched.now looked.here there found_there))
 
 pub returns-clause-puts : goal.returns-clause-puts
-returns-clause-puts c = λ list text next store looked stands.
+returns-clause-puts c = λ list text next store looked represents.
     let names = c.args.self.now.names.items in
     let len : c.len-index-end.result ≡ length names = search rules in
     let counted : length (names_in list) ≡ length names = ap length (sym looked.listed) ∙ length-map names (λ (name : Bor (List ℕ)). name.now) in
     all_names (value_text text store) (names_in list) c.loop-index.index c.args.line.now.items c.loop-index.line.items
     (let past : length (names_in list) ≤ c.loop-index.index = omega (arith, c.loop-index-test.false, len, counted) in past)
-    (c.loop-index.invariant list text next store looked stands)
+    (c.loop-index.invariant list text next store looked represents)

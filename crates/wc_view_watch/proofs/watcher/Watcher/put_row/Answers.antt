@@ -9,24 +9,24 @@ use Rattle.wc_view_watch.specs.Plans.{scans_so_far}
 use Rattle.wc_view_watch.specs.Watching.{RunsLogic}
 
 pub returns-in_default-clause-text : goal.returns-in_default-clause-text
-returns-in_default-clause-text c = λ plate logic past shown stands fit kept.
+returns-in_default-clause-text c = λ plate logic past shown represents fit kept.
     row_without_scan c.args.self.now.list.now c.args.self.now.number plate logic past c.args.seen.now shown c.clear.new.self.items c.put_answer.new.text.items
     c.in_default.is c.clear.ensures.items c.in-Ok.ensures.text
 
 pub returns-in_default-clause-scans : goal.returns-in_default-clause-scans
-returns-in_default-clause-scans c = λ plate logic past shown stands fit kept.
+returns-in_default-clause-scans c = λ plate logic past shown represents fit kept.
     kept_without_scan c.args.self.now.list.now c.args.self.now.number plate logic past c.args.seen.now shown c.args.self.now.last c.in_default.is kept
 
 pub returns-in-Ok-put_scan-clause-text : goal.returns-in-Ok-put_scan-clause-text
 returns-in-Ok-put_scan-clause-text c =
     let list = c.args.self.now.list.now in
     on_ok c.keep_scan.result
-    (λ puts plate logic past shown stands fit kept.
+    (λ puts plate logic past shown represents fit kept.
     let after = logic_after plate logic (row_of c.args.seen.now ∷ past) in
     row_with_scan list c.args.self.now.number plate logic past c.args.seen.now shown c.in-Some.scan c.clear.new.self.items c.put_answer.new.text.items c.clear-2.new.self.items
     c.put_scan.new.text.items c.keep_scan.new.self.text.items c.in-Some.is c.clear.ensures.items c.in-Ok.ensures.text c.clear-2.ensures.items
     (c.in-Ok-put_scan.ensures.puts list after fit
-    (subst (λ (machine : Option MachineState). RunsLogic machine after) (sym c.machine.ensures) (runs_logic c.args.scale.now plate logic (row_of c.args.seen.now ∷ past) stands)))
+    (subst (λ (machine : Option MachineState). RunsLogic machine after) (sym c.machine.ensures) (runs_logic c.args.scale.now plate logic (row_of c.args.seen.now ∷ past) represents)))
     (puts (scans_so_far list plate logic past) kept))
     c.keep_scan.ensures.text
 
@@ -34,11 +34,11 @@ pub returns-in-Ok-put_scan-clause-scans : goal.returns-in-Ok-put_scan-clause-sca
 returns-in-Ok-put_scan-clause-scans c =
     let list = c.args.self.now.list.now in
     on_ok c.keep_scan.result
-    (λ keeps plate logic past shown stands fit kept.
+    (λ keeps plate logic past shown represents fit kept.
     let after = logic_after plate logic (row_of c.args.seen.now ∷ past) in
     kept_with_scan list c.args.self.now.number plate logic past c.args.seen.now shown c.keep_scan.new.self.last c.in-Some.scan c.clear-2.new.self.items c.put_scan.new.text.items
     c.in-Some.is c.clear-2.ensures.items
     (c.in-Ok-put_scan.ensures.puts list after fit
-    (subst (λ (machine : Option MachineState). RunsLogic machine after) (sym c.machine.ensures) (runs_logic c.args.scale.now plate logic (row_of c.args.seen.now ∷ past) stands)))
+    (subst (λ (machine : Option MachineState). RunsLogic machine after) (sym c.machine.ensures) (runs_logic c.args.scale.now plate logic (row_of c.args.seen.now ∷ past) represents)))
     (keeps (scans_so_far list plate logic past) kept))
     c.keep_scan.ensures.keeps

@@ -1,0 +1,320 @@
+use crate::session::Session;
+use std::io;
+use std::io::Write;
+use wc_controller::{Ending, Input, RefusedRow};
+use wc_diag_messages::{
+    Evidence, JobSection, Part, Refusal, explained, section_of, shown, warning_message,
+    warnings_left_out,
+};
+use wc_diag_warnings::{Warning, find_warnings};
+use wc_model::Fault;
+use wc_reader::read;
+use wc_view_watch::UnknownName;
+
+/// How a command ended, and what the system said of a read and of a write that failed.
+#[derive(Clone, Copy)]
+pub(crate) struct CommandEnd {
+    pub(crate) ending: Ending,
+    pub(crate) reading: Option<io::Error>,
+    pub(crate) writing: Option<io::Error>,
+}
+
+/// A file by its path, with the bytes that were read of it, if they were kept.
+#[derive(Clone, Copy)]
+pub(crate) struct ReadFile<'a> {
+    pub(crate) path: &'a str,
+    pub(crate) bytes: Option<&'a [u8]>,
+}
+
+/// Where the inputs of a command come from: a job on standard input, with its bytes if they were kept, or files. A log is
+/// read row by row, and not kept.
+#[derive(Clone, Copy)]
+pub(crate) enum Sources<'a> {
+    Job {
+        bytes: Option<&'a [u8]>,
+    },
+    Program {
+        program: ReadFile<'a>,
+        next: Option<ReadFile<'a>>,
+    },
+    Files {
+        plate: ReadFile<'a>,
+        program: Option<ReadFile<'a>>,
+        next: Option<ReadFile<'a>>,
+        log: &'a str,
+    },
+    /// An option's list of names, of which one is unknown.
+    Names {
+        option: &'a str,
+        list: &'a str,
+        unknown: UnknownName,
+    },
+}
+
+/// A log by its path, of which no bytes are kept.
+fn log_file(path: &str) -> ReadFile<'_> {
+    ReadFile {
+        path,
+        bytes: Some(b""),
+    }
+}
+
+impl<'a> Sources<'a> {
+    /// The file of an input, if it comes from one.
+    fn file(&self, input: Input) -> Option<ReadFile<'a>> {
+        match self {
+            Sources::Job { .. } => None,
+            Sources::Program { program, next } => match input {
+                Input::Next => *next,
+                _ => Some(*program),
+            },
+            Sources::Files {
+                plate,
+                program,
+                next,
+                log,
+            } => match input {
+                Input::Plate => Some(*plate),
+                Input::Next => *next,
+                Input::Log => Some(log_file(log)),
+                _ => *program,
+            },
+            Sources::Names { option, list, .. } => Some(ReadFile {
+                path: option,
+                bytes: Some(list.as_bytes()),
+            }),
+        }
+    }
+
+    /// The path of an input, if it comes from a file.
+    fn path(&self, input: Input) -> Option<&'a str> {
+        match self.file(input) {
+            Some(file) => Some(file.path),
+            None => None,
+        }
+    }
+
+    /// The text of an input, if it was kept, and the number of lines above it in what is named.
+    fn text(&self, input: Input) -> Option<JobSection<'a>> {
+        match self {
+            Sources::Job { bytes } => section_of((*bytes)?, part_of(input)),
+            _ => Some(JobSection {
+                text: self.file(input)?.bytes?,
+                above: 0,
+            }),
+        }
+    }
+}
+
+/// The name of an input of a job, which comes from standard input.
+fn section(input: Input) -> &'static str {
+    match input {
+        Input::Job => "standard input",
+        Input::Plate => "standard input, section @plate",
+        Input::Program => "standard input, section @program",
+        Input::Next => "standard input, section @next",
+        Input::Log => "standard input, section @log",
+        Input::Names => "standard input",
+    }
+}
+
+/// The part that an input is.
+fn part_of(input: Input) -> Part {
+    match input {
+        Input::Job => Part::Job,
+        Input::Plate => Part::Plate,
+        Input::Program => Part::Program,
+        Input::Next => Part::Next,
+        Input::Log => Part::Log,
+        Input::Names => Part::Program,
+    }
+}
+
+/// What is available of an input that is refused, and the number of lines above it in what is named.
+fn evidence_of<'a>(
+    sources: &Sources<'a>,
+    row: &'a RefusedRow,
+    input: Input,
+) -> (Evidence<'a>, u32) {
+    let Some(section) = sources.text(input) else {
+        return (Evidence::Nothing, 0);
+    };
+    if let Sources::Names { unknown, .. } = sources {
+        let names = Evidence::Names {
+            list: section.text,
+            start: unknown.start,
+            length: unknown.length,
+        };
+        return (names, 0);
+    }
+    match input {
+        Input::Job => (Evidence::Nothing, 0),
+        Input::Log if row.line() == 0 => (Evidence::Nothing, 0),
+        Input::Log => (
+            Evidence::Row(row),
+            section.above.saturating_add(row.line().saturating_sub(1)),
+        ),
+        _ => (Evidence::Text(section.text), section.above),
+    }
+}
+
+/// Says why an input is refused, where, and what to write instead.
+fn report_refusal(
+    session: Session<'_>,
+    sources: &Sources<'_>,
+    row: &RefusedRow,
+    input: Input,
+    number: u16,
+    place: u32,
+) -> io::Result<()> {
+    let path = sources.path(input);
+    let (evidence, above) = evidence_of(sources, row, input);
+    let refusal = Refusal {
+        number,
+        place,
+        part: part_of(input),
+        name: path.unwrap_or("standard input").as_bytes(),
+        in_job: path.is_none(),
+        evidence,
+        above,
+    };
+    let message = explained(session.rt.alloc(), session.format, &refusal)?;
+    session.rt.stderr().write_all(&message)
+}
+
+/// The number of warnings of a program that are printed at most.
+const MOST_WARNINGS: usize = 100;
+
+/// Prints the first warnings of a program, and the number of those left out.
+fn write_warnings(
+    session: Session<'_>,
+    file: &ReadFile<'_>,
+    text: &[u8],
+    warnings: &[Warning<'_>],
+) -> io::Result<()> {
+    let alloc = session.rt.alloc();
+    let name = file.path.as_bytes();
+    for warning in warnings.iter().take(MOST_WARNINGS) {
+        let message = warning_message(alloc, session.format, name, text, warning)?;
+        session.rt.stderr().write_all(&message)?;
+    }
+    if warnings.len() > MOST_WARNINGS {
+        let left = warnings.len() - MOST_WARNINGS;
+        let message = warnings_left_out(alloc, session.format, name, left)?;
+        session.rt.stderr().write_all(&message)?;
+    }
+    Ok(())
+}
+
+/// The error if memory ran out.
+fn memory_error() -> io::Error {
+    io::ErrorKind::OutOfMemory.into()
+}
+
+/// Prints what is suspicious of a program that is accepted: whether anything is. The error is out of memory.
+pub(crate) fn report_warnings(session: Session<'_>, file: &ReadFile<'_>) -> io::Result<bool> {
+    let alloc = session.rt.alloc();
+    let Some(text) = file.bytes else {
+        return Err(memory_error());
+    };
+    let source = match read(alloc, text) {
+        Ok(source) => source,
+        Err(Fault::Memory) => return Err(memory_error()),
+        Err(Fault::Refused { .. }) => return Ok(false),
+    };
+    let Ok(warnings) = find_warnings(alloc, &source) else {
+        return Err(memory_error());
+    };
+    match write_warnings(session, file, text, &warnings) {
+        Err(error) if error.kind() == io::ErrorKind::OutOfMemory => Err(error),
+        // If standard error fails there is nobody left to report to.
+        _ => Ok(!warnings.is_empty()),
+    }
+}
+
+/// Says which input could not be read, and why.
+fn report_read_fault(
+    rt: &HostRuntime,
+    sources: &Sources<'_>,
+    input: Input,
+    cause: Option<io::Error>,
+) -> io::Result<()> {
+    rt.eprintln("device fault")?;
+    let name = sources.path(input).unwrap_or(section(input));
+    let name = shown(rt.alloc(), name.as_bytes())?;
+    let name = str::from_utf8(name.as_bytes()).unwrap_or("the input");
+    match cause {
+        Some(error) => eprintln!(rt; "error: {name} can't be read: {error}"),
+        None => eprintln!(rt; "error: {name} is longer than 134217728 bytes and reads"),
+    }
+}
+
+/// Says that standard output could not be written, and why.
+pub(crate) fn report_write_fault(rt: &HostRuntime, cause: Option<io::Error>) -> io::Result<()> {
+    rt.eprintln("device fault")?;
+    match cause {
+        Some(error) => eprintln!(rt; "error: standard output can't be written: {error}"),
+        None => rt.eprintln("error: standard output took nothing"),
+    }
+}
+
+/// Says on standard error how a command ended, if it did not succeed.
+fn report(
+    session: Session<'_>,
+    raised: &CommandEnd,
+    sources: &Sources<'_>,
+    row: &RefusedRow,
+) -> io::Result<()> {
+    match raised.ending {
+        Ending::Done => Ok(()),
+        Ending::Refused {
+            input,
+            number,
+            place,
+        } => report_refusal(session, sources, row, input, number, place),
+        Ending::ReadFault { input } => report_read_fault(
+            session.rt,
+            sources,
+            input,
+            raised.reading,
+        ),
+        Ending::WriteFault => report_write_fault(session.rt, raised.writing),
+        Ending::NoMemory => session.rt.eprintln("memory"),
+    }
+}
+
+/// Reports that memory ran out: the exit status.
+pub(crate) fn without_memory(rt: &HostRuntime) -> u8 {
+    let _reported = rt.eprintln("memory");
+    Ending::NoMemory.status()
+}
+
+/// The ending, if the system's own calls ran out of memory too.
+fn with_memory(raised: &CommandEnd) -> Ending {
+    match (raised.ending, raised.reading) {
+        (Ending::ReadFault { input }, Some(error)) => {
+            if error.kind() == io::ErrorKind::OutOfMemory {
+                Ending::NoMemory
+            } else {
+                Ending::ReadFault { input }
+            }
+        }
+        (ending, _) => ending,
+    }
+}
+
+/// Tells how a command ended: the exit status.
+pub(crate) fn end(
+    session: Session<'_>,
+    raised: &CommandEnd,
+    sources: &Sources<'_>,
+    row: &RefusedRow,
+) -> u8 {
+    let raised = CommandEnd {
+        ending: with_memory(raised),
+        ..*raised
+    };
+    // If standard error fails there is nobody left to report to.
+    let _reported = report(session, &raised, sources, row);
+    raised.ending.status()
+}

@@ -1,0 +1,11 @@
+use crate::output::Gathered;
+use std::cell::RefCell;
+use wc_diag_texts::Format;
+
+/// What each command is given: the system, the format of a refusal's message, and standard output with what is gathered for it.
+#[derive(Clone, Copy)]
+pub(crate) struct Session<'a> {
+    pub(crate) rt: &'a HostRuntime,
+    pub(crate) format: Format,
+    pub(crate) gathered: &'a RefCell<Gathered>,
+}

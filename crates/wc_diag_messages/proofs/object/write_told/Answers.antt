@@ -1,6 +1,0 @@
-use Rattle.wc_diag_messages.proofs.Assembled.{three_behind}
-use Rattle.wc_diag_messages.proofs.object.write_told.Goals as goal
-
-pub returns-clause-tokens : goal.returns-clause-tokens
-returns-clause-tokens c =
-    three_behind _ _ _ _ _ _ _ c.in_ok-write_number.ensures.tokens (rw c.as_str.ensures at c.in_ok-write_text.ensures.tokens) c.in_ok-write_words_if_any.ensures.tokens

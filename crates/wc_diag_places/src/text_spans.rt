@@ -1,0 +1,342 @@
+ghost use Rattle.std.specs.Prelude.{◌≡◌, None, IfOk, IfNone, IfSome};
+ghost use Rattle.wc_model.specs.Language.Faults.{declaration_fault};
+ghost use Rattle.wc_names.specs.RepresentsText.{AreTables};
+ghost use Rattle.wc_diag_places.specs.LaterTextSpans.{IsAccepted, OfRead, RefusesLater};
+ghost use Rattle.wc_diag_places.specs.Excerpts.{IsOperatorOrOperand, IsExcerptOf, IsPlainExcerpt, on_line, operator_of, excerpt_by_number, tokens_from};
+ghost use Rattle.wc_diag_places.specs.Spotting.{IsInBody, IsNamed, PointsTo, PointsToOffending};
+
+use crate::calls::{excerpt_of_call, offending_in_call};
+use crate::excerpts::{
+    case_of_operand, is_listed, line_at, opens, operand_of, operator_of, span_of, tokens_at,
+    tokens_from,
+};
+use crate::instances::{block_in, slice_of};
+use crate::kinds::unfit;
+use crate::result_kind::{ResultKind, result_after, result_outside};
+use crate::span::{RefusalSpan, Slice};
+use crate::spanned_source::SpannedSource;
+use crate::twice::{case_of_capacity, first_of_two, unit_at};
+use std::alloc::Global;
+use wc_cost::measure;
+use wc_declare::tables;
+use wc_diag_texts::Case;
+use wc_lexer::{Shape, Token};
+use wc_model::Fault;
+use wc_names::Tables;
+use wc_verify::validate_bodies;
+
+/// The offending tokens of an instruction, and in which way its rule is broken.
+#[derive(Clone, Copy)]
+struct Found<'a, 't> {
+    excerpt: &'t [Token<'a>],
+    case: Case,
+    first: u32,
+    /// The name of the offending input or output; no token: there is none.
+    formal: &'t [Token<'a>],
+    is_passed: bool,
+    /// The offending slice, if it is on a line below.
+    below: Option<Slice>,
+}
+
+/// Those tokens, of which no other has the name.
+fn found_as<'a, 't>(excerpt: &'t [Token<'a>], case: Case) -> Found<'a, 't>
+    ensures { result.excerpt.now ≡ excerpt.now }
+{
+    Found {
+        excerpt,
+        case,
+        first: 0,
+        formal: tokens_at(excerpt, 0, 0),
+        is_passed: false,
+        below: None,
+    }
+}
+
+/// A refusal with its slice; `tokens` begin where the rule is asked.
+fn text_span_at(
+    tokens: &[Token<'_>],
+    number: u16,
+    excerpt: &[Token<'_>],
+    case: Case,
+    first: u32,
+) -> RefusalSpan
+    ensures { PointsTo number tokens.now excerpt.now result }
+{
+    let fault = Fault::Refused {
+        number,
+        place: line_at(tokens.first()),
+    };
+    let (start, length) = span_of(excerpt);
+    RefusalSpan {
+        case,
+        first,
+        ..RefusalSpan::new(fault, start, length)
+    }
+}
+
+/// The line of the first of two that have the name at a place; 0: there are no two.
+fn first_line(
+    spanned_source: &SpannedSource<'_>,
+    number: u16,
+    tokens: &[Token<'_>],
+    place: u32,
+) -> u32 {
+    // A jump names its label after the operator.
+    let index = usize::from(number == 406);
+    let Some(name) = tokens.get(index) else {
+        return 0;
+    };
+    match first_of_two(&spanned_source.source, number, name.text, place) {
+        Some(first) => line_at(tokens_from(&spanned_source.tokens, first).first()),
+        None => 0,
+    }
+}
+
+/// A refusal whose slice is the token at a place.
+fn text_span_of_token(spanned_source: &SpannedSource<'_>, number: u16, place: u32) -> RefusalSpan
+    ensures { PointsTo number (tokens_from spanned_source.now.tokens.items place)
+        (operator_of (tokens_from spanned_source.now.tokens.items place)) result }
+{
+    let tokens = tokens_from(&spanned_source.tokens, place);
+    let first = first_line(spanned_source, number, tokens, place);
+    let case = match number {
+        306 => case_of_capacity(&spanned_source.source, place),
+        _ => Case::Plain,
+    };
+    text_span_at(tokens, number, operator_of(tokens), case, first)
+}
+
+/// The offending slice in an instruction without a list whose kinds do not fit.
+fn found_unfit<'a, 't>(tables: &Tables<'a>, unit: usize, tokens: &'t [Token<'a>]) -> Found<'a, 't>
+    ensures { IsOperatorOrOperand tokens.now result.excerpt.now }
+{
+    let operand = operand_of(tokens);
+    let case = unfit(tables, unit, tokens, operand);
+    let excerpt = match case {
+        Case::Result | Case::Closing => operator_of(tokens),
+        _ => operand,
+    };
+    found_as(excerpt, case)
+}
+
+/// What a refusal of that number means in an instruction without a list.
+fn found_by_number<'a, 't>(tokens: &'t [Token<'a>], number: u16) -> Found<'a, 't>
+    ensures { result.excerpt.now ≡ excerpt_by_number number tokens.now }
+{
+    match number {
+        408 if opens(tokens) => found_as(operator_of(tokens), Case::Deferred),
+        401 | 404 | 405 | 406 | 408 => {
+            let operand = operand_of(tokens);
+            found_as(operand, case_of_operand(operand))
+        }
+        _ => found_as(operator_of(tokens), Case::Plain),
+    }
+}
+
+/// The offending slice in an instruction without a list.
+fn found_plain<'a, 't>(
+    tables: &Tables<'a>,
+    unit: usize,
+    tokens: &'t [Token<'a>],
+    number: u16,
+) -> Found<'a, 't>
+    ensures { IsPlainExcerpt number tokens.now result.excerpt.now }
+{
+    if number == 402 {
+        return found_unfit(tables, unit, tokens);
+    }
+    found_by_number(tokens, number)
+}
+
+/// The offending slice in an instruction.
+fn found_in<'a, 't>(
+    alloc: Global,
+    tables: &Tables<'a>,
+    unit: usize,
+    tokens: &'t [Token<'a>],
+    number: u16,
+) -> Result<Found<'a, 't>, Fault>
+    ensures { IfOk result (λ found. IsExcerptOf number tokens.now found.excerpt.now) }
+{
+    if !is_listed(tokens) {
+        return Ok(found_plain(tables, unit, tokens, number));
+    }
+    let call = offending_in_call(alloc, tables, unit, tokens, number)?;
+    Ok(Found {
+        excerpt: excerpt_of_call(tokens, call),
+        case: call.case,
+        first: call.first,
+        formal: tokens_at(tokens, call.name, usize::from(call.name > 0)),
+        is_passed: call.is_passed,
+        below: None,
+    })
+}
+
+/// What is found, if it begins on the line of its instruction; else the operator.
+fn on_line<'a, 't>(tokens: &'t [Token<'a>], found: Found<'a, 't>) -> Found<'a, 't>
+    ensures { result.excerpt.now ≡ on_line tokens.now found.entry.excerpt.now }
+{
+    if line_at(found.excerpt.first()) == line_at(tokens.first()) {
+        return found;
+    }
+    Found {
+        excerpt: operator_of(tokens),
+        below: slice_of(found.excerpt),
+        ..found
+    }
+}
+
+/// The tokens above the line on which these begin, if nothing comes before them on it.
+fn lines_above<'a, 't>(
+    spanned_source: &'t SpannedSource<'a>,
+    tokens: &[Token<'_>],
+) -> Option<&'t [Token<'a>]> {
+    let count = spanned_source.tokens.len().saturating_sub(tokens.len());
+    match spanned_source.tokens.get(count.saturating_sub(1)) {
+        Some(token) if matches!(token.shape, Shape::LineEnd) => {
+            Some(tokens_at(&spanned_source.tokens, 0, count.saturating_sub(1)))
+        }
+        _ => None,
+    }
+}
+
+/// The kinds of the result before the instruction at which these tokens begin, and before the parenthesis that it closes, if that is
+/// what does not fit.
+fn results_before(
+    spanned_source: &SpannedSource<'_>,
+    tables: &Tables<'_>,
+    unit: usize,
+    tokens: &[Token<'_>],
+    case: Case,
+) -> (Option<ResultKind>, Option<ResultKind>) {
+    let Some(above) = lines_above(spanned_source, tokens) else {
+        return (None, None);
+    };
+    match case {
+        Case::Unlike(_) | Case::Result => (result_after(tables, unit, above), None),
+        Case::Closing => {
+            (
+                result_after(tables, unit, above),
+                result_outside(tables, unit, above),
+            )
+        }
+        _ => (None, None),
+    }
+}
+
+/// A refusal with what is found in its instruction.
+fn text_span_of_found(
+    spanned_source: &SpannedSource<'_>,
+    number: u16,
+    tokens: &[Token<'_>],
+    place: u32,
+    found: Found<'_, '_>,
+) -> RefusalSpan
+    ensures { PointsTo number tokens.now (on_line tokens.now found.entry.excerpt.now) result }
+{
+    let found = on_line(tokens, found);
+    let first = first_line(spanned_source, number, tokens, place).max(found.first);
+    RefusalSpan {
+        formal: slice_of(found.formal),
+        is_passed: found.is_passed,
+        below: found.below,
+        ..text_span_at(tokens, number, found.excerpt, found.case, first)
+    }
+}
+
+/// A refusal of pass 4 with the offending slice in its instruction.
+fn text_span_of_instruction<'a>(
+    alloc: Global,
+    spanned_source: &SpannedSource<'a>,
+    tables: &Tables<'a>,
+    number: u16,
+    place: u32,
+) -> RefusalSpan
+    ensures { PointsToOffending number (tokens_from spanned_source.now.tokens.items place) result }
+{
+    let tokens = tokens_from(&spanned_source.tokens, place);
+    let unit = unit_at(&spanned_source.source, place);
+    let Ok(found) = found_in(alloc, tables, unit, tokens, number) else {
+        return RefusalSpan::new(Fault::Memory, 0, 0);
+    };
+    let (result, outer) = results_before(spanned_source, tables, unit, tokens, found.case);
+    let block = block_in(
+        &spanned_source.source,
+        unit,
+        tokens,
+        found.excerpt,
+        found.case,
+    );
+    RefusalSpan {
+        result,
+        outer,
+        block,
+        ..text_span_of_found(spanned_source, number, tokens, place, found)
+    }
+}
+
+/// A refusal of pass 3 or of the costs.
+fn text_span_of_name(spanned_source: &SpannedSource<'_>, fault: Fault) -> RefusalSpan
+    ensures { OfRead spanned_source.now (λ bytes text. IsNamed text fault
+        → RefusesLater bytes result.fault result.start result.length) }
+{
+    match fault {
+        Fault::Refused { number, place } => text_span_of_token(spanned_source, number, place),
+        Fault::Memory => RefusalSpan::new(Fault::Memory, 0, 0),
+    }
+}
+
+/// A refusal of pass 4.
+fn text_span_of_body<'a>(
+    alloc: Global,
+    spanned_source: &SpannedSource<'a>,
+    tables: &Tables<'a>,
+    fault: Fault,
+) -> RefusalSpan
+    ensures { OfRead spanned_source.now (λ bytes text. IsInBody text fault
+        → RefusesLater bytes result.fault result.start result.length) }
+{
+    match fault {
+        Fault::Refused { number, place } => {
+            text_span_of_instruction(alloc, spanned_source, tables, number, place)
+        }
+        Fault::Memory => RefusalSpan::new(Fault::Memory, 0, 0),
+    }
+}
+
+/// Where pass 4 or the costs refuse a text with these tables.
+fn text_span_after<'a>(
+    alloc: Global,
+    spanned_source: &SpannedSource<'a>,
+    tables: &Tables<'a>,
+) -> Option<RefusalSpan>
+    ensures refused { OfRead spanned_source.now (λ bytes text. AreTables tables.now text
+        → declaration_fault text ≡ None
+        → IfSome result
+        (λ text_span. RefusesLater bytes text_span.fault text_span.start text_span.length)) }
+    ensures accepted { OfRead spanned_source.now (λ bytes text. AreTables tables.now text
+        → declaration_fault text ≡ None → IfNone result (IsAccepted text)) }
+{
+    if let Err(fault) = validate_bodies(alloc, &spanned_source.source, tables) {
+        return Some(text_span_of_body(alloc, spanned_source, tables, fault));
+    }
+    match measure(alloc, &spanned_source.source, tables) {
+        Ok(()) => None,
+        Err(fault) => Some(text_span_of_name(spanned_source, fault)),
+    }
+}
+
+/// Where a pass after reading refuses a text that was read by places: the rule that it breaks first,
+/// the line on which that is asked, and the offending slice; nothing if none refuses it. It
+/// takes the passes themselves, once more.
+pub fn text_span_in<'a>(alloc: Global, spanned_source: &SpannedSource<'a>) -> Option<RefusalSpan>
+    ensures refused { OfRead spanned_source.now
+        (λ bytes _. IfSome result
+        (λ text_span. RefusesLater bytes text_span.fault text_span.start text_span.length)) }
+    ensures accepted { OfRead spanned_source.now (λ _ text. IfNone result (IsAccepted text)) }
+{
+    match tables(alloc, &spanned_source.source) {
+        Ok(tables) => text_span_after(alloc, spanned_source, &tables),
+        Err(fault) => Some(text_span_of_name(spanned_source, fault)),
+    }
+}

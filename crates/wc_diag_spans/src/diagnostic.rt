@@ -1,0 +1,79 @@
+ghost use Rattle.std.specs.Prelude.{◌≡◌, None, OnOk, Some, []};
+
+use std::alloc::{AllocError, Global};
+use wc_diag_texts::{Case, Expected};
+
+/// The offending bytes of a line.
+#[derive(Clone, Copy, PartialEq, Eq)]
+pub struct TextSpan {
+    /// The first of them, counted from 0.
+    pub start: usize,
+    /// Their number.
+    pub length: usize,
+}
+
+/// What exactly is wrong, as far as it is sure.
+#[derive(Drop)]
+pub struct Diagnostic {
+    /// The line that is shown, counted from 1 in the current text; 0: none.
+    pub line: u32,
+    /// Its bytes.
+    pub shown: Vec<u8>,
+    /// The offending span in it.
+    pub text_span: Option<TextSpan>,
+    /// The slice of the text with which the headline begins; empty: none.
+    pub subject: Vec<u8>,
+    /// What is said of it, by the number: the headline.
+    pub case: Case,
+    /// What follows the headline; empty: nothing.
+    pub detail: String,
+    /// What could be at the span.
+    pub expected: Expected,
+    /// What to write instead, by the number.
+    pub hint: Case,
+    /// What to write instead, with the available values; empty: nothing beyond the hint.
+    pub advice: String,
+}
+
+impl Diagnostic {
+    /// Nothing beyond what the number says, on that line.
+    pub(crate) fn new(alloc: Global, line: u32) -> Diagnostic
+        ensures nothing { (result.text_span ≡ None) × (result.shown.items ≡ []) }
+        ensures line { result.line ≡ line }
+    {
+        Diagnostic {
+            line,
+            shown: Vec::new(alloc),
+            text_span: None,
+            subject: Vec::new(alloc),
+            case: Case::Unknown,
+            detail: String::new(alloc),
+            expected: Expected::Nothing,
+            hint: Case::Unknown,
+            advice: String::new(alloc),
+        }
+    }
+
+    /// Points to bytes of the line.
+    pub(crate) fn point(&mut self, start: usize, length: usize)
+        ensures text_span { self.new.text_span ≡ Some (record { start = start; length = length }) }
+        ensures line { self.new.line ≡ self.old.line }
+        ensures subject { self.new.subject.items ≡ self.old.subject.items }
+        ensures shown { self.new.shown.items ≡ self.old.shown.items }
+    {
+        self.text_span = Some(TextSpan { start, length });
+    }
+
+    /// Says of a slice of the text what is said in that case.
+    pub(crate) fn report(&mut self, subject: &[u8], case: Case) -> Result<(), AllocError>
+        ensures text_span { self.new.text_span ≡ self.old.text_span }
+        ensures line { self.new.line ≡ self.old.line }
+        ensures subject { OnOk result (self.new.subject.items ≡ subject.now) }
+    {
+        self.subject.clear();
+        self.case = case;
+        self.hint = case;
+        self.subject.extend_from_slice(subject)?;
+        Ok(())
+    }
+}

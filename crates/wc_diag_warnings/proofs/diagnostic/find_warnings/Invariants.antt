@@ -1,0 +1,11 @@
+use Rattle.std.proofs.Common.{◌≡◌, ◌++◌, map, drop}
+use Rattle.std.specs.List.{flat_map}
+use Rattle.wc_model.specs.Language.Views.{unit_view}
+use Rattle.wc_diag_warnings.specs.Seen.{warnings_view}
+use Rattle.wc_diag_warnings.specs.Warnings.{unit_cautions}
+use Rattle.wc_diag_warnings.proofs.diagnostic.find_warnings.Given as goal
+
+-- with the units that are left these are all
+abbrev pub invariant-loop-unit : goal.invariant-loop-unit
+invariant-loop-unit l =
+    warnings_view l.warnings.items ++ flat_map unit_cautions (map unit_view (drop l.unit-index l.source.units.items)) ≡ flat_map unit_cautions (map unit_view l.source.units.items)

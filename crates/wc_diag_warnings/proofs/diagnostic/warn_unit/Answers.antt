@@ -1,0 +1,31 @@
+use Rattle.std.proofs.Common.{◌≡◌, List, ◌++◌, ap, ◌∙◌, append_assoc}
+use Rattle.std.proofs.lemmas.Result.{on_ok_weaker}
+use Rattle.wc_model.specs.Language.Declarations.{Variable, variables_of}
+use Rattle.wc_model.specs.Language.Views.{lines_view, unit_view}
+use Rattle.wc_model.specs.declared.source.UnitKind.{UnitKind}
+use Rattle.wc_diag_warnings.specs.Events.{Happening, events_of}
+use Rattle.wc_diag_warnings.specs.Seen.{events_view, warnings_view}
+use Rattle.wc_diag_warnings.specs.Uses.{used_in}
+use Rattle.wc_diag_warnings.specs.Warnings.{Caution, body_cautions, declared_cautions}
+use Rattle.wc_diag_warnings.proofs.diagnostic.warn_unit.Goals as goal
+
+-- what is declared is looked at first, and then the body
+both : (kind : UnitKind) (variables : List Variable) (all first then : List Happening) (old between new : List Caution) → first ≡ all → then ≡ all →
+    between ≡ old ++ declared_cautions kind (used_in first) variables → new ≡ between ++ body_cautions kind then →
+    new ≡ old ++ (declared_cautions kind (used_in all) variables ++ body_cautions kind all)
+both kind variables all first then old between new f t b n =
+    n ∙ ap (λ cs. cs ++ body_cautions kind then) b
+    ∙ append_assoc old (declared_cautions kind (used_in first) variables) (body_cautions kind then)
+    ∙ ap (λ es. old ++ (declared_cautions kind (used_in es) variables ++ body_cautions kind then)) f
+    ∙ ap (λ es. old ++ (declared_cautions kind (used_in all) variables ++ body_cautions kind es)) t
+
+pub returns-clause-added : goal.returns-clause-added
+returns-clause-added c =
+    let unit = c.args.unit.now in
+    let all = events_of (unit_view unit).body in
+    let found : events_view c.in_ok-events.events.items ≡ all = c.in_ok-events.ensures.found ∙ ap (λ lines. events_of (lines_view lines)) c.deref.ensures.value in
+    on_ok_weaker c.warn_body.result
+    (λ added. both unit.kind (variables_of (unit_view unit)) all (events_view c.deref-2.result.now) (events_view c.deref-3.result.now) (warnings_view c.args.warnings.now.items)
+    (warnings_view c.warn_names.new.warnings.items) (warnings_view c.warn_body.new.warnings.items) (ap events_view c.deref-2.ensures.value ∙ found) (ap events_view c.deref-3.ensures.value ∙ found)
+    c.in_ok-warn_names.ensures.added added)
+    c.warn_body.ensures.added

@@ -1,5 +1,0 @@
-use Rattle.wc_laws_grammar.proofs.FirstFaults.{one_first_fault}
-use Rattle.wc_laws_grammar.proofs.fronts.one_first_fault.Goals as goal
-
-pub returns : goal.returns
-returns c = one_first_fault

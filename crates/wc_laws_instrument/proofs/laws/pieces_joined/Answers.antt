@@ -1,5 +1,0 @@
-use Rattle.wc_laws_instrument.proofs.Requests.{requests_join}
-use Rattle.wc_laws_instrument.proofs.laws.pieces_joined.Goals as goal
-
-pub returns : goal.returns
-returns c = requests_join

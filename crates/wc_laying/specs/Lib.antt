@@ -1,4 +1,0 @@
-pub mod FlatLines
-pub mod Layable
-pub mod Laying
-pub mod Operands

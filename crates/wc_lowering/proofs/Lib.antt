@@ -1,0 +1,10 @@
+pub mod Assigned
+pub mod Calling
+pub mod CallsLowered
+pub mod Going
+pub mod LabelsLowered
+pub mod LayableLines
+pub mod LinesLowered
+pub mod Loading
+pub mod Placed
+pub mod PlacesThere

@@ -1,0 +1,15 @@
+use Rattle.std.proofs.Common.{map, drop}
+use Rattle.wc_model.specs.Language.Names.{name_of}
+use Rattle.wc_model.specs.Language.Scopes.{Scope}
+use Rattle.wc_model.specs.Language.Tree.{inputs_of}
+use Rattle.wc_model.specs.Language.Views.{assignment_view}
+use Rattle.wc_lowering.specs.Layable.{ArePassable}
+use Rattle.wc_lowering.specs.Lowering.{AddsArguments}
+use Rattle.wc_verify.specs.Seeing.{IsScope}
+use Rattle.wc_lowering.proofs.arguments.put_inputs.Given as goal
+
+-- those of the list from the index on are there
+abbrev pub invariant-loop-index : goal.invariant-loop-index
+invariant-loop-index l =
+    (scope : Scope) → IsScope l.tables l.unit scope → ArePassable scope (name_of l.instance) (map assignment_view l.arguments) →
+    AddsArguments scope (name_of l.instance) l.line (inputs_of (map assignment_view (drop l.index l.arguments))) l.initial.flat l.flat

@@ -1,0 +1,4 @@
+pub mod FlatLines
+pub mod Layable
+pub mod Lowering
+pub mod Operands

@@ -1,0 +1,80 @@
+-- What is lowered so far, from the last line to the first. (No rule of the language.)
+use Rattle.std.specs.Prelude.{◌≡◌, ℕ, ◌+◌, List, [], ◌∷◌, ◌++◌, length, map, Option, Some, None, if◌then◌else◌}
+use Rattle.wc_text_flat.specs.FlatPaths.{sources_of, step_sources}
+use Rattle.wc_text_flat.specs.Lowered.{AreArguments, AreOutputs, IsLowered, IsOpening, IsStepLowered, lines_ahead}
+use Rattle.wc_model.specs.Language.Declarations.{named_in, same_name}
+use Rattle.wc_model.specs.Language.Kinds.{BodyLine, AloneLine, PlainLine, NestedLine}
+use Rattle.wc_model.specs.Language.Names.{Name}
+use Rattle.wc_model.specs.Language.Scopes.{Scope}
+use Rattle.wc_model.specs.Language.Tree.{Assignment, Lines, Word}
+use Rattle.wc_model.specs.declared.code.Code.{Code}
+use Rattle.wc_model.specs.declared.code.Code.TheVariants.{Close}
+use Rattle.wc_model.specs.declared.operator.Operator.{Operator}
+use Rattle.wc_lowering.specs.FlatLines.{FlatLines}
+
+-- these flat lines, at these lines of the text, are put before what was there
+pub record Adds (is_lowered : List Code → Type 0) (sources : List ℕ) (old new : FlatLines) : Type 0 where
+  pub own : List Code
+  pub lowered : is_lowered own
+  pub code : new.code ≡ own ++ old.code
+  pub places : new.sources ≡ sources ++ old.sources
+
+-- the flat lines of a parenthesis
+pub record IsParenthesis (opening_lowered : Code → Type 0) (inside_lowered : List Code → Type 0) (operator : Operator) (code : List Code) : Type 0 where
+  pub opening : Code
+  pub inner : List Code
+  pub whole : code ≡ opening ∷ inner ++ Close operator ∷ []
+  pub opens : opening_lowered opening
+  pub inside : inside_lowered inner
+
+-- the flat lines of a line, after which these lines are
+abbrev pub IsLineLowered : Scope → Lines → BodyLine → List Code → Type 0
+IsLineLowered scope rest (AloneLine label) code = code ≡ []
+IsLineLowered scope rest (PlainLine label line step) code = IsStepLowered scope rest step code
+IsLineLowered scope rest (NestedLine label line operator operand inside close) code =
+    IsParenthesis (IsOpening scope operand) (IsLowered scope inside) operator code
+
+-- and the lines of the text at which they are
+abbrev pub line_sources : BodyLine → List ℕ
+line_sources (AloneLine label) = []
+line_sources (PlainLine label line step) = step_sources line step
+line_sources (NestedLine label line operator operand inside close) = line ∷ sources_of inside ++ close ∷ []
+
+abbrev pub AddsLine : Scope → Lines → BodyLine → FlatLines → FlatLines → Type 0
+AddsLine scope rest line old new = Adds (IsLineLowered scope rest line) (line_sources line) old new
+
+abbrev pub AddsLines : Scope → Lines → FlatLines → FlatLines → Type 0
+AddsLines scope lines old new = Adds (IsLowered scope lines) (sources_of lines) old new
+
+-- the inputs of a call's list at a line, and its outputs
+abbrev pub AddsArguments : Scope → Name → ℕ → List Assignment → FlatLines → FlatLines → Type 0
+AddsArguments scope instance line inputs old new =
+    Adds (AreArguments scope instance inputs) (map (λ input. line) inputs) old new
+
+abbrev pub AddsOutputs : Scope → Name → ℕ → List Assignment → FlatLines → FlatLines → Type 0
+AddsOutputs scope instance line outputs old new =
+    Adds (AreOutputs scope instance outputs) (map (λ output. line) outputs) old new
+
+-- the flat lines of these lines, and of nothing else
+abbrev pub IsFlat : Scope → Lines → FlatLines → Type 0
+IsFlat scope lines flat = IsLowered scope lines flat.code × (flat.sources ≡ sources_of lines)
+
+-- a label that is m flat lines ahead has n flat lines from its own to the last
+abbrev pub Represents : Option ℕ → Option ℕ → ℕ → Type 0
+Represents None None count = Unit {0}
+Represents None (Some left) count = ⊥
+Represents (Some ahead) None count = ⊥
+Represents (Some ahead) (Some left) count = ahead + left ≡ count
+
+-- the labels of these lines are kept with the count of flat lines from each to the last
+abbrev pub HoldsLabels : List (Name × ℕ) → Lines → ℕ → Type 0
+HoldsLabels labels lines count = (label : Name) → Represents (lines_ahead lines label) (named_in labels label) count
+
+-- a label is kept with a count in place of what was kept of it
+abbrev pub KeepsLabel : Option Word → ℕ → List (Name × ℕ) → List (Name × ℕ) → Type 0
+KeepsLabel None count old new = new ≡ old
+KeepsLabel (Some word) count old new = (label : Name) → named_in new label ≡ (if same_name word.name label then Some count else named_in old label)
+
+-- these lines are lowered, and their labels kept
+abbrev pub IsKeptFlat : Scope → Lines → List (Name × ℕ) → FlatLines → Type 0
+IsKeptFlat scope lines labels flat = IsFlat scope lines flat × HoldsLabels labels lines (length flat.code)

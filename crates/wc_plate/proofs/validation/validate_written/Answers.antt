@@ -1,0 +1,25 @@
+use Rattle.std.proofs.Common.{◌≡◌, ◌∙◌, false, ap, arith, of_z, rules, sym, to_z, w64}
+use Rattle.std.proofs.lemmas.Int.{ints}
+use Rattle.std.specs.Prelude.{int_div, pos, ◌*ℤ◌}
+use Rattle.wc_model.specs.Instrument.PlateTable.{Written, is_between}
+use Rattle.wc_plate.specs.Seen.{written_seen}
+use Rattle.wc_plate.proofs.Validated.{validated_is_plate, refused_507}
+use Rattle.wc_plate.proofs.validation.validate_written.Goals as goal
+
+pub invariant_of-result : goal.invariant_of-result
+invariant_of-result c = validated_is_plate (written_seen c.args.written.now) _ (search rules)
+
+pub returns-in_default-between-2 : goal.returns-in_default-between-2
+returns-in_default-between-2 c =
+    let w : Written = written_seen c.args.written.now in
+    let max : to_z w64 (of_z w64 c.args.written.now.max) ≡ c.args.written.now.max = omega (arith, ints) in
+    let e : to_z w64 (of_z w64 c.args.written.now.e) ≡ c.args.written.now.e = omega (arith, ints) in
+    let decimals : to_z w64 (of_z w64 c.args.written.now.decimals) ≡ c.args.written.now.decimals = omega (arith, ints) in
+    let counts : to_z w64 (of_z w64 c.args.written.now.span_counts) ≡ c.args.written.now.span_counts = omega (arith, ints) in
+    let interval : w.e ≡ pos c.in-Some-interval.e = rw e at c.in-Some-interval.ensures.same.0 in
+    let div : int_div w.max w.e ≡ pos c.in-Some-count.n = ap (int_div w.max) interval ∙ (rw max at c.in-Some-count.ensures.same.1) in
+    let span : is_between (pos 4 *ℤ int_div w.max w.e) (pos 8000000) w.span_counts ≡ false = rw div (sym (rw counts at c.in_default-between-2.ensures.fits)) in (
+      refused_507 w c.in-Some.unit c.in-Some-between.decimals c.in-Some-interval.e (sym c.in-Some.ensures) (sym (rw decimals at c.in-Some-between.ensures.fits)) (rw decimals at c.in-Some-between.ensures.same.0)
+          (sym (rw e at c.in-Some-interval.ensures.fits)) interval (sym (rw max at c.in-Some-count.ensures.fits)) span,
+      (div, span),
+    )

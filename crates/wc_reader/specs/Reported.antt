@@ -1,0 +1,49 @@
+-- What a result of the reader says.
+use Rattle.std.specs.Prelude.{◌≡◌, ℕ, List, Option, None, Result, Ok, Err}
+use Rattle.wc_laws_grammar.specs.Moves.{Raised, State}
+use Rattle.wc_model.specs.Text.ReadingFaults.{number_of}
+use Rattle.wc_model.specs.Language.Tree.{Text}
+use Rattle.wc_model.specs.Language.Views.{text_view}
+use Rattle.wc_model.specs.declared.fault.Fault.{Fault}
+use Rattle.wc_model.specs.declared.fault.Fault.TheVariants.{Memory, Refused}
+use Rattle.wc_model.specs.declared.source.Source.{Source}
+use Rattle.wc_model.specs.Text.Marks.{Mark}
+use Rattle.wc_text_short_lines.specs.Walks.{walk}
+
+-- what was found, by its number and its line
+pub record IsRaisedAs (outcome : Result Text Raised) (number place : ℕ) : Type 0 where
+  pub raised : Raised
+  pub outcome_is : outcome ≡ Err raised
+  pub number_is : number ≡ number_of raised.fault
+  pub place_is : place ≡ raised.line
+
+-- the fault is what was found; out of memory says nothing
+abbrev pub ReportsFault : Result Text Raised → Fault → Type 0
+ReportsFault outcome Memory = Unit {0}
+ReportsFault outcome (Refused number place) = IsRaisedAs outcome number place
+
+-- the source is the text, or the fault is what was found
+abbrev pub ReportsReading : Result Text Raised → Result Source Fault → Type 0
+ReportsReading outcome (Ok source) = outcome ≡ Ok (text_view source)
+ReportsReading outcome (Err fault) = ReportsFault outcome fault
+
+-- the fault says that nothing follows a token of that line; out of memory says nothing
+abbrev pub IsUnexpected : Option State → (line : ℕ) → Fault → Type 0
+IsUnexpected next line Memory = Unit {0}
+IsUnexpected next line (Refused number place) = (next ≡ None) × (number ≡ 201) × (place ≡ line)
+
+-- the fault says that a token of that line is unexpected
+abbrev pub IsUnexpectedAt : (line : ℕ) → Fault → Type 0
+IsUnexpectedAt line fault = fault ≡ Refused 201 line
+
+-- A walk that is at that state stops there at the next token: what it meets has this number and line.
+pub record IsStoppedAt (state : State) (marks : List Mark) (number place : ℕ) : Type 0 where
+  pub raised : Raised
+  pub stops : (last : ℕ) → walk state marks last ≡ record { state = state; reported = Err raised }
+  pub number_is : number ≡ number_of raised.fault
+  pub place_is : place ≡ raised.line
+
+-- the fault is what stops the walk at the next token; out of memory says nothing
+abbrev pub StopsWith : State → List Mark → Fault → Type 0
+StopsWith state marks Memory = Unit {0}
+StopsWith state marks (Refused number place) = IsStoppedAt state marks number place

@@ -1,4 +1,0 @@
-use Rattle.wc_text_lines.proofs.operands.behind_name.Goals as goal
-
-pub returns-else-pointed : goal.returns-else-pointed
-returns-else-pointed c = rw c.if-pointed.false c.at_named.ensures

@@ -1,8 +1,0 @@
-use Rattle.std.proofs.Common.{map, drop}
-use Rattle.wc_model.specs.Language.Views.{assignment_view}
-use Rattle.wc_verify.proofs.Calling.{ArgumentsBehind}
-use Rattle.wc_verify.proofs.calls.judge_each.Given as goal
-
--- the arguments that are left follow those so far
-abbrev pub invariant-loop-argument : goal.invariant-loop-argument
-invariant-loop-argument l = ArgumentsBehind l.tables l.unit l.declared l.line l.names (map assignment_view l.arguments) (map assignment_view (drop l.argument-index l.arguments))

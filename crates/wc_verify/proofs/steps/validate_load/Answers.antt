@@ -1,0 +1,22 @@
+use Rattle.std.proofs.Common.{◌≡◌, Bool, true, false, sym, ap, ◌∙◌, ℕ, Option, [], ◌∷◌}
+use Rattle.wc_model.specs.Language.Checks.{asks}
+use Rattle.std.specs.Prelude.{is_some, if◌then◌else◌}
+use Rattle.wc_model.specs.Language.BodyRules.{is_bool, load_checks, reading_checks}
+use Rattle.wc_model.specs.Language.Kinds.{term_kind}
+use Rattle.wc_model.specs.Language.Scopes.{Scope}
+use Rattle.wc_model.specs.Language.Tree.{Term}
+use Rattle.wc_model.specs.declared.kind.Kind.{Kind}
+use Rattle.wc_verify.proofs.Found.{Both, Finds, Asked, asked_as, joined}
+use Rattle.wc_verify.proofs.steps.validate_load.Goals as goal
+
+-- of either form
+either : (scope : Scope) (term : Term) (negated b : Bool) (p q r : Option ℕ) (kind : Option Kind) → Finds (λ line. reading_checks scope line term) p → Asked 402 b q → Both p q r →
+    b ≡ (if negated then is_bool kind else is_some kind) → term_kind scope term ≡ kind → Finds (λ line. load_checks scope line negated term) r
+either scope term true b p q r kind reads asked both e k =
+    joined (λ line. reading_checks scope line term) (λ line. asks 402 line (is_bool (term_kind scope term)) ∷ []) p q r reads (asked_as 402 b (is_bool (term_kind scope term)) q asked (ap is_bool k ∙ sym e)) both
+either scope term false b p q r kind reads asked both e k =
+    joined (λ line. reading_checks scope line term) (λ line. asks 402 line (is_some (term_kind scope term)) ∷ []) p q r reads (asked_as 402 b (is_some (term_kind scope term)) q asked (ap is_some k ∙ sym e)) both
+
+pub returns : goal.returns
+returns c = λ scope term line rest seen.
+    either scope term c.args.negated c.is_loaded.result c.validate_reading.result c.unless.result c.first_of.result c.args.seen.kind (λ line rest. c.validate_reading.ensures scope term line rest seen) c.unless.ensures c.first_of.ensures c.is_loaded.ensures seen.kind line rest

@@ -1,0 +1,57 @@
+-- What a line with answers says.
+use Rattle.std.proofs.Common.{◌≡◌, ◌<◌, ◌^◌, ℕ, List, length, Option, Some, None, Result, Ok, Err, IfOk, option_map, slice_index, sym, ap, ◌∙◌, arith}
+use Rattle.hex.specs.Hex.{IsBytes}
+use Rattle.wc_view_decode.proofs.ByteLists.{answers_are_bytes}
+use Rattle.wc_view_decode.specs.AnswerBytes.{AreAllAnswers, bytes_of_answers}
+use Rattle.wc_view_decode.specs.Lines.{AreContentOf, InRange, IsContentOf, LineContent, AnswersContent, RefusalContent, ScanContent, content_text}
+use Rattle.wc_view_decode.specs.declared.answer.Answer.{Answer}
+use Rattle.wc_model.specs.Say.Report.{AnswerLine, line_text}
+
+-- the line is that of this moment and these bytes if it is any
+abbrev pub IsOnlyRow : List ℕ → ℕ → List ℕ → Type 0
+IsOnlyRow line ms bytes = (m : ℕ) (bs : List ℕ) → m < 2 ^ 64 → IsBytes bs → line ≡ line_text (AnswerLine m bs) → (ms ≡ m) × (bytes ≡ bs)
+
+-- whatever else a line that starts with L says, it is the same
+only_content : (line bytes : List ℕ) (ms : ℕ) (answers : List Answer) → slice_index line 0 ≡ 76 → IsOnlyRow line ms bytes
+    → ((others : List Answer) → AreAllAnswers others → bytes ≡ bytes_of_answers others → answers ≡ others)
+    → (other : LineContent) → InRange other → line ≡ content_text other → AnswersContent ms answers ≡ other
+only_content line bytes ms answers letter row only (AnswersContent m others) (below, all, some) e =
+    let same = row m (bytes_of_answers others) below (answers_are_bytes others all) e in
+    ap (λ n. AnswersContent n answers) same.0 ∙ ap (λ a. AnswersContent m a) (only others all same.1)
+only_content line bytes ms answers letter row only (ScanContent m steps outputs) ok e = absurd (omega (arith, letter, ap (λ t. slice_index t 0) e))
+only_content line bytes ms answers letter row only (RefusalContent number place) ok e = absurd (omega (arith, letter, ap (λ t. slice_index t 0) e))
+
+-- a line whose bytes are not answers says none
+none_reported : (line bytes : List ℕ) (ms : ℕ) → slice_index line 0 ≡ 76 → IsOnlyRow line ms bytes
+    → ((others : List Answer) → AreAllAnswers others → 0 < length others → ¬ (bytes ≡ bytes_of_answers others))
+    → (reported : LineContent) → InRange reported → ¬ (line ≡ content_text reported)
+none_reported line bytes ms letter row never (AnswersContent m others) (below, all, some) e =
+    never others all some (row m (bytes_of_answers others) below (answers_are_bytes others all) e).1
+none_reported line bytes ms letter row never (ScanContent m steps outputs) ok e = omega (arith, letter, ap (λ t. slice_index t 0) e)
+none_reported line bytes ms letter row never (RefusalContent number place) ok e = omega (arith, letter, ap (λ t. slice_index t 0) e)
+
+-- what the bytes say, the line says
+content_by_line : (found : Option LineContent) (line bytes : List ℕ) (ms : ℕ) → slice_index line 0 ≡ 76 → ms < 2 ^ 64 → line_text (AnswerLine ms bytes) ≡ line → IsOnlyRow line ms bytes
+    → AreContentOf ms found bytes → IsContentOf found line
+content_by_line (Some reported) line bytes ms letter below written row (answers, is, all, some, eb, only) =
+    rw is (
+      (below, all, some),
+      sym written ∙ ap (λ b. line_text (AnswerLine ms b)) eb,
+      only_content line bytes ms answers letter row only,
+    )
+content_by_line None line bytes ms letter below written row never = none_reported line bytes ms letter row never
+
+-- the same after a fault of memory
+pub row_content : {X E : Type 0} (view : X → LineContent) (given : Result (Option X) E) (line bytes : List ℕ) (ms : ℕ) → slice_index line 0 ≡ 76 → ms < 2 ^ 64 → line_text (AnswerLine ms bytes) ≡ line → IsOnlyRow line ms bytes
+    → IfOk given (λ found. AreContentOf ms (option_map view found) bytes) → IfOk given (λ found. IsContentOf (option_map view found) line)
+row_content view (Ok found) line bytes ms letter below written row reported = content_by_line (option_map view found) line bytes ms letter below written row reported
+row_content view (Err fault) line bytes ms letter below written row reported = tt
+
+-- and a line that is written otherwise says none
+pub otherwise_none : (line bytes : List ℕ) (ms : ℕ) → slice_index line 0 ≡ 76 → ¬ (line_text (AnswerLine ms bytes) ≡ line) → IsOnlyRow line ms bytes
+    → (reported : LineContent) → InRange reported → ¬ (line ≡ content_text reported)
+otherwise_none line bytes ms letter other row (AnswersContent m others) (below, all, some) e =
+    let same = row m (bytes_of_answers others) below (answers_are_bytes others all) e in
+    other (ap (λ n. line_text (AnswerLine n bytes)) same.0 ∙ ap (λ b. line_text (AnswerLine m b)) same.1 ∙ sym e)
+otherwise_none line bytes ms letter other row (ScanContent m steps outputs) ok e = omega (arith, letter, ap (λ t. slice_index t 0) e)
+otherwise_none line bytes ms letter other row (RefusalContent number place) ok e = omega (arith, letter, ap (λ t. slice_index t 0) e)

@@ -1,7 +1,0 @@
-use Rattle.std.proofs.Common.{◌≡◌, ◌++◌}
-use Rattle.wc_view_decode.specs.Forms.{bit_columns}
-use Rattle.wc_view_decode.proofs.row_forms.put_bit_columns.Given as goal
-
--- the bits so far are written
-abbrev pub invariant-loop-index : goal.invariant-loop-index
-invariant-loop-index l = l.text.items ≡ l.fn.text.items ++ bit_columns l.fn.bits l.index

@@ -1,0 +1,110 @@
+-- What is written for a line of a report: for people, or a row of a table. (The forms are the profile's own.)
+use Rattle.std.specs.Prelude.{ℕ, zero, suc, ◌/◌, ◌%◌, ◌^◌, ◌==◌, Bool, ℤ, List, [], ◌∷◌, ◌++◌, codes, decimal, if◌then◌else◌}
+use Rattle.std.specs.Fmt.{signed_decimal}
+use Rattle.wc_view_decode.specs.AnswerTexts.{answer_text}
+use Rattle.wc_view_decode.specs.Lines.{LineContent, AnswersContent, RefusalContent, ScanContent}
+use Rattle.wc_view_decode.specs.declared.answer.Answer.{Answer}
+use Rattle.wc_view_decode.specs.declared.format.DecodeFormat.{DecodeFormat}
+use Rattle.wc_view_decode.specs.declared.format.DecodeFormat.TheVariants.{Text, Table}
+use Rattle.wc_model.specs.Say.Job.{refused_text}
+use Rattle.wc_model.specs.declared.image.Outputs.{Outputs}
+
+-- whether a bit is set
+abbrev pub is_bit_on : ℕ → ℕ → Bool
+is_bit_on bits i = (bits / 2 ^ i) % 2 == 1
+
+-- the name of a bit that is set
+abbrev pub bit_name : ℕ → ℕ → List ℕ
+bit_name bits i = if is_bit_on bits i then codes " %QX0." ++ decimal i else []
+
+-- the names of those that are set among the first n
+abbrev pub names_of_bits : ℕ → ℕ → List ℕ
+names_of_bits bits zero = []
+names_of_bits bits (suc i) = names_of_bits bits i ++ bit_name bits i
+
+-- likewise for all sixteen, or that there are none
+unfoldable pub bits_text : ℕ → List ℕ
+bits_text bits = if bits == 0 then codes " none" else names_of_bits bits 16
+
+-- the column of a bit
+abbrev pub bit_column : ℕ → ℕ → List ℕ
+bit_column bits i = if is_bit_on bits i then codes ",1" else codes ",0"
+
+-- the columns of the first n
+abbrev pub bit_columns : ℕ → ℕ → List ℕ
+bit_columns bits zero = []
+bit_columns bits (suc i) = bit_columns bits i ++ bit_column bits i
+
+-- those of all sixteen
+unfoldable pub bits_row : ℕ → List ℕ
+bits_row bits = bit_columns bits 16
+
+-- words, each after its name
+unfoldable pub named_words : List (List ℕ) → List ℤ → List ℕ
+named_words [] words = []
+named_words (name ∷ names) [] = []
+named_words (name ∷ names) (z ∷ words) = name ++ signed_decimal z ++ named_words names words
+
+-- what precedes each word
+abbrev pub word_names : DecodeFormat → List (List ℕ)
+word_names Text = codes "  %QD0 " ∷ codes "  %QD1 " ∷ codes "  %QD2 " ∷ codes "  %QD3 " ∷ []
+word_names Table = codes "," ∷ codes "," ∷ codes "," ∷ codes "," ∷ []
+
+-- a scan for people, up to its words
+abbrev pub scan_prefix : ℕ → ℕ → Outputs → List ℕ
+scan_prefix ms steps outputs =
+    codes "S " ++ decimal ms ++ codes "  " ++ decimal steps ++ codes " steps  on:" ++ bits_text outputs.bits
+
+-- the line of a scan
+abbrev pub scan_format : DecodeFormat → ℕ → ℕ → Outputs → List ℕ
+scan_format Text ms steps outputs =
+    scan_prefix ms steps outputs ++ named_words (word_names Text) outputs.words ++ (10 ∷ [])
+scan_format Table ms steps outputs =
+    decimal ms ++ codes ",S," ++ decimal steps ++ bits_row outputs.bits ++ named_words (word_names Table) outputs.words
+    ++ codes ",\n"
+
+-- the line of an answer
+abbrev pub answer_format : DecodeFormat → ℕ → Answer → List ℕ
+answer_format Text ms answer = codes "L " ++ decimal ms ++ codes "  " ++ answer_text answer ++ (10 ∷ [])
+answer_format Table ms answer = decimal ms ++ codes ",L,,,,,,,,,,,,,,,,,,,,,," ++ (34 ∷ []) ++ answer_text answer ++ (34 ∷ 10 ∷ [])
+
+-- a line for each answer to a row
+abbrev pub answer_formats : DecodeFormat → ℕ → List Answer → List ℕ
+answer_formats format ms [] = []
+answer_formats format ms (answer ∷ answers) = answer_format format ms answer ++ answer_formats format ms answers
+
+-- the line of a refusal
+abbrev pub refusal_format : DecodeFormat → ℕ → ℕ → List ℕ
+refusal_format Text number place = refused_text number place
+refusal_format Table number place = codes ",refused,,,,,,,,,,,,,,,,,,,,,," ++ decimal number ++ codes " " ++ decimal place ++ (10 ∷ [])
+
+-- what is written for a line of a report
+abbrev pub decoded : DecodeFormat → LineContent → List ℕ
+decoded format (ScanContent ms steps outputs) = scan_format format ms steps outputs
+decoded format (AnswersContent ms answers) = answer_formats format ms answers
+decoded format (RefusalContent number place) = refusal_format format number place
+
+-- the line before all others
+abbrev pub heading : DecodeFormat → List ℕ
+heading Text = []
+heading Table = codes "ms,kind,steps,q0,q1,q2,q3,q4,q5,q6,q7,q8,q9,q10,q11,q12,q13,q14,q15,d0,d1,d2,d3,answer" ++ (10 ∷ [])
+
+-- what precedes a line that is not of a report
+abbrev pub opening : DecodeFormat → List ℕ
+opening Text = codes "? "
+opening Table = codes ",?,,,,,,,,,,,,,,,,,,,,,," ++ (34 ∷ [])
+
+-- such a line itself; in a table each quote is written twice
+abbrev pub passed_on : DecodeFormat → List ℕ → List ℕ
+passed_on Text line = line
+passed_on Table [] = []
+passed_on Table (byte ∷ bytes) = (if byte == 34 then 34 ∷ 34 ∷ [] else byte ∷ []) ++ passed_on Table bytes
+
+-- and what follows it
+abbrev pub closing : DecodeFormat → List ℕ
+closing Text = 10 ∷ []
+closing Table = 34 ∷ 10 ∷ []
+
+-- what is written for a line that is not of a report
+abbrev pub unknown : DecodeFormat → List ℕ → List ℕ
+unknown format line = opening format ++ passed_on format line ++ closing format

@@ -1,0 +1,126 @@
+ghost use Rattle.std.specs.Prelude.{◌≡◌, ◌++◌, IsOkUnless, OnOk};
+ghost use Rattle.wc_view_decode.specs.Entries.{entry_content};
+ghost use Rattle.wc_view_decode.specs.Formats.{answer_format, answer_formats, decoded, refusal_format, scan_format, scan_prefix};
+
+use crate::answer::Answer;
+use crate::answer_texts::put_answer;
+use crate::entry::{RefusalRow, ReportEntry, ScanRow};
+use crate::format::DecodeFormat;
+use crate::row_formats::{put_bit_columns, put_bits, put_word_columns, put_words};
+use wc_model::{Fault, put_bytes};
+use wc_report::put_number;
+
+/// Appends the moment, the steps and the bits of a scan to a text.
+fn put_scan_prefix(text: &mut Vec<u8>, row: &ScanRow) -> Result<(), Fault>
+    ensures line { OnOk result (text.new.items
+        ≡ text.old.items ++ scan_prefix row.now.ms row.now.steps.0 row.now.outputs) }
+    ensures memory { IsOkUnless result Fault.Memory }
+{
+    put_bytes(text, b"S ")?;
+    put_number(text, row.ms)?;
+    put_bytes(text, b"  ")?;
+    put_number(text, u64::from(row.steps.0))?;
+    put_bytes(text, b" steps  on:")?;
+    put_bits(text, row.outputs.bits)
+}
+
+/// Appends an answer to a text.
+fn put_one_answer(
+    text: &mut Vec<u8>,
+    format: DecodeFormat,
+    ms: u64,
+    answer: &Answer,
+) -> Result<(), Fault>
+    ensures answer { OnOk result (text.new.items
+        ≡ text.old.items ++ answer_format format ms answer.now) }
+    ensures memory { IsOkUnless result Fault.Memory }
+{
+    match format {
+        DecodeFormat::Text => {
+            put_bytes(text, b"L ")?;
+            put_number(text, ms)?;
+            put_bytes(text, b"  ")?;
+            put_answer(text, answer)?;
+            put_bytes(text, b"\n")
+        }
+        DecodeFormat::Table => {
+            put_number(text, ms)?;
+            put_bytes(text, b",L,,,,,,,,,,,,,,,,,,,,,,\"")?;
+            put_answer(text, answer)?;
+            put_bytes(text, b"\"\n")
+        }
+    }
+}
+
+/// Appends answers to a text, each on a line of its own.
+fn put_answers(
+    text: &mut Vec<u8>,
+    format: DecodeFormat,
+    ms: u64,
+    answers: &[Answer],
+) -> Result<(), Fault>
+    ensures answers { OnOk result (text.new.items
+        ≡ text.old.items ++ answer_formats format ms answers.now) }
+    ensures memory { IsOkUnless result Fault.Memory }
+{
+    for answer in answers {
+        put_one_answer(text, format, ms, answer)?;
+    }
+    Ok(())
+}
+
+/// Appends a refusal to a text.
+fn put_refusal(text: &mut Vec<u8>, format: DecodeFormat, row: &RefusalRow) -> Result<(), Fault>
+    ensures refusal { OnOk result (text.new.items
+        ≡ text.old.items ++ refusal_format format row.now.number row.now.place) }
+    ensures memory { IsOkUnless result Fault.Memory }
+{
+    match format {
+        DecodeFormat::Text => put_bytes(text, b"refused ")?,
+        DecodeFormat::Table => put_bytes(text, b",refused,,,,,,,,,,,,,,,,,,,,,,")?,
+    }
+    put_number(text, u64::from(row.number))?;
+    put_bytes(text, b" ")?;
+    put_number(text, u64::from(row.place))?;
+    put_bytes(text, b"\n")
+}
+
+/// Appends a scan to a text.
+fn put_scan(text: &mut Vec<u8>, format: DecodeFormat, row: &ScanRow) -> Result<(), Fault>
+    ensures scan { OnOk result (text.new.items
+        ≡ text.old.items ++ scan_format format row.now.ms row.now.steps.0 row.now.outputs) }
+    ensures memory { IsOkUnless result Fault.Memory }
+{
+    match format {
+        DecodeFormat::Text => {
+            put_scan_prefix(text, row)?;
+            put_words(text, &row.outputs.words)?;
+            put_bytes(text, b"\n")
+        }
+        DecodeFormat::Table => {
+            put_number(text, row.ms)?;
+            put_bytes(text, b",S,")?;
+            put_number(text, u64::from(row.steps.0))?;
+            put_bit_columns(text, row.outputs.bits)?;
+            put_word_columns(text, &row.outputs.words)?;
+            put_bytes(text, b",\n")
+        }
+    }
+}
+
+/// Appends what a line says to a text. `Memory` is the only fault.
+pub(crate) fn put_entry(
+    text: &mut Vec<u8>,
+    format: DecodeFormat,
+    entry: &ReportEntry,
+) -> Result<(), Fault>
+    ensures entry { OnOk result (text.new.items
+        ≡ text.old.items ++ decoded format (entry_content entry.now)) }
+    ensures memory { IsOkUnless result Fault.Memory }
+{
+    match entry {
+        ReportEntry::Scan(row) => put_scan(text, format, row),
+        ReportEntry::Answers(row) => put_answers(text, format, row.ms, &row.answers),
+        ReportEntry::Refusal(row) => put_refusal(text, format, row),
+    }
+}
