@@ -19,6 +19,7 @@ mod results;
 mod rs;
 mod sr;
 mod standard;
+mod stored_block;
 mod tof;
 mod ton;
 mod tp;

@@ -2,12 +2,13 @@ ghost use Rattle.std.specs.Prelude.{◌≡◌, ◌≤◌, Some, IsSome, length};
 ghost use Rattle.wc_text_flat.specs.NumberBlocks.{block_called};
 ghost use Rattle.wc_execution.specs.Lines.{AreBefore};
 
-use crate::{ctu, r_trig, rs, sr, tof, ton, tp};
+use crate::stored_block::call;
+use wc_blocks::{Ctu, RTrig, Rs, Sr, Tof, Ton, Tp};
 use wc_model::StandardBlock;
 use wc_store::Store;
 
 /// Calls the standard block whose places begin there, at a moment in milliseconds.
-pub(crate) fn call<S: Store>(store: &mut S, block: StandardBlock, at: usize, now: u64)
+pub(crate) fn call_standard<S: Store>(store: &mut S, block: StandardBlock, at: usize, now: u64)
     requires capacity { length (S.slot_kinds store.old) ≤ 65536 }
     requires there { IsSome
         (block_called block now (S.slot_kinds store.old) (S.numbers store.old) at) }
@@ -19,12 +20,12 @@ pub(crate) fn call<S: Store>(store: &mut S, block: StandardBlock, at: usize, now
     ensures moments { AreBefore now (S.slot_kinds store.new) (S.numbers store.new) }
 {
     match block {
-        StandardBlock::RTrig => r_trig::call(store, at),
-        StandardBlock::Sr => sr::call(store, at),
-        StandardBlock::Rs => rs::call(store, at),
-        StandardBlock::Ctu => ctu::call(store, at),
-        StandardBlock::Ton => ton::call(store, at, now),
-        StandardBlock::Tof => tof::call(store, at, now),
-        StandardBlock::Tp => tp::call(store, at, now),
+        StandardBlock::RTrig => call::<RTrig, S>(store, at, now),
+        StandardBlock::Sr => call::<Sr, S>(store, at, now),
+        StandardBlock::Rs => call::<Rs, S>(store, at, now),
+        StandardBlock::Ctu => call::<Ctu, S>(store, at, now),
+        StandardBlock::Ton => call::<Ton, S>(store, at, now),
+        StandardBlock::Tof => call::<Tof, S>(store, at, now),
+        StandardBlock::Tp => call::<Tp, S>(store, at, now),
     }
 }

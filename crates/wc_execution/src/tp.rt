@@ -1,70 +1,50 @@
-ghost use Rattle.std.specs.Prelude.{◌≡◌, ◌+◌, ◌≤◌, ℕ, Some, drop, length};
+ghost use Rattle.std.specs.Prelude.{◌≤◌};
 ghost use Rattle.wc_blocks.specs.Views.{tp_view};
-ghost use Rattle.wc_text_flat.specs.NumberBlocks.{block_called, field_numbers, with_numbers};
-ghost use Rattle.wc_execution.specs.Lines.{AreBefore, AreSlots, slots_of};
 ghost use Rattle.wc_model.specs.Language.BlockCalls.{tp_contents};
 ghost use Rattle.wc_model.specs.Language.Blocks.{tp_step};
 ghost use Rattle.wc_model.specs.declared.block.StandardBlock.TheVariants as blocks;
 
 use crate::fields::{moment_at, phase_at, time_at, truth_at};
+use crate::stored_block::StoredBlock;
 use crate::written::{set_moment, set_phase, set_time, set_truth};
 use wc_blocks::Tp;
 use wc_store::Store;
 
-/// The fields of a TP whose places begin there.
-#[inline(always)]
-fn fields_at<S: Store>(store: &S, at: usize) -> Tp
-    requires capacity { length (S.slot_kinds store.now) ≤ 65536 }
-    requires slots { AreSlots (slots_of blocks.Tp) (S.slot_kinds store.now) at }
-    ensures called { (now : ℕ)
-        → block_called blocks.Tp now (S.slot_kinds store.now) (S.numbers store.now) at
-        ≡ Some (with_numbers (S.numbers store.now) (at + 2)
-        (drop 2 (field_numbers (tp_contents (tp_step now (tp_view result)))))) }
-    ensures start { (now : ℕ) → AreBefore now (S.slot_kinds store.now) (S.numbers store.now)
-        → result.start ≤ now }
-{
-    Tp {
-        input: truth_at(store, at),
-        pt: time_at(store, at + 1),
-        q: truth_at(store, at + 2),
-        et: time_at(store, at + 3),
-        phase: phase_at(store, at + 4),
-        start: moment_at(store, at + 5),
+impl StoredBlock for Tp {
+    ghost block = { blocks.Tp };
+
+    ghost inputs = { 2 };
+
+    ghost contents = { λ block. tp_contents (tp_view block) };
+
+    ghost called = { λ now block. tp_contents (tp_step now (tp_view block)) };
+
+    ghost start = { λ block. block.start };
+
+    ghost is_in_range = { λ block. (block.start ≤ 1099511627775) × (block.phase ≤ 2) };
+
+    #[inline(always)]
+    fn fields_at<S: Store>(store: &S, at: usize) -> Tp {
+        Tp {
+            input: truth_at(store, at),
+            pt: time_at(store, at + 1),
+            q: truth_at(store, at + 2),
+            et: time_at(store, at + 3),
+            phase: phase_at(store, at + 4),
+            start: moment_at(store, at + 5),
+        }
     }
-}
 
-/// Writes the fields that a call may change: all but IN and PT.
-#[inline(always)]
-fn set_fields<S: Store>(store: &mut S, at: usize, block: Tp)
-    requires capacity { length (S.slot_kinds store.old) ≤ 65536 }
-    requires slots { AreSlots (slots_of blocks.Tp) (S.slot_kinds store.old) at }
-    requires range { block.start ≤ 1099511627775 }
-    requires phase { block.phase ≤ 2 }
-    ensures numbers { S.numbers store.new ≡ with_numbers (S.numbers store.old) (at + 2)
-        (drop 2 (field_numbers (tp_contents (tp_view block)))) }
-    ensures kinds { S.slot_kinds store.new ≡ S.slot_kinds store.old }
-    ensures moments { (now : ℕ) → block.start ≤ now
-        → AreBefore now (S.slot_kinds store.old) (S.numbers store.old)
-        → AreBefore now (S.slot_kinds store.new) (S.numbers store.new) }
-{
-    set_truth(store, at + 2, block.q);
-    set_time(store, at + 3, block.et);
-    set_phase(store, at + 4, block.phase);
-    set_moment(store, at + 5, block.start);
-}
+    #[inline(always)]
+    fn call_at(&mut self, now: u64) {
+        self.call(now);
+    }
 
-/// Calls the TP whose places begin there, at a moment.
-pub(crate) fn call<S: Store>(store: &mut S, at: usize, now: u64)
-    requires capacity { length (S.slot_kinds store.old) ≤ 65536 }
-    requires slots { AreSlots (slots_of blocks.Tp) (S.slot_kinds store.old) at }
-    requires moment { now ≤ 1099511627775 }
-    requires forward { AreBefore now (S.slot_kinds store.old) (S.numbers store.old) }
-    ensures called { block_called blocks.Tp now (S.slot_kinds store.old) (S.numbers store.old) at
-        ≡ Some (S.numbers store.new) }
-    ensures kinds { S.slot_kinds store.new ≡ S.slot_kinds store.old }
-    ensures moments { AreBefore now (S.slot_kinds store.new) (S.numbers store.new) }
-{
-    let mut block = fields_at(store, at);
-    block.call(now);
-    set_fields(store, at, block);
+    #[inline(always)]
+    fn set_fields<S: Store>(self, store: &mut S, at: usize) {
+        set_truth(store, at + 2, self.q);
+        set_time(store, at + 3, self.et);
+        set_phase(store, at + 4, self.phase);
+        set_moment(store, at + 5, self.start);
+    }
 }

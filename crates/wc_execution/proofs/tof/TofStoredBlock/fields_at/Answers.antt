@@ -2,7 +2,7 @@
 use Rattle.std.proofs.Common.{◌≡◌, ◌+◌, rules, Some, to_z, of_z, w32}
 use Rattle.wc_text_flat.specs.NumberBlocks.{number_from}
 use Rattle.wc_execution.proofs.BlockCalls.{tof_is}
-use Rattle.wc_execution.proofs.tof.fields_at.Goals as goal
+use Rattle.wc_execution.proofs.tof.TofStoredBlock.fields_at.Goals as goal
 use Rattle.wc_model.specs.declared.kind.SlotKind.TheVariants as slots
 
 pub returns-clause-called : goal.returns-clause-called

@@ -2,11 +2,11 @@
 use Rattle.std.proofs.Common.{◌≡◌, ◌+◌, rules, Some, to_z, of_z, w32}
 use Rattle.wc_text_flat.specs.NumberBlocks.{number_from}
 use Rattle.wc_execution.proofs.BlockCalls.{ctu_is}
-use Rattle.wc_execution.proofs.ctu.fields_at.Goals as goal
+use Rattle.wc_execution.proofs.ctu.CtuStoredBlock.fields_at.Goals as goal
 use Rattle.wc_model.specs.declared.kind.SlotKind.TheVariants as slots
 
-pub returns : goal.returns
-returns g c =
+pub returns-clause-called : goal.returns-clause-called
+returns-clause-called g c = λ now.
     let kinds = g.S.Store.slot_kinds c.args.store.now in
     let numbers = g.S.Store.numbers c.args.store.now in
     let pv : number_from slots.Dint kinds numbers (c.args.at + 2) 0 ≡ Some (to_z w32 (of_z w32 c.count_at.result)) = search rules in

@@ -1,5 +1,5 @@
 -- Each write keeps that no moment is ahead.
-use Rattle.wc_execution.proofs.ton.set_fields.Goals as goal
+use Rattle.wc_execution.proofs.ton.TonStoredBlock.set_fields.Goals as goal
 
 pub returns-clause-moments : goal.returns-clause-moments
 returns-clause-moments g c = λ now start before.

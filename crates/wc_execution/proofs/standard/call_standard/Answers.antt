@@ -2,7 +2,7 @@
 use Rattle.std.proofs.Common.{IsSome, subst}
 use Rattle.wc_text_flat.specs.NumberBlocks.{block_called}
 use Rattle.wc_execution.proofs.BlockSlots.{slots_there}
-use Rattle.wc_execution.proofs.standard.call.Goals as goal
+use Rattle.wc_execution.proofs.standard.call_standard.Goals as goal
 use Rattle.wc_model.specs.declared.block.StandardBlock.TheVariants as blocks
 
 pub call-requires-in-Ctu-clause-slots : goal.call-requires-in-Ctu-clause-slots
