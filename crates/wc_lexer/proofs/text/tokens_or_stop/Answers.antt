@@ -33,7 +33,7 @@ stepped c = elim c.match-first_chunk.branch [
   | in-Comment w ↦
       let here : w.in-Comment.count ≤ length c.split_at.result.1.now = subst (IsWithin (length c.split_at.result.1.now)) w.in-Comment.is c.first_chunk.ensures.within in
       let some = pass_is_filled c.args.text.now c.split_at.result.1.now c.loop-start.start w.in-Comment.count c.split_at.ensures.back c.loop-start-test.true (sym (ap said_sight w.in-Comment.is) ∙ c.first_chunk.ensures.represents) in
-      subst (IsStep c.split_at.result.1.now) (sym w.count-is) (some, here, w.line_feeds.ensures.counted ∙ ap (count_by is_line_feed) w.split_at-in-Comment.ensures.prefix)
+      subst (IsStep c.split_at.result.1.now) (sym w.count-is) (some, here, w.line_feeds.ensures.counted ∙ ap (count_by is_line_feed) w.split_at-in-Comment.ensures.front)
   | in-Lexeme+else-is_err w ↦
       let here : w.in-Lexeme.count ≤ length c.split_at.result.1.now = subst (IsWithin (length c.split_at.result.1.now)) w.in-Lexeme.is c.first_chunk.ensures.within in
       let seen = sym (ap said_sight w.in-Lexeme.is) ∙ c.first_chunk.ensures.represents in
@@ -59,7 +59,7 @@ loop-start-preserved c = record {
         let token : Token = record { shape = w.in-Lexeme.shape; text = w.split_at-in-Lexeme.result.0; start = c.loop-start.start; line = c.loop-start.line } in
         let taken = w.push.ensures.items ∙ ap (λ v. if v then items ++ (token ∷ []) else items) (w.is_err.ensures.negation ∙ ap not w.if-is_err.false) in
         let said : map token_view w.push.new.self.items ≡ map token_view items ++ (token_view token ∷ []) = ap (map token_view) taken ∙ map-append token_view items (token ∷ []) in
-        let more = going_with c.args.text.now c.split_at.result.1.now c.loop-start.start w.in-Lexeme.count (map token_view items) (token_view token) c.split_at.ensures.back c.loop-start-test.true (sym (ap said_sight w.in-Lexeme.is) ∙ c.first_chunk.ensures.represents) w.split_at-in-Lexeme.ensures.prefix refl c.loop-start.invariant.counted c.loop-start.invariant.going in
+        let more = going_with c.args.text.now c.split_at.result.1.now c.loop-start.start w.in-Lexeme.count (map token_view items) (token_view token) c.split_at.ensures.back c.loop-start-test.true (sym (ap said_sight w.in-Lexeme.is) ∙ c.first_chunk.ensures.represents) w.split_at-in-Lexeme.ensures.front refl c.loop-start.invariant.counted c.loop-start.invariant.going in
         subst₂ (λ k ts. Going c.args.text.now (c.loop-start.start + k) (map token_view ts.items)) (sym (ap (λ s. s.0) w.count-is)) (sym w.tokens-is) (subst (Going c.args.text.now (c.loop-start.start + w.in-Lexeme.count)) (sym said) more)
   ];
 }
