@@ -76,7 +76,7 @@ fn with_warnings(session: Session<'_>, status: u8, file: &ReadFile<'_>, deny: bo
 fn report_waiting(rt: &HostRuntime) {
     if rt.stdin().is_terminal() {
         let _reported = rt.eprintln(
-            "reading a job from standard input, up to its end (Ctrl-D); `help` says more",
+            "reading a job from standard input until its end (Ctrl-D); `help` prints the usage",
         );
     }
 }
@@ -221,12 +221,22 @@ pub(crate) fn watch_words(
     );
     match answer {
         Ok(ending) => finish_run(session, ending, &opened, row),
-        Err(unknown) => refuse_name(session, watched.names, unknown, row),
+        Err(unknown) => refuse_name(session, watched.names, unknown, &opened.sources(), row),
     }
 }
 
-/// Tells that a name is unknown which is to be watched: the exit status.
-fn refuse_name(session: Session<'_>, list: &str, unknown: UnknownName, row: &RefusedRow) -> u8 {
+/// Reports that a name to be watched is unknown in these files: the exit status.
+fn refuse_name(
+    session: Session<'_>,
+    list: &str,
+    unknown: UnknownName,
+    files: &Sources<'_>,
+    row: &RefusedRow,
+) -> u8 {
+    let program: &[u8] = match files.text(Input::Program) {
+        Some(section) => section.text,
+        None => b"",
+    };
     let ending = Ending::Refused {
         input: Input::Names,
         number: 401,
@@ -236,6 +246,7 @@ fn refuse_name(session: Session<'_>, list: &str, unknown: UnknownName, row: &Ref
         option: "--watch",
         list,
         unknown,
+        program,
     };
     finish(session, ending, None, &names, row)
 }

@@ -50,7 +50,7 @@ fn end_without_words(rt: &HostRuntime, error: &io::Error) -> u8 {
     if error.kind() == io::ErrorKind::OutOfMemory {
         return without_memory(rt);
     }
-    let _reported = rt.eprintln("error: the words of the command line are not UTF-8");
+    let _reported = rt.eprintln("error: the arguments are not valid UTF-8");
     WRONG_WORDS
 }
 
@@ -76,7 +76,7 @@ fn report_call(
 }
 
 /// Says what may be intended by an unknown first argument: which word takes a program, or how a job is read.
-fn report_offending(rt: &HostRuntime, words: &[String]) -> io::Result<()> {
+fn suggest_command(rt: &HostRuntime, words: &[String]) -> io::Result<()> {
     let job = "help: a job is read from standard input: ";
     match words.get(1) {
         Some(path) if File::open(rt, path).is_ok() => {
@@ -94,7 +94,7 @@ fn report_offending(rt: &HostRuntime, words: &[String]) -> io::Result<()> {
         }
         _ => {
             rt.eprintln(
-                "help: the words are check, run, trace, show, line, cut, decode, explain and help",
+                "help: the commands are check, run, trace, show, line, cut, decode, explain and help",
             )?;
             report_call(rt, job, words, " < ", "job.txt")
         }
@@ -103,7 +103,7 @@ fn report_offending(rt: &HostRuntime, words: &[String]) -> io::Result<()> {
 
 /// Says which arguments print what a word takes.
 fn report_taken(rt: &HostRuntime, words: &[String]) -> io::Result<()> {
-    let taken = "help: what may be given is printed by: ";
+    let taken = "help: the options are printed by: ";
     match words.get(1) {
         Some(word) if !word.as_str().starts_with("-") => {
             report_call(rt, taken, words, " help ", word)
@@ -115,7 +115,7 @@ fn report_taken(rt: &HostRuntime, words: &[String]) -> io::Result<()> {
 /// Says what helps if arguments are wrong.
 fn report_help(rt: &HostRuntime, kind: ErrorKind, words: &[String]) -> io::Result<()> {
     match kind {
-        ErrorKind::InvalidSubcommand => report_offending(rt, words),
+        ErrorKind::InvalidSubcommand => suggest_command(rt, words),
         ErrorKind::UnknownArgument => report_taken(rt, words),
         _ => Ok(()),
     }
@@ -146,7 +146,7 @@ fn show(rt: &HostRuntime, error: &Error, words: &[String]) -> u8 {
 
 /// Says that there is no page of that number.
 fn report_no_page(rt: &HostRuntime, number: &str) -> io::Result<()> {
-    rt.eprint("error: there is no refusal ")?;
+    rt.eprint("error: there is no refusal or warning ")?;
     let number = shown(rt.alloc(), number.as_bytes())?;
     rt.stderr().write_all(number.as_bytes())?;
     rt.eprintln("")

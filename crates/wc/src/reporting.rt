@@ -48,6 +48,7 @@ pub(crate) enum Sources<'a> {
         option: &'a str,
         list: &'a str,
         unknown: UnknownName,
+        program: &'a [u8],
     },
 }
 
@@ -95,7 +96,7 @@ impl<'a> Sources<'a> {
     }
 
     /// The text of an input, if it was kept, and the number of lines above it in what is named.
-    fn text(&self, input: Input) -> Option<JobSection<'a>> {
+    pub(crate) fn text(&self, input: Input) -> Option<JobSection<'a>> {
         match self {
             Sources::Job { bytes } => section_of((*bytes)?, part_of(input)),
             _ => Some(JobSection {
@@ -139,11 +140,17 @@ fn evidence_of<'a>(
     let Some(section) = sources.text(input) else {
         return (Evidence::Nothing, 0);
     };
-    if let Sources::Names { unknown, .. } = sources {
+    if let Sources::Names {
+        unknown,
+        program,
+        ..
+    } = sources
+    {
         let names = Evidence::Names {
             list: section.text,
             start: unknown.start,
             length: unknown.length,
+            program,
         };
         return (names, 0);
     }
@@ -232,6 +239,14 @@ pub(crate) fn report_warnings(session: Session<'_>, file: &ReadFile<'_>) -> io::
     }
 }
 
+/// The limit of bytes and of reads of an input: a report that is decoded has another than a log.
+fn limit_of(sources: &Sources<'_>) -> &'static str {
+    match sources {
+        Sources::Job { .. } => "2147483648",
+        _ => "134217728",
+    }
+}
+
 /// Says which input could not be read, and why.
 fn report_read_fault(
     rt: &HostRuntime,
@@ -245,7 +260,10 @@ fn report_read_fault(
     let name = str::from_utf8(name.as_bytes()).unwrap_or("the input");
     match cause {
         Some(error) => eprintln!(rt; "error: {name} can't be read: {error}"),
-        None => eprintln!(rt; "error: {name} is longer than 134217728 bytes and reads"),
+        None => {
+            let limit = limit_of(sources);
+            eprintln!(rt; "error: {name} exceeds the limit of {limit} bytes and reads")
+        }
     }
 }
 
@@ -253,8 +271,8 @@ fn report_read_fault(
 pub(crate) fn report_write_fault(rt: &HostRuntime, cause: Option<io::Error>) -> io::Result<()> {
     rt.eprintln("device fault")?;
     match cause {
-        Some(error) => eprintln!(rt; "error: standard output can't be written: {error}"),
-        None => rt.eprintln("error: standard output took nothing"),
+        Some(error) => eprintln!(rt; "error: cannot write to standard output: {error}"),
+        None => rt.eprintln("error: cannot write to standard output"),
     }
 }
 

@@ -150,22 +150,22 @@ const NEXT: OptionRow<'static> = OptionRow {
     kind: OptionKind::Value,
     name: "next",
     value: "FILE",
-    help: "The next program, which a row of kind P takes (Instruction List)",
+    help: "The next program, to which a row of kind P changes (Instruction List)",
 };
 
 /// The option that chooses the format of a refusal's message.
 pub(crate) const MESSAGE: OptionRow<'static> = OptionRow {
     kind: OptionKind::Value,
     name: "message",
-    value: "FORM",
-    help: "Tell a refusal in this form: long (else taken), short or json",
+    value: "FORMAT",
+    help: "The format of messages: long (the default), short or json",
 };
 
 /// The words.
 pub(crate) const WORDS: [WordRow<'static>; 8] = [
     WordRow {
         name: "check",
-        about: "Load a program and print the greatest number of steps of each unit",
+        about: "Check a program, and print the greatest number of steps of each unit",
         options: &[
             OptionRow {
                 kind: OptionKind::Place,
@@ -177,13 +177,13 @@ pub(crate) const WORDS: [WordRow<'static>; 8] = [
                 kind: OptionKind::Value,
                 name: "next",
                 value: "FILE",
-                help: "The next program: print its numbers of steps, and what a change to it keeps and loses",
+                help: "The next program: print its steps, and which values a change to it keeps",
             },
             OptionRow {
                 kind: OptionKind::Flag,
                 name: "path",
                 value: "",
-                help: "Print the lines of a longest path after each unit too",
+                help: "Also print the lines of a longest path of each unit",
             },
             OptionRow {
                 kind: OptionKind::Flag,
@@ -206,13 +206,13 @@ pub(crate) const WORDS: [WordRow<'static>; 8] = [
                 kind: OptionKind::Scans,
                 name: "last",
                 value: "N",
-                help: "Print the last N scans alone, 1 to 1000, after the answers of the line",
+                help: "Print only the last N scans (1 to 1000), after the answers of the line",
             },
             OptionRow {
                 kind: OptionKind::Value,
                 name: "watch",
                 value: "NAME,..",
-                help: "Print the values of these variables after each scan, as filling,t.ET",
+                help: "Print the values of these variables after each scan, such as filling,t.ET",
             },
             MESSAGE,
         ],
@@ -229,25 +229,25 @@ pub(crate) const WORDS: [WordRow<'static>; 8] = [
                 kind: OptionKind::WideNumber,
                 name: "at",
                 value: "MS",
-                help: "Show the scans at this moment",
+                help: "Show only the scans at this time in ms (the --at of cut is a row)",
             },
             OptionRow {
                 kind: OptionKind::WideNumber,
                 name: "scan",
                 value: "N",
-                help: "Show the scan of this number, from 1",
+                help: "Show only the scan of this number, counted from 1",
             },
             OptionRow {
                 kind: OptionKind::WideNumber,
                 name: "from",
                 value: "MS",
-                help: "Show no scan before this moment",
+                help: "Show no scan before this time in ms",
             },
             OptionRow {
                 kind: OptionKind::WideNumber,
                 name: "to",
                 value: "MS",
-                help: "Show no scan after this moment",
+                help: "Show no scan after this time in ms",
             },
             MESSAGE,
         ],
@@ -261,13 +261,13 @@ pub(crate) const WORDS: [WordRow<'static>; 8] = [
                 kind: OptionKind::Value,
                 name: "program",
                 value: "FILE",
-                help: "The program text (Instruction List); where none is given the log is run with none",
+                help: "The program text (Instruction List); without it the log runs with no program",
             },
             OptionRow {
                 kind: OptionKind::Value,
                 name: "next",
                 value: "FILE",
-                help: "The next program, which a row of kind P puts in place of that of --program",
+                help: "The next program, to which a row of kind P changes (Instruction List)",
             },
             LOG,
             MESSAGE,
@@ -280,7 +280,7 @@ pub(crate) const WORDS: [WordRow<'static>; 8] = [
     },
     WordRow {
         name: "cut",
-        about: "Write the log that goes on after a row: the prelude of the rows up to it, and the others",
+        about: "Write the rest of a log, with a prelude that restores the state at the cut",
         options: &[
             PLATE,
             LOG,
@@ -288,14 +288,14 @@ pub(crate) const WORDS: [WordRow<'static>; 8] = [
                 kind: OptionKind::WideNumber,
                 name: "at",
                 value: "ROW",
-                help: "Cut after the row of this number, as in a refusal; else after the last row",
+                help: "Cut after this row, by default the last (the --at of trace is a time)",
             },
             MESSAGE,
         ],
     },
     WordRow {
         name: "decode",
-        about: "Write a report, as a run prints it, from standard input for people",
+        about: "Read the report of a run from standard input, and write it for people",
         options: &[OptionRow {
             kind: OptionKind::Flag,
             name: "csv",
@@ -305,12 +305,12 @@ pub(crate) const WORDS: [WordRow<'static>; 8] = [
     },
     WordRow {
         name: "explain",
-        about: "Say what a refusal or a warning means, where it is met, and how to mend it",
+        about: "Explain a refusal or a warning: what it means, an example, and what to write",
         options: &[OptionRow {
             kind: OptionKind::Place,
             name: "number",
             value: "NUMBER",
-            help: "The number of a refusal, as 403, or of a warning, as W3",
+            help: "The number of a refusal, such as 403, or of a warning, such as W3",
         }],
     },
 ];

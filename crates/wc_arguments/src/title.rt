@@ -2,7 +2,7 @@
 macro_rules! about {
     ($called:literal) => {
         concat!(
-            "A legal weighing indicator and, beside it, the customer's logic in Instruction List.\n\n  ",
+            "A legal weighing indicator, and the customer's logic in Instruction List.\n\n  ",
             $called,
             " check --path program.il\n  ",
             $called,
@@ -32,14 +32,14 @@ macro_rules! about {
             $called,
             " < job.txt
 
-With no words it reads a job from standard input: a line @plate and the plate, a line
-@program and the program, where there is one a line @next and the next program, a line
-@log and the log. A run prints for each scan
-`S <ms> <steps> <bits> <%QD0> <%QD1> <%QD2> <%QD3>`, and for each row of line bytes that
-was answered `L <ms> <hex>`; a refusal is the last line, `refused <number> <place>`, and
-standard error says why: with --message short on one line, with --message json as an object.
+Without arguments it reads a job from standard input: a line @plate and the plate, a line
+@program and the program, optionally a line @next and the next program, and a line @log
+and the log. A run prints `S <ms> <steps> <bits> <%QD0> <%QD1> <%QD2> <%QD3>` for each
+scan, and `L <ms> <hex>` for each row of line bytes that was answered. A refusal is the
+last line, `refused <number> <place>`; standard error says why, with --message short on
+one line, with --message json as a JSON object.
 
-Exit status: 0 done, 1 refused, 2 wrong words, 3 a device failed, 4 no memory"
+Exit status: 0 success, 1 refused, 2 usage error, 3 a device failed, 4 out of memory"
         )
     };
 }

@@ -86,10 +86,10 @@ pub struct AskedCommand<'a> {
 }
 
 /// What is said of an unknown format.
-const NO_FORMAT: &str = "the form after '--message' is none of long, short and json";
+const NO_FORMAT: &str = "expected long, short or json after '--message'";
 
 /// What is said if a next program is given alone.
-const NO_PROGRAM: &str = "'--next' is given, and no '--program' whose place it could take";
+const NO_PROGRAM: &str = "'--next' is given without '--program'";
 
 /// The whole command line.
 fn command<'a>(alloc: Global, title: Title) -> Result<Command<'a>, AllocError>

@@ -4,7 +4,7 @@ use Rattle.std.proofs.lemmas.Bool.{le-leb, lt-leb}
 use Rattle.std.specs.Prelude.{Err, Ok, OnOk, Option, Result, Some, None, is_some, if◌then◌else◌}
 use Rattle.wc_cut.proofs.Plans.{written_after, written_at, written_before}
 use Rattle.wc_cut.specs.Cuts.{end_written, opening_text, row_written}
-use Rattle.wc_cut.specs.TeeReader.{HasSeenBy, IsBefore, kept_rows}
+use Rattle.wc_cut.specs.KeptRows.{HasSeenBy, IsBefore, kept_rows}
 use Rattle.wc_cut.specs.RowTexts.{heading_text, lines_of, row_text}
 use Rattle.wc_cut.specs.declared.cutter.Cutter.{Cutter}
 use Rattle.wc_laws_instrument.specs.Preludes.{past_after, prelude_of, scale_state}

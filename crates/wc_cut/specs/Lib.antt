@@ -1,4 +1,4 @@
 pub mod RowTexts
 pub mod Cuts
-pub mod TeeReader
+pub mod KeptRows
 pub mod Replays

@@ -1,6 +1,6 @@
 ghost use Rattle.std.specs.Prelude.{◌≡◌, ◌++◌, IsOkUnless, OnOk, Option};
 ghost use Rattle.wc_cut.specs.Cuts.{cut_plan};
-ghost use Rattle.wc_cut.specs.TeeReader.{IsNew, kept_rows};
+ghost use Rattle.wc_cut.specs.KeptRows.{IsNew, kept_rows};
 ghost use Rattle.wc_cut.specs.RowTexts.{heading_text, lines_of};
 
 use crate::rows::{put_prelude, put_row};
@@ -56,7 +56,7 @@ impl Cutter {
 
 impl<W: ByteOut> Observer<SlotStore, W> for Cutter {
     ghost use Rattle.wc_cut.specs.Cuts.{cut_plan};
-    ghost use Rattle.wc_cut.specs.TeeReader.{HasSeen, IsNew};
+    ghost use Rattle.wc_cut.specs.KeptRows.{HasSeen, IsNew};
 
     ghost plan = { λ cutter. cut_plan cutter.count };
 

@@ -21,7 +21,7 @@ plate_line number plate = if is_from 503 508 number then page_line (codes "plate
 -- the line that says how the smallest input is answered
 abbrev pub answer_line : ℕ → ℕ → List ℕ
 answer_line number place =
-    shown_text (codes "the answer to it: refused ") ++ number_text number
+    shown_text (codes "its answer: refused ") ++ number_text number
     ++ shown_text (codes " ") ++ number_text place ++ (10 ∷ [])
 
 -- where it is raised, its place, and a smallest input
@@ -37,8 +37,8 @@ raised_at entry = record { pass = entry.pass.now; place = entry.place.now; input
 -- the lines of these
 abbrev pub raised_lines : RaisedAt → List ℕ
 raised_lines raised =
-    page_line (codes "met at") raised.pass ++ page_line (codes "place") raised.place
-    ++ page_line (codes "a smallest input, in which ` / ` ends a line") raised.input
+    page_line (codes "pass") raised.pass ++ page_line (codes "place") raised.place
+    ++ page_line (codes "example (` / ` is a line end)") raised.input
 
 -- the page of that refusal: each line has its words of one entry, which has that number
 pub record ReportsPage (number : ℕ) (bytes : List ℕ) : Type 0 where

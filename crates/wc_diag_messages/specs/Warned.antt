@@ -54,8 +54,8 @@ warning_headline number reported =
 -- the last line: what to write instead, and the page that says more
 abbrev pub warning_help : ℕ → List ℕ → List ℕ
 warning_help number advice =
-    shown_text (codes "help: ") ++ advice ++ shown_text (codes "; `explain ")
-    ++ warning_number number ++ (shown_text (codes "` says more") ++ (10 ∷ []))
+    shown_text (codes "help: ") ++ advice ++ shown_text (codes " (run `explain ")
+    ++ warning_number number ++ (shown_text (codes "` for more)") ++ (10 ∷ []))
 
 -- a warning for people
 pub record ExplainsWarning (file text : List ℕ) (warning : Warning) (bytes : List ℕ) : Type 0 where

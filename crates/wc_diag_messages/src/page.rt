@@ -36,13 +36,9 @@ fn write_raised(message: &mut Message, entry: &Entry) -> Result<(), AllocError>
     ensures { OnOk result (message.new.bytes.items
         ≡ message.old.bytes.items ++ raised_lines (raised_at entry.now)) }
 {
-    write_line(message, "met at", entry.pass)?;
+    write_line(message, "pass", entry.pass)?;
     write_line(message, "place", entry.place)?;
-    write_line(
-        message,
-        "a smallest input, in which ` / ` ends a line",
-        entry.input,
-    )
+    write_line(message, "example (` / ` is a line end)", entry.input)
 }
 
 /// Writes the plate of which the pages of its refusals speak.
@@ -61,7 +57,7 @@ fn write_answer(message: &mut Message, number: u16, place: u32) -> Result<(), Al
     ensures { OnOk result (message.new.bytes.items
         ≡ message.old.bytes.items ++ answer_line number place) }
 {
-    message.say("the answer to it: refused ")?;
+    message.say("its answer: refused ")?;
     message.count(number as usize)?;
     message.say(" ")?;
     message.count(place as usize)?;

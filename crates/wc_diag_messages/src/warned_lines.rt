@@ -57,9 +57,9 @@ fn write_place(
 /// Ends the line that says which page says more.
 fn end_help(message: &mut Message) -> Result<(), AllocError>
     ensures { OnOk result (message.new.bytes.items
-        ≡ message.old.bytes.items ++ (shown_text (codes "` says more") ++ 10 ∷ [])) }
+        ≡ message.old.bytes.items ++ (shown_text (codes "` for more)") ++ 10 ∷ [])) }
 {
-    message.say("` says more")?;
+    message.say("` for more)")?;
     message.end_line()
 }
 
@@ -70,7 +70,7 @@ fn write_help(message: &mut Message, number: u8, advice: &Message) -> Result<(),
 {
     message.say("help: ")?;
     message.append(advice)?;
-    message.say("; `explain ")?;
+    message.say(" (run `explain ")?;
     write_warning_number(message, number)?;
     end_help(message)
 }

@@ -18,13 +18,12 @@ fn write_page_line(message: &mut Message, name: &str, words: &str) -> Result<(),
 fn page_of(alloc: Global, entry: &WarningEntry) -> Result<Message, AllocError> {
     let mut message = Message::new(alloc);
     write_warning_number(&mut message, entry.number)?;
-    write_page_line(&mut message, "", entry.sentence)?;
+    message.say(": ")?;
+    message.say(entry.subject)?;
+    message.say(entry.sentence)?;
+    message.end_line()?;
     write_page_line(&mut message, "place", entry.place)?;
-    write_page_line(
-        &mut message,
-        "an input that has it, in which ` / ` ends a line",
-        entry.input,
-    )?;
+    write_page_line(&mut message, "example (` / ` is a line end)", entry.input)?;
     write_page_line(&mut message, "help", entry.hint)?;
     Ok(message)
 }

@@ -1,5 +1,1 @@
-mod Exchanges
-mod ListedTokens
 pub mod Placing
-pub mod StopSteps
-pub mod Stopped

@@ -11,7 +11,7 @@ use Rattle.wc_model.specs.declared.fault.Fault.{Fault}
 use Rattle.wc_model.specs.declared.fault.Fault.TheVariants.{Memory, Refused}
 use Rattle.wc_diag_places.specs.LaterTextSpans.{at_costs}
 use Rattle.wc_diag_places.specs.Spotting.{IsNamed}
-use Rattle.wc_diag_places.specs.ReadingTextSpans.{AreReadByPlaces, place_mark, place_marks}
+use Rattle.wc_diag_stops.specs.ReadingTextSpans.{AreReadByPlaces, place_mark, place_marks}
 
 -- if it breaks no rule on declarations and bodies, its costs may be asked
 pub faultless : (bytes : List ℕ) (tokens : List Token) (text : Text) → AreReadByPlaces bytes tokens text → declaration_fault text ≡ None → body_fault text ≡ None → IsFaultless text

@@ -8,7 +8,7 @@ use Rattle.wc_model.specs.Language.Views.{text_view}
 use Rattle.wc_model.specs.declared.fault.Fault.{Fault}
 use Rattle.wc_model.specs.declared.fault.Fault.TheVariants.{Memory, Refused}
 use Rattle.wc_diag_places.specs.Excerpts.{IsExcerptOf, length_of_excerpt, line_at, on_line, operator_of, start_of_excerpt, tokens_from}
-use Rattle.wc_diag_places.specs.ReadingTextSpans.{AreReadByPlaces}
+use Rattle.wc_diag_stops.specs.ReadingTextSpans.{AreReadByPlaces}
 use Rattle.wc_diag_places.specs.declared.spanned_source.SpannedSource.{SpannedSource}
 
 -- the refusal of that number, asked at that place

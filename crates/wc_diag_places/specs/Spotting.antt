@@ -6,7 +6,7 @@ use Rattle.wc_model.specs.declared.fault.Fault.{Fault}
 use Rattle.wc_model.specs.declared.fault.Fault.TheVariants.{Memory, Refused}
 use Rattle.wc_diag_places.specs.LaterTextSpans.{IsBodyFault, IsTokenFault}
 use Rattle.wc_diag_places.specs.Excerpts.{IsExcerptOf, length_of_excerpt, line_at, on_line, start_of_excerpt}
-use Rattle.wc_diag_places.specs.declared.span.RefusalSpan.{RefusalSpan}
+use Rattle.wc_diag_stops.specs.declared.span.RefusalSpan.{RefusalSpan}
 
 -- a fault of pass 3 or of the costs
 abbrev pub IsNamed : Text → Fault → Type 0

@@ -7,7 +7,7 @@ use std::alloc::Global;
 use wc_diag_texts::Case;
 use wc_lexer::{Shape, Token};
 use wc_model::{Direction, Fault, Kind};
-use wc_names::{DeclaredType, Names, Tables};
+use wc_names::{DeclaredType, Entity, Formal, Names, Tables};
 
 /// The offending tokens of a call, and in which way its rule is broken.
 #[derive(Clone, Copy)]
@@ -101,6 +101,37 @@ fn unfit_value(kind: Option<Kind>, formal: Kind, is_bit: bool) -> Option<Case> {
     }
 }
 
+/// In which way what a call's list passes there, or reads, is one that the rule of that number does not allow; nothing if it is.
+fn case_of_entity(
+    number: u16,
+    entity: Entity,
+    formal: Option<Formal>,
+    into: bool,
+    is_bit: bool,
+) -> Option<Case> {
+    match number {
+        402 => unfit_value(entity.kind, formal?.kind, into && is_bit),
+        404 if !into && !entity.writable => Some(Case::Plain),
+        405 if into && !entity.readable => Some(Case::Plain),
+        _ => None,
+    }
+}
+
+/// Likewise for a value, which may name nothing.
+fn case_of_value(
+    number: u16,
+    excerpt: &[Token<'_>],
+    entity: Option<Entity>,
+    formal: Option<Formal>,
+    into: bool,
+) -> Option<Case> {
+    match entity {
+        None if number == 401 => Some(case_of_operand(excerpt)),
+        None => None,
+        Some(entity) => case_of_entity(number, entity, formal, into, is_bit(excerpt)),
+    }
+}
+
 /// In which way a name of a call's list is not one that the block has in that direction.
 fn unknown_formal(
     tables: &Tables<'_>,
@@ -143,15 +174,8 @@ fn offending_in_item<'a>(
         });
     }
     let excerpt = tokens_at(tokens, item.value, item.count);
-    let case = match (number, entity_in(tables, unit, excerpt), formal) {
-        (401, None, _) => case_of_operand(excerpt),
-        (402, Some(entity), Some(formal)) => {
-            unfit_value(entity.kind, formal.kind, into && is_bit(excerpt))?
-        }
-        (404, Some(entity), _) if !into && !entity.writable => Case::Plain,
-        (405, Some(entity), _) if into && !entity.readable => Case::Plain,
-        _ => return None,
-    };
+    let entity = entity_in(tables, unit, excerpt);
+    let case = case_of_value(number, excerpt, entity, formal, into)?;
     Some(InCall {
         count: item.count,
         name: item.name,
@@ -194,9 +218,12 @@ fn first_line_of(tokens: &[Token<'_>], name: &[u8], end: usize) -> u32 {
     0
 }
 
-/// The first name of a list that is in it before, with the line of the one before it.
-fn named_twice(alloc: Global, tokens: &[Token<'_>], end: usize) -> Result<InCall, Fault> {
-    let mut names = Names::new(alloc);
+/// The first name of a list that is among these names or is in it before, with the line of the one before it.
+fn among_names<'a>(
+    names: &mut Names<'a>,
+    tokens: &[Token<'a>],
+    end: usize,
+) -> Result<InCall, Fault> {
     let mut item = item_after(tokens, 2);
     for _item in 0..end {
         let name = text_at(tokens, item.name);
@@ -209,6 +236,12 @@ fn named_twice(alloc: Global, tokens: &[Token<'_>], end: usize) -> Result<InCall
         item = item_after(tokens, item.end);
     }
     Ok(at_index(0, Case::Plain))
+}
+
+/// The first name of a list that is in it before.
+fn named_twice(alloc: Global, tokens: &[Token<'_>], end: usize) -> Result<InCall, Fault> {
+    let mut names = Names::new(alloc);
+    among_names(&mut names, tokens, end)
 }
 
 /// What a refusal of that number means in a call with a list.

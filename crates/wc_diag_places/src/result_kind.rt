@@ -1,19 +1,11 @@
 use crate::excerpts::{is_closing, line_at, opens, operand_of, tokens_at};
 use crate::kinds::entity_in;
+use wc_diag_stops::ResultKind;
 use wc_lexer::{Shape, Token};
 use wc_model::{Condition, Kind};
 use wc_names::Tables;
 use wc_text_kinds::kind_after_operator;
 use wc_text_lines::{Operating, Operation, operation_of};
-
-/// The kind of a result, and the line of the text that made it.
-#[derive(Clone, Copy)]
-pub struct ResultKind {
-    /// The kind.
-    pub kind: Kind,
-    /// The line, counted from 1.
-    pub line: u32,
-}
 
 /// What a line does to the result.
 #[derive(Clone, Copy)]
@@ -79,6 +71,40 @@ fn without_label<'a, 't>(line: &'t [Token<'a>]) -> (&'t [Token<'a>], bool) {
     }
 }
 
+/// Whether a line makes the result that is searched for.
+#[derive(Clone, Copy)]
+enum Made {
+    /// It makes one of this kind; none if that is not sure.
+    Here(Option<Kind>),
+    /// It does not.
+    Above,
+}
+
+/// Whether a line with an effect makes the result, below that number of parentheses that are closed below it.
+fn made_by(effect: Effect, closed: usize) -> Made {
+    match effect {
+        Effect::Opens(_, inside) if closed == 0 => Made::Here(inside),
+        Effect::Opens(Some(after), _) if closed == 1 => Made::Here(Some(after)),
+        Effect::Makes(kind) if closed == 0 => Made::Here(kind),
+        _ => Made::Above,
+    }
+}
+
+/// The number of parentheses that are closed below the next line above, if it is that number below this one.
+fn closed_above(effect: Effect, closed: usize) -> usize {
+    match effect {
+        Effect::Closes => closed.saturating_add(1),
+        Effect::Opens(..) => closed.saturating_sub(1),
+        _ => closed,
+    }
+}
+
+/// A result of a kind, if that is sure, with the line that made it.
+fn result_on(tokens: &[Token<'_>], kind: Option<Kind>) -> Option<ResultKind> {
+    let line = line_at(tokens.first());
+    Some(ResultKind { kind: kind?, line })
+}
+
 /// The kind of the result after some tokens of a unit's body, which end with a whole line, and the line that made it; nothing if
 /// it is not sure, as after a label. The lines are passed upwards, and no further than to that one.
 pub(crate) fn result_after(
@@ -89,28 +115,14 @@ pub(crate) fn result_after(
     let mut closed = 0_usize;
     for line in tokens.rsplit(|token| matches!(token.shape, Shape::LineEnd)) {
         let (tokens, has_label) = without_label(line);
-        let made = match effect_on(tables, unit, tokens) {
-            Effect::Closes => {
-                closed = closed.saturating_add(1);
-                None
-            }
-            Effect::Opens(_, inside) if closed == 0 => Some(inside),
-            Effect::Opens(after, _) => {
-                closed = closed.saturating_sub(1);
-                after.filter(|_| closed == 0).map(Some)
-            }
-            Effect::Makes(kind) if closed == 0 => Some(kind),
-            _ => None,
-        };
-        match made {
-            Some(kind) => {
-                return kind.map(|kind| ResultKind {
-                    kind,
-                    line: line_at(tokens.first()),
-                });
-            }
-            None if has_label && closed == 0 => return None,
-            None => {}
+        let effect = effect_on(tables, unit, tokens);
+        let made = made_by(effect, closed);
+        closed = closed_above(effect, closed);
+        if let Made::Here(kind) = made {
+            return result_on(tokens, kind);
+        }
+        if has_label && closed == 0 {
+            return None;
         }
     }
     None
@@ -123,12 +135,11 @@ fn count_before_opening(tables: &Tables<'_>, unit: usize, tokens: &[Token<'_>]) 
     for line in tokens.rsplit(|token| matches!(token.shape, Shape::LineEnd)) {
         passed = passed.saturating_add(line.len());
         let (instruction, _) = without_label(line);
-        match effect_on(tables, unit, instruction) {
-            Effect::Closes => closed = closed.saturating_add(1),
-            Effect::Opens(..) if closed == 0 => return tokens.len().saturating_sub(passed),
-            Effect::Opens(..) => closed = closed.saturating_sub(1),
-            _ => {}
+        let effect = effect_on(tables, unit, instruction);
+        if closed == 0 && matches!(effect, Effect::Opens(..)) {
+            return tokens.len().saturating_sub(passed);
         }
+        closed = closed_above(effect, closed);
         passed = passed.saturating_add(1);
     }
     0

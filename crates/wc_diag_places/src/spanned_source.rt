@@ -2,10 +2,10 @@ ghost use Rattle.std.specs.Prelude.{◌≤◌, IfOk, length, map};
 ghost use Rattle.wc_lexer.specs.Views.{token_view};
 ghost use Rattle.wc_model.specs.Language.Views.{text_view};
 ghost use Rattle.wc_model.specs.Text.Tokens.{IsCut, most_bytes};
-ghost use Rattle.wc_diag_places.specs.ReadingTextSpans.{AreReadByPlaces};
+ghost use Rattle.wc_diag_stops.specs.ReadingTextSpans.{AreReadByPlaces};
 
-use crate::places::exchange;
 use std::alloc::Global;
+use wc_diag_stops::exchange;
 use wc_lexer::{Token, tokens};
 use wc_model::{Fault, Source};
 use wc_reader::read_tokens;

@@ -12,13 +12,13 @@ use crate::excerpts::{
 };
 use crate::instances::{block_in, slice_of};
 use crate::kinds::unfit;
-use crate::result_kind::{ResultKind, result_after, result_outside};
-use crate::span::{RefusalSpan, Slice};
+use crate::result_kind::{result_after, result_outside};
 use crate::spanned_source::SpannedSource;
 use crate::twice::{case_of_capacity, first_of_two, unit_at};
 use std::alloc::Global;
 use wc_cost::measure;
 use wc_declare::tables;
+use wc_diag_stops::{RefusalSpan, ResultKind, Slice};
 use wc_diag_texts::Case;
 use wc_lexer::{Shape, Token};
 use wc_model::Fault;

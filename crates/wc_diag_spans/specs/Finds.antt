@@ -49,7 +49,7 @@ abbrev pub FindsBy : Refusal → Evidence → Diagnostic → Type 0
 FindsBy refusal Nothing diagnostic = FindsNothing diagnostic
 FindsBy refusal (Text text) diagnostic = FindsIn refusal text.now diagnostic
 FindsBy refusal (Row row) diagnostic = FindsRow refusal.number (fields_reported row.now) diagnostic
-FindsBy refusal (Names list start length) diagnostic = FindsName list.now diagnostic
+FindsBy refusal (Names list start length program) diagnostic = FindsName list.now diagnostic
 
 pub record Finds (refusal : Refusal) (diagnostic : Diagnostic) : Type 0 where
   pub found : FindsBy refusal refusal.evidence diagnostic

@@ -1,5 +1,6 @@
 -- The offending slice on a line of a program's text.
-use Rattle.std.specs.Prelude.{◌≡◌, ◌≤◌, ◌<◌, ℕ, List, Some, IfSome, drop, length, min, take}
+use Rattle.std.specs.Prelude.{◌≡◌, ◌≤◌, ◌<◌, ℕ, List, Some, IfSome, length, min}
+use Rattle.wc_diag_mistakes.specs.Slices.{IsAt}
 use Rattle.wc_diag_spans.specs.Lines.{column_at}
 use Rattle.wc_diag_spans.specs.declared.diagnostic.Diagnostic.{Diagnostic}
 use Rattle.wc_diag_spans.specs.declared.diagnostic.TextSpan.{TextSpan}
@@ -7,12 +8,8 @@ use Rattle.wc_diag_spans.specs.declared.refusal.Part.{Part}
 use Rattle.wc_diag_spans.specs.declared.refusal.Part.TheVariants.{Job, Plate, Program, Next, Log}
 use Rattle.wc_model.specs.declared.fault.Fault.TheVariants.{Refused}
 use Rattle.wc_diag_places.specs.LaterTextSpans.{IsLaterTextSpan}
-use Rattle.wc_diag_places.specs.ReadingTextSpans.{StopsReading}
+use Rattle.wc_diag_stops.specs.ReadingTextSpans.{StopsReading}
 use Rattle.wc_diag_texts.specs.declared.expected.Expected.{Expected}
-
--- this slice is in the text, from that place on
-abbrev pub IsAt : List ℕ → ℕ → List ℕ → Type 0
-IsAt text place excerpt = take (length excerpt) (drop place text) ≡ excerpt
 
 -- the reader stops there with the fault of that number on that line: the slice begins after `column`
 -- bytes of its line, and has `count`

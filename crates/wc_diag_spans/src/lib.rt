@@ -3,21 +3,14 @@
 //! shown.
 #![tactic(auto)]
 
-mod advice;
 mod diagnostic;
-mod differences;
-mod excerpts;
 mod lines;
-mod members;
-mod mistakes;
-mod near;
 mod parentheses;
 mod plates;
 mod programs;
 mod refusal;
 mod rows;
 mod searching;
-mod types;
 
 pub use diagnostic::{Diagnostic, TextSpan};
 pub use lines::line_at;

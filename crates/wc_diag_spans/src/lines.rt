@@ -1,32 +1,9 @@
-ghost use Rattle.std.specs.Prelude.{◌≡◌, ◌≤◌, ◌==◌, MatchOption, length, min, option_map, slice_get, take, drop, Some};
+ghost use Rattle.std.specs.Prelude.{◌≡◌, ◌≤◌, ◌==◌, MatchOption, length, option_map, slice_get, Some};
 ghost use Rattle.std.specs.List.{position_or_len};
-ghost use Rattle.wc_diag_spans.specs.OffendingTokens.{IsAt};
 ghost use Rattle.wc_diag_spans.specs.Lines.{HasBelow, IsOneLine, column_at, cut_lines, line_of_number, without_return};
 
-use memchr::{memchr, memchr_iter};
-
-/// What comes after that number of bytes.
-pub(crate) fn following(text: &[u8], start: usize) -> &[u8]
-    ensures { result.now ≡ drop (min start (length text.now)) text.now }
-{
-    let (_, rest) = text.split_at(start.min(text.len()));
-    rest
-}
-
-/// The first bytes, up to that number.
-pub(crate) fn prefix(text: &[u8], end: usize) -> &[u8]
-    ensures { result.now ≡ take (min end (length text.now)) text.now }
-{
-    let (first, _) = text.split_at(end.min(text.len()));
-    first
-}
-
-/// That number of bytes, from a place on.
-pub(crate) fn excerpt(text: &[u8], start: usize, length: usize) -> &[u8]
-    ensures { IsAt text.now start result.now }
-{
-    prefix(following(text, start), length)
-}
+use memchr::memchr;
+use wc_diag_mistakes::{following, prefix};
 
 /// The number of bytes before the first line feed.
 pub(crate) fn line_length(text: &[u8]) -> usize
@@ -91,12 +68,6 @@ pub fn line_at(text: &[u8], number: u32) -> Option<&[u8]>
         }
     }
     Some(without_return(first_line(rest)))
-}
-
-/// The number of the line that a place is on, counted from 1.
-pub(crate) fn line_of(text: &[u8], place: usize) -> u32 {
-    let feeds = memchr_iter(b'\n', prefix(text, place)).count();
-    feeds.saturating_add(1).min(1048577) as u32
 }
 
 /// The number of bytes of its line before a place.

@@ -1,8 +1,11 @@
 use crate::diagnostic::Diagnostic;
-use crate::lines::{column_at, excerpt, following, line_length, line_of};
+use crate::lines::{column_at, line_length};
 use memchr::{memchr, memmem};
 use std::alloc::{AllocError, Global};
+use std::fmt::Write;
+use toml::Table;
 use toml::de::Error;
+use wc_diag_mistakes::{excerpt, following, line_of};
 use wc_diag_texts::{Case, Values, text_with};
 use wc_plate::{BrokenRule, allows_interval, plate_of};
 
@@ -20,16 +23,22 @@ struct KeyLine {
 
 /// The number of leading spaces and tabs.
 fn blanks(text: &[u8]) -> usize {
-    text.iter()
-        .take_while(|byte| **byte == b' ' || **byte == b'\t')
-        .count()
+    for count in 0..text.len() {
+        if text[count] != b' ' && text[count] != b'\t' {
+            return count;
+        }
+    }
+    text.len()
 }
 
 /// The number of bytes of a value, up to a blank, a comment or the line's end.
 fn value_length(text: &[u8]) -> usize {
-    text.iter()
-        .take_while(|byte| **byte > b' ' && **byte != b'#')
-        .count()
+    for count in 0..text.len() {
+        if text[count] <= b' ' || text[count] == b'#' {
+            return count;
+        }
+    }
+    text.len()
 }
 
 /// Where that key is given its value, if the first line does so, with that number of lines above it.
@@ -53,6 +62,16 @@ fn key_on(line: &[u8], above: usize, name: &str) -> Option<KeyLine> {
     })
 }
 
+/// The number of line feeds with which a text begins.
+fn feeds(text: &[u8]) -> usize {
+    for count in 0..text.len() {
+        if text[count] != b'\n' {
+            return count;
+        }
+    }
+    text.len()
+}
+
 /// Searches the text for the one line that gives a value to that key: once through it, line by line. Nothing is found if
 /// two do so, or if a text could run over lines.
 fn search_key(text: &[u8], name: &str) -> Option<KeyLine> {
@@ -63,8 +82,7 @@ fn search_key(text: &[u8], name: &str) -> Option<KeyLine> {
     let mut found = None;
     let (mut start, mut number) = (0_usize, 0_usize);
     for _line in 0..text.len() {
-        let rest = following(text, start).iter();
-        let above = rest.take_while(|byte| **byte == b'\n').count();
+        let above = feeds(following(text, start));
         start = start.saturating_add(above);
         number = number.saturating_add(above);
         if let Some(here) = key_on(following(text, start), number, name) {
@@ -103,19 +121,29 @@ fn unit_word(unit: [u8; 3]) -> &'static str {
     }
 }
 
-/// The scale intervals that are allowed with a unit and decimals, with commas between.
-fn allowed_intervals(alloc: Global, unit: [u8; 3], decimals: u32) -> Result<String, AllocError> {
-    let mut found = String::new(alloc);
+/// Adds a scale interval to a list.
+fn add_interval(list: &mut String, e: i64) -> Result<(), AllocError> {
+    if !list.is_empty() {
+        list.push_str(", ")?;
+    }
+    write!(list, "{e}")
+}
+
+/// Adds the scale intervals that are allowed with a unit and decimals, with commas between.
+fn add_intervals(list: &mut String, unit: [u8; 3], decimals: u32) -> Result<(), AllocError> {
     for e in INTERVALS {
         if allows_interval(unit, decimals, e) {
-            found = if found.is_empty() {
-                format!(in alloc; "{e}")?
-            } else {
-                format!(in alloc; "{found}, {e}")?
-            };
+            add_interval(list, e)?;
         }
     }
-    Ok(found)
+    Ok(())
+}
+
+/// The scale intervals that are allowed with a unit and decimals.
+fn allowed_intervals(alloc: Global, unit: [u8; 3], decimals: u32) -> Result<String, AllocError> {
+    let mut list = String::new(alloc);
+    add_intervals(&mut list, unit, decimals)?;
+    Ok(list)
 }
 
 /// The key whose value a rule on values refers to, and what is said of it if the rule's number does not say it.
@@ -196,6 +224,20 @@ fn report_syntax(
     Ok(())
 }
 
+/// Says which rule of that number the table of a plate breaks first, if it is one of that number.
+fn report_table(
+    alloc: Global,
+    diagnostic: &mut Diagnostic,
+    text: &[u8],
+    number: u16,
+    table: &Table,
+) -> Result<(), AllocError> {
+    match plate_of(table) {
+        Err(rule) if rule.number() == number => report_rule(alloc, diagnostic, text, rule),
+        _ => Ok(()),
+    }
+}
+
 /// Finds the fault of a plate: the rule of that number that its check names.
 pub(crate) fn find_plate_fault(
     alloc: Global,
@@ -204,10 +246,7 @@ pub(crate) fn find_plate_fault(
     number: u16,
 ) -> Result<(), AllocError> {
     match toml::table_from_slice(alloc, text) {
-        Ok(table) => match plate_of(&table) {
-            Err(rule) if rule.number() == number => report_rule(alloc, diagnostic, text, rule),
-            _ => Ok(()),
-        },
+        Ok(table) => report_table(alloc, diagnostic, text, number, &table),
         Err(error) if number == 501 => report_syntax(alloc, diagnostic, text, &error),
         // a text that is too long was not read to its end
         Err(_) => Ok(()),

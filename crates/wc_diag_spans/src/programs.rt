@@ -1,19 +1,22 @@
 ghost use Rattle.std.specs.Prelude.{◌≡◌, ◌≤◌, ◌<◌, IfOk, IfSome, None, OnOk, Some};
 ghost use Rattle.wc_diag_spans.specs.Lines.{column_at};
-ghost use Rattle.wc_diag_spans.specs.OffendingTokens.{HasLaterTextSpan, HasStop, IsAt};
+ghost use Rattle.wc_diag_mistakes.specs.Slices.{IsAt};
+ghost use Rattle.wc_diag_spans.specs.OffendingTokens.{HasLaterTextSpan, HasStop};
 ghost use Rattle.wc_diag_places.specs.LaterTextSpans.{RefusesLater};
-ghost use Rattle.wc_diag_places.specs.ReadingTextSpans.{StopsReading};
+ghost use Rattle.wc_diag_stops.specs.ReadingTextSpans.{StopsReading};
 
-use crate::advice::advice_at;
 use crate::diagnostic::Diagnostic;
-use crate::differences::{difference_said, names_operator, words_at};
-use crate::excerpts::{BYTE_ORDER_MARK, case_of_excerpt};
-use crate::lines::{column_at, excerpt, following, prefix};
-use crate::mistakes::{mistake_at, names_type, word_before};
+use crate::lines::column_at;
 use crate::parentheses::lines_to_opening;
 use std::alloc::{AllocError, Global};
 use wc_built_in::{Keyword, keyword_named};
-use wc_diag_places::{RefusalSpan, read_by_places, stop_of, text_span_in};
+use wc_diag_advice::advice_at;
+use wc_diag_mistakes::{
+    BYTE_ORDER_MARK, case_of_excerpt, difference_said, excerpt, following, mistake_at,
+    names_operator, names_type, prefix, word_before, words_at,
+};
+use wc_diag_places::{read_by_places, text_span_in};
+use wc_diag_stops::{RefusalSpan, stop_of};
 use wc_diag_texts::{Case, Expected, Values, sentence_of, text_with};
 use wc_model::{Fault, is_word};
 
@@ -207,12 +210,11 @@ fn point_to_excerpt(
     let case = case_said(case, mistake);
     let length = quoted_length(text, number, case, &span);
     let said = said_of(alloc, text, number, &span, case, mistake)?;
-    let advice = advice_at(alloc, text, number, &span, mistake)?;
     let reported = case_reported(&said, case);
     diagnostic.detail = detail_or(alloc, said, text, number, diagnostic.line, &span)?;
+    diagnostic.advice = advice_at(alloc, text, number, &span, mistake)?;
     diagnostic.report(excerpt(text, span.start, length), reported)?;
     diagnostic.hint = mistake;
-    diagnostic.advice = advice;
     Ok(())
 }
 

@@ -32,6 +32,8 @@ pub enum Evidence<'a> {
         start: usize,
         /// The number of its bytes.
         length: usize,
+        /// The text of the program; empty if it is not available.
+        program: &'a [u8],
     },
 }
 

@@ -4,8 +4,8 @@ ghost use Rattle.wc_diag_spans.specs.Rows.{IsInField, MeansField, glued};
 ghost use Rattle.wc_record.specs.Reported.{fields_reported};
 
 use crate::diagnostic::Diagnostic;
-use crate::lines::{excerpt, prefix};
 use std::alloc::{AllocError, Global};
+use wc_diag_mistakes::{excerpt, prefix};
 use wc_diag_texts::Case;
 use wc_record::RefusedRow;
 
@@ -79,21 +79,31 @@ fn case_of_heading(row: &RefusedRow) -> Case {
 
 /// Says the number of fields of a row.
 fn report_fields(diagnostic: &mut Diagnostic, row: &RefusedRow, place: u32) {
-    if place == 1 {
-        diagnostic.case = case_of_heading(row);
+    diagnostic.case = if place == 1 {
+        case_of_heading(row)
     } else if row.len() > 3 {
-        diagnostic.case = Case::MoreFields;
         diagnostic.point(field_start(row, 2) + shown_field(row, 2).len(), 1);
+        Case::MoreFields
     } else if has_semicolons(row) {
-        diagnostic.case = Case::Semicolons;
+        Case::Semicolons
     } else {
-        diagnostic.case = Case::Plain;
+        Case::Plain
+    };
+}
+
+/// Whether all bytes are digits, of which there is one at least.
+fn are_digits(text: &[u8]) -> bool {
+    for byte in text {
+        if !byte.is_ascii_digit() {
+            return false;
+        }
     }
+    !text.is_empty()
 }
 
 /// What is wrong with a number of at most that number of digits.
 fn case_of_number(digits: &[u8], most: usize) -> Case {
-    if digits.is_empty() || digits.iter().any(|byte| !byte.is_ascii_digit()) {
+    if !are_digits(digits) {
         Case::NoNumber
     } else if digits.len() > most {
         Case::TooLong
@@ -106,9 +116,12 @@ fn case_of_number(digits: &[u8], most: usize) -> Case {
 fn hexadecimal_length(text: &[u8]) -> usize
     ensures { result ≤ length text.now }
 {
-    text.iter()
-        .take_while(|byte| byte.is_ascii_hexdigit())
-        .count()
+    for count in 0..text.len() {
+        if !text[count].is_ascii_hexdigit() {
+            return count;
+        }
+    }
+    text.len()
 }
 
 /// What is wrong with the number of hexadecimal digits.

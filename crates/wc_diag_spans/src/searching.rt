@@ -5,12 +5,14 @@ ghost use Rattle.wc_record.specs.Reported.{fields_reported};
 ghost use Rattle.wc_diag_spans.specs.Showing.{ShowsLine, known_line, line_of_part, read_as};
 
 use crate::diagnostic::Diagnostic;
-use crate::lines::{excerpt, line_at};
+use crate::lines::line_at;
 use crate::plates::find_plate_fault;
 use crate::programs::find_program_fault;
 use crate::refusal::{Evidence, Part, Refusal};
 use crate::rows::{report_row, shown_row};
 use std::alloc::{AllocError, Global};
+use wc_diag_advice::watched_advice;
+use wc_diag_mistakes::excerpt;
 use wc_diag_texts::Case;
 use wc_record::RefusedRow;
 
@@ -135,6 +137,7 @@ fn find_name(
     list: &[u8],
     start: usize,
     length: usize,
+    program: &[u8],
 ) -> Result<Diagnostic, AllocError>
     ensures found { IfOk result (FindsName list.now) }
     ensures within { IfOk result (λ diagnostic. IsWithin diagnostic) }
@@ -144,6 +147,7 @@ fn find_name(
     if !name.is_empty() {
         diagnostic.report(name, Case::Watched)?;
     }
+    diagnostic.advice = watched_advice(alloc, program, name)?;
     diagnostic.hint = Case::Watched;
     diagnostic.point(start, length);
     diagnostic.line = 1;
@@ -165,7 +169,8 @@ pub fn find(alloc: Global, refusal: &Refusal<'_>) -> Result<Diagnostic, AllocErr
             list,
             start,
             length,
-        } => find_name(alloc, list, start, length),
+            program,
+        } => find_name(alloc, list, start, length, program),
         Evidence::Nothing => Ok(Diagnostic::new(alloc, 0)),
     }
 }

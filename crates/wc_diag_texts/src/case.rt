@@ -142,6 +142,7 @@ pub enum Case {
     DeclarationAbove,
     MissingType,
     // Types that do not match: what makes them match.
+    TruthLiteral,
     StoredNumberToBool,
     StoredTimeToBool,
     StoredBool,

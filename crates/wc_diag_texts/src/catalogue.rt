@@ -62,7 +62,7 @@ fn token_entry(number: u16) -> Option<&'static Entry>
         number;
         101 "tokens": "a byte is not allowed here"
             at "the line of the byte", "!" => 1,
-            help "outside comments a text has letters, digits, spaces and the marks of the language; a comment is (* .. *)";
+            help "outside comments only letters, digits, spaces and the punctuation of the language are allowed; a comment is (* .. *)";
         102 "tokens": "a comment is still open at the end of the text"
             at "the line of its (*", "(*" => 1,
             help "close the comment with *)";
@@ -72,10 +72,10 @@ fn token_entry(number: u16) -> Option<&'static Entry>
         104 "tokens": "an identifier has two underscores in a row, one at its end, or more than 32 characters"
             at "the line of the token", "_" => 1,
             help "an identifier has at most 32 letters, digits and single underscores, and no underscore at its end";
-        105 "tokens": "a number has a wrong form or is out of range"
+        105 "tokens": "a number is malformed or out of range"
             at "the line of the token", "+" => 1,
             help "write an integer from -2147483648 to 2147483647, such as 12, -7 or 16#FF, or BOOL#0 or BOOL#1";
-        106 "tokens": "a duration has a wrong form or is out of range"
+        106 "tokens": "a duration is malformed or out of range"
             at "the line of the token", "T#" => 1,
             help "write days to milliseconds in order, such as T#1d2h3m4s5ms, or one with a point, such as T#1.5s";
         107 "tokens": "the text has more than 65536 bytes"
@@ -146,7 +146,7 @@ fn declaration_entry(number: u16) -> Option<&'static Entry>
         307 "tables": "the name is a reserved word"
             at "the name", "PROGRAM R / END_PROGRAM" => 1,
             help "choose another name: operators, keywords and types are reserved";
-        308 "tables": "the function block is not closed before"
+        308 "tables": "the function block is declared below, or is this one itself"
             at "the type", "FUNCTION_BLOCK B / VAR a : B; END_VAR / END_FUNCTION_BLOCK / PROGRAM P / END_PROGRAM" => 2,
             help "move the block above the unit that uses it; a block cannot contain itself";
     }
@@ -182,7 +182,7 @@ fn body_entry(number: u16) -> Option<&'static Entry>
             help "choose another label; letter case makes no difference";
         408 "verify": "the divisor is not a whole-number literal, or it is 0"
             at "the line of the instruction", "PROGRAM P / LD 1 / DIV 0 / END_PROGRAM" => 3,
-            help "DIV and MOD take an integer literal other than 0, such as DIV 10; DIV( and MOD( do not exist";
+            help "DIV and MOD take a literal other than 0, such as DIV 10; to compare a quotient, MUL the other side instead";
         409 "verify": "the block has no input or output of that name"
             at "the line of the call", "PROGRAM P / VAR t : TON; END_VAR / CAL t(x := 1) / END_PROGRAM" => 3,
             help "`:=` takes the names that a block has in VAR_INPUT, `=>` those that it has in VAR_OUTPUT";
@@ -205,9 +205,9 @@ fn plate_entry(number: u16) -> Option<&'static Entry>
         501 "plate": "the plate is not TOML"
             at "0", "plate x" => 0,
             help "the plate has lines `key = value`";
-        502 "plate": "a key is missing, is unknown, or has a value of the wrong kind"
+        502 "plate": "a key is missing, is unknown, or has a value of the wrong type"
             at "0", "(the empty plate)" => 0,
-            help "the keys are unit, decimals, max, e, zero_counts, span_counts and window, each once; unit is a text, the others are whole numbers, max and e in units of the last decimal, as e = 5 for 0.005 kg";
+            help "the keys are unit, decimals, max, e, zero_counts, span_counts and window, each once; unit is a text, the others are whole numbers, max and e in units of the last decimal, such as e = 5 for 0.005 kg";
         503 "plate": "unit must be g, kg or t"
             at "0", "plate A with unit = \"lb\"" => 0,
             help "write unit = \"g\", \"kg\" or \"t\"";
@@ -236,16 +236,16 @@ fn log_entry(number: u16) -> Option<&'static Entry>
 {
     entry_among! {
         number;
-        601 "log": "the row has not three fields, or the first row is not ms,kind,data"
+        601 "log": "the row does not have three fields, or the first row is not ms,kind,data"
             at "the row", "(the empty log)" => 1,
-            help "the first row is ms,kind,data; each other has two commas too, also where it has no data, as 50,S,";
-        602 "log": "the moment is not a number of milliseconds below 2^40"
+            help "the first row is ms,kind,data; every other row has two commas as well, even without data, such as 50,S,";
+        602 "log": "the time is not a number of milliseconds below 2^40"
             at "the row", "row ,S," => 2,
-            help "a row is ms,kind,data; the moment is a whole number of milliseconds, 0 to 1099511627775";
-        603 "log": "the moment is before that of the row above"
+            help "a row is ms,kind,data; ms is a whole number of milliseconds, 0 to 1099511627775";
+        603 "log": "the time is before that of the row above"
             at "the row", "rows 1,S, / 0,S," => 3,
-            help "sort the rows by their moments";
-        604 "log": "the kind is none of C, L, I, S and P"
+            help "sort the rows by their times";
+        604 "log": "the kind is not C, L, I, S or P"
             at "the row", "row 0,," => 2,
             help "a row is ms,kind,data; the kinds are C, L, I, S and P";
         605 "log": "the counts are not a whole number from -8388608 to 8388607"
@@ -257,9 +257,9 @@ fn log_entry(number: u16) -> Option<&'static Entry>
         607 "log": "there are more than 1000000 rows"
             at "the row", "(the heading row and 1000000 rows 0,S,)" => 1000001,
             help "split the log: it may have 1000000 rows";
-        608 "log": "a scan and a change have no data"
+        608 "log": "the row of a scan or of a change has data"
             at "the row", "row 0,S,x" => 2,
-            help "leave the third field of a scan and of a change empty, as 10,S,";
+            help "leave the third field of a scan and of a change empty, such as 10,S,";
         609 "log": "there is no next program to change to"
             at "the row", "row 0,P," => 2,
             help "name the next program by --next of run, trace or show, or in a job by @next before @log; one run changes its program once";
@@ -273,9 +273,9 @@ fn job_entry(number: u16) -> Option<&'static Entry>
 {
     entry_among! {
         number;
-        701 "job": "a job has the lines @plate, @program and @log, in this order, the first of them first"
+        701 "job": "a job has the lines @plate, @program and @log in this order, and begins with @plate"
             at "0", "(the empty job)" => 0,
-            help "a job is a line @plate and the plate, a line @program and the program, a line @log and the log; each of the three is alone on its line, in small letters";
+            help "a job is a line @plate and the plate, a line @program and the program, a line @log and the log; each of the three is on a line of its own, in lower case";
         702 "job, files": "there are more than 1048576 bytes"
             at "0", "(1048577 spaces)" => 0,
             help "a plate and a job may have 1048576 bytes, a program 65536";

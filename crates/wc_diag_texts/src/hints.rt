@@ -37,6 +37,7 @@ fn token_hint(number: u16, case: Case) -> Option<&'static str> {
         101, Case::EqualInitial => "an initial value is written with `:=`, such as a : DINT := 5;";
         101, Case::EqualInput => "an input is passed with `:=`, such as IN := a";
         101, Case::StatementAssign => "this looks like Siemens STL (AWL): `=` is ST; U is LD on the first line, then AND; O is OR";
+        101, Case::IfStatement => "this looks like Structured Text: for IF w >= 1000 write LD w, GE 1000, JMPCN skip; `skip:` is the END_IF";
         101, Case::Byte(b'>') => "to compare write GT or GE";
         101, Case::Byte(b'<') => "to compare write LT, LE or NE";
         101, Case::Byte(b'*') => "to multiply write MUL; a comment is (* .. *)";
@@ -65,19 +66,19 @@ fn reading_hint(number: u16, case: Case) -> Option<&'static str> {
         201, Case::AfterProgram => "nothing is allowed after the END_PROGRAM of the program";
         201, Case::NoAddress => "an address begins with `%`, such as %IX0.0";
         201, Case::Closing => "the `)` needs a line of its own";
-        201, Case::NoVariable => "an input takes a variable, an address, a field or a literal: compute and store it on lines before";
+        201, Case::NoVariable => "an input takes a variable, an address, a field or a literal: compute and store the value before the call";
         201, Case::Semicolon => "an instruction ends with its line, without a semicolon";
         201, Case::SecondOperator => "each operator has a line of its own: AND( a, then OR b, then `)`";
         201, Case::NegatedOperand => "to negate the operand write ANDN, ORN, XORN, LDN or STN; NOT alone negates the result";
         201, Case::ConditionSpelling => "C comes before N: JMPCN, CALCN, RETCN";
         201, Case::InputOperator => "set an input in CAL, such as CAL c(CU := a): a store alone does not call the block";
         201, Case::InstanceCall => "a call begins with CAL, such as CAL t(IN := a, PT := T#1s)";
-        201, Case::StructuredText => "this looks like Structured Text: write Instruction List, one instruction on a line";
+        201, Case::StructuredText => "this looks like Structured Text: there are no loops (the program runs in every scan); for CASE use EQ and JMPCN";
         201, Case::IfStatement => "this looks like Structured Text: for IF a write LD a, JMPCN skip; `skip:` is the END_IF";
         201, Case::StatementList => "this looks like Siemens STL (AWL): U or A is LD on the first line, then AND; O is OR, `=` is ST";
         201, Case::Assignment => "to assign write LD and the value, and on the next line ST and the variable";
-        201, Case::SectionQualifier => "write VAR alone";
-        201, Case::Constant => "CONSTANT is not supported: write VAR alone, or write the number where it is used";
+        201, Case::SectionQualifier => "write VAR without a qualifier";
+        201, Case::Constant => "CONSTANT is not supported: write only VAR, or write the number where it is used";
         201, Case::Retain => "RETAIN is not supported: a variable keeps its value between scans, not over a power failure";
         201, Case::Declaration => "a declaration is `name : TYPE;`, such as a : BOOL;";
         201, Case::DeclarationAbove => "the declaration above has no `;` at its end";
@@ -89,7 +90,7 @@ fn reading_hint(number: u16, case: Case) -> Option<&'static str> {
         201, Case::NoUnit => "begin with PROGRAM and a name; then come VAR .. END_VAR, the instructions and END_PROGRAM";
         201, Case::DownCounter => "there is no CTD: count down with SUB 1 at each edge of an R_TRIG";
         201, Case::Limit => "compare with GT or LT, and jump with JMPCN over the lines that set the limit";
-        201, Case::Select => "load and store the one value, and the other after a JMPCN over its LD and ST";
+        201, Case::Select => "store the first value; then load the condition, and JMPCN over the LD and ST of the second";
         201, Case::Move => "LD loads the value, ST on the next line names where it goes";
         201, Case::GlobalVariable => "declare the variable in VAR of the PROGRAM, and pass it to blocks as an input or output";
         201, Case::SharedVariable => "declare a VAR_INPUT and a VAR_OUTPUT, and name the variable at both in the CAL";
@@ -97,8 +98,8 @@ fn reading_hint(number: u16, case: Case) -> Option<&'static str> {
         201, Case::StandardFunction => "compute it with ADD, SUB, MUL, DIV, MOD and comparisons, or in a FUNCTION_BLOCK";
         201, Case::OpenSection => "close the section of declarations with END_VAR before the first instruction";
         201, Case::MissingComma => "separate the parameters with commas, such as CAL t(IN := a, PT := T#1s)";
-        201, Case::AtAddress => "use the address itself, such as LD %IX0.0, or copy it to a variable on the first lines";
-        201, Case::UnnamedInput => "name each input, in parentheses, such as CAL t(IN := a, PT := T#1s)";
+        201, Case::AtAddress => "use the address itself, such as LD %IX0.0; or copy inputs to variables on the first lines, outputs on the last";
+        201, Case::UnnamedInput => "name each input of the block in parentheses, such as CAL t(IN := a, PT := T#1s) for a TON";
         201, Case::OutsideSection => "declarations go between VAR and END_VAR, before the first instruction";
         201, Case::OpenList => "close the list of the call above with `)`";
         201, Case::ListBelow => "write the `(` on the line of its CAL, such as CAL t(IN := TRUE)";
@@ -112,7 +113,7 @@ fn reading_hint(number: u16, case: Case) -> Option<&'static str> {
 fn declaration_hint(number: u16, case: Case) -> Option<&'static str> {
     text_among! {
         number, case;
-        302, Case::SmallInteger => "the only integers are DINT (32 bits, with a sign)";
+        302, Case::SmallInteger => "use DINT, the only integer type (32 bits, signed); single bits are BOOLs";
         302, Case::RealNumber => "numbers are integers: use DINT, and count in a smaller unit";
         302, Case::TextType => "the types are BOOL, DINT and TIME: there are no strings, dates, arrays and structures";
         302, Case::FallingEdge => "for a falling edge call R_TRIG with the negated input: LDN a, then ST b, then CAL e(CLK := b)";
@@ -131,13 +132,14 @@ fn excerpt_hint(number: u16, case: Case) -> Option<&'static str> {
         401, Case::Watched => "name a variable, or a field after its instance, such as `t.ET`, with commas and no spaces between";
         401, Case::BlockType => "declare an instance in VAR, `t : TON;`, and call that: CAL t(..)";
         403, Case::AtLabel => "begin the line with LD, or bring the same type on every path to this label";
-        403, Case::NoCondition => "load the condition with LD first; CAL, JMP and RET without a C need none";
+        403, Case::NoCondition => "load the condition with LD first, or use CAL, JMP or RET without the C";
         404, Case::InputAddress => "inputs are only read: store to an output, such as %QX0.0, or to a variable";
         404, Case::LiteralTarget => "ST takes a variable or an output: LD loads the value, ST names where it goes";
         404, Case::OutputTarget => "the block sets its own outputs: store to an input, or to a variable of your own";
         404, _ => "an input is set by the caller: copy it to a variable in VAR, and change the copy";
         405, _ => "store the value in a variable of your own, pass that to the input, and read the variable";
         406, Case::LabelAbove => "jumps only go forward: the program runs again in the next scan, so a loop is not needed";
+        408, Case::Deferred => "DIV and MOD take an integer literal, such as DIV 10; DIV( and MOD( do not exist";
         409, Case::InputArrow => "an input is passed with :=, such as IN := a";
         409, Case::OutputAssigned => "an output is read with =>, such as Q => a";
     }
@@ -166,11 +168,12 @@ fn kind_hint(number: u16, case: Case) -> Option<&'static str> {
         402, Case::Unpassed(Kind::Time, Kind::Dint) => "write an integer, such as 500, or pass a DINT";
         402, Case::Unpassed(_, Kind::Bool) => "compare before the call, store the BOOL in a variable, and pass that variable";
         402, Case::Unpassed(Kind::Bool, _) => "pass a number to a DINT, a duration to a TIME";
+        402, Case::TruthLiteral => "the literals of a BOOL are TRUE and FALSE: write TRUE for 1, FALSE for 0";
         402, Case::StoredNumberToBool => "store it to a DINT, such as %QD0, or compare it first, such as GE 500, to get a BOOL";
         402, Case::StoredTimeToBool => "store it to a TIME, or compare it first, such as GE T#500ms, to get a BOOL";
         402, Case::StoredBool => "store a BOOL to a BOOL variable or to an output bit, such as ST %QX0.0";
         402, Case::StoredTimeToNumber => "a TIME cannot be converted to a number: store it to a TIME variable";
-        402, Case::StoredNumberToTime => "a number cannot be converted to a TIME: store it to a DINT, such as %QD0";
+        402, Case::StoredNumberToTime => "a number cannot be converted to a TIME: load a duration, such as LD T#500ms, or store to a DINT";
         402, Case::ComparedNumber => "compare the number first, such as GE 500: a comparison gives a BOOL";
         402, Case::ComparedTime => "compare the time first, such as GE T#500ms: a comparison gives a BOOL";
         402, Case::NumberBefore => "compare the number before: LD n, GE 500, and then AND with the BOOL";
@@ -186,7 +189,7 @@ fn kind_hint(number: u16, case: Case) -> Option<&'static str> {
         402, Case::TimeWithNumber => "compare a TIME with a duration, such as GE T#500ms";
         402, Case::AddedNumber => "add a number to a DINT, such as ADD 5; a TIME cannot be converted to a number";
         402, Case::AddedTime => "add a duration to a TIME, such as ADD T#500ms; it cannot be converted to a number";
-        402, Case::MultipliedTime => "a TIME cannot be divided or converted: compare it with a duration, such as GE T#5s";
+        402, Case::MultipliedTime => "a TIME cannot be multiplied, divided or converted: compare it with a duration, such as GE T#5s";
         402, Case::NumberInParenthesis => "compare the number before the `)`, such as GE 500: a comparison gives a BOOL";
         402, Case::TimeInParenthesis => "compare the time before the `)`, such as GE T#500ms: a comparison gives a BOOL";
         402, Case::Closing => "end the lines in the parenthesis with the type of the result before it";

@@ -38,7 +38,7 @@ pub fn sentence_of(number: u16, case: Case) -> Option<&'static str>
 fn token_sentence(number: u16, case: Case) -> Option<&'static str> {
     text_among! {
         number, case;
-        101, Case::ByteOrderMark => "is a byte order mark, and a program has none";
+        101, Case::ByteOrderMark => "is a byte order mark, which is not allowed";
         101, Case::Utf16 => "begins a text in UTF-16";
         101, Case::StatementAssign => "is not an operator";
         101, _ => "is not allowed here";
@@ -99,7 +99,7 @@ fn excerpt_sentence(number: u16, case: Case) -> Option<&'static str> {
     text_among! {
         number, case;
         401, Case::Field => "is not an input or output of a declared instance";
-        403, Case::AtLabel => "there is no one current result: the paths to this label bring different types, or none";
+        403, Case::AtLabel => "the current result is undefined: the paths to this label bring different types, or no value";
         403, Case::NoCondition => "needs a BOOL, and there is no current result";
         401, Case::BlockType => "is the name of a type, not of an instance";
         401, Case::Watched => "is not a variable of the program";
@@ -162,13 +162,13 @@ fn log_sentence(number: u16, case: Case) -> Option<&'static str> {
         601, Case::SemicolonHeading => "the first row is not ms,kind,data: fields end with a comma, not with a semicolon";
         601, Case::Heading => "the first row is not ms,kind,data";
         601, Case::MoreFields => "the row has more than three fields";
-        601, Case::Semicolons => "the row has semicolons where commas should stand";
+        601, Case::Semicolons => "the row has semicolons in place of commas";
         601, _ => "the row has fewer than three fields";
-        602 | 603, Case::Missing => "the moment is missing";
+        602 | 603, Case::Missing => "the time is missing";
         602, Case::NoNumber => "is not a whole number of milliseconds";
         602, Case::TooLong => "has more than 13 digits";
-        602, _ => "is above 1099511627775, the last moment";
-        603, _ => "is before the moment of the row above";
+        602, _ => "is above 1099511627775, the greatest time";
+        603, _ => "is before the time of the row above";
         604, Case::Missing => "the kind is missing";
         604, Case::SmallLetter => "is not a kind: kinds are capital letters";
         604, _ => "is not a kind";
@@ -180,7 +180,7 @@ fn log_sentence(number: u16, case: Case) -> Option<&'static str> {
         606, Case::Inputs => "the inputs are not four hexadecimal digits";
         606, Case::OddDigits => "the number of hexadecimal digits is odd";
         606, _ => "the data is longer than 4096 bytes";
-        608, Case::Change => "follows a change, which has no data";
-        608, Case::Plain => "follows a scan, which has no data";
+        608, Case::Change => "follows a change, which takes no data";
+        608, Case::Plain => "follows a scan, which takes no data";
     }
 }

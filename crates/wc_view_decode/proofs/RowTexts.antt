@@ -1,12 +1,11 @@
 -- Texts that are put together part by part.
-use Rattle.std.proofs.Common.{◌≡◌, ◌<◌, ◌+◌, ℕ, suc, ℤ, List, [], ◌∷◌, ◌++◌, length, take, get_or, Result, Ok, Err, OnOk, ◌==◌, if◌then◌else◌, refl, sym, ap, ◌∙◌, arith, rules}
+use Rattle.std.proofs.Common.{◌≡◌, ◌<◌, ◌+◌, ℕ, suc, ℤ, List, [], ◌∷◌, ◌++◌, length, take, get_or, Result, Ok, Err, OnOk, refl, sym, ap, ◌∙◌, arith, rules}
 use Rattle.std.proofs.Math.Seq.{take-suc}
 use Rattle.std.proofs.lemmas.List.{append_assoc, append-nil}
 use Rattle.std.specs.Fmt.{signed_decimal}
-use Rattle.wc_view_decode.specs.Formats.{answer_format, answer_formats, named_words, passed_on}
+use Rattle.wc_view_decode.specs.Formats.{answer_format, answer_formats, named_words, passed_byte, passed_on}
 use Rattle.wc_view_decode.specs.declared.answer.Answer.{Answer}
 use Rattle.wc_view_decode.specs.declared.format.DecodeFormat.{DecodeFormat}
-use Rattle.wc_view_decode.specs.declared.format.DecodeFormat.TheVariants.{Text, Table}
 
 -- a part more after a text
 pub one_more : (old p q t u : List ℕ) → t ≡ old ++ p → u ≡ t ++ q → u ≡ old ++ (p ++ q)
@@ -53,11 +52,10 @@ one_answer_more format ms answers n other within =
 
 -- bytes that are passed on after others
 pub passed_after : (format : DecodeFormat) (prefix back : List ℕ) → passed_on format (prefix ++ back) ≡ passed_on format prefix ++ passed_on format back
-passed_after Text prefix back = refl
-passed_after Table [] back = refl
-passed_after Table (byte ∷ prefix) back =
-    ap (λ rest. (if byte == 34 then 34 ∷ 34 ∷ [] else byte ∷ []) ++ rest) (passed_after Table prefix back)
-    ∙ sym (append_assoc (if byte == 34 then 34 ∷ 34 ∷ [] else byte ∷ []) (passed_on Table prefix) (passed_on Table back))
+passed_after how [] back = refl
+passed_after how (byte ∷ prefix) back =
+    ap (λ rest. passed_byte how byte ++ rest) (passed_after how prefix back)
+    ∙ sym (append_assoc (passed_byte how byte) (passed_on how prefix) (passed_on how back))
 
 pub one_passed_more : (format : DecodeFormat) (bytes : List ℕ) (n other : ℕ) → n < length bytes
     → passed_on format (take (n + 1) bytes) ≡ passed_on format (take n bytes) ++ passed_on format (get_or bytes n other ∷ [])

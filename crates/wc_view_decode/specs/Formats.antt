@@ -1,11 +1,12 @@
 -- What is written for a line of a report: for people, or a row of a table. (The forms are the profile's own.)
-use Rattle.std.specs.Prelude.{ℕ, zero, suc, ◌/◌, ◌%◌, ◌^◌, ◌==◌, Bool, ℤ, List, [], ◌∷◌, ◌++◌, codes, decimal, if◌then◌else◌}
+use Rattle.std.specs.Prelude.{ℕ, zero, suc, ◌/◌, ◌%◌, ◌^◌, ◌==◌, ◌&&◌, nat_le, not, Bool, ℤ, List, [], ◌∷◌, ◌++◌, codes, decimal, if◌then◌else◌}
 use Rattle.std.specs.Fmt.{signed_decimal}
 use Rattle.wc_view_decode.specs.AnswerTexts.{answer_text}
 use Rattle.wc_view_decode.specs.Lines.{LineContent, AnswersContent, RefusalContent, ScanContent}
 use Rattle.wc_view_decode.specs.declared.answer.Answer.{Answer}
 use Rattle.wc_view_decode.specs.declared.format.DecodeFormat.{DecodeFormat}
 use Rattle.wc_view_decode.specs.declared.format.DecodeFormat.TheVariants.{Text, Table}
+use Rattle.wc_model.specs.Run.Hex.{hex_of_bytes}
 use Rattle.wc_model.specs.Say.Job.{refused_text}
 use Rattle.wc_model.specs.declared.image.Outputs.{Outputs}
 
@@ -94,11 +95,20 @@ abbrev pub opening : DecodeFormat → List ℕ
 opening Text = codes "? "
 opening Table = codes ",?,,,,,,,,,,,,,,,,,,,,,," ++ (34 ∷ [])
 
--- such a line itself; in a table each quote is written twice
+-- printable ASCII other than the `\` with which a byte begins that is shown by its digits
+abbrev pub is_shown : ℕ → Bool
+is_shown byte = nat_le 32 byte && nat_le byte 126 && not (byte == 92)
+
+-- a byte of such a line: for people any other is shown by its digits, so that no terminal acts on it; in a
+-- table each quote is written twice
+abbrev pub passed_byte : DecodeFormat → ℕ → List ℕ
+passed_byte Text byte = if is_shown byte then byte ∷ [] else 92 ∷ 120 ∷ hex_of_bytes (byte ∷ [])
+passed_byte Table byte = if byte == 34 then 34 ∷ 34 ∷ [] else byte ∷ []
+
+-- such a line itself
 abbrev pub passed_on : DecodeFormat → List ℕ → List ℕ
-passed_on Text line = line
-passed_on Table [] = []
-passed_on Table (byte ∷ bytes) = (if byte == 34 then 34 ∷ 34 ∷ [] else byte ∷ []) ++ passed_on Table bytes
+passed_on how [] = []
+passed_on how (byte ∷ bytes) = passed_byte how byte ++ passed_on how bytes
 
 -- and what follows it
 abbrev pub closing : DecodeFormat → List ℕ

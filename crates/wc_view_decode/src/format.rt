@@ -19,6 +19,6 @@ pub enum DecodeFault {
     #[error("write fault")]
     Write,
     /// Memory was refused.
-    #[error("want of memory")]
+    #[error("out of memory")]
     Memory,
 }

@@ -1,8 +1,9 @@
 ghost use Rattle.std.specs.Prelude.{◌≡◌, ◌++◌, ◌∷◌, [], IsOkUnless, OnOk};
-ghost use Rattle.wc_view_decode.specs.Formats.{closing, opening, passed_on, unknown};
+ghost use Rattle.wc_view_decode.specs.Formats.{closing, is_shown, opening, passed_on, unknown};
 
 use crate::format::DecodeFormat;
 use wc_model::{Fault, put_bytes};
+use wc_report::put_hex;
 
 /// Appends what precedes a line that is not of a report to a text.
 pub(crate) fn put_opening(text: &mut Vec<u8>, format: DecodeFormat) -> Result<(), Fault>
@@ -26,12 +27,35 @@ pub(crate) fn put_closing(text: &mut Vec<u8>, format: DecodeFormat) -> Result<()
     }
 }
 
+/// Whether a byte is printable ASCII other than the backslash with which one begins that is shown by its digits.
+fn is_shown(byte: u8) -> bool
+    ensures { result ≡ is_shown byte }
+{
+    byte >= 32 && byte <= 126 && byte != b'\\'
+}
+
+/// Appends a byte of such a line for people: nothing on which a terminal acts.
+fn put_shown(text: &mut Vec<u8>, byte: u8) -> Result<(), Fault>
+    ensures byte { OnOk result (text.new.items
+        ≡ text.old.items ++ passed_on DecodeFormat.Text (byte ∷ [])) }
+    ensures memory { IsOkUnless result Fault.Memory }
+{
+    if is_shown(byte) {
+        return put_bytes(text, &[byte]);
+    }
+    put_bytes(text, b"\\x")?;
+    put_hex(text, &[byte])
+}
+
 /// Appends a byte of such a line to a text.
 pub(crate) fn put_passed(text: &mut Vec<u8>, format: DecodeFormat, byte: u8) -> Result<(), Fault>
     ensures byte { OnOk result (text.new.items ≡ text.old.items ++ passed_on format (byte ∷ [])) }
     ensures memory { IsOkUnless result Fault.Memory }
 {
-    if format == DecodeFormat::Table && byte == b'"' {
+    if format == DecodeFormat::Text {
+        return put_shown(text, byte);
+    }
+    if byte == b'"' {
         return put_bytes(text, b"\"\"");
     }
     put_bytes(text, &[byte])

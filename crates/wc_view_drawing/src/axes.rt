@@ -1,84 +1,74 @@
-use crate::numbers::{Tenths, Tick, Weight, round_step, time_step};
+use crate::numbers::{round_step, time_step};
+use crate::sheet::Sheet;
 use crate::view::{HEIGHT, LEFT, TOP, View, WIDTH};
-use std::alloc::AllocError;
-use std::fmt::Write;
 
 /// Puts a line across the curves, of that look, at a weight.
-fn put_line(out: &mut String, view: &View<'_>, look: &str, weight: i64) -> Result<(), AllocError> {
-    let (left, right) = (Tenths(LEFT), Tenths(LEFT + WIDTH));
-    let y = Tenths(view.y(weight));
-    write!(out, "<path class=\"{look}\" d=\"M{left} {y}H{right}\"/>\n")
+fn put_line(out: &mut Sheet, view: &View<'_>, look: &str, weight: i64) {
+    out.path(look);
+    out.go_to(LEFT, view.y(weight));
+    out.across(LEFT + WIDTH);
+    out.end_path();
 }
 
 /// Puts a line at a round weight, and the weight before it.
-fn put_weight(out: &mut String, view: &View<'_>, units: i64) -> Result<(), AllocError> {
-    let decimals = view.scale.decimals;
-    let weight = Weight { units, decimals };
-    let y = Tenths(view.y(units).saturating_add(40));
-    put_line(out, view, "grid", units)?;
-    write!(
-        out,
-        "<text class=\"name\" x=\"122\" y=\"{y}\">{weight}</text>\n"
-    )
+fn put_weight(out: &mut Sheet, view: &View<'_>, units: i64) {
+    put_line(out, view, "grid", units);
+    let y = view.y(units).saturating_add(40);
+    out.text_at("<text class=\"name\" x=\"122\" y=\"", y);
+    out.weight(units, view.scale.decimals);
+    out.end_text();
 }
 
 /// Puts the round weights.
-fn put_weights(out: &mut String, view: &View<'_>) -> Result<(), AllocError> {
+fn put_weights(out: &mut Sheet, view: &View<'_>) {
     let (low, high) = view.edges();
     let step = round_step(high.abs_diff(low), 7).min(1 << 40) as i64;
     let first = low.checked_div(step).unwrap_or(0).saturating_mul(step);
     for count in 0..12 {
         let weight = step.saturating_mul(count).saturating_add(first);
         if weight <= high {
-            put_weight(out, view, weight)?;
+            put_weight(out, view, weight);
         }
     }
-    Ok(())
 }
 
 /// Puts zero and Max.
-fn put_limits(out: &mut String, view: &View<'_>) -> Result<(), AllocError> {
-    put_line(out, view, "zero", 0)?;
+fn put_limits(out: &mut Sheet, view: &View<'_>) {
+    put_line(out, view, "zero", 0);
     if view.scale.unit.is_empty() {
-        return Ok(());
+        return;
     }
     let is_seen = view.scale.max <= view.edges().1;
     if is_seen {
-        put_line(out, view, "max", view.scale.max)?;
+        put_line(out, view, "max", view.scale.max);
     }
-    let y = Tenths(view.y(view.scale.max).saturating_add(40));
-    let above = if is_seen { "" } else { ", above" };
-    let unit = view.scale.unit;
-    let max = Weight {
-        units: view.scale.max,
-        decimals: view.scale.decimals,
-    };
-    write!(
-        out,
-        "<text x=\"858\" y=\"{y}\">Max {max} {unit}{above}</text>\n"
-    )
+    let y = view.y(view.scale.max).saturating_add(40);
+    out.text_at("<text x=\"858\" y=\"", y);
+    out.put("Max ");
+    out.weight(view.scale.max, view.scale.decimals);
+    out.put(" ");
+    out.put(view.scale.unit);
+    if !is_seen {
+        out.put(", above");
+    }
+    out.end_text();
 }
 
 /// Puts a line at a round moment down to the bottom, and the moment below it.
-fn put_moment(
-    out: &mut String,
-    view: &View<'_>,
-    ms: u64,
-    step: u64,
-    bottom: u64,
-) -> Result<(), AllocError> {
-    let moment = Tick { ms, step };
-    let (x, top) = (Tenths(view.x_at(ms)), Tenths(TOP));
-    let (base, y) = (Tenths(bottom), Tenths(bottom.saturating_add(140)));
-    write!(out, "<path class=\"grid\" d=\"M{x} {base}V{top}\"/>\n")?;
-    write!(
-        out,
-        "<text class=\"time\" x=\"{x}\" y=\"{y}\">{moment}</text>\n"
-    )
+fn put_moment(out: &mut Sheet, view: &View<'_>, ms: u64, step: u64, bottom: u64) {
+    let x = view.x_at(ms);
+    out.path("grid");
+    out.go_to(x, bottom);
+    out.upright(TOP);
+    out.end_path();
+    out.after("<text class=\"time\" x=\"", x);
+    out.text_at("\" y=\"", bottom.saturating_add(140));
+    out.tick(ms, step);
+    out.end_text();
 }
 
 /// Puts the round moments.
-fn put_moments(out: &mut String, view: &View<'_>, bottom: u64) -> Result<(), AllocError> {
+fn put_moments(out: &mut Sheet, view: &View<'_>, bottom: u64) {
     let step = time_step(view.time(), 6);
     let first = view
         .start
@@ -89,19 +79,18 @@ fn put_moments(out: &mut String, view: &View<'_>, bottom: u64) -> Result<(), All
     for count in 0..12 {
         let ms = step.saturating_mul(count).saturating_add(first);
         if view.start <= ms && ms <= end {
-            put_moment(out, view, ms, step, bottom)?;
+            put_moment(out, view, ms, step, bottom);
         }
     }
-    Ok(())
 }
 
 /// Puts the axes of weight and time, zero and Max.
-pub(crate) fn put_axes(out: &mut String, view: &View<'_>, bottom: u64) -> Result<(), AllocError> {
-    out.push_str("<g id=\"axes\">\n")?;
-    put_weights(out, view)?;
+pub(crate) fn put_axes(out: &mut Sheet, view: &View<'_>, bottom: u64) {
+    out.put("<g id=\"axes\">\n");
+    put_weights(out, view);
     if !view.columns.is_empty() {
-        put_moments(out, view, bottom)?;
+        put_moments(out, view, bottom);
     }
-    put_limits(out, view)?;
-    out.push_str("</g>\n")
+    put_limits(out, view);
+    out.put("</g>\n");
 }

@@ -1,7 +1,5 @@
-use crate::numbers::Tenths;
+use crate::sheet::Sheet;
 use crate::view::{View, height_at};
-use std::alloc::AllocError;
-use std::fmt::Write;
 use wc_view_columns::{Column, Span};
 
 /// A number that is drawn over time.
@@ -47,61 +45,44 @@ impl Curve {
 }
 
 /// Puts a stroke up or down over all that a column has reached, to where it ends.
-fn put_span(out: &mut String, range: &Range, span: Span) -> Result<(), AllocError> {
-    let least = Tenths(range.y(span.least));
-    let greatest = Tenths(range.y(span.greatest));
-    let last = Tenths(range.y(span.last));
+fn put_span(out: &mut Sheet, range: &Range, span: Span) {
     if span.least < span.last {
-        write!(out, "V{least}")?;
+        out.upright(range.y(span.least));
     }
     if span.last < span.greatest {
-        write!(out, "V{greatest}")?;
+        out.upright(range.y(span.greatest));
     }
-    write!(out, "V{last}")
+    out.upright(range.y(span.last));
 }
 
 /// Goes on with a curve at a column from the height where it is, or none.
-fn put_step(
-    out: &mut String,
-    range: &Range,
-    x: u64,
-    at: Option<i32>,
-    span: Option<Span>,
-) -> Result<(), AllocError> {
-    let x = Tenths(x);
+fn put_step(out: &mut Sheet, range: &Range, x: u64, at: Option<i32>, span: Option<Span>) {
     match (at, span) {
         (Some(at), Some(span)) => {
             if span.varies() || span.last != at {
-                write!(out, "H{x}")?;
-                return put_span(out, range, span);
+                out.across(x);
+                put_span(out, range, span);
             }
-            Ok(())
         }
-        (Some(_), None) => write!(out, "H{x}"),
+        (Some(_), None) => out.across(x),
         (None, Some(span)) => {
-            let y = Tenths(range.y(span.least));
-            write!(out, "M{x} {y}")?;
-            put_span(out, range, span)
+            out.go_to(x, range.y(span.least));
+            put_span(out, range, span);
         }
-        (None, None) => Ok(()),
+        (None, None) => {}
     }
 }
 
 /// Puts the path of a curve: a stroke up or down where its number changes, else to the right.
-pub(crate) fn put_curve(
-    out: &mut String,
-    view: &View<'_>,
-    range: &Range,
-    curve: Curve,
-) -> Result<(), AllocError> {
+pub(crate) fn put_curve(out: &mut Sheet, view: &View<'_>, range: &Range, curve: Curve) {
     let mut at = None;
     for (index, column) in view.columns.iter().enumerate() {
         let span = curve.span(column);
-        put_step(out, range, view.x(index), at, span)?;
+        put_step(out, range, view.x(index), at, span);
         at = match span {
             Some(span) => Some(span.last),
             None => None,
         };
     }
-    put_step(out, range, view.x(view.columns.len()), at, None)
+    put_step(out, range, view.x(view.columns.len()), at, None);
 }

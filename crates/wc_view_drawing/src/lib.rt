@@ -10,6 +10,7 @@ mod marks;
 mod numbers;
 mod readings;
 mod request_marks;
+mod sheet;
 mod steps;
 mod style;
 mod view;

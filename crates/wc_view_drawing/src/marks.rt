@@ -1,7 +1,5 @@
-use crate::numbers::{Moment, Tenths};
+use crate::sheet::Sheet;
 use crate::view::{HEIGHT, TOP, View};
-use std::alloc::AllocError;
-use std::fmt::Write;
 use wc_view_columns::Events;
 
 /// How often each was done to zero, tare and program in some time, with its letter and its words. A cross after a letter
@@ -18,25 +16,27 @@ fn marks_of(events: &Events) -> [(u32, &'static str, &'static str); 6] {
 }
 
 /// Puts the letters of what was done.
-fn put_letters(out: &mut String, events: &Events) -> Result<(), AllocError> {
+fn put_letters(out: &mut Sheet, events: &Events) {
     for (count, letter, _words) in marks_of(events) {
         if count != 0 {
-            out.push_str(letter)?;
+            out.put(letter);
         }
     }
-    Ok(())
 }
 
 /// Puts what was done in words, each after a comma.
-fn put_words(out: &mut String, events: &Events) -> Result<(), AllocError> {
+fn put_words(out: &mut Sheet, events: &Events) {
     for (count, _letter, words) in marks_of(events) {
-        if count == 1 {
-            write!(out, ", {words}")?;
-        } else if count != 0 {
-            write!(out, ", {words} {count} times")?;
+        if count != 0 {
+            out.put(", ");
+            out.put(words);
+        }
+        if count > 1 {
+            out.put(" ");
+            out.whole(u64::from(count));
+            out.put(" times");
         }
     }
-    Ok(())
 }
 
 /// Whether something was done.
@@ -49,48 +49,44 @@ fn is_marked(events: &Events) -> bool {
 }
 
 /// Puts the bound that holds after a change of the program.
-fn put_bound(out: &mut String, view: &View<'_>, events: &Events) -> Result<(), AllocError> {
+fn put_bound(out: &mut Sheet, view: &View<'_>, events: &Events) {
     if events.changes == 0 {
-        return Ok(());
+        return;
     }
-    match view.steps.next {
-        Some(next) => {
-            let bound = next.bound;
-            write!(out, ", bound {bound}")
-        }
-        None => Ok(()),
+    if let Some(next) = view.steps.next {
+        out.put(", bound ");
+        out.whole(u64::from(next.bound));
     }
 }
 
 /// Puts the mark of a column over the height of the curves, with its letters at a height above.
-fn put_mark(
-    out: &mut String,
-    view: &View<'_>,
-    index: usize,
-    events: &Events,
-    y: Option<u64>,
-) -> Result<(), AllocError> {
-    let (moment, x) = (Moment(view.moment(index)), Tenths(view.x(index)));
-    let (top, base) = (Tenths(TOP), Tenths(TOP + HEIGHT));
+fn put_mark(out: &mut Sheet, view: &View<'_>, index: usize, events: &Events, y: Option<u64>) {
+    let x = view.x(index);
     let look = match (events.zeros, events.tares, events.clears, events.changes) {
         (0, 0, 0, 0) => "refused",
         _ => "mark",
     };
-    write!(out, "<g class=\"{look}\"><title>{moment}")?;
-    put_words(out, events)?;
-    put_bound(out, view, events)?;
-    write!(out, "</title><path d=\"M{x} {base}V{top}\"/>")?;
+    out.put("<g class=\"");
+    out.put(look);
+    out.put("\"><title>");
+    out.moment(view.moment(index));
+    put_words(out, events);
+    put_bound(out, view, events);
+    out.put("</title><path d=\"");
+    out.go_to(x, TOP + HEIGHT);
+    out.upright(TOP);
+    out.put("\"/>");
     if let Some(y) = y {
-        let y = Tenths(y);
-        write!(out, "<text x=\"{x}\" y=\"{y}\">")?;
-        put_letters(out, events)?;
-        out.push_str("</text>")?;
+        out.after("<text x=\"", x);
+        out.text_at("\" y=\"", y);
+        put_letters(out, events);
+        out.put("</text>");
     }
-    out.push_str("</g>\n")
+    out.put("</g>\n");
 }
 
 /// Puts the marks of zero, tare and program; letters that are close go up by a line, or have no space.
-pub(crate) fn put_marks(out: &mut String, view: &View<'_>) -> Result<(), AllocError> {
+pub(crate) fn put_marks(out: &mut Sheet, view: &View<'_>) {
     let (mut low, mut high) = (0_u64, 0_u64);
     for (index, column) in view.columns.iter().enumerate() {
         if is_marked(&column.events) {
@@ -105,8 +101,7 @@ pub(crate) fn put_marks(out: &mut String, view: &View<'_>) -> Result<(), AllocEr
             } else {
                 None
             };
-            put_mark(out, view, index, &column.events, y)?;
+            put_mark(out, view, index, &column.events, y);
         }
     }
-    Ok(())
 }

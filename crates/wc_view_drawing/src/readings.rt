@@ -1,96 +1,82 @@
-use crate::numbers::{Moment, Tenths, Weight};
+use crate::sheet::Sheet;
 use crate::view::{TOP, View, WeightScale};
-use std::alloc::AllocError;
-use std::fmt::Write;
 use wc_view_columns::{Column, Span, State};
 
 /// Puts a weight, or from which to which, with a name before it.
-fn put_weight(
-    out: &mut String,
-    scale: &WeightScale,
-    name: &str,
-    span: Option<Span>,
-) -> Result<(), AllocError> {
+fn put_weight(out: &mut Sheet, scale: &WeightScale, name: &str, span: Option<Span>) {
     let Some(span) = span else {
-        return Ok(());
+        return;
     };
-    let unit = scale.unit;
-    let least = Weight {
-        units: i64::from(span.least),
-        decimals: scale.decimals,
-    };
-    if !span.varies() {
-        return write!(out, "\n{name} {least} {unit}");
+    out.put("\n");
+    out.put(name);
+    out.put(" ");
+    out.weight(i64::from(span.least), scale.decimals);
+    if span.varies() {
+        out.put(" to ");
+        out.weight(i64::from(span.greatest), scale.decimals);
     }
-    let greatest = Weight {
-        units: i64::from(span.greatest),
-        decimals: scale.decimals,
-    };
-    write!(out, "\n{name} {least} to {greatest} {unit}")
+    out.put(" ");
+    out.put(scale.unit);
 }
 
 /// Puts what is said of the scale besides its weights.
-fn put_status(out: &mut String, state: &State) -> Result<(), AllocError> {
+fn put_status(out: &mut Sheet, state: &State) {
     if state.motion {
-        out.push_str("\nin motion")?;
+        out.put("\nin motion");
     }
     if state.over {
-        return out.push_str("\nover");
+        out.put("\nover");
+    } else if state.under {
+        out.put("\nunder");
+    } else if state.invalid {
+        out.put("\nno sample yet");
     }
-    if state.under {
-        return out.push_str("\nunder");
-    }
-    if state.invalid {
-        return out.push_str("\nno sample yet");
-    }
-    Ok(())
 }
 
 /// Puts the inputs and the outputs in hexadecimal digits, as they were last.
-fn put_ports(out: &mut String, state: &State) -> Result<(), AllocError> {
-    let (inputs, outputs) = (state.inputs.last, state.outputs.last);
-    write!(out, "\n%IW0 {inputs:04x}, %QW0 {outputs:04x}")?;
+fn put_ports(out: &mut Sheet, state: &State) {
+    out.put("\n%IW0 ");
+    out.bits(state.inputs.last);
+    out.put(", %QW0 ");
+    out.bits(state.outputs.last);
     for (number, word) in state.words.iter().enumerate() {
-        let last = word.last;
-        if last != 0 {
-            write!(out, "\n%QD{number} {last}")?;
+        if word.last != 0 {
+            out.put("\n%QD");
+            out.whole(number as u64);
+            out.put(" ");
+            out.signed(word.last);
         }
     }
-    Ok(())
 }
 
 /// Puts what held from one column up to another, for a pointer that is there.
 fn put_reading(
-    out: &mut String,
+    out: &mut Sheet,
     view: &View<'_>,
     first: usize,
     next: usize,
     bottom: u64,
     column: &Column,
-) -> Result<(), AllocError> {
-    let (left, right) = (view.x(first), view.x(next));
-    let (x, width) = (Tenths(left), Tenths(right.saturating_sub(left)));
-    let (y, height) = (Tenths(TOP), Tenths(bottom.saturating_sub(TOP)));
-    write!(
-        out,
-        "<rect x=\"{x}\" y=\"{y}\" width=\"{width}\" height=\"{height}\"><title>"
-    )?;
-    let (from, to) = (Moment(view.moment(first)), Moment(view.moment(next)));
-    write!(out, "{from} to {to}")?;
-    put_weight(out, &view.scale, "gross", column.state.gross)?;
-    put_weight(out, &view.scale, "net", column.state.net)?;
-    put_status(out, &column.state)?;
-    put_ports(out, &column.state)?;
-    out.push_str("</title></rect>\n")
+) {
+    let left = view.x(first);
+    out.after("<rect x=\"", left);
+    out.after("\" y=\"", TOP);
+    out.after("\" width=\"", view.x(next).saturating_sub(left));
+    out.after("\" height=\"", bottom.saturating_sub(TOP));
+    out.put("\"><title>");
+    out.moment(view.moment(first));
+    out.put(" to ");
+    out.moment(view.moment(next));
+    put_weight(out, &view.scale, "gross", column.state.gross);
+    put_weight(out, &view.scale, "net", column.state.net);
+    put_status(out, &column.state);
+    put_ports(out, &column.state);
+    out.put("</title></rect>\n");
 }
 
 /// Puts a reading for each stretch of columns in which the same holds.
-pub(crate) fn put_readings(
-    out: &mut String,
-    view: &View<'_>,
-    bottom: u64,
-) -> Result<(), AllocError> {
-    out.push_str("<g id=\"readings\">\n")?;
+pub(crate) fn put_readings(out: &mut Sheet, view: &View<'_>, bottom: u64) {
+    out.put("<g id=\"readings\">\n");
     let mut first = 0_usize;
     for (index, column) in view.columns.iter().enumerate() {
         let next = index.saturating_add(1);
@@ -99,9 +85,9 @@ pub(crate) fn put_readings(
             None => false,
         };
         if !goes_on {
-            put_reading(out, view, first, next, bottom, column)?;
+            put_reading(out, view, first, next, bottom, column);
             first = next;
         }
     }
-    out.push_str("</g>\n")
+    out.put("</g>\n");
 }

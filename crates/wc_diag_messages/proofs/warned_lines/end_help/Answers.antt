@@ -6,5 +6,5 @@ use Rattle.wc_diag_messages.specs.Plain.{shown_text}
 pub returns : goal.returns
 returns c =
     on_ok_weaker c.end_line.result
-    (λ ended. ended ∙ ap (λ bytes. bytes ++ 10 ∷ []) c.in_ok-say.ensures.all ∙ append_assoc c.args.message.now.bytes.items (shown_text (codes "` says more")) (10 ∷ []))
+    (λ ended. ended ∙ ap (λ bytes. bytes ++ 10 ∷ []) c.in_ok-say.ensures.all ∙ append_assoc c.args.message.now.bytes.items (shown_text (codes "` for more)")) (10 ∷ []))
     c.end_line.ensures

@@ -1,8 +1,8 @@
 use Rattle.std.proofs.Common.{◌∙◌, ap, map}
 use Rattle.wc_text_lines.specs.Words.{marks_of}
-use Rattle.wc_diag_places.proofs.Exchanges.{exchanged_marks, exchanged_twice}
-use Rattle.wc_diag_places.proofs.Stopped.{read_result}
-use Rattle.wc_diag_places.specs.Stopping.{exchanged}
+use Rattle.wc_diag_stops.proofs.Exchanges.{exchanged_marks, exchanged_twice}
+use Rattle.wc_diag_stops.proofs.Stopped.{read_result}
+use Rattle.wc_diag_stops.specs.Stopping.{exchanged}
 use Rattle.wc_diag_places.proofs.spanned_source.read_placed.Goals as goal
 
 pub returns : goal.returns

@@ -5,7 +5,7 @@ use Rattle.wc_cut.proofs.Observed.{always, has_opened, keeps, writes_first, writ
 use Rattle.wc_cut.proofs.cutter.CutterObserverSlotStore.see.Goals as goal
 use Rattle.wc_cut.proofs.cutter.CutterObserverSlotStore.see.Goals.{then-self, else-self+in_ok-put_opening}
 use Rattle.wc_cut.specs.Cuts.{row_written}
-use Rattle.wc_cut.specs.TeeReader.{HasSeenBy}
+use Rattle.wc_cut.specs.KeptRows.{HasSeenBy}
 use Rattle.wc_cut.specs.RowTexts.{row_text}
 use Rattle.wc_cut.specs.declared.cutter.Cutter.{Cutter}
 use Rattle.wc_model.specs.Run.Rows.{LogRow}

@@ -1,0 +1,170 @@
+use crate::members::member_advice;
+use crate::near::{advice_for, label_advice, operator_advice, type_advice, unit_advice};
+use std::alloc::{AllocError, Global};
+use wc_built_in::variable_at;
+use wc_diag_mistakes::{
+    block_of, excerpt, first_word, following, is_near, line_of, prefix, word_before, words_at,
+};
+use wc_diag_stops::RefusalSpan;
+use wc_diag_texts::{Case, Values, text_with};
+use wc_model::is_word;
+
+/// Text that is longer than a name is not printed in an advice.
+const LONGEST_NAME: usize = 32;
+
+/// Bytes as words, if they are no more than a name has.
+fn short_words(text: &[u8]) -> &str {
+    if text.len() > LONGEST_NAME {
+        return "";
+    }
+    str::from_utf8(text).unwrap_or("")
+}
+
+/// The likely operator for one whose letters are exchanged.
+fn exchanged_advice(alloc: Global, word: &[u8]) -> Result<String, AllocError> {
+    let offending = if is_word(b"jmpnc", word) {
+        "JMPCN"
+    } else if is_word(b"calnc", word) {
+        "CALCN"
+    } else {
+        "RETCN"
+    };
+    text_with(alloc, Values::NearOf(offending, "The C comes before the N"))
+}
+
+/// How to set an input that is used as an operator: the instance is the word after it.
+fn setting_advice(alloc: Global, text: &[u8], span: &RefusalSpan) -> Result<String, AllocError> {
+    let input = short_words(excerpt(text, span.start, span.length));
+    let rest = following(text, span.start.saturating_add(span.length));
+    let instance = short_words(first_word(rest));
+    if input.is_empty() || instance.is_empty() {
+        return Ok(String::new(alloc));
+    }
+    text_with(alloc, Values::Setting(input, instance))
+}
+
+/// The likely END_VAR for a word almost like it; empty if the word before is not one.
+fn section_advice(alloc: Global, text: &[u8], span: &RefusalSpan) -> Result<String, AllocError> {
+    let word = word_before(text, span.start);
+    if is_word(b"END_VAR", word) || !is_near(b"END_VAR", word) {
+        return Ok(String::new(alloc));
+    }
+    // The word is on the last line above the token that has more than blanks.
+    let above = prefix(text, span.start).trim_ascii_end();
+    text_with(
+        alloc,
+        Values::NearEnd(short_words(word), line_of(text, above.len())),
+    )
+}
+
+/// Whether an address is one of an output; nothing if it is not one of an input either.
+fn is_output(address: &[u8]) -> Option<bool> {
+    match address.get(1).copied() {
+        Some(b'q' | b'Q') => Some(true),
+        Some(b'i' | b'I') => Some(false),
+        _ => None,
+    }
+}
+
+/// The bits of an area, in words.
+fn bits_of(is_output: bool) -> &'static str {
+    if is_output {
+        "The output bits are %QX0.0 to %QX0.15"
+    } else {
+        "The input bits are %IX0.0 to %IX0.15 and %IX1.0 to %IX1.5"
+    }
+}
+
+/// What is said of a likely address, if it is a valid one; else nothing.
+fn address_advice(alloc: Global, address: &str, is_output: bool) -> Result<String, AllocError> {
+    if variable_at(address.as_bytes()).is_none() {
+        return Ok(String::new(alloc));
+    }
+    text_with(alloc, Values::NearOf(address, bits_of(is_output)))
+}
+
+/// A likely address of one bit for another without the bit; empty if it is not one.
+fn bit_advice(alloc: Global, address: &[u8]) -> Result<String, AllocError> {
+    let Some(is_output) = is_output(address) else {
+        return Ok(String::new(alloc));
+    };
+    let area = if is_output { "Q" } else { "I" };
+    let number = short_words(following(address, 2));
+    let first = format!(in alloc; "%{area}X{number}.0")?;
+    address_advice(alloc, &first, is_output)
+}
+
+/// What to write for a field that a block does not have.
+fn field_advice(alloc: Global, text: &[u8], span: &RefusalSpan) -> Result<String, AllocError> {
+    let block = block_of(text, span);
+    if block.is_empty() {
+        return Ok(String::new(alloc));
+    }
+    let word = offending_at(text, span);
+    let instance = first_word(word);
+    let dot = instance.len().saturating_add(1);
+    let before = excerpt(word, 0, dot);
+    member_advice(
+        alloc,
+        text,
+        block.as_bytes(),
+        before,
+        following(word, dot).trim_ascii(),
+    )
+}
+
+/// What to write for a name in the list of a call that the block does not have.
+fn formal_advice(alloc: Global, text: &[u8], span: &RefusalSpan) -> Result<String, AllocError> {
+    let block = block_of(text, span);
+    if block.is_empty() {
+        return Ok(String::new(alloc));
+    }
+    member_advice(alloc, text, block.as_bytes(), b"", offending_at(text, span))
+}
+
+/// The offending slice, also if it is on a line below.
+fn offending_at<'a>(text: &'a [u8], span: &RefusalSpan) -> &'a [u8] {
+    match span.below {
+        Some(below) => words_at(text, Some(below)).as_bytes(),
+        None => excerpt(text, span.start, span.length),
+    }
+}
+
+/// What to write instead at a token (up to 304), with the available values; empty: nothing beyond the hint.
+fn advice_of_token(
+    alloc: Global,
+    text: &[u8],
+    number: u16,
+    span: &RefusalSpan,
+    mistake: Case,
+) -> Result<String, AllocError> {
+    let word = excerpt(text, span.start, span.length);
+    match (number, mistake) {
+        (201, Case::NoOperator) => operator_advice(alloc, word),
+        (201, Case::NoUnit) => unit_advice(alloc, word),
+        (201, Case::ConditionSpelling) => exchanged_advice(alloc, word),
+        (201, Case::InputOperator) => setting_advice(alloc, text, span),
+        (201, Case::OpenSection) => section_advice(alloc, text, span),
+        (302, Case::Plain) => type_advice(alloc, text, word, span.start),
+        (304, Case::NoSuchBit) => bit_advice(alloc, word),
+        _ => Ok(String::new(alloc)),
+    }
+}
+
+/// What to write instead, with the available values; empty: nothing beyond the hint.
+pub fn advice_at(
+    alloc: Global,
+    text: &[u8],
+    number: u16,
+    span: &RefusalSpan,
+    mistake: Case,
+) -> Result<String, AllocError> {
+    let word = offending_at(text, span);
+    match (number, mistake) {
+        (401, Case::Plain) => advice_for(alloc, text, word, span.start),
+        (401, Case::Field) => field_advice(alloc, text, span),
+        (406, Case::Plain) => label_advice(alloc, text, word, span.start),
+        (409, Case::NotOfBlock(_) | Case::NotOfOwnBlock) => formal_advice(alloc, text, span),
+        _ => advice_of_token(alloc, text, number, span, mistake),
+    }
+}

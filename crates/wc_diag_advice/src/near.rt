@@ -1,0 +1,249 @@
+use memchr::memchr;
+use std::alloc::{AllocError, Global};
+use wc_built_in::{Keyword, keyword_named};
+use wc_diag_mistakes::{first_word, following, is_near, prefix};
+use wc_diag_texts::{Values, text_with};
+
+/// The operators.
+const OPERATORS: [&str; 39] = [
+    "LD",
+    "LDN",
+    "ST",
+    "STN",
+    "S",
+    "R",
+    "AND",
+    "ANDN",
+    "OR",
+    "ORN",
+    "XOR",
+    "XORN",
+    "NOT",
+    "ADD",
+    "SUB",
+    "MUL",
+    "DIV",
+    "MOD",
+    "GT",
+    "GE",
+    "EQ",
+    "NE",
+    "LE",
+    "LT",
+    "JMP",
+    "JMPC",
+    "JMPCN",
+    "CAL",
+    "CALC",
+    "CALCN",
+    "RET",
+    "RETC",
+    "RETCN",
+    "END_PROGRAM",
+    "END_FUNCTION_BLOCK",
+    "END_VAR",
+    "VAR_INPUT",
+    "VAR_OUTPUT",
+    "VAR",
+];
+
+/// The words with which a unit begins.
+const UNIT_WORDS: [&str; 2] = ["PROGRAM", "FUNCTION_BLOCK"];
+
+/// The types of every text.
+const TYPES: [&str; 10] = [
+    "BOOL", "DINT", "TIME", "R_TRIG", "SR", "RS", "CTU", "TON", "TOF", "TP",
+];
+
+/// Which of some words another may be a misspelling of; empty if none is near.
+fn word_advice(alloc: Global, words: &[&'static str], word: &[u8]) -> Result<String, AllocError> {
+    for offending in words {
+        if is_near(offending.as_bytes(), word) {
+            return text_with(alloc, Values::Near(offending));
+        }
+    }
+    Ok(String::new(alloc))
+}
+
+/// Which operator or keyword a word that begins a line, and is neither, may be a misspelling of.
+pub(crate) fn operator_advice(alloc: Global, word: &[u8]) -> Result<String, AllocError> {
+    word_advice(alloc, &OPERATORS, word)
+}
+
+/// Which keyword a word that begins no unit may be a misspelling of.
+pub(crate) fn unit_advice(alloc: Global, word: &[u8]) -> Result<String, AllocError> {
+    word_advice(alloc, &UNIT_WORDS, word)
+}
+
+/// Whether a line begins with a word, in letters of either case.
+fn begins(line: &[u8], word: &[u8]) -> bool {
+    prefix(line, word.len()).eq_ignore_ascii_case(word)
+}
+
+/// The keyword with which a line begins, and what follows it.
+pub(crate) fn keyword_on(line: &[u8]) -> (Option<Keyword>, &[u8]) {
+    if !(begins(line, b"PROGRAM") || begins(line, b"FUNCTION_BLOCK") || begins(line, b"VAR")) {
+        return (None, line);
+    }
+    let word = line
+        .split(|byte| byte.is_ascii_whitespace())
+        .next()
+        .unwrap_or(b"");
+    match keyword_named(word) {
+        Some(keyword) => (Some(keyword), following(line, word.len())),
+        None => (None, line),
+    }
+}
+
+/// Whether a section of declarations ends at the end of a line.
+pub(crate) fn ends_section(line: &[u8]) -> bool {
+    following(line, line.len().saturating_sub(7)).eq_ignore_ascii_case(b"END_VAR")
+}
+
+/// The name among those before a type that is spelled almost as this one; empty if none is.
+fn near_in_declaration<'a>(declaration: &'a [u8], name: &[u8]) -> &'a [u8] {
+    let Some(colon) = memchr(b':', declaration) else {
+        return b"";
+    };
+    for declared in prefix(declaration, colon).split(|byte| *byte == b',') {
+        let declared = declared.trim_ascii();
+        if is_near(declared, name) {
+            return declared;
+        }
+    }
+    b""
+}
+
+/// Likewise among the declarations of a line.
+fn near_on_line<'a>(line: &'a [u8], name: &[u8]) -> &'a [u8] {
+    for declaration in line.split(|byte| *byte == b';') {
+        let near = near_in_declaration(declaration, name);
+        if !near.is_empty() {
+            return near;
+        }
+    }
+    b""
+}
+
+/// The name that the unit around a place declares and that is spelled almost as this one. The lines are passed
+/// upwards from the place, so that a text of many units costs no more than the last of them.
+fn near_name<'a>(text: &'a [u8], name: &[u8], place: usize) -> &'a [u8] {
+    let mut in_section = false;
+    for line in prefix(text, place).rsplit(|byte| *byte == b'\n') {
+        let line = line.trim_ascii();
+        let (keyword, names) = keyword_on(line);
+        if matches!(keyword, Some(Keyword::UnitStart(_))) {
+            return b"";
+        }
+        in_section |= ends_section(line);
+        if in_section {
+            let near = near_on_line(names, name);
+            if !near.is_empty() {
+                return near;
+            }
+        }
+        in_section &= !matches!(keyword, Some(Keyword::SectionStart(_)));
+    }
+    b""
+}
+
+/// What a name that is not declared may be a misspelling of; empty if no name is near.
+pub(crate) fn advice_for(
+    alloc: Global,
+    text: &[u8],
+    name: &[u8],
+    place: usize,
+) -> Result<String, AllocError> {
+    let near = str::from_utf8(near_name(text, name, place)).unwrap_or("");
+    if near.is_empty() {
+        return Ok(String::new(alloc));
+    }
+    text_with(alloc, Values::Near(near))
+}
+
+/// Whether a word is in a text, in letters of either case.
+fn has_word(text: &[u8], word: &[u8]) -> bool {
+    text.split(|byte| !(byte.is_ascii_alphanumeric() || *byte == b'_'))
+        .any(|other| other.eq_ignore_ascii_case(word))
+}
+
+/// Which variable of the program a watched name may be a misspelling of; empty if no name is near, or if the word before its first
+/// point is in the program.
+pub fn watched_advice(alloc: Global, program: &[u8], name: &[u8]) -> Result<String, AllocError> {
+    let word = first_word(name);
+    if has_word(program, word) {
+        return Ok(String::new(alloc));
+    }
+    let near = str::from_utf8(near_name(program, word, program.len())).unwrap_or("");
+    if near.is_empty() {
+        return Ok(String::new(alloc));
+    }
+    let (_, rest) = name.split_at(word.len().min(name.len()));
+    let full = format!(in alloc; "{near}{}", str::from_utf8(rest).unwrap_or(""))?;
+    text_with(alloc, Values::Near(&full))
+}
+
+/// The label of a line that is spelled almost as this one; empty if it has none.
+fn near_label_on<'a>(line: &'a [u8], name: &[u8]) -> &'a [u8] {
+    let label = first_word(line);
+    let rest = following(line.trim_ascii_start(), label.len()).trim_ascii_start();
+    if rest.first() == Some(&b':') && is_near(label, name) {
+        return label;
+    }
+    b""
+}
+
+/// The label below a place, in the same unit, that is spelled almost as this one; empty if none is.
+fn near_label<'a>(text: &'a [u8], name: &[u8], place: usize) -> &'a [u8] {
+    for line in following(text, place).split(|byte| *byte == b'\n') {
+        if matches!(keyword_named(first_word(line)), Some(Keyword::UnitEnd(_))) {
+            return b"";
+        }
+        let near = near_label_on(line, name);
+        if !near.is_empty() {
+            return near;
+        }
+    }
+    b""
+}
+
+/// What to write for a label that no line of the body has: a near one, or a line of its own.
+pub(crate) fn label_advice(
+    alloc: Global,
+    text: &[u8],
+    name: &[u8],
+    place: usize,
+) -> Result<String, AllocError> {
+    match str::from_utf8(near_label(text, name, place)) {
+        Ok(near) if !near.is_empty() => text_with(alloc, Values::Near(near)),
+        _ => text_with(
+            alloc,
+            Values::NewLabel(str::from_utf8(name).unwrap_or("label")),
+        ),
+    }
+}
+
+/// The function block above a place whose name is spelled almost as this one; empty if none is.
+fn near_block<'a>(text: &'a [u8], name: &[u8], place: usize) -> &'a [u8] {
+    for line in prefix(text, place).split(|byte| *byte == b'\n') {
+        let (keyword, rest) = keyword_on(line.trim_ascii());
+        let block = first_word(rest);
+        if matches!(keyword, Some(Keyword::UnitStart(_))) && is_near(block, name) {
+            return block;
+        }
+    }
+    b""
+}
+
+/// Which type a name that is not a type may be a misspelling of; empty if none is near.
+pub(crate) fn type_advice(
+    alloc: Global,
+    text: &[u8],
+    name: &[u8],
+    place: usize,
+) -> Result<String, AllocError> {
+    match str::from_utf8(near_block(text, name, place)) {
+        Ok(near) if !near.is_empty() => text_with(alloc, Values::Near(near)),
+        _ => word_advice(alloc, &TYPES, name),
+    }
+}

@@ -1,0 +1,16 @@
+//! Which mistake a refusal of a program text shows: words of other languages and systems, slips of writing, types and names
+//! that do not match. It works on the text and on the slice that a pass refuses.
+#![tactic(auto)]
+
+mod differences;
+mod excerpts;
+mod mistakes;
+mod slices;
+mod types;
+mod words;
+
+pub use differences::{block_of, difference_said, names_operator, words_at};
+pub use excerpts::{BYTE_ORDER_MARK, case_of_excerpt};
+pub use mistakes::{mistake_at, names_type};
+pub use slices::{excerpt, following, line_of, prefix};
+pub use words::{first_word, is_near, word_before};

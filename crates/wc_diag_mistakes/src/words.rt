@@ -1,0 +1,73 @@
+use crate::slices::{following, prefix};
+
+/// The number of letters, digits and underscores at the end of a text.
+pub(crate) fn letters_at_end(text: &[u8]) -> usize {
+    for count in 0..text.len() {
+        let byte = text[text.len() - count - 1];
+        if !byte.is_ascii_alphanumeric() && byte != b'_' {
+            return count;
+        }
+    }
+    text.len()
+}
+
+/// The word that ends right before a place, blanks apart; empty if there is none.
+pub fn word_before(text: &[u8], start: usize) -> &[u8] {
+    let above = prefix(text, start).trim_ascii_end();
+    following(above, above.len().saturating_sub(letters_at_end(above)))
+}
+
+/// Whether two bytes are there and are the same letters.
+fn are_alike(a: Option<u8>, b: Option<u8>) -> bool {
+    match (a, b) {
+        (Some(a), Some(b)) => a.eq_ignore_ascii_case(&b),
+        _ => false,
+    }
+}
+
+/// The byte before that number of bytes at the end of a text.
+fn byte_from_end(text: &[u8], count: usize) -> Option<u8> {
+    text.get(text.len().checked_sub(count.saturating_add(1))?)
+        .copied()
+}
+
+/// The number of bytes at the start of both that are the same letters.
+fn same_prefix(a: &[u8], b: &[u8]) -> usize {
+    for count in 0..a.len() {
+        if !are_alike(a.get(count).copied(), b.get(count).copied()) {
+            return count;
+        }
+    }
+    a.len()
+}
+
+/// The number of bytes at the end of both that are the same letters.
+fn same_end(a: &[u8], b: &[u8]) -> usize {
+    for count in 0..a.len() {
+        if !are_alike(byte_from_end(a, count), byte_from_end(b, count)) {
+            return count;
+        }
+    }
+    a.len()
+}
+
+/// Whether two names differ by one letter, more, less or other, or by two that are exchanged.
+pub fn is_near(a: &[u8], b: &[u8]) -> bool {
+    let (shorter, longer) = (a.len().min(b.len()), a.len().max(b.len()));
+    let same = same_prefix(a, b)
+        .saturating_add(same_end(a, b))
+        .min(shorter);
+    let differ = longer.saturating_sub(same);
+    shorter > 1 && (differ <= 1 || differ == 2 && a.len() == b.len())
+}
+
+/// The first word of some bytes.
+pub fn first_word(text: &[u8]) -> &[u8] {
+    let text = text.trim_ascii_start();
+    for count in 0..text.len() {
+        if !text[count].is_ascii_alphanumeric() && text[count] != b'_' {
+            return prefix(text, count);
+        }
+    }
+    text
+}

@@ -1,0 +1,4 @@
+pub mod Exchanges
+mod ListedTokens
+pub mod StopSteps
+pub mod Stopped

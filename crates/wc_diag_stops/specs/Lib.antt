@@ -1,0 +1,4 @@
+pub mod Allowed
+pub mod Listed
+pub mod ReadingTextSpans
+pub mod Stopping

@@ -1,0 +1,246 @@
+ghost use Rattle.std.specs.Prelude.{◌≡◌, ◌==◌, ◌≤◌, ◌<◌, [], IfNone, IfSome, find, length, map, nat_lt};
+ghost use Rattle.std.specs.List.{prefix_len};
+ghost use Rattle.std.specs.Option.{option_copied};
+ghost use Rattle.wc_laws_grammar.specs.Moves.{at_first};
+ghost use Rattle.wc_lexer.specs.Views.{token_view};
+ghost use Rattle.wc_text_lines.specs.Words.{marks_of};
+ghost use Rattle.wc_model.specs.Text.Reading.{last_line};
+ghost use Rattle.wc_model.specs.Text.Tokens.{IsCut, most_bytes};
+ghost use Rattle.wc_reader.specs.TextViews.{IsStateCounted, reading_view};
+ghost use Rattle.wc_text_short_lines.specs.Walks.{walk};
+ghost use Rattle.wc_diag_stops.specs.Allowed.{allowed_with};
+ghost use Rattle.wc_diag_stops.specs.ReadingTextSpans.{IsReadByPlaces, StopsReading, length_of, line_of, offending_at, start_of, token_at, token_before, word_or_token};
+ghost use Rattle.wc_diag_stops.specs.Stopping.{IsAllowedAs, IsExcerptAt, IsStopAt, ReadsText, ReportsRaised};
+
+use crate::expected::expected_at;
+use crate::places::exchange;
+use crate::span::RefusalSpan;
+use std::alloc::Global;
+use wc_diag_texts::Expected;
+use wc_lexer::{Token, tokens_or_stop};
+use wc_model::Fault;
+use wc_reader::{Reading, at_text_end, last_line, read_at, reading_start, take_lines};
+
+/// A fault that is found, and what could be there.
+#[derive(Clone, Copy)]
+struct RaisedFault {
+    fault: Fault,
+    expected: Expected,
+}
+
+/// What is found at the end of the tokens; nothing if the text is read.
+fn raised_at_end<'a>(alloc: Global, reading: &mut Reading<'a>, last: u32) -> Option<RaisedFault>
+    ensures read { IfNone result (ReadsText (walk (reading_view reading.old) [] last)) }
+    ensures stopped { IfSome result
+        (λ raised. ReportsRaised (walk
+        (reading_view reading.old) [] last) raised.fault raised.expected) }
+    // It takes no memory, so a refusal is not reported as out of memory.
+    ensures refuses { IfSome result (λ raised. raised.fault ≡ Fault.Memory → ⊥) }
+{
+    let expected = expected_at(reading);
+    match at_text_end(alloc, reading, last) {
+        Ok(_) => None,
+        Err(fault) => Some(RaisedFault { fault, expected }),
+    }
+}
+
+/// Where the reading of these tokens stops; nothing if they are read. As the reader does, it takes
+/// short lines in one step: there is no fault in them.
+fn raised_on<'a>(
+    alloc: Global,
+    reading: &mut Reading<'a>,
+    tokens: &[Token<'a>],
+    last: u32,
+) -> Option<RaisedFault>
+    requires { IsStateCounted reading.old.state }
+    ensures read { IfNone result
+        (ReadsText (walk (reading_view reading.old) (marks_of tokens.now) last)) }
+    ensures stopped { IfSome result
+        (λ raised.
+        ReportsRaised (walk (reading_view reading.old) (marks_of tokens.now) last) raised.fault
+        raised.expected) }
+    // At the end no memory is taken.
+    ensures capacity { IfSome result (λ raised. raised.fault ≡ Fault.Memory
+        → 0 < length tokens.now) }
+{
+    let mut place = 0;
+    while place < tokens.len() {
+        let expected = expected_at(reading);
+        if let Err(fault) = read_at(alloc, reading, tokens, place) {
+            return Some(RaisedFault { fault, expected });
+        }
+        place = match take_lines(alloc, reading, tokens, place + 1) {
+            Ok(next) => next,
+            Err(_) => {
+                return Some(RaisedFault {
+                    fault: Fault::Memory,
+                    expected,
+                });
+            }
+        };
+    }
+    raised_at_end(alloc, reading, last)
+}
+
+/// Where the reading of these tokens stops from the start of a text; nothing if they are read.
+fn raised_in<'a>(alloc: Global, tokens: &[Token<'a>], last: u32) -> Option<RaisedFault>
+    ensures read { IfNone result (ReadsText (walk at_first (marks_of tokens.now) last)) }
+    ensures stopped { IfSome result
+        (λ raised. ReportsRaised (walk at_first
+        (marks_of tokens.now) last) raised.fault raised.expected) }
+    ensures capacity { IfSome result (λ raised. raised.fault ≡ Fault.Memory
+        → 0 < length tokens.now) }
+{
+    let mut reading = reading_start(alloc);
+    raised_on(alloc, &mut reading, tokens, last)
+}
+
+/// The token that starts at a byte.
+fn token_at<'a, 't>(tokens: &'t [Token<'a>], start: u32) -> Option<&'t Token<'a>>
+    ensures { option_copied result ≡ token_at tokens.now start }
+{
+    tokens.iter().find(|token| token.start == start)
+}
+
+/// What could be there is reported if a token is unexpected.
+fn reported_expected(number: u16, expected: Expected) -> Expected
+    ensures { result ≡ allowed_with number expected }
+{
+    match number {
+        201 => expected,
+        _ => Expected::Nothing,
+    }
+}
+
+/// The number of tokens before a byte.
+fn count_before(tokens: &[Token<'_>], start: u32) -> usize
+    ensures { result ≡ prefix_len (λ token. nat_lt token.start start) tokens.now }
+{
+    tokens
+        .iter()
+        .take_while(|token| token.start < start)
+        .count()
+}
+
+/// The last token before a byte.
+fn token_before<'a, 't>(tokens: &'t [Token<'a>], start: u32) -> Option<&'t Token<'a>>
+    ensures { option_copied result ≡ token_before tokens.now start }
+{
+    tokens.get(count_before(tokens, start).saturating_sub(1))
+}
+
+/// A word, if the token after it is on its line; else that token.
+fn word_or_token<'a, 't>(
+    word: Option<&'t Token<'a>>,
+    token: Option<&'t Token<'a>>,
+) -> Option<&'t Token<'a>>
+    ensures { option_copied result
+        ≡ word_or_token (option_copied word.entry) (option_copied token.entry) }
+{
+    match (word, token) {
+        (Some(word), Some(token)) if word.line == token.line => Some(word),
+        (_, token) => token,
+    }
+}
+
+/// The offending token if one is found at a byte.
+fn offending_at<'a, 't>(
+    tokens: &'t [Token<'a>],
+    place: u32,
+    expected: Expected,
+) -> Option<&'t Token<'a>>
+    ensures { option_copied result ≡ offending_at tokens.now place expected }
+{
+    match expected {
+        Expected::LabelColon => word_or_token(token_before(tokens, place), token_at(tokens, place)),
+        _ => token_at(tokens, place),
+    }
+}
+
+/// The line of the token that starts at a byte; if there is none, the last line.
+fn line_at(text: &[u8], tokens: &[Token<'_>], place: u32) -> u32
+    requires { length text.now ≤ most_bytes }
+    ensures { result ≡ line_of (token_at tokens.now place) (last_line text.now) }
+{
+    match token_at(tokens, place) {
+        Some(token) => token.line,
+        None => last_line(text),
+    }
+}
+
+/// Where the offending slice starts, and its number of bytes.
+fn excerpt_of(text: &[u8], offending: Option<&Token<'_>>) -> (usize, usize)
+    ensures start { result.0 ≡ start_of (option_copied offending.entry) (length text.now) }
+    ensures length { result.1 ≡ length_of (option_copied offending.entry) }
+{
+    match offending {
+        Some(token) => (token.start as usize, token.text.len()),
+        None => (text.len(), 0),
+    }
+}
+
+/// The fault of that number at that place, with its line and its slice.
+fn stop_at(
+    text: &[u8],
+    tokens: &[Token<'_>],
+    number: u16,
+    place: u32,
+    expected: Expected,
+) -> RefusalSpan
+    requires { length text.now ≤ most_bytes }
+    ensures { IsExcerptAt text.now tokens.now number place expected result }
+{
+    let expected = reported_expected(number, expected);
+    let (start, length) = excerpt_of(text, offending_at(tokens, place, expected));
+    let place = line_at(text, tokens, place);
+    RefusalSpan {
+        expected,
+        ..RefusalSpan::new(Fault::Refused { number, place }, start, length)
+    }
+}
+
+/// What is found in these tokens, with its line and its slice.
+fn stop_raised(text: &[u8], tokens: &[Token<'_>], raised: RaisedFault) -> RefusalSpan
+    requires { length text.now ≤ most_bytes }
+    ensures { IsStopAt text.now tokens.now raised.fault raised.expected result }
+{
+    match raised.fault {
+        Fault::Refused { number, place } => stop_at(text, tokens, number, place, raised.expected),
+        Fault::Memory => RefusalSpan::new(Fault::Memory, 0, 0),
+    }
+}
+
+/// Where the reading of a text with these tokens stops; nothing if it is read.
+fn stop_in(alloc: Global, text: &[u8], tokens: &mut [Token<'_>]) -> Option<RefusalSpan>
+    requires short { length text.now ≤ most_bytes }
+    requires cut { IsCut text.now (map token_view tokens.old) }
+    ensures stopped { IfSome result
+        (λ stop. StopsReading text.now stop.fault stop.start stop.length stop.expected) }
+    ensures allowed { IfSome result (λ stop. IsAllowedAs stop.fault stop.expected) }
+    ensures read { IfNone result (IsReadByPlaces text.now) }
+{
+    exchange(tokens);
+    let raised = raised_in(alloc, tokens, text.len() as u32);
+    exchange(tokens);
+    match raised {
+        Some(raised) => Some(stop_raised(text, tokens, raised)),
+        None => None,
+    }
+}
+
+/// Where the reading of a text stops, and what could be there; nothing if it is read. It is the
+/// same pass as that of `read`, over tokens that have their places for their lines.
+pub fn stop_of(alloc: Global, text: &[u8]) -> Option<RefusalSpan>
+    ensures stopped { IfSome result
+        (λ stop. StopsReading text.now stop.fault stop.start stop.length stop.expected) }
+    ensures allowed { IfSome result (λ stop. IsAllowedAs stop.fault stop.expected) }
+    ensures read { IfNone result (IsReadByPlaces text.now) }
+{
+    match tokens_or_stop(alloc, text) {
+        Ok(tokens) => {
+            let mut tokens = tokens;
+            stop_in(alloc, text, &mut tokens)
+        }
+        Err(stop) => Some(RefusalSpan::new(stop.fault, stop.start as usize, stop.length as usize)),
+    }
+}
