@@ -220,16 +220,16 @@ narbeddo_scanned narbeddo_scan(narbeddo_scale *scale, uint64_t moment);
 /*@ requires narbeddo_is_scale(scale);
     assigns \result \from *scale;
     ensures ShowsNothing: \result.status == NARBEDDO_DONE || \result.status == NARBEDDO_CLOSED && \result.flags == 0;
-    ensures TellsReading: \result.flags <= 63;
-    ensures TellsReading: (\result.flags & NARBEDDO_VALID) == 0 ==> (\forall integer i; 0 <= i < 3 ==> \result.weights[i] == 0); */
+    ensures ReportsReading: \result.flags <= 63;
+    ensures ReportsReading: (\result.flags & NARBEDDO_VALID) == 0 ==> (\forall integer i; 0 <= i < 3 ==> \result.weights[i] == 0); */
 narbeddo_reading narbeddo_read(narbeddo_scale *scale);
 
 /* What is engraved on the scale. */
 /*@ requires narbeddo_is_scale(scale);
     assigns \result \from *scale;
-    ensures TellsEngraved: \result.status == NARBEDDO_DONE && 1 <= \result.e <= 50 && 500 * \result.e <= \result.max <= 10000 * \result.e
+    ensures ReportsEngraved: \result.status == NARBEDDO_DONE && 1 <= \result.e <= 50 && 500 * \result.e <= \result.max <= 10000 * \result.e
         || \result.status == NARBEDDO_CLOSED && \result.e == 0 && \result.max == 0;
-    ensures TellsEngraved: 0 <= \result.decimals <= 3; */
+    ensures ReportsEngraved: 0 <= \result.decimals <= 3; */
 narbeddo_engraved narbeddo_plate(narbeddo_scale *scale);
 
 /* The value of a variable of the program. */
@@ -250,7 +250,7 @@ typedef struct narbeddo_variable {
     ensures RefusesValue: \result.status == NARBEDDO_DONE || \result.status == NARBEDDO_NO_MEMORY || \result.status == NARBEDDO_CLOSED
         || \result.status == NARBEDDO_NO_PROGRAM || \result.status == NARBEDDO_NO_VARIABLE;
     ensures RefusesValue: \result.status != NARBEDDO_DONE ==> \result.kind == 0 && \result.number == 0;
-    ensures TellsValue: \result.status == NARBEDDO_DONE ==> NARBEDDO_BOOL <= \result.kind <= NARBEDDO_TIME; */
+    ensures ReportsValue: \result.status == NARBEDDO_DONE ==> NARBEDDO_BOOL <= \result.kind <= NARBEDDO_TIME; */
 narbeddo_variable narbeddo_value(narbeddo_scale *scale, const uint8_t *name, size_t length);
 
 /* What brings a new scale of the same plate to the state of this one, but for its program. Give that scale, in this order, and drop its answers:
@@ -280,8 +280,8 @@ typedef struct narbeddo_state {
     assigns \result \from *scale;
     ensures HoldsNothing: \result.status == NARBEDDO_DONE
         || \result.status == NARBEDDO_CLOSED && \result.window == 0 && \result.count == 0 && \result.length == 0;
-    ensures TellsPrelude: \result.window <= 16 && \result.count <= \result.window && \result.length <= 3;
-    ensures TellsPrelude: \result.length != 0 ==> \result.request[0] == 10; */
+    ensures ReportsPrelude: \result.window <= 16 && \result.count <= \result.window && \result.length <= 3;
+    ensures ReportsPrelude: \result.length != 0 ==> \result.request[0] == 10; */
 narbeddo_state narbeddo_prelude(narbeddo_scale *scale);
 
 /* Your program defines these three functions over its allocator (examples/embedded/memory.c has them over malloc). The library calls them, in
@@ -309,7 +309,7 @@ typedef struct narbeddo_unit {
 /*@ requires narbeddo_is_text(text, length);
     assigns \result \from text[0 .. length - 1], unit;
     ensures IsUnitStatus: \result.text.status <= NARBEDDO_NO_MEMORY || \result.text.status == NARBEDDO_NO_UNIT;
-    ensures TellsUnit: \result.text.status == NARBEDDO_DONE ==>
+    ensures ReportsUnit: \result.text.status == NARBEDDO_DONE ==>
         unit < \result.units <= 64 && \result.bound <= 1000000 && \result.length <= 32; */
 narbeddo_unit narbeddo_about(const uint8_t *text, size_t length, uint32_t unit);
 
@@ -324,8 +324,8 @@ typedef struct narbeddo_lines {
     requires \separated(room + (0 .. room_length - 1), text + (0 .. length - 1));
     assigns room[0 .. room_length - 1], \result \from text[0 .. length - 1], unit, room_length;
     ensures IsPathStatus: \result.text.status <= NARBEDDO_NO_MEMORY || \result.text.status == NARBEDDO_NO_UNIT || \result.text.status == NARBEDDO_NO_ROOM;
-    ensures TellsPath: \result.text.status == NARBEDDO_DONE ==> \result.length <= room_length && \result.length <= 1024;
-    ensures TellsNoRoom: \result.text.status == NARBEDDO_NO_ROOM ==> room_length < \result.length <= 1024; */
+    ensures ReportsPath: \result.text.status == NARBEDDO_DONE ==> \result.length <= room_length && \result.length <= 1024;
+    ensures ReportsTooSmall: \result.text.status == NARBEDDO_NO_ROOM ==> room_length < \result.length <= 1024; */
 narbeddo_lines narbeddo_path(const uint8_t *text, size_t length, uint32_t unit, uint32_t *room, size_t room_length);
 
 #ifdef __cplusplus

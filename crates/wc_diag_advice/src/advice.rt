@@ -22,14 +22,14 @@ fn short_words(text: &[u8]) -> &str {
 
 /// The likely operator for one whose letters are exchanged.
 fn exchanged_advice(alloc: Global, word: &[u8]) -> Result<String, AllocError> {
-    let offending = if is_word(b"jmpnc", word) {
+    let likely = if is_word(b"jmpnc", word) {
         "JMPCN"
     } else if is_word(b"calnc", word) {
         "CALCN"
     } else {
         "RETCN"
     };
-    text_with(alloc, Values::NearOf(offending, "The C comes before the N"))
+    text_with(alloc, Values::NearOf(likely, "The C comes before the N"))
 }
 
 /// How to set an input that is used as an operator: the instance is the word after it.

@@ -169,8 +169,8 @@ fn near_advice(
     near: &str,
 ) -> Result<String, AllocError> {
     let instance = str::from_utf8(instance).unwrap_or("");
-    let offending = format!(in alloc; "{instance}{near}")?;
-    text_with(alloc, Values::NearOf(&offending, members_said(block)))
+    let likely = format!(in alloc; "{instance}{near}")?;
+    text_with(alloc, Values::NearOf(&likely, members_said(block)))
 }
 
 /// What to write for a name that a standard block does not have.

@@ -57,9 +57,9 @@ const TYPES: [&str; 10] = [
 
 /// Which of some words another may be a misspelling of; empty if none is near.
 fn word_advice(alloc: Global, words: &[&'static str], word: &[u8]) -> Result<String, AllocError> {
-    for offending in words {
-        if is_near(offending.as_bytes(), word) {
-            return text_with(alloc, Values::Near(offending));
+    for other in words {
+        if is_near(other.as_bytes(), word) {
+            return text_with(alloc, Values::Near(other));
         }
     }
     Ok(String::new(alloc))

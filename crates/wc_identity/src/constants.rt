@@ -7,7 +7,7 @@ macro_rules! with_constants {
             "0.1.0",
             "rattle-kit-13 logic dac8208d650f15bf",
             "15fd1b5e08def123242c3e4d7ab587eb5a6a5336a4f7dfed8e97063787f50175",
-            "9cb620bb82557fed51f9e1ab5f4dd6b76206d23d7b9d1b6b95e8882492eb4641"
+            "6ce3da603ab010bb287f7a40583c8503777b1f848274b11df380c070bd0da8d6"
         )
     };
 }
