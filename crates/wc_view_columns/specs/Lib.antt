@@ -2,3 +2,4 @@ pub mod Spans
 pub mod Held
 pub mod Happened
 pub mod Columns
+pub mod Followed

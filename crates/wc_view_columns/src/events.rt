@@ -1,6 +1,8 @@
-ghost use Rattle.std.specs.Prelude.{◌≡◌, ◌+◌, max};
+ghost use Rattle.std.specs.Prelude.{◌≡◌, ◌+◌, [], ◌∷◌, ◌++◌, List, max};
 ghost use Rattle.std.specs.Option.{option_or};
+ghost use Rattle.wc_view_columns.specs.Followed.{AreCounted, IsMarked, is_refusal, is_refused};
 ghost use Rattle.wc_view_columns.specs.Happened.{AreBoth, counted};
+ghost use Rattle.wc_view_columns.specs.declared.events.Request.{Request};
 
 use wc_sma::{Command, Status};
 use wc_view_decode::Answer;
@@ -15,13 +17,24 @@ pub struct Request {
     pub answer: Option<Answer>,
 }
 
-/// Whether an answer says that its command was refused.
-fn is_refusal(answer: Option<Answer>) -> bool {
-    match answer {
-        Some(Answer::Weight(reading)) => {
-            matches!(reading.status, Status::ZeroRefused | Status::TareRefused)
-        }
+/// Whether a status says that the command of its answer was refused.
+fn is_refused(status: Status) -> bool
+    ensures { result ≡ is_refused status }
+{
+    match status {
+        Status::ZeroRefused | Status::TareRefused => true,
         _ => false,
+    }
+}
+
+/// Whether an answer says that its command was refused.
+fn is_refusal(answer: Option<Answer>) -> bool
+    ensures { result ≡ is_refusal answer }
+{
+    match answer {
+        Some(Answer::Weight(reading)) => is_refused(reading.status),
+        Some(Answer::NotUnderstood) => false,
+        None => false,
     }
 }
 
@@ -55,7 +68,7 @@ impl Events {
     /// Nothing.
     pub fn none() -> Events
         ensures steps { result.steps ≡ 0 }
-        ensures requests { result.requests ≡ 0 }
+        ensures counts { AreCounted [] result }
     {
         Events {
             zeros: 0,
@@ -101,7 +114,8 @@ impl Events {
 
     /// One more request.
     pub(crate) fn request(&mut self, request: Request)
-        ensures count { self.new.requests ≡ counted (self.old.requests + 1) }
+        ensures counts { (requests : List Request) → AreCounted requests self.old
+            → AreCounted (requests ++ (request ∷ [])) self.new }
     {
         self.mark(request);
         self.requests = self.requests.saturating_add(1);
@@ -110,7 +124,7 @@ impl Events {
 
     /// Counts what a request did.
     fn mark(&mut self, request: Request)
-        ensures requests { self.new.requests ≡ self.old.requests }
+        ensures { IsMarked request.command (is_refusal request.answer) self.old self.new }
     {
         match (request.command, is_refusal(request.answer)) {
             (Command::Zero, true) => self.zeros_refused = self.zeros_refused.saturating_add(1),

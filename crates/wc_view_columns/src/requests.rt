@@ -1,16 +1,32 @@
-ghost use Rattle.std.specs.Prelude.{◌≡◌, ◌+◌, ◌^◌, ◌<◌, ℕ, List, [], ◌∷◌, ◌++◌, length};
-ghost use Rattle.wc_view_columns.specs.Happened.{counted};
+ghost use Rattle.std.specs.Prelude.{◌≡◌, ◌+◌, ◌≤◌, ℕ, List, [], ◌∷◌, ◌++◌, drop, length};
 ghost use Rattle.wc_model.specs.Instrument.Requests.{requests_in};
 ghost use Rattle.wc_sma.specs.Representation.{HasRead};
+ghost use Rattle.wc_view_columns.specs.Followed.{HasFollowed, after_answer};
+ghost use Rattle.wc_view_decode.specs.Found.{IsFirstAnswer};
 
 use crate::events::{Events, Request};
 use wc_sma::RequestReader;
-use wc_view_decode::{answer_length, first_answer};
+use wc_view_decode::{Answer, answer_length, first_answer};
 
 /// Follows the bytes of the line: which requests they complete, and how each was answered.
 #[derive(Clone, Copy)]
 pub struct Tracker {
     requests: RequestReader,
+}
+
+/// The answer that comes first from a place on, if one can be read, and the place after it.
+fn answer_at(answers: &[u8], at: usize) -> (Option<Answer>, usize)
+    requires within { at ≤ length answers.now }
+    ensures answer { IsFirstAnswer result.0 (drop at answers.now) }
+    ensures left { drop result.1 answers.now ≡ after_answer result.0 (drop at answers.now) }
+    ensures within { result.1 ≤ length answers.now }
+{
+    let answer = first_answer(&answers[at..]);
+    let left = match &answer {
+        Some(answer) => at + answer_length(answer),
+        None => at,
+    };
+    (answer, left)
 }
 
 impl Tracker {
@@ -25,22 +41,21 @@ impl Tracker {
 
     /// Takes a byte, and adds the request that it completes, with the answer at that place.
     fn take(&mut self, ms: u64, byte: u8, answers: &[u8], at: &mut usize, events: &mut Events)
+        requires within { at.old ≤ length answers.now }
         ensures read { (before : List ℕ) → HasRead self.old.requests before
             → HasRead self.new.requests (before ++ (byte ∷ [])) }
-        ensures count { (before : List ℕ) → HasRead self.old.requests before
-            → events.old.requests < 2 ^ 32 → events.new.requests
-            ≡ counted (events.old.requests + length (requests_in before (byte ∷ []))) }
+        ensures followed { (before : List ℕ) (texts : List (List ℕ))
+            → HasRead self.old.requests before
+            → HasFollowed ms texts answers.now at.old events.old
+            → HasFollowed ms (texts ++ requests_in before (byte ∷ [])) answers.now at.new
+            events.new }
+        ensures within { at.new ≤ length answers.now }
     {
         let Some(command) = self.requests.take(byte) else {
             return;
         };
-        let answer = match answers.get(*at..) {
-            Some(rest) => first_answer(rest),
-            None => None,
-        };
-        if let Some(answer) = &answer {
-            *at = at.saturating_add(answer_length(answer));
-        }
+        let (answer, left) = answer_at(answers, *at);
+        *at = left;
         events.request(Request {
             ms,
             command,
@@ -52,8 +67,8 @@ impl Tracker {
     pub fn follow(&mut self, ms: u64, bytes: &[u8], answers: &[u8]) -> Events
         ensures read { (before : List ℕ) → HasRead self.old.requests before
             → HasRead self.new.requests (before ++ bytes.now) }
-        ensures count { (before : List ℕ) → HasRead self.old.requests before
-            → result.requests ≡ counted (length (requests_in before bytes.now)) }
+        ensures followed { (before : List ℕ) → HasRead self.old.requests before
+            → (at : ℕ) × HasFollowed ms (requests_in before bytes.now) answers.now at result }
     {
         let mut events = Events::none();
         let mut at = 0_usize;
