@@ -58,13 +58,7 @@ at_more : (ms : ℕ) (requests : List Request) (r : Request) → AreAt ms reques
 at_more ms [] r are is = (is, tt)
 at_more ms (q ∷ requests) r are is = (are.0, at_more ms requests r are.1 is)
 
--- no request is completed
-pub none_followed : (ms : ℕ) (texts more : List (List ℕ)) (answers : List ℕ) (at : ℕ) (events : Events) → HasFollowed ms texts answers at events
-    → option_to_list (option_map command_view None) ≡ map command_of more → HasFollowed ms (texts ++ more) answers at events
-none_followed ms texts [] answers at events so none = subst (λ t. HasFollowed ms t answers at events) (sym (append-nil texts)) so
-none_followed ms texts (text ∷ more) answers at events so none = absurd (cc (none))
-
--- one is
+-- a request is completed
 pub one_followed : (ms : ℕ) (texts more : List (List ℕ)) (answers : List ℕ) (at left : ℕ) (old new : Events) (r : Request) → HasFollowed ms texts answers at old
     → option_to_list (option_map command_view (Some r.command)) ≡ map command_of more → r.ms ≡ ms → IsFirstAnswer r.answer (drop at answers)
     → drop left answers ≡ after_answer r.answer (drop at answers) → ((requests : List Request) → AreCounted requests old → AreCounted (requests ++ r ∷ []) new)

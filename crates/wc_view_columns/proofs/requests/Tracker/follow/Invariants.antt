@@ -1,4 +1,4 @@
-use Rattle.std.proofs.Common.{◌≡◌, ◌≤◌, ℕ, List, ◌++◌, length, take}
+use Rattle.std.proofs.Common.{◌≤◌, ℕ, List, ◌++◌, length, take}
 use Rattle.wc_model.specs.Instrument.Requests.{requests_in}
 use Rattle.wc_sma.specs.Representation.{HasRead}
 use Rattle.wc_view_columns.specs.Followed.{HasFollowed}
