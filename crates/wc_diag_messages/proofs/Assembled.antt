@@ -13,6 +13,13 @@ four_after (Ok x) old a b c d first second third all e f g h =
     rw (h, g, f, e, append_assoc old a b, append_assoc old (a ++ b) c, append_assoc old (a ++ b ++ c) d) refl
 four_after (Err x) old a b c d first second third all e f g h = tt
 
+-- and five
+pub five_after : {E : Type 0} (r : Result Unit E) (old a b c d e first second third fourth all : List ℕ) → first ≡ old ++ a → second ≡ first ++ b → third ≡ second ++ c → fourth ≡ third ++ d
+    → OnOk r (all ≡ fourth ++ e) → OnOk r (all ≡ old ++ (a ++ b ++ c ++ d ++ e))
+five_after (Ok x) old a b c d e first second third fourth all f g h i j =
+    rw (j, i, h, g, f, append_assoc old a b, append_assoc old (a ++ b) c, append_assoc old (a ++ b ++ c) d, append_assoc old (a ++ b ++ c ++ d) e) refl
+five_after (Err x) old a b c d e first second third fourth all f g h i j = tt
+
 -- five parts in an empty message
 pub five_excerpts : {X : Type 0} (a b c d e start first second third fourth all : List X) → start ≡ [] → first ≡ start ++ a → second ≡ first ++ b → third ≡ second ++ c → fourth ≡ third ++ d → all ≡ fourth ++ e
     → all ≡ a ++ b ++ c ++ d ++ e
