@@ -195,7 +195,7 @@ static void texts(narbeddo_scale *scale)
 }
 
 /* Refuses memory from the nth request on, until there is enough. */
-static void want_of_memory(void)
+static void out_of_memory(void)
 {
     narbeddo_scale scale;
     unsigned long n;
@@ -252,7 +252,7 @@ int main(void)
     is("close", narbeddo_close(&scale), NARBEDDO_DONE);
     is("blocks that were not given back", blocks, 0);
     closed(&scale);
-    want_of_memory();
+    out_of_memory();
     printf("%lu passed, %lu failed\n", tried_count - failed_count, failed_count);
     return failed_count != 0;
 }
