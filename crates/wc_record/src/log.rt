@@ -80,7 +80,7 @@ pub struct Rows<'r, R> {
     alloc: Global,
     records: Records<'r, R>,
     row: ByteRecord,
-    capacity: Vec<u8>,
+    buffer: Vec<u8>,
     start: u64,
     number: u32,
     last: u64,
@@ -106,7 +106,7 @@ impl<'r, R: ByteIn> Rows<'r, R> {
             alloc,
             records: Records::new(alloc, LimitedReader::new(reader, start)),
             row: ByteRecord::new(alloc),
-            capacity: Vec::new(alloc),
+            buffer: Vec::new(alloc),
             start,
             number: 0,
             last: 0,
@@ -209,7 +209,7 @@ impl<'r, R: ByteIn> Rows<'r, R> {
             });
         }
         let number = self.number + 1;
-        match row_in(&mut self.capacity, &self.row, number, self.last) {
+        match row_in(&mut self.buffer, &self.row, number, self.last) {
             Ok(row) => {
                 self.number = number;
                 self.last = row.ms;
@@ -416,7 +416,7 @@ impl<'r, R: ByteIn> Rows<'r, R> {
     pub fn bytes(&self) -> &[u8]
         ensures { result.now ≡ row_bytes self.now }
     {
-        self.capacity.as_slice()
+        self.buffer.as_slice()
     }
 
     /// The line of the log on which the row that was read last starts, counted from 1.

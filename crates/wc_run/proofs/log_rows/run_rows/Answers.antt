@@ -27,7 +27,7 @@ returns-in_err-run_row-clause-runs g c = λ log has plate logic represents seen.
     (taken c.args.writer.now) (taken now.writer) r c.next_head.new.self c.run_row.new.scale c.run_row.new.observer (taken c.run_row.new.writer)
     c.in-Some.row (Unit {0})
     (rw c.in-Some.is at (c.in_ok-row.ensures.takes r.left r.has_left)) fault
-    (subst (λ p. Does {X = Unit {0}} o.has_seen p plate logic r.past (head_view c.next_head.new.self.capacity.items c.in-Some.row) c.run_row.new.scale c.run_row.new.observer
+    (subst (λ p. Does {X = Unit {0}} o.has_seen p plate logic r.past (head_view c.next_head.new.self.buffer.items c.in-Some.row) c.run_row.new.scale c.run_row.new.observer
     (Err fault) (taken now.writer) (taken c.run_row.new.writer)) now.invariant.plan
     (subst (λ bytes. Does {X = Unit {0}} o.has_seen (o.plan now.observer) plate logic r.past (head_view bytes c.in-Some.row) c.run_row.new.scale c.run_row.new.observer
     (Err fault) (taken now.writer) (taken c.run_row.new.writer)) c.bytes.ensures

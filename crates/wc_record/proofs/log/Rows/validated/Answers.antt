@@ -10,11 +10,11 @@ returns-in-Ok-clause-gives g c =
     λ first before rest represents.
     let fields = fields_of c.args.self.now.row in
     let says = c.in-Ok.ensures.says in
-    let facts = row_facts _ c.args.self.now.last fields (head_view c.row_in.new.capacity.items c.in-Ok.row) says in
+    let facts = row_facts _ c.args.self.now.last fields (head_view c.row_in.new.buffer.items c.in-Ok.row) says in
     let counted = represents.number in (
       fields ∷ (first ∷ before),
       rest,
-      step_row (first ∷ before) rest fields c.args.self.now.number c.args.self.now.last (head_view c.row_in.new.capacity.items c.in-Ok.row) represents.number c.if-self-ge-MOST_ROWS.false represents.last says,
+      step_row (first ∷ before) rest fields c.args.self.now.number c.args.self.now.last (head_view c.row_in.new.buffer.items c.in-Ok.row) represents.number c.if-self-ge-MOST_ROWS.false represents.last says,
       record {
         represents = record {
           has = represents.has;
@@ -29,7 +29,7 @@ returns-in-Ok-clause-gives g c =
 
 pub returns-in-Ok-clause-row : goal.returns-in-Ok-clause-row
 returns-in-Ok-clause-row g c =
-    let facts = row_facts _ c.args.self.now.last (fields_of c.args.self.now.row) (head_view c.row_in.new.capacity.items c.in-Ok.row) c.in-Ok.ensures.says in
+    let facts = row_facts _ c.args.self.now.last (fields_of c.args.self.now.row) (head_view c.row_in.new.buffer.items c.in-Ok.row) c.in-Ok.ensures.says in
     record {
       number_is = facts.number ∙ add-one c.args.self.now.number;
       counted = sym facts.number;
