@@ -88,7 +88,7 @@ pub record IsReadingTextSpan (bytes : List ℕ) (number line start count : ℕ) 
   pub start_is : start ≡ start_of (offending_at tokens place expected) (length bytes)
   pub count_is : count ≡ length_of (offending_at tokens place expected)
 
--- why the reader stops there; out of memory says that capacity is needed for a token
+-- why the reader stops there; out of memory says that memory is needed for a token
 abbrev pub StopsReading : List ℕ → Fault → (start count : ℕ) → Expected → Type 0
 StopsReading bytes Memory start count expected = NeedsMemory bytes
 StopsReading bytes (Refused number place) start count expected =

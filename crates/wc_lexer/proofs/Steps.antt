@@ -86,8 +86,8 @@ fault_here text rest n number line count size tokens short r h e l going =
     Chunk (tokens ++ []) short (going.at_fault number line n count [] (Nothing (record { fault = held; here = l; starts = started; counted = counted })))
 
 -- at a token space is needed
-pub capacity_here : (text rest : List ℕ) (n count : ℕ) (shape : Shape) (tokens : List Token) → length text ≤ most_bytes → rest ≡ drop n text → n < length text → Take count shape ≡ sight rest → Going text n tokens → NeedsMemory text
-capacity_here text rest n count shape tokens short r h e going =
+pub memory_here : (text rest : List ℕ) (n count : ℕ) (shape : Shape) (tokens : List Token) → length text ≤ most_bytes → rest ≡ drop n text → n < length text → Take count shape ≡ sight rest → Going text n tokens → NeedsMemory text
+memory_here text rest n count shape tokens short r h e going =
     let held : Holds (drop n text) (Take count shape) = holds_at (drop n text) (Take count shape) (some_left text n h) (e ∙ ap sight r) in
     record {
       short = short;

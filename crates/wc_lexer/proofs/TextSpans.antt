@@ -94,5 +94,5 @@ text_span_is_first text number line start count (Chunk tokens short cut) = Repre
 
 -- so its fault says what the surface says
 pub stop_names : (text : List ℕ) (fault : Fault) (start count : ℕ) → StopsAt text fault start count → Names text fault
-stop_names text Memory start count capacity = capacity
+stop_names text Memory start count memory = memory
 stop_names text (Refused number place) start count text_span = text_span_is_first text number place start count text_span

@@ -30,7 +30,7 @@ pub data IsTokenTextSpan (text : List ℕ) : (number line start count : ℕ) →
   NoChunk : most_bytes < length text → IsTokenTextSpan text 107 0 0 0
   Chunk : {number line start count : ℕ} (tokens : List Token) → length text ≤ most_bytes → Cuts (IsTextSpanAt number line start count) [] text tokens → IsTokenTextSpan text number line start count
 
--- why the lexer stops there; out of memory says that space is needed for a token
+-- why the lexer stops there; out of memory says that memory is needed for a token
 abbrev pub StopsAt : List ℕ → Fault → (start count : ℕ) → Type 0
 StopsAt text (Refused number place) start count = IsTokenTextSpan text number place start count
 StopsAt text Memory start count = NeedsMemory text

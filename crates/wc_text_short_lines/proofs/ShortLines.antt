@@ -93,16 +93,16 @@ pub operand_is_no_colon : (symbol : Symbol) (line : ℕ) (term : Term) → opera
 operand_is_no_colon = no_colon_in
 
 -- no line is too many if there is space
-capacity : (p : Position) (colon : Bool) (line : ℕ) (o : Option Operation) → is_full p ≡ false → raised_if (is_some o && not colon && is_full p) TooMany line ≡ None
-capacity p true line None full = refl
-capacity p false line None full = refl
-capacity p true line (Some operation) full = refl
-capacity p false line (Some operation) full = rw full refl
+not_full : (p : Position) (colon : Bool) (line : ℕ) (o : Option Operation) → is_full p ≡ false → raised_if (is_some o && not colon && is_full p) TooMany line ≡ None
+not_full p true line None full = refl
+not_full p false line None full = refl
+not_full p true line (Some operation) full = refl
+not_full p false line (Some operation) full = rw full refl
 
 -- nothing is wrong with a word at the start of a line if there is space
 pub word_passes : (p : Position) (bytes : List ℕ) (line : ℕ) → p.openings ≡ [] → is_full p ≡ false → validate (moves.AtLine p) (Identifier bytes) line false ≡ None
 word_passes p bytes line opened full =
-    subst (λ os. validate_line p os (Identifier bytes) line false ≡ None) (sym opened) (capacity p false line (found operations (name_of bytes)) full)
+    subst (λ os. validate_line p os (Identifier bytes) line false ≡ None) (sym opened) (not_full p false line (found operations (name_of bytes)) full)
 
 -- an operator leads on its line
 pub operator_leads : (p : Position) (bytes : List ℕ) (line : ℕ) (operation : Operation) → p.openings ≡ [] → same_name (name_of bytes) (end_word p.unit.kind) ≡ false

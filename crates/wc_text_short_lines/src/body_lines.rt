@@ -85,7 +85,7 @@ fn is_plain_start(body: &Body, text: &[u8]) -> bool
     requires { IsCounted body.now }
     ensures opened { IsTrue result → (units : List ProgramUnit)
         → (position_view units body.now).openings ≡ [] }
-    ensures capacity { IsTrue result → (units : List ProgramUnit)
+    ensures not_full { IsTrue result → (units : List ProgramUnit)
         → moves.is_full (position_view units body.now) ≡ false }
     ensures unended { IsTrue result
         → same_name (name_of text.now) (end_word body.now.unit.kind) ≡ false }

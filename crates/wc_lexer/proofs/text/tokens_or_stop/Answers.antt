@@ -1,6 +1,6 @@
 use Rattle.std.proofs.Common.{◌++◌, ◌∷◌, [], if◌then◌else◌, not, refl, ◌≡◌, ◌∙◌, ◌+◌, ◌≤◌, ap, arith, count_by, length, length-drop, map, take, subst, subst₂, sym}
 use Rattle.wc_lexer.proofs.Feeds.{IsStep, space_feeds, step_feeds, token_feeds}
-use Rattle.wc_lexer.proofs.Steps.{counted_on, cut_at_end, fault_here, going_on, going_with, pass_is_filled, capacity_here, take_is_filled, Going}
+use Rattle.wc_lexer.proofs.Steps.{counted_on, cut_at_end, fault_here, going_on, going_with, pass_is_filled, memory_here, take_is_filled, Going}
 use Rattle.wc_lexer.proofs.text.tokens_or_stop.Goals as goal
 use Rattle.wc_lexer.proofs.text.tokens_or_stop.Goals.{in-Space, in-Comment, in-Lexeme+else-is_err}
 use Rattle.wc_lexer.specs.Sights.{IsWithin, said_sight}
@@ -19,7 +19,7 @@ returns-in-Fault-clause-stopped c =
 
 pub returns-then-is_err-clause-stopped : goal.returns-then-is_err-clause-stopped
 returns-then-is_err-clause-stopped c =
-    rw c.stop_for_memory.ensures (capacity_here c.args.text.now c.split_at.result.1.now c.loop-start.start c.in-Lexeme.count (shape_view c.in-Lexeme.shape) (map token_view c.loop-start.tokens.items) (omega arith) c.split_at.ensures.back c.loop-start-test.true (sym (ap said_sight c.in-Lexeme.is) ∙ c.first_chunk.ensures.represents) c.loop-start.invariant.going)
+    rw c.stop_for_memory.ensures (memory_here c.args.text.now c.split_at.result.1.now c.loop-start.start c.in-Lexeme.count (shape_view c.in-Lexeme.shape) (map token_view c.loop-start.tokens.items) (omega arith) c.split_at.ensures.back c.loop-start-test.true (sym (ap said_sight c.in-Lexeme.is) ∙ c.first_chunk.ensures.represents) c.loop-start.invariant.going)
 
 pub returns-clause-cut : goal.returns-clause-cut
 returns-clause-cut c = (omega arith, cut_at_end c.args.text.now c.loop-start.start (map token_view c.loop-start.tokens.items) c.loop-start-test.false c.loop-start.invariant.going)

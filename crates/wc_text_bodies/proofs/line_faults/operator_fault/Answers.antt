@@ -19,6 +19,6 @@ returns-then-is_full c = λ units.
 pub returns-else-is_full : goal.returns-else-is_full
 returns-else-is_full c = λ units.
     let first = is_some (operation_of (symbol_view c.args.token)) in
-    let capacity : is_full (position_view units c.args.body.now) ≡ false = sym (c.is_full.ensures units) ∙ c.if-is_full.false in
-    sym (ap (λ (b : Bool). option_map fault_of (raised_if (first && not c.args.colon && b) TooMany c.args.token.line)) capacity
+    let not_full : is_full (position_view units c.args.body.now) ≡ false = sym (c.is_full.ensures units) ∙ c.if-is_full.false in
+    sym (ap (λ (b : Bool). option_map fault_of (raised_if (first && not c.args.colon && b) TooMany c.args.token.line)) not_full
     ∙ ap (option_map fault_of) (third-fails first (not c.args.colon) TooMany c.args.token.line))

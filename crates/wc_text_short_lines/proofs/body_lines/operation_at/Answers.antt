@@ -15,4 +15,4 @@ returns-in-None c =
     ap (λ items. section_started (lines_view items) (name_of c.args.text.now)) (sym c.deref.ensures.value) ∙ (sym c.section_started.ensures ∙ c.in-None.is) in
     if_found (λ operation. (units : List ProgramUnit) → Begins (position_view units c.args.body.now) c.args.text.now operation) c.operation_named.result (found operations (name_of c.args.text.now)) c.operation_named.ensures
     (λ operation e units. begins_line (position_view units c.args.body.now) c.args.text.now operation (c.if-not-is_plain_start.ensures.opened refl units)
-    (c.if-not-is_plain_start.ensures.capacity refl units) (c.if-not-is_plain_start.ensures.unended refl) none e)
+    (c.if-not-is_plain_start.ensures.not_full refl units) (c.if-not-is_plain_start.ensures.unended refl) none e)
