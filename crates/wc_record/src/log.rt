@@ -189,7 +189,7 @@ impl<'r, R: ByteIn> Rows<'r, R> {
 
     /// The row that the record writes.
     #[inline(always)]
-    fn validated(&mut self) -> Result<Option<RowHead>, LogFault>
+    fn row_of_record(&mut self) -> Result<Option<RowHead>, LogFault>
         ensures gives { (first : Record) (before rest : List Record)
             → IsAfterRecords R.bytes_left self.old (first ∷ before) rest
             → GivesRecord R.bytes_left (first ∷ before) (fields_of self.old.row ∷ rest)
@@ -238,7 +238,7 @@ impl<'r, R: ByteIn> Rows<'r, R> {
         ensures keeps { Keeps self.old self.new }
     {
         match self.read() {
-            Ok(true) => self.validated(),
+            Ok(true) => self.row_of_record(),
             Ok(false) => Ok(None),
             Err(fault) => Err(fault),
         }
@@ -271,7 +271,7 @@ impl<'r, R: ByteIn> Rows<'r, R> {
     /// The next row, if nothing has ended the log, with the cause of what kept a record from
     /// being read.
     #[inline(always)]
-    fn reported_row(&mut self) -> Result<Option<RowHead>, LogFault>
+    fn row_or_cause(&mut self) -> Result<Option<RowHead>, LogFault>
         ensures gives { (before left : List Record)
             → IsAfterRecords R.bytes_left self.old before left
             → GivesRecord R.bytes_left before left result self.new }
@@ -330,7 +330,7 @@ impl<'r, R: ByteIn> Rows<'r, R> {
         match self.end {
             Some(end) => answer_at(end),
             None => {
-                let answer = self.reported_row();
+                let answer = self.row_or_cause();
                 if let Some(end) = end_after(&answer) {
                     self.end = Some(end);
                 }

@@ -10,7 +10,7 @@ use Rattle.wc_record.specs.declared.log.Rows.{Rows}
 use Rattle.wc_record.specs.declared.row_kind.LogFault.{LogFault}
 use Rattle.wc_record.specs.declared.row_kind.LogFault.TheVariants as fault
 use Rattle.wc_run.specs.Faults.{from_log_fault}
-use Rattle.wc_run.specs.Doing.{IsValidated}
+use Rattle.wc_run.specs.Doing.{IsClassified}
 use Rattle.wc_run.specs.Runs.{IsFaultAt, IsNoRefusal, ReportsFault}
 use Rattle.wc_run.specs.declared.fault.RunFault.{RunFault}
 use Rattle.wc_run.specs.declared.fault.RunFault.TheVariants.{Refused, Read, Memory}
@@ -37,12 +37,12 @@ reported_at_end bytes_left rows records (fault.Refused number place) e reads = r
 reported_at_end bytes_left rows records raised e reads = tt
 
 -- a fault that is classified is refused as it was
-pub reported_still : (records : List Record) (fields : Record) (raised validated : RunFault) → IsValidated raised validated → ReportsFault records fields raised → ReportsFault records fields validated
-reported_still records fields Read validated (inl e) says = rw e tt
-reported_still records fields Read validated (inr e) says = rw e tt
-reported_still records fields Memory validated (inl e) says = rw e tt
-reported_still records fields Memory validated (inr e) says = rw e tt
-reported_still records fields raised validated e says = rw e says
+pub reported_still : (records : List Record) (fields : Record) (raised classified : RunFault) → IsClassified raised classified → ReportsFault records fields raised → ReportsFault records fields classified
+reported_still records fields Read classified (inl e) says = rw e tt
+reported_still records fields Read classified (inr e) says = rw e tt
+reported_still records fields Memory classified (inl e) says = rw e tt
+reported_still records fields Memory classified (inr e) says = rw e tt
+reported_still records fields raised classified e says = rw e says
 
 -- if nothing is refused, nothing is reported
 pub none_reported : (known : Option (List ℕ)) (fields : Record) (raised : RunFault) → IsNoRefusal raised → IfSome known (λ bytes. ReportsFault (records_read bytes) fields raised)

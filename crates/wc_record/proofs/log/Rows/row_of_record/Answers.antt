@@ -1,7 +1,7 @@
 use Rattle.std.proofs.Common.{◌≡◌, ◌∙◌, ◌+◌, ◌∷◌, suc, sym, ap, refl, add-one, arith}
 use Rattle.csv.specs.Records.{fields_of}
 use Rattle.wc_record.proofs.LogSteps.{one_read, record_there, row_facts, step_refused, step_row, step_too_many}
-use Rattle.wc_record.proofs.log.Rows.validated.Goals as goal
+use Rattle.wc_record.proofs.log.Rows.row_of_record.Goals as goal
 use Rattle.wc_record.specs.Left.{moment_or_zero}
 use Rattle.wc_record.specs.Views.{head_view}
 
