@@ -1,5 +1,5 @@
 ghost use Rattle.std.specs.Prelude.{◌≡◌, ◌+◌, ◌≤◌, ◌==◌, length, true};
-ghost use Rattle.wc_lexer.specs.Sights.{IsWithin, said_sight};
+ghost use Rattle.wc_lexer.specs.Sights.{IsWithin, element_sight};
 ghost use Rattle.wc_laws_tokens.specs.Sights.{sight, sight_by_reach, sight_in_comment};
 ghost use Rattle.wc_laws_tokens.specs.Reaches.{reach};
 ghost use Rattle.wc_model.specs.Text.Blanks.{from_bracket};
@@ -14,7 +14,7 @@ use crate::spaces::{from_bracket, opens_comment, starts_space};
 
 /// What is at a place of a text.
 #[derive(Clone, Copy, PartialEq, Eq)]
-pub(crate) enum Chunk {
+pub(crate) enum LexicalElement {
     /// A space, a tab, or a CR before LF.
     Space,
     /// A comment of that many bytes.
@@ -26,38 +26,38 @@ pub(crate) enum Chunk {
 }
 
 /// What a comment's inside says.
-fn comment(inside: &[u8]) -> Chunk
-    ensures represents { said_sight result ≡ sight_in_comment inside.now (from_bracket inside.now) }
+fn comment(inside: &[u8]) -> LexicalElement
+    ensures represents { element_sight result ≡ sight_in_comment inside.now (from_bracket inside.now) }
     ensures within { IsWithin (length inside.now + 2) result }
 {
     match from_bracket(inside) {
-        [] => Chunk::Fault(102),
-        [b'*', after @ ..] => Chunk::Comment(2 + (inside.len() - after.len()) + 1),
-        _ => Chunk::Fault(103),
+        [] => LexicalElement::Fault(102),
+        [b'*', after @ ..] => LexicalElement::Comment(2 + (inside.len() - after.len()) + 1),
+        _ => LexicalElement::Fault(103),
     }
 }
 
 /// The longest lexeme that is here, by its length and its shape.
 #[inline(never)]
-fn any_lexeme(text: &[u8]) -> Chunk
-    ensures represents { said_sight result ≡ sight_by_reach (reach text.now) text.now }
+fn any_lexeme(text: &[u8]) -> LexicalElement
+    ensures represents { element_sight result ≡ sight_by_reach (reach text.now) text.now }
     ensures within { IsWithin (length text.now) result }
 {
     let count = lexeme_length(text);
     if count == 0 {
-        return Chunk::Fault(101);
+        return LexicalElement::Fault(101);
     }
     match shape(&text[..count]) {
-        Ok(shape) => Chunk::Lexeme(count, shape),
-        Err(number) => Chunk::Fault(number),
+        Ok(shape) => LexicalElement::Lexeme(count, shape),
+        Err(number) => LexicalElement::Fault(number),
     }
 }
 
 /// The same, outlined: the space for its answer is then not prepared unless it is
 /// called.
 #[inline(always)]
-fn parse_rare_lexeme(text: &[u8]) -> Chunk
-    ensures represents { said_sight result ≡ sight_by_reach (reach text.now) text.now }
+fn parse_rare_lexeme(text: &[u8]) -> LexicalElement
+    ensures represents { element_sight result ≡ sight_by_reach (reach text.now) text.now }
     ensures within { IsWithin (length text.now) result }
 {
     let found = any_lexeme(text);
@@ -66,9 +66,9 @@ fn parse_rare_lexeme(text: &[u8]) -> Chunk
 
 /// The identifier or the typed literal that is here.
 #[inline(always)]
-fn word(text: &[u8]) -> Chunk
+fn word(text: &[u8]) -> LexicalElement
     requires { begins starts_identifier text.now ≡ true }
-    ensures represents { said_sight result ≡ sight_by_reach (reach text.now) text.now }
+    ensures represents { element_sight result ≡ sight_by_reach (reach text.now) text.now }
     ensures within { IsWithin (length text.now) result }
 {
     let (count, has_single) = identifier_prefix(text);
@@ -79,20 +79,20 @@ fn word(text: &[u8]) -> Chunk
     if !is_name(count, has_single) {
         return parse_rare_lexeme(text);
     }
-    Chunk::Lexeme(count, Shape::Identifier)
+    LexicalElement::Lexeme(count, Shape::Identifier)
 }
 
 /// What is here, whatever it is.
 #[inline(never)]
-fn any_chunk(text: &[u8]) -> Chunk
+fn any_element(text: &[u8]) -> LexicalElement
     requires { 1 ≤ length text.now }
-    ensures represents { said_sight result ≡ sight text.now }
+    ensures represents { element_sight result ≡ sight text.now }
     ensures within { IsWithin (length text.now) result }
 {
     if opens_comment(text) {
         comment(&text[2..])
     } else if starts_space(text) {
-        Chunk::Space
+        LexicalElement::Space
     } else {
         any_lexeme(text)
     }
@@ -101,46 +101,46 @@ fn any_chunk(text: &[u8]) -> Chunk
 /// The same, outlined: the space for its answer is then not prepared unless it is
 /// called.
 #[inline(always)]
-fn other_chunk(text: &[u8]) -> Chunk
+fn other_element(text: &[u8]) -> LexicalElement
     requires { 1 ≤ length text.now }
-    ensures represents { said_sight result ≡ sight text.now }
+    ensures represents { element_sight result ≡ sight text.now }
     ensures within { IsWithin (length text.now) result }
 {
-    let found = any_chunk(text);
+    let found = any_element(text);
     found
 }
 
 /// A `:=` or a `:`.
 #[inline(always)]
-fn colon(text: &[u8]) -> Chunk
+fn colon(text: &[u8]) -> LexicalElement
     requires { begins (λ byte. byte == 58) text.now ≡ true }
-    ensures represents { said_sight result ≡ sight text.now }
+    ensures represents { element_sight result ≡ sight text.now }
     ensures within { IsWithin (length text.now) result }
 {
     let after = following_first(text);
     if begins_with(after, b'=') {
-        Chunk::Lexeme(2, Shape::Assign)
+        LexicalElement::Lexeme(2, Shape::Assign)
     } else {
-        Chunk::Lexeme(1, Shape::Colon)
+        LexicalElement::Lexeme(1, Shape::Colon)
     }
 }
 
 /// What is here. The first byte decides most of it at once.
 #[inline(always)]
-pub(crate) fn first_chunk(text: &[u8]) -> Chunk
+pub(crate) fn first_element(text: &[u8]) -> LexicalElement
     requires { 1 ≤ length text.now }
-    ensures represents { said_sight result ≡ sight text.now }
+    ensures represents { element_sight result ≡ sight text.now }
     ensures within { IsWithin (length text.now) result }
 {
     match text {
-        [b' ' | b'\t', ..] => Chunk::Space,
-        [b'\n', ..] => Chunk::Lexeme(1, Shape::LineEnd),
+        [b' ' | b'\t', ..] => LexicalElement::Space,
+        [b'\n', ..] => LexicalElement::Lexeme(1, Shape::LineEnd),
         [b':', ..] => colon(text),
-        [b')', ..] => Chunk::Lexeme(1, Shape::Closing),
-        [b',', ..] => Chunk::Lexeme(1, Shape::Comma),
-        [b'.', ..] => Chunk::Lexeme(1, Shape::Point),
-        [b';', ..] => Chunk::Lexeme(1, Shape::Semicolon),
+        [b')', ..] => LexicalElement::Lexeme(1, Shape::Closing),
+        [b',', ..] => LexicalElement::Lexeme(1, Shape::Comma),
+        [b'.', ..] => LexicalElement::Lexeme(1, Shape::Point),
+        [b';', ..] => LexicalElement::Lexeme(1, Shape::Semicolon),
         [b'_' | b'A'..=b'Z' | b'a'..=b'z', ..] => word(text),
-        _ => other_chunk(text),
+        _ => other_element(text),
     }
 }

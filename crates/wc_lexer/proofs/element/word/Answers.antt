@@ -1,6 +1,6 @@
 use Rattle.std.proofs.Common.{sym, ◌∙◌}
 use Rattle.wc_lexer.proofs.WordSights.{name_sight}
-use Rattle.wc_lexer.proofs.chunk.word.Goals as goal
+use Rattle.wc_lexer.proofs.element.word.Goals as goal
 
 pub returns-clause-represents : goal.returns-clause-represents
 returns-clause-represents c =

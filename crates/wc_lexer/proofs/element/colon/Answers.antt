@@ -1,6 +1,6 @@
 use Rattle.std.proofs.Common.{sym, ◌∙◌}
 use Rattle.wc_lexer.proofs.Colons.{assign_sight, colon_sight}
-use Rattle.wc_lexer.proofs.chunk.colon.Goals as goal
+use Rattle.wc_lexer.proofs.element.colon.Goals as goal
 
 pub returns-then-begins_with-clause-represents : goal.returns-then-begins_with-clause-represents
 returns-then-begins_with-clause-represents c =

@@ -1,6 +1,6 @@
 use Rattle.std.proofs.Common.{◌∙◌, ap, sym, length-take-le}
 use Rattle.wc_lexer.proofs.Reaches.{sees_fault, sees_token}
-use Rattle.wc_lexer.proofs.chunk.any_lexeme.Goals as goal
+use Rattle.wc_lexer.proofs.element.any_lexeme.Goals as goal
 use Rattle.wc_lexer.specs.Views.{validation_view, shape_view}
 
 pub slice_bounds-shape-end : goal.slice_bounds-shape-end
