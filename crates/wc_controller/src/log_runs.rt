@@ -19,7 +19,7 @@ use wc_store::Store;
 
 /// The fault of a run that is out of memory before it begins: if the reader has failed already as often as can be counted,
 /// that is reported.
-fn not_started<R: ByteIn>(fault: RunFault, reader: &R) -> RunFault
+fn fault_at_start<R: ByteIn>(fault: RunFault, reader: &R) -> RunFault
     ensures classified { IsClassified fault result }
     ensures read { result ≡ RunFault.Read
         → HasCause (R.failure_count reader.now) (R.failure_count reader.now)
@@ -98,7 +98,7 @@ pub fn run<'a, S: Store, R: ByteIn, W: ByteOut>(
             writer,
             &mut RefusedRow::new(alloc),
         ),
-        Err(fault) => Err(not_started(fault, reader)),
+        Err(fault) => Err(fault_at_start(fault, reader)),
     }
 }
 
@@ -151,7 +151,7 @@ pub fn run_last<'a, S: Store, R: ByteIn, W: ByteOut>(
 {
     let mut scans = match LastScans::new(alloc, last) {
         Ok(scans) => scans,
-        Err(fault) => return Err(not_started(fault, reader)),
+        Err(fault) => return Err(fault_at_start(fault, reader)),
     };
     match Scale::new(alloc, plate, machine, next) {
         Ok(mut scale) => wc_run::run(
@@ -162,6 +162,6 @@ pub fn run_last<'a, S: Store, R: ByteIn, W: ByteOut>(
             writer,
             &mut RefusedRow::new(alloc),
         ),
-        Err(fault) => Err(not_started(fault, reader)),
+        Err(fault) => Err(fault_at_start(fault, reader)),
     }
 }

@@ -2,7 +2,7 @@
 use Rattle.std.proofs.Common.{◌≡◌, ◌⊎◌, inl, inr, ℕ, Bool, true, false, List, [], ◌∷◌, Option, Some, None, is_some, refl, length, option_map, subst}
 use Rattle.std.specs.Prelude.{◌||◌, if◌then◌else◌, nat_le, not}
 use Rattle.wc_laws_grammar.specs.LineMoves.{OperandOf, OfStep, OfOpening, OfArgument, InList, AtFirst, AtNext, AtAssign, AtValue, AtEnd, StartedLine, Listed as CallList, LineState, Start, Worded, Labelled, Operated, Jumped, Called, Instanced, Listing, Bracketed, Named, Pointed, Stepped, BracketedWith, Ended, at_list, at_operated, at_bracketed, at_operand, at_field, at_labelled, at_operator, at_start_in, after_operator, line_move, simple_operator}
-use Rattle.wc_laws_grammar.specs.Moves.{InDeclaration, Undeclared, AfterNames, AfterComma, AfterColon, AfterType, AfterAssign, AfterValue, State, Outside, Unnamed, Declaring, AtLine, OnLine, Closed, Raised, at_value, after_closing, after_unit, started_line, begins_transfer, closing_move, declaration_move, has_content, has_program, is_full, fault_at_closing, fault_at_line, fault_at_unit, fault_if, first_fault, section_started, section_or_line, start_move, word_move}
+use Rattle.wc_laws_grammar.specs.Moves.{InDeclaration, Undeclared, AfterNames, AfterComma, AfterColon, AfterType, AfterAssign, AfterValue, State, Outside, Unnamed, Declaring, AtLine, OnLine, Closed, Raised, at_value, after_closing, after_unit, started_line, begins_transfer, closing_move, declaration_move, has_content, has_program, is_full, fault_at_closing, fault_at_line, fault_at_unit, fault_if, first_fault, section_of_word, section_or_line, start_move, word_move}
 use Rattle.wc_laws_grammar.specs.Words.{Operating, Loads, Stores, Applies, Operation, found, is_transfer, literal_of, operation_of, unit_kinds}
 use Rattle.wc_model.specs.Language.Declarations.{same_name}
 use Rattle.wc_model.specs.Language.Names.{Name, name_of}
@@ -375,9 +375,9 @@ section_on p bytes line (Some section) = refl
 word_on : (p : Position) (bytes : List ℕ) (line : ℕ) → is_some (word_move p bytes line) ≡ true
 word_on p bytes line = by (same_name (name_of bytes) (end_word p.unit.kind))
   where
-    by : (same : Bool) → is_some (if same then Some (after_unit p) else section_or_line p bytes line (section_started p.done (name_of bytes))) ≡ true
+    by : (same : Bool) → is_some (if same then Some (after_unit p) else section_or_line p bytes line (section_of_word p.done (name_of bytes))) ≡ true
     by true = refl
-    by false = section_on p bytes line (section_started p.done (name_of bytes))
+    by false = section_on p bytes line (section_of_word p.done (name_of bytes))
 
 abbrev pub IsExpected : Option Raised → Option State → Type 0
 IsExpected detected moved = (is_some detected ≡ true) ⊎ (is_some moved ≡ true)

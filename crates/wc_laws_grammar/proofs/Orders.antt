@@ -3,7 +3,7 @@ use Rattle.std.proofs.Common.{◌≡◌, ◌≢◌, ℕ, Bool, true, false, List
 use Rattle.std.specs.Prelude.{◌⊎◌, option_map, ◌||◌, nat_le}
 use Rattle.wc_laws_grammar.proofs.Exits.{AreBlocks, Finishing, blocks_and, exits_closed, exits_line, exits_on, exits_unnamed, finishes_blocks, finishes_text, finishing_exit, program_last, section_exits}
 use Rattle.wc_laws_grammar.specs.LineMoves.{LineShape, LabelAlone, Instructs, Opens, LineState, Start, Ended, line_move}
-use Rattle.wc_laws_grammar.specs.Moves.{State, Outside, Unnamed, Declaring, AtLine, OnLine, Closed, InDeclaration, Undeclared, AfterNames, AfterComma, AfterColon, AfterType, AfterAssign, AfterValue, Raised, at_value, started_line, after_closing, after_line, after_unit, body_move, body_start, declaration_move, has_content, has_program, is_program, fault_at, fault_at_unit, fault_if, first_fault, move, section_started, section_or_line, start_move, unit_with}
+use Rattle.wc_laws_grammar.specs.Moves.{State, Outside, Unnamed, Declaring, AtLine, OnLine, Closed, InDeclaration, Undeclared, AfterNames, AfterComma, AfterColon, AfterType, AfterAssign, AfterValue, Raised, at_value, started_line, after_closing, after_line, after_unit, body_move, body_start, declaration_move, has_content, has_program, is_program, fault_at, fault_at_unit, fault_if, first_fault, move, section_of_word, section_or_line, start_move, unit_with}
 use Rattle.wc_laws_grammar.proofs.Reported.{Exact, Reported}
 use Rattle.wc_laws_grammar.proofs.ReportedOn.{reported_after}
 use Rattle.wc_laws_grammar.specs.Words.{found, literal_of, unit_kinds}
@@ -101,9 +101,9 @@ section_or_line_ordered : (p : Position) (bytes : List ℕ) (line : ℕ) (sectio
 section_or_line_ordered p bytes line None h = started_ordered p (line_move InBody Start (Identifier bytes) line false) h
 section_or_line_ordered p bytes line (Some section) h = h
 
-word_ordered : (p : Position) (bytes : List ℕ) (line : ℕ) (b : Bool) → AreBlocks p.before → OrderedNext (if b then Some (after_unit p) else section_or_line p bytes line (section_started p.done (name_of bytes)))
+word_ordered : (p : Position) (bytes : List ℕ) (line : ℕ) (b : Bool) → AreBlocks p.before → OrderedNext (if b then Some (after_unit p) else section_or_line p bytes line (section_of_word p.done (name_of bytes)))
 word_ordered p bytes line true h = unit_end_ordered p p.unit.kind refl h
-word_ordered p bytes line false h = section_or_line_ordered p bytes line (section_started p.done (name_of bytes)) h
+word_ordered p bytes line false h = section_or_line_ordered p bytes line (section_of_word p.done (name_of bytes)) h
 
 body_ordered : (p : Position) (symbol : Symbol) (line : ℕ) (colon : Bool) → AreBlocks p.before → OrderedNext (body_move p symbol line colon)
 body_ordered p (Identifier bytes) line false h = word_ordered p bytes line (same_name (name_of bytes) (end_word p.unit.kind)) h

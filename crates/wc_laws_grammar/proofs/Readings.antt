@@ -7,7 +7,7 @@ use Rattle.wc_laws_grammar.proofs.Exits.{AreBlocks}
 use Rattle.wc_laws_grammar.proofs.Detected.{Detected, detected, same_end}
 use Rattle.wc_laws_grammar.specs.LineMoves.{LineState, Start, Worded, Jumped, Called, Instanced, Named, Stepped, BracketedWith, line_move}
 use Rattle.wc_laws_grammar.proofs.RaisedThere.{IsThere, there}
-use Rattle.wc_laws_grammar.specs.Moves.{State, Outside, Unnamed, Declaring, AtLine, OnLine, Closed, Raised, at_end, at_first, started_line, body_move, colon_next, has_program, is_colon, is_program, fault_at, move, reading, start_move, walk, section_or_line, section_started, after_unit}
+use Rattle.wc_laws_grammar.specs.Moves.{State, Outside, Unnamed, Declaring, AtLine, OnLine, Closed, Raised, at_end, at_first, started_line, body_move, colon_next, has_program, is_colon, is_program, fault_at, move, reading, start_move, walk, section_or_line, section_of_word, after_unit}
 use Rattle.wc_laws_grammar.proofs.Orders.{Ordered, OrderedNext, prefix, ordered_on}
 use Rattle.wc_laws_grammar.proofs.Reported.{Exact, Keeps, Reported}
 use Rattle.wc_laws_grammar.proofs.ReportedOn.{reported_first, reported_on}
@@ -54,9 +54,9 @@ section_taken : (p : Position) (bytes : List ℕ) (line : ℕ) (section : Option
 section_taken p bytes line None = tt
 section_taken p bytes line (Some section) = tt
 
-word_taken : (p : Position) (bytes : List ℕ) (line : ℕ) (b : Bool) → Taken (if b then Some (after_unit p) else section_or_line p bytes line (section_started p.done (name_of bytes)))
+word_taken : (p : Position) (bytes : List ℕ) (line : ℕ) (b : Bool) → Taken (if b then Some (after_unit p) else section_or_line p bytes line (section_of_word p.done (name_of bytes)))
 word_taken p bytes line true = tt
-word_taken p bytes line false = section_taken p bytes line (section_started p.done (name_of bytes))
+word_taken p bytes line false = section_taken p bytes line (section_of_word p.done (name_of bytes))
 
 not_none : (next : Option State) → Taken next → ¬ (next ≡ None)
 not_none next h e = subst Taken e h

@@ -10,7 +10,7 @@ use Rattle.wc_laws_grammar.proofs.LineBounds.{Counts, IsSteady, count_operator, 
 use Rattle.wc_laws_grammar.proofs.LineComplete.{labelled_operator}
 use Rattle.wc_laws_grammar.specs.LineMoves.{LineShape, LabelAlone, Instructs, Opens, operator_or_label, StartedLine, LineState, Start, Labelled, Operated, Bracketed, Ended, at_labelled, at_operated, at_operator, at_start, after_operator, line_move, simple_operator}
 use Rattle.wc_laws_grammar.proofs.LineStart.{operator_taken}
-use Rattle.wc_laws_grammar.specs.Moves.{InDeclaration, Undeclared, AfterNames, AfterComma, AfterColon, AfterType, AfterAssign, AfterValue, State, Outside, Unnamed, Declaring, AtLine, OnLine, Closed, Raised, at_value, begins_transfer, started_line, after_closing, after_line, after_unit, body_move, body_start, declaration_move, has_content, has_name, has_program, inside_move, is_full, is_identifier, is_program, fault_at, fault_at_closing, fault_at_line, fault_on_line, fault_at_operator, fault_at_unit, fault_if, first_fault, move, on_line, section_started, section_or_line, start_move, unit_with}
+use Rattle.wc_laws_grammar.specs.Moves.{InDeclaration, Undeclared, AfterNames, AfterComma, AfterColon, AfterType, AfterAssign, AfterValue, State, Outside, Unnamed, Declaring, AtLine, OnLine, Closed, Raised, at_value, begins_transfer, started_line, after_closing, after_line, after_unit, body_move, body_start, declaration_move, has_content, has_name, has_program, inside_move, is_full, is_identifier, is_program, fault_at, fault_at_closing, fault_at_line, fault_on_line, fault_at_operator, fault_at_unit, fault_if, first_fault, move, on_line, section_of_word, section_or_line, start_move, unit_with}
 use Rattle.wc_laws_grammar.proofs.WalkedLines.{ends_no_unit}
 use Rattle.wc_laws_grammar.proofs.WithinOn.{HasStarted, RejectsColon, simple_rejects}
 use Rattle.wc_laws_grammar.proofs.WordLaws.{found_operation, found_section, same_is}
@@ -189,7 +189,7 @@ unit_end_was_good p e g =
     order (inl h) = blocks_before p.before (unit_with p.unit p.done) h
     order (inr h) = last_before p.before (unit_with p.unit p.done) h
 
-section_start_was_good : (p : Position) (done : Lines) (bytes : List ℕ) (line : ℕ) (section : Option Section) → p.openings ≡ [] → p.done ≡ done → section_started done (name_of bytes) ≡ section
+section_start_was_good : (p : Position) (done : Lines) (bytes : List ℕ) (line : ℕ) (section : Option Section) → p.openings ≡ [] → p.done ≡ done → section_of_word done (name_of bytes) ≡ section
     → WasGood (AtLine p) (fault_at_operator p (Identifier bytes) line false) false (section_or_line p bytes line section)
 section_start_was_good p done bytes line None e d s = start_was_good p (Identifier bytes) line (found operations (name_of bytes)) refl
 section_start_was_good p End bytes line (Some section) e d s = λ g.
@@ -204,9 +204,9 @@ section_start_was_good p (Plain label n step rest) bytes line (Some section) e d
 section_start_was_good p (Nested label n operator x inside close rest) bytes line (Some section) e d s = absurd (cc)
 
 word_was_good : (p : Position) (bytes : List ℕ) (line : ℕ) (b : Bool) → same_name (name_of bytes) (end_word p.unit.kind) ≡ b → p.openings ≡ []
-    → WasGood (AtLine p) (fault_at_operator p (Identifier bytes) line false) false (if b then Some (after_unit p) else section_or_line p bytes line (section_started p.done (name_of bytes)))
+    → WasGood (AtLine p) (fault_at_operator p (Identifier bytes) line false) false (if b then Some (after_unit p) else section_or_line p bytes line (section_of_word p.done (name_of bytes)))
 word_was_good p bytes line true s e = λ g. (unit_end_was_good p e g, inl (no_operator_passes p (Identifier bytes) line false (ap (found operations) (same_is (name_of bytes) (end_word p.unit.kind) s) ∙ end_no_operator p.unit.kind)))
-word_was_good p bytes line false s e = section_start_was_good p p.done bytes line (section_started p.done (name_of bytes)) e refl refl
+word_was_good p bytes line false s e = section_start_was_good p p.done bytes line (section_of_word p.done (name_of bytes)) e refl refl
 
 -- an operator after which a colon follows
 operator_colon : (p : Position) (symbol : Symbol) (line : ℕ) (operation : Option Operation) → WasGood (AtLine p) (fault_at_operator p symbol line true) true (started_line p (at_operator None line operation))

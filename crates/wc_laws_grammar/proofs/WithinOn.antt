@@ -7,7 +7,7 @@ use Rattle.std.specs.Prelude.{◌&&◌, is_some, nat_le, option_map}
 use Rattle.wc_laws_grammar.proofs.Bounds.{HasCapacity, IsDeepEnough, Within, closed_within, counted, opened}
 use Rattle.wc_laws_grammar.proofs.LineBounds.{CountsOnce, Fits, IsSteady, WithinNext, fits_by, fits_on, labelled_once, operated_counts, simple_once, start_once, steady}
 use Rattle.wc_laws_grammar.specs.LineMoves.{StartedLine, LineState, Start, Worded, Labelled, Operated, at_labelled, at_operated, at_operator, at_start, after_operator, line_move, simple_operator}
-use Rattle.wc_laws_grammar.specs.Moves.{InDeclaration, Undeclared, AfterNames, AfterComma, AfterColon, AfterType, AfterAssign, AfterValue, State, Outside, Unnamed, Declaring, AtLine, OnLine, Closed, Raised, at_value, begins_transfer, started_line, after_closing, after_unit, body_move, body_start, declaration_move, has_content, has_name, has_program, inside_move, is_full, is_identifier, fault_at, fault_at_closing, fault_at_line, fault_on_line, fault_at_operator, fault_at_unit, fault_if, first_fault, move, named_unit, section_started, section_or_line, start_move, unit_with}
+use Rattle.wc_laws_grammar.specs.Moves.{InDeclaration, Undeclared, AfterNames, AfterComma, AfterColon, AfterType, AfterAssign, AfterValue, State, Outside, Unnamed, Declaring, AtLine, OnLine, Closed, Raised, at_value, begins_transfer, started_line, after_closing, after_unit, body_move, body_start, declaration_move, has_content, has_name, has_program, inside_move, is_full, is_identifier, fault_at, fault_at_closing, fault_at_line, fault_on_line, fault_at_operator, fault_at_unit, fault_if, first_fault, move, named_unit, section_of_word, section_or_line, start_move, unit_with}
 use Rattle.wc_laws_grammar.specs.Words.{Applies, Operating, Loads, Stores, Operation, Operates, Negates, Jumps, Calls, Returns, found, is_transfer, literal_of, operation_of, unit_kinds}
 use Rattle.wc_model.specs.Language.Declarations.{same_name}
 use Rattle.wc_model.specs.Text.Keywords.{end_var, end_word}
@@ -133,9 +133,9 @@ section_or_line_within p bytes line None e h = once_within p (Identifier bytes) 
 section_or_line_within p bytes line (Some section) e h = h.0
 
 end_or_line_within : (p : Position) (bytes : List ℕ) (line : ℕ) (b : Bool) → p.openings ≡ [] → fault_at_operator p (Identifier bytes) line false ≡ None → Within (AtLine p)
-    → WithinNext (if b then Some (after_unit p) else section_or_line p bytes line (section_started p.done (name_of bytes)))
+    → WithinNext (if b then Some (after_unit p) else section_or_line p bytes line (section_of_word p.done (name_of bytes)))
 end_or_line_within p bytes line true o e h = unit_done_within p o h
-end_or_line_within p bytes line false o e h = section_or_line_within p bytes line (section_started p.done (name_of bytes)) e h
+end_or_line_within p bytes line false o e h = section_or_line_within p bytes line (section_of_word p.done (name_of bytes)) e h
 
 body_within : (p : Position) (symbol : Symbol) (line : ℕ) (colon : Bool) → p.openings ≡ [] → fault_at_operator p symbol line colon ≡ None → Within (AtLine p) → GoesWithin colon (body_move p symbol line colon)
 body_within p (Identifier bytes) line false o e h = inl (end_or_line_within p bytes line (same_name (name_of bytes) (end_word p.unit.kind)) o e h)

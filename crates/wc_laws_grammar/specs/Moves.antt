@@ -132,9 +132,9 @@ started_line p None = None
 started_line p (Some line) = Some (on_line p line)
 
 -- the section that an identifier begins, if no line of the body has come
-abbrev pub section_started : Lines → Name → Option Section
-section_started End name = found section_words name
-section_started done name = None
+abbrev pub section_of_word : Lines → Name → Option Section
+section_of_word End name = found section_words name
+section_of_word done name = None
 
 -- after a section's first word, if the identifier is one, or else after a line's first identifier
 abbrev pub section_or_line : Position → List ℕ → ℕ → Option Section → Option State
@@ -145,7 +145,7 @@ section_or_line p bytes line (Some section) = Some (Declaring p.before p.unit se
 abbrev pub word_move : Position → List ℕ → ℕ → Option State
 word_move p bytes line =
     if same_name (name_of bytes) (end_word p.unit.kind) then Some (after_unit p)
-    else section_or_line p bytes line (section_started p.done (name_of bytes))
+    else section_or_line p bytes line (section_of_word p.done (name_of bytes))
 
 -- after the first token of a line of a body that is not a line end
 abbrev pub body_move : Position → Symbol → ℕ → (colon : Bool) → Option State

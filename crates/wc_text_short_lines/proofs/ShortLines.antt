@@ -4,7 +4,7 @@ use Rattle.std.proofs.lemmas.List.{drop-drop}
 use Rattle.std.specs.Prelude.{◌&&◌, ◌+◌}
 use Rattle.wc_laws_grammar.specs.LineMoves as lines
 use Rattle.wc_laws_grammar.specs.Moves as moves
-use Rattle.wc_laws_grammar.specs.Moves.{State, colon_next, fault_at, move, fault_at_line, start_move, section_started, is_full, fault_if, on_line, after_line}
+use Rattle.wc_laws_grammar.specs.Moves.{State, colon_next, fault_at, move, fault_at_line, start_move, section_of_word, is_full, fault_if, on_line, after_line}
 use Rattle.wc_laws_grammar.specs.Words as words
 use Rattle.wc_laws_grammar.specs.Words.{Operation, Operating, Loads, Stores, Applies, found, operations, truths, step_of}
 use Rattle.wc_model.specs.Language.Declarations.{same_name}
@@ -106,7 +106,7 @@ word_passes p bytes line opened full =
 
 -- an operator leads on its line
 pub operator_leads : (p : Position) (bytes : List ℕ) (line : ℕ) (operation : Operation) → p.openings ≡ [] → same_name (name_of bytes) (end_word p.unit.kind) ≡ false
-    → section_started p.done (name_of bytes) ≡ None → found operations (name_of bytes) ≡ Some operation
+    → section_of_word p.done (name_of bytes) ≡ None → found operations (name_of bytes) ≡ Some operation
     → move (moves.AtLine p) (Identifier bytes) line false ≡ Some (on_line p (lines.after_operator None line operation))
 operator_leads p bytes line operation opened unended unsectioned named =
     subst (λ os. start_move p os (Identifier bytes) line false ≡ Some (on_line p (lines.after_operator None line operation))) (sym opened)
@@ -132,7 +132,7 @@ makes_operated operating mark term e = record {
 
 -- a word that is an operator at the start of a line
 pub begins_line : (p : Position) (bytes : List ℕ) (operation : Operation) → p.openings ≡ [] → is_full p ≡ false → same_name (name_of bytes) (end_word p.unit.kind) ≡ false
-    → section_started p.done (name_of bytes) ≡ None → Some operation ≡ found operations (name_of bytes) → Begins p bytes operation
+    → section_of_word p.done (name_of bytes) ≡ None → Some operation ≡ found operations (name_of bytes) → Begins p bytes operation
 begins_line p bytes operation opened full unended unsectioned named = record {
   passes = λ line. word_passes p bytes line opened full;
   leads = λ line. operator_leads p bytes line operation opened unended unsectioned (sym named);

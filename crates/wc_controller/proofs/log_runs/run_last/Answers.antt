@@ -16,9 +16,9 @@ returns-in-Err-clause-line g c =
     on_each (g.R.ByteIn.bytes_left c.args.reader.now) _
     (λ bytes logic represents.
     let log : LogOf = log_for logic (log_of (records_of bytes)) in
-    run_leaves (Some c.args.last) c.args.plate.now logic log (Err c.not_started.result) taken taken
-    (none_reported (Some c.args.last) c.args.plate.now logic log c.not_started.result taken
-    (subst (λ fault. IsClassified fault c.not_started.result) c.in-Err.ensures.memory c.not_started.ensures.classified)))
+    run_leaves (Some c.args.last) c.args.plate.now logic log (Err c.fault_at_start.result) taken taken
+    (none_reported (Some c.args.last) c.args.plate.now logic log c.fault_at_start.result taken
+    (subst (λ fault. IsClassified fault c.fault_at_start.result) c.in-Err.ensures.memory c.fault_at_start.ensures.classified)))
 
 pub returns-in-Ok-new-clause-reports : goal.returns-in-Ok-new-clause-reports
 returns-in-Ok-new-clause-reports g c =

@@ -2,7 +2,7 @@ use Rattle.std.proofs.Common.{leb, leb-true, arith, rules}
 use Rattle.std.proofs.lemmas.Bool.{leb-false}
 use Rattle.std.proofs.lemmas.List.Sorted.{IsPartitionPoint-from_clause, IsPartitionedBy-leb}
 use Rattle.wc_names.specs.declared.variable.Variable.{Variable as Row}
-use Rattle.wc_names.proofs.carry.count_started.Goals as goal
+use Rattle.wc_names.proofs.carry.count_at_or_before.Goals as goal
 
 pub returns-clause-before : goal.returns-clause-before
 returns-clause-before c = λ rise k d h.
