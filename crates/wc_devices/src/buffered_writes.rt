@@ -2,26 +2,26 @@ ghost use Rattle.std.specs.Prelude.{◌≡◌, ◌+◌, ◌<◌, ◌≤◌, [], 
 ghost use Rattle.std.specs.Io.{WritesAtMost};
 ghost use Rattle.std.specs.Io.KnownBytes.{Appends, Keeps, WriteAppends};
 ghost use Rattle.std.specs.IoError.{error_kind};
-ghost use Rattle.wc_devices.specs.Inside.{Gathers, Refuses, gathering_failed, gathering_inner, gathering_size, pending, space_left, taken};
+ghost use Rattle.wc_devices.specs.Inside.{Buffers, Refuses, buffer_failed, buffer_inner, buffer_size, pending, space_left, taken};
 
-use crate::gathered::OutputBuffer;
+use crate::output_buffer::OutputBuffer;
 use std::alloc::{AllocError, Global};
 use std::io;
 use std::io::{ErrorKind, Write};
 
 impl<D: Drop> OutputBuffer<D> {
-    /// One with a buffer of n bytes, which has gathered nothing. The buffer is made here.
+    /// One with a buffer of n bytes, which has buffered nothing. The buffer is made here.
     pub fn new(alloc: Global, inner: D, capacity: usize) -> Result<OutputBuffer<D>, AllocError>
-        ensures inner { IfOk result (λ g. gathering_inner g ≡ inner) }
+        ensures inner { IfOk result (λ g. buffer_inner g ≡ inner) }
         ensures nothing { IfOk result (λ g. pending g ≡ []) }
-        ensures size { IfOk result (λ g. gathering_size g ≡ capacity) }
+        ensures size { IfOk result (λ g. buffer_size g ≡ capacity) }
         ensures space { IfOk result (λ g. space_left g ≡ capacity) }
-        ensures sound { IfOk result (λ g. gathering_failed g ≡ false) }
+        ensures sound { IfOk result (λ g. buffer_failed g ≡ false) }
     {
-        let gathered = Vec::with_capacity(alloc, capacity)?;
+        let buffered = Vec::with_capacity(alloc, capacity)?;
         Ok(OutputBuffer {
             inner,
-            gathered,
+            buffered,
             given: 0,
             capacity,
             failed: false,
@@ -32,35 +32,35 @@ impl<D: Drop> OutputBuffer<D> {
 impl<D> OutputBuffer<D> {
     /// The writer inside.
     pub fn get_ref(&self) -> &D
-        ensures { result.now ≡ gathering_inner self.now }
+        ensures { result.now ≡ buffer_inner self.now }
     {
         &self.inner
     }
 
-    /// The number of further bytes that can be gathered; an error if a call has failed.
+    /// The number of further bytes that can be buffered; an error if a call has failed.
     fn space(&self) -> io::Result<usize>
         ensures space { IfOk result (λ space. space ≡ space_left self.now) }
-        ensures mark { is_err result ≡ gathering_failed self.now }
+        ensures mark { is_err result ≡ buffer_failed self.now }
         ensures broken { IfErr result (λ error. error_kind error ≡ ErrorKind.BrokenPipe) }
     {
         if self.failed {
             return Err(io::Error::from(ErrorKind::BrokenPipe));
         }
-        Ok(self.capacity.saturating_sub(self.gathered.len()))
+        Ok(self.capacity.saturating_sub(self.buffered.len()))
     }
 }
 
 impl<D: Write> OutputBuffer<D> {
-    /// Passes on some of what is gathered.
+    /// Passes on some of what is buffered.
     fn give_some(&mut self) -> io::Result<()>
-        requires { self.old.given < length self.old.gathered.items }
+        requires { self.old.given < length self.old.buffered.items }
         ensures bytes { Keeps (taken D.contents self.old) (taken D.contents self.new) }
-        ensures items { self.new.gathered.items ≡ self.old.gathered.items }
+        ensures items { self.new.buffered.items ≡ self.old.buffered.items }
         ensures more { OnOk result (self.old.given < self.new.given) }
         ensures capacity { self.new.capacity ≡ self.old.capacity }
         ensures mark { self.new.failed ≡ self.old.failed }
     {
-        let (_, rest) = self.gathered.as_slice().split_at(self.given);
+        let (_, rest) = self.buffered.as_slice().split_at(self.given);
         let count = self.inner.write(rest)?;
         if count == 0 {
             return Err(io::Error::from(ErrorKind::WriteZero));
@@ -69,15 +69,15 @@ impl<D: Write> OutputBuffer<D> {
         Ok(())
     }
 
-    /// Passes on all that is gathered.
+    /// Passes on all that is buffered.
     fn give_all(&mut self) -> io::Result<()>
         requires { self.old.failed ≡ false }
         ensures bytes { Keeps (taken D.contents self.old) (taken D.contents self.new) }
-        ensures all { OnOk result (length self.new.gathered.items ≤ self.new.given) }
+        ensures all { OnOk result (length self.new.buffered.items ≤ self.new.given) }
         ensures capacity { self.new.capacity ≡ self.old.capacity }
         ensures mark { self.new.failed ≡ is_err result }
     {
-        while self.given < self.gathered.len() {
+        while self.given < self.buffered.len() {
             if let Err(error) = self.give_some() {
                 self.failed = true;
                 return Err(error);
@@ -86,25 +86,25 @@ impl<D: Write> OutputBuffer<D> {
         Ok(())
     }
 
-    /// Passes on all that is gathered, so that nothing is pending; or it fails, now or before, and loses nothing of it.
+    /// Passes on all that is buffered, so that nothing is pending; or it fails, now or before, and loses nothing of it.
     pub fn empty(&mut self) -> io::Result<()>
         ensures bytes { Keeps (taken D.contents self.old) (taken D.contents self.new) }
         ensures none { OnOk result (pending self.new ≡ []) }
-        ensures propagated { OnOk result (Appends (D.contents (gathering_inner self.old))
-            (D.contents (gathering_inner self.new)) (pending self.old)) }
-        ensures size { gathering_size self.new ≡ gathering_size self.old }
-        ensures space { OnOk result (space_left self.new ≡ gathering_size self.old) }
-        ensures mark { gathering_failed self.new ≡ is_err result }
+        ensures propagated { OnOk result (Appends (D.contents (buffer_inner self.old))
+            (D.contents (buffer_inner self.new)) (pending self.old)) }
+        ensures size { buffer_size self.new ≡ buffer_size self.old }
+        ensures space { OnOk result (space_left self.new ≡ buffer_size self.old) }
+        ensures mark { buffer_failed self.new ≡ is_err result }
         ensures refused { Refuses self.old self.new result }
     {
         self.space()?;
         self.give_all()?;
-        self.gathered.clear();
+        self.buffered.clear();
         self.given = 0;
         Ok(())
     }
 
-    /// Gathers a chunk for which there is space, all of it.
+    /// Buffers a chunk for which there is space, all of it.
     fn keep(&mut self, chunk: &[u8]) -> io::Result<usize>
         requires { length chunk.now ≤ space_left self.old }
         ensures whole { result ≡ Ok (length chunk.now) }
@@ -114,13 +114,13 @@ impl<D: Write> OutputBuffer<D> {
         ensures bytes { WriteAppends (taken D.contents self.old) (taken D.contents self.new)
             result chunk.now }
     {
-        match self.gathered.extend_from_slice(chunk) {
+        match self.buffered.extend_from_slice(chunk) {
             Ok(()) => Ok(chunk.len()),
             Err(_) => Err(io::Error::from(ErrorKind::OutOfMemory)),
         }
     }
 
-    /// Passes on a chunk at once, after which nothing is gathered.
+    /// Passes on a chunk at once, after which nothing is buffered.
     fn pass(&mut self, chunk: &[u8]) -> io::Result<usize>
         requires nothing { pending self.old ≡ [] }
         requires sound { self.old.failed ≡ false }
@@ -144,14 +144,14 @@ impl<D: Write> Write for OutputBuffer<D> {
         ensures bound { WritesAtMost result chunk.now }
         ensures bytes { WriteAppends (taken D.contents self.old) (taken D.contents self.new)
             result chunk.now }
-        ensures gathers { IsFalse (gathering_failed self.old)
-            → length chunk.now ≤ space_left self.old → Gathers self.old self.new result chunk.now }
-        ensures whole { length chunk.now ≤ gathering_size self.old
+        ensures buffers { IsFalse (buffer_failed self.old)
+            → length chunk.now ≤ space_left self.old → Buffers self.old self.new result chunk.now }
+        ensures whole { length chunk.now ≤ buffer_size self.old
             → IfOk result (λ count. count ≡ length chunk.now) }
-        ensures passes { gathering_size self.old < length chunk.now
+        ensures passes { buffer_size self.old < length chunk.now
             → OnOk result (pending self.new ≡ []) }
-        ensures size { gathering_size self.new ≡ gathering_size self.old }
-        ensures mark { gathering_failed self.new ≡ is_err result }
+        ensures size { buffer_size self.new ≡ buffer_size self.old }
+        ensures mark { buffer_failed self.new ≡ is_err result }
         ensures refused { Refuses self.old self.new result }
     {
         if chunk.len() <= self.space()? {
@@ -169,10 +169,10 @@ impl<D: Write> Write for OutputBuffer<D> {
     fn flush(&mut self) -> io::Result<()>
         ensures bytes { Keeps (taken D.contents self.old) (taken D.contents self.new) }
         ensures none { OnOk result (pending self.new ≡ []) }
-        ensures propagated { OnOk result (Appends (D.contents (gathering_inner self.old))
-            (D.contents (gathering_inner self.new)) (pending self.old)) }
-        ensures size { gathering_size self.new ≡ gathering_size self.old }
-        ensures mark { gathering_failed self.new ≡ is_err result }
+        ensures propagated { OnOk result (Appends (D.contents (buffer_inner self.old))
+            (D.contents (buffer_inner self.new)) (pending self.old)) }
+        ensures size { buffer_size self.new ≡ buffer_size self.old }
+        ensures mark { buffer_failed self.new ≡ is_err result }
         ensures refused { Refuses self.old self.new result }
     {
         OutputBuffer::empty(self)

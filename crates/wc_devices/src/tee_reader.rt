@@ -1,7 +1,7 @@
 ghost use Rattle.std.specs.Prelude.{◌≡◌, ◌≤◌, [], IfOk, IsSome, Some, option_map};
 ghost use Rattle.std.specs.Io.{ReadsAtMost};
 ghost use Rattle.std.specs.Io.KnownBytes.{ReadConsumes};
-ghost use Rattle.wc_devices.specs.Inside.{Keeps, keeping_inner, kept, kept_space};
+ghost use Rattle.wc_devices.specs.Inside.{Keeps, tee_inner, kept, kept_space};
 
 use std::alloc::Global;
 use std::io;
@@ -18,7 +18,7 @@ pub struct TeeReader<D> {
 impl<D> TeeReader<D> {
     /// One that has read nothing.
     pub fn new(alloc: Global, inner: D) -> TeeReader<D>
-        ensures inner { keeping_inner result ≡ inner }
+        ensures inner { tee_inner result ≡ inner }
         ensures nothing { kept result ≡ Some [] }
     {
         TeeReader {
@@ -30,7 +30,7 @@ impl<D> TeeReader<D> {
 
     /// The reader inside.
     pub fn get_ref(&self) -> &D
-        ensures { result.now ≡ keeping_inner self.now }
+        ensures { result.now ≡ tee_inner self.now }
     {
         &self.inner
     }
@@ -48,12 +48,12 @@ impl<D> TeeReader<D> {
 }
 
 impl<D: Read> Read for TeeReader<D> {
-    ghost remaining = { λ k. D.remaining (keeping_inner k) };
+    ghost remaining = { λ k. D.remaining (tee_inner k) };
 
     fn read(&mut self, buffer: &mut [u8]) -> io::Result<usize>
         ensures bound { ReadsAtMost result buffer.new }
-        ensures bytes { ReadConsumes (D.remaining (keeping_inner self.old))
-            (D.remaining (keeping_inner self.new)) result buffer.new }
+        ensures bytes { ReadConsumes (D.remaining (tee_inner self.old))
+            (D.remaining (tee_inner self.new)) result buffer.new }
         ensures kept { Keeps (kept self.old) (kept self.new) result buffer.new }
         ensures allocated { IfOk result (λ count. count ≤ kept_space self.old
             → IsSome (kept self.old) → IsSome (kept self.new)) }
