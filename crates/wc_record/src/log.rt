@@ -5,7 +5,7 @@ ghost use Rattle.wc_record.specs.Left.{HasCauseIn, HasLeft, IsNext, IsAfterRecor
 ghost use Rattle.wc_record.specs.Left as left;
 ghost use Rattle.wc_record.specs.Reading.{HasRecords, TakesFirst, records_of};
 ghost use Rattle.wc_record.specs.Steps.{GivesRecord, IsAfterFirst, Keeps, KeepsRow, RefusesAt};
-ghost use Rattle.wc_record.specs.Reported.{Reads, at_hand, fields_reported, records_read};
+ghost use Rattle.wc_record.specs.Reported.{Reads, current_record, fields_reported, records_read};
 ghost use Rattle.wc_record.specs.Views.{head_view, row_view};
 
 use crate::bounded::{LimitedReader, is_exhausted};
@@ -31,7 +31,7 @@ const ENDS_CAPACITY: usize = 4;
 /// grows as it needs.
 #[cold]
 #[inline(never)]
-fn roomy_record(alloc: Global) -> ByteRecord
+fn buffer_record(alloc: Global) -> ByteRecord
     ensures { fields_of result ≡ [] }
 {
     match ByteRecord::with_capacity(alloc, RECORD_CAPACITY, ENDS_CAPACITY) {
@@ -168,7 +168,7 @@ impl<'r, R: ByteIn> Rows<'r, R> {
             ((rows_read self.new ≡ 1) × (last_ms self.new ≡ last_ms self.old)) }
         ensures keeps { Keeps self.old self.new }
     {
-        self.row = roomy_record(self.alloc);
+        self.row = buffer_record(self.alloc);
         match self.read() {
             Ok(found) => {
                 if found && is_first_row(&self.row) {
@@ -436,7 +436,7 @@ impl<'r, R: ByteIn> Rows<'r, R> {
     #[cold]
     #[inline(never)]
     pub fn report(&mut self, alloc: Global, reported: &mut RefusedRow)
-        ensures { fields_reported reported.new ≡ at_hand self.old }
+        ensures { fields_reported reported.new ≡ current_record self.old }
     {
         reported.line = self.line();
         reported.row = replace(&mut self.row, ByteRecord::new(alloc));

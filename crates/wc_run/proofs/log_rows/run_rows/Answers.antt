@@ -3,7 +3,7 @@ use Rattle.std.proofs.Common.{Ok, Err, ap, sym, subst, ◌∙◌, arith}
 use Rattle.wc_model.specs.Say.LogFor.{log_for}
 use Rattle.wc_run.proofs.RunsOn.{at_end, at_fault, at_row, one_more}
 use Rattle.wc_record.specs.Left.{end_after}
-use Rattle.wc_record.specs.Reported.{at_hand}
+use Rattle.wc_record.specs.Reported.{current_record}
 use Rattle.wc_run.proofs.HandedOn.{propagated}
 use Rattle.wc_run.specs.Faults.{from_log_fault}
 use Rattle.wc_run.specs.Runs.{ReportsRow}
@@ -82,12 +82,12 @@ pub returns-in_err-run_row-clause-reported : goal.returns-in_err-run_row-clause-
 returns-in_err-run_row-clause-reported g c = λ records reads.
     let next = rw c.in-Some.is at c.in_ok-row.ensures.row in
     let fault = c.in_err-run_row.field-0.0 in
-    propagated (ReportsRow records (at_hand c.next_head.new.self)) fault c.from_residual-in_err-run_row.result c.from_residual-in_err-run_row.ensures
+    propagated (ReportsRow records (current_record c.next_head.new.self)) fault c.from_residual-in_err-run_row.result c.from_residual-in_err-run_row.ensures
     (reported_at_row g.R.ByteIn.bytes_left c.next_head.new.self records c.in-Some.row.number (c.in_ok-row.ensures.ends ∙ ap (λ given. end_after (Ok given)) c.in-Some.is) next.counted
     (omega (arith, next.number_is)) (c.in_ok-row.ensures.records records (c.loop-row.invariant.reported records reads)) fault c.in_err-run_row.ensures.place)
 
 pub returns-in_err-row-clause-reported : goal.returns-in_err-row-clause-reported
 returns-in_err-row-clause-reported g c = λ records reads.
     let raised = c.in_err-row.field-0.0 in
-    propagated (ReportsRow records (at_hand c.next_head.new.self)) (from_log_fault raised) c.from_residual.result c.from_residual.ensures
+    propagated (ReportsRow records (current_record c.next_head.new.self)) (from_log_fault raised) c.from_residual.result c.from_residual.ensures
     (reported_at_end g.R.ByteIn.bytes_left c.next_head.new.self records raised c.in_err-row.ensures.ends (c.in_err-row.ensures.records records (c.loop-row.invariant.reported records reads)))

@@ -23,7 +23,7 @@ returns-in-Ok-clause-gives g c =
           few = omega arith;
         };
         all = one_read fields (first ∷ before) rest;
-        at_hand = refl;
+        current = refl;
       },
     )
 

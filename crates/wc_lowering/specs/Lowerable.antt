@@ -64,15 +64,15 @@ IsCallable scope (Some (Standard block)) = Unit {0}
 IsCallable scope (Some (Block name)) = IsKnownBlock (block_named scope.before name)
 
 -- a step, if it is known to which labels a jump can be lowered
-abbrev pub IsStepLayable : Scope → (Name → Type 0) → Step → Type 0
-IsStepLayable scope reached (Load negated term) = IsReadable scope term × IsLoadable negated term
-IsStepLayable scope reached (Store storing target) = IsWritable scope target
-IsStepLayable scope reached (Apply operator term) = IsReadable scope term
-IsStepLayable scope reached Negate = Unit {0}
-IsStepLayable scope reached (Jump condition label) = reached label
-IsStepLayable scope reached (Call condition instance arguments) =
+abbrev pub IsStepLowerable : Scope → (Name → Type 0) → Step → Type 0
+IsStepLowerable scope reached (Load negated term) = IsReadable scope term × IsLoadable negated term
+IsStepLowerable scope reached (Store storing target) = IsWritable scope target
+IsStepLowerable scope reached (Apply operator term) = IsReadable scope term
+IsStepLowerable scope reached Negate = Unit {0}
+IsStepLowerable scope reached (Jump condition label) = reached label
+IsStepLowerable scope reached (Call condition instance arguments) =
     IsCallable scope (type_of scope instance) × ArePassable scope instance arguments × (length arguments < 65536)
-IsStepLayable scope reached (Return condition) = Unit {0}
+IsStepLowerable scope reached (Return condition) = Unit {0}
 
 -- an opening line
 abbrev pub IsOpenable : Scope → Option Term → Type 0
@@ -83,18 +83,18 @@ IsOpenable scope (Some term) = IsReadable scope term
 abbrev pub Nowhere : Name → Type 0
 Nowhere label = ⊥
 
-abbrev pub IsInsideLayable : Scope → Lines → Type 0
-IsInsideLayable scope End = Unit {0}
-IsInsideLayable scope (Alone label rest) = IsInsideLayable scope rest
-IsInsideLayable scope (Plain label line step rest) = IsStepLayable scope Nowhere step × IsInsideLayable scope rest
-IsInsideLayable scope (Nested label line operator operand inside close rest) =
-    (IsOpenable scope operand × IsInsideLayable scope inside) × IsInsideLayable scope rest
+abbrev pub IsInsideLowerable : Scope → Lines → Type 0
+IsInsideLowerable scope End = Unit {0}
+IsInsideLowerable scope (Alone label rest) = IsInsideLowerable scope rest
+IsInsideLowerable scope (Plain label line step rest) = IsStepLowerable scope Nowhere step × IsInsideLowerable scope rest
+IsInsideLowerable scope (Nested label line operator operand inside close rest) =
+    (IsOpenable scope operand × IsInsideLowerable scope inside) × IsInsideLowerable scope rest
 
 -- a line of a body
-abbrev pub IsLineLayable : Scope → (Name → Type 0) → BodyLine → Type 0
-IsLineLayable scope reached (AloneLine label) = Unit {0}
-IsLineLayable scope reached (PlainLine label line step) = IsStepLayable scope reached step
-IsLineLayable scope reached (NestedLine label line operator operand inside close) = IsOpenable scope operand × IsInsideLayable scope inside
+abbrev pub IsLineLowerable : Scope → (Name → Type 0) → BodyLine → Type 0
+IsLineLowerable scope reached (AloneLine label) = Unit {0}
+IsLineLowerable scope reached (PlainLine label line step) = IsStepLowerable scope reached step
+IsLineLowerable scope reached (NestedLine label line operator operand inside close) = IsOpenable scope operand × IsInsideLowerable scope inside
 
 -- n flat lines precede the first line that carries the label
 abbrev pub IsAhead : Lines → ℕ → Name → Type 0
@@ -105,9 +105,9 @@ abbrev pub IsNear : Lines → Name → Type 0
 IsNear rest label = (skip : ℕ) × IsAhead rest skip label × (skip < 4294967296)
 
 -- the lines of a body
-abbrev pub IsLayable : Scope → Lines → Type 0
-IsLayable scope End = Unit {0}
-IsLayable scope (Alone label rest) = IsLayable scope rest
-IsLayable scope (Plain label line step rest) = IsStepLayable scope (IsNear rest) step × IsLayable scope rest
-IsLayable scope (Nested label line operator operand inside close rest) =
-    (IsOpenable scope operand × IsInsideLayable scope inside) × IsLayable scope rest
+abbrev pub IsLowerable : Scope → Lines → Type 0
+IsLowerable scope End = Unit {0}
+IsLowerable scope (Alone label rest) = IsLowerable scope rest
+IsLowerable scope (Plain label line step rest) = IsStepLowerable scope (IsNear rest) step × IsLowerable scope rest
+IsLowerable scope (Nested label line operator operand inside close rest) =
+    (IsOpenable scope operand × IsInsideLowerable scope inside) × IsLowerable scope rest

@@ -13,8 +13,8 @@ use Rattle.wc_names.proofs.HandedOn.{propagated}
 use Rattle.wc_names.proofs.Lists.{from_index}
 use Rattle.wc_cost.proofs.Measured.{all_loaded, unit_refused}
 use Rattle.wc_cost.proofs.Measured.{bounds_small, measured_sound}
-use Rattle.wc_cost.proofs.TextUnits.{unit_at, unit_layable, unit_nests, unit_short}
-use Rattle.wc_cost.proofs.units.lay_units.Goals as goal
+use Rattle.wc_cost.proofs.TextUnits.{unit_at, unit_lowerable, unit_nests, unit_short}
+use Rattle.wc_cost.proofs.units.lower_units.Goals as goal
 
 pub loop-number-init : goal.loop-number-init
 loop-number-init c = ([], refl, refl, λ tables faultless. c.new-units.ensures.items)
@@ -38,7 +38,7 @@ loop-number-preserved c =
           let scope : Scope = record { before = h.0; unit = unit } in
           let is = unit_at text h.0 unit left i split h.2 in
           let measured = subst (λ (xs : List LoweredUnit). IsMeasured (bounds_of xs) scope c.in_ok-lowered.lowered) c.deref.ensures.value
-          (c.in_ok-lowered.ensures scope (record { text = text; tables_are = tables; unit_is = is }) refl (unit_layable text faultless i scope is) (unit_short text faultless i scope is)
+          (c.in_ok-lowered.ensures scope (record { text = text; tables_are = tables; unit_is = is }) refl (unit_lowerable text faultless i scope is) (unit_short text faultless i scope is)
           (subst (λ (xs : List LoweredUnit). AreSmall (bounds_of xs)) (sym c.deref.ensures.value) (bounds_small h.0 c.loop-number.units.items so_far)))
           in
           (c.loop-number.units.items, c.in_ok-lowered.lowered, (let more : c.push.new.self.items ≡ c.loop-number.units.items ++ c.in_ok-lowered.lowered ∷ [] = search rules in more), measured_sound h.0 c.loop-number.units.items unit c.in_ok-lowered.lowered so_far (unit_nests text faultless i scope is) measured, so_far),
@@ -61,7 +61,7 @@ returns-in_err-lowered c = λ tables faultless.
     let scope : Scope = record { before = h.0; unit = unit } in
     let is = unit_at text h.0 unit left i split h.2 in
     let validated = subst (λ (xs : List LoweredUnit). MeasuresUnit (bounds_of xs) scope (Err c.in_err-lowered.field-0.0)) c.deref.ensures.value
-    (c.in_err-lowered.ensures scope (record { text = text; tables_are = those; unit_is = is }) refl (unit_layable text right i scope is) (unit_short text right i scope is)
+    (c.in_err-lowered.ensures scope (record { text = text; tables_are = those; unit_is = is }) refl (unit_lowerable text right i scope is) (unit_short text right i scope is)
     (subst (λ (xs : List LoweredUnit). AreSmall (bounds_of xs)) (sym c.deref.ensures.value) (bounds_small h.0 c.loop-number.units.items so_far)))
     in
     propagated (LoadsUnits (text_view c.args.source.now)) c.in_err-lowered.field-0.0 c.from_residual.result c.from_residual.ensures

@@ -4,7 +4,7 @@ use Rattle.wc_model.specs.Language.Tree.{ProgramUnit}
 use Rattle.wc_model.specs.Language.Views.{unit_view}
 use Rattle.wc_cost.proofs.Measured.{AreSoFar}
 use Rattle.wc_cost.specs.Faultless.{IsFaultless}
-use Rattle.wc_cost.proofs.units.lay_units.Given as goal
+use Rattle.wc_cost.proofs.units.lower_units.Given as goal
 
 -- the units that are left follow those that are lowered
 abbrev pub invariant-loop-number : goal.invariant-loop-number

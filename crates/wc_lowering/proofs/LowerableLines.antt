@@ -29,7 +29,7 @@ use Rattle.wc_laws_soundness.proofs.Bodies.{nested_parts}
 use Rattle.wc_laws_soundness.proofs.Programs.{three_parts}
 use Rattle.wc_laws_soundness.specs.Sound.{Clean}
 use Rattle.wc_lowering.proofs.PlacesThere.{HasKind, readable, writable}
-use Rattle.wc_lowering.specs.Layable.{ArePassable, IsCallable, IsInsideLayable, IsKnownBlock, IsLayable, IsLoadable, IsNear, IsOpenable, IsPassable, IsReadable, IsStepLayable, IsWritable, Nowhere}
+use Rattle.wc_lowering.specs.Lowerable.{ArePassable, IsCallable, IsInsideLowerable, IsKnownBlock, IsLowerable, IsLoadable, IsNear, IsOpenable, IsPassable, IsReadable, IsStepLowerable, IsWritable, Nowhere}
 
 -- a kind that passes a test is one
 of_some : (test : Kind → Bool) (o : Option Kind) → is_of test o ≡ true → is_some o ≡ true
@@ -190,9 +190,9 @@ callable scope instance (Block name) e few h =
     subst IsKnownBlock (sym known.1) (omega (arith, l, few))
 
 -- a call
-call_layable : (scope : Scope) (line : ℕ) (condition : Rattle.wc_model.specs.declared.operator.Condition.Condition) (instance : Name) (arguments : List Assignment) (kind : Option Kind) → length scope.before < 65536 → Clean (flat_map (λ (a : Assignment). term_checks scope.unit a.actual) arguments) → Clean (call_checks scope line condition instance arguments kind) →
+call_lowerable : (scope : Scope) (line : ℕ) (condition : Rattle.wc_model.specs.declared.operator.Condition.Condition) (instance : Name) (arguments : List Assignment) (kind : Option Kind) → length scope.before < 65536 → Clean (flat_map (λ (a : Assignment). term_checks scope.unit a.actual) arguments) → Clean (call_checks scope line condition instance arguments kind) →
     IsCallable scope (type_of scope instance) × ArePassable scope instance arguments
-call_layable scope line condition instance arguments kind few named c =
+call_lowerable scope line condition instance arguments kind few named c =
     let type = some_of (type_of scope instance) c.0 in
     let following = flat_map (argument_checks scope line (members_called scope (type_of scope instance))) (positions_of arguments) in
     let checked = clean_second (condition_checks condition line kind) following c.1.1 in (
@@ -201,34 +201,34 @@ call_layable scope line condition instance arguments kind few named c =
     )
 
 -- a step
-step_layable : (scope : Scope) (line : ℕ) (step : Step) (following : List BodyLine) (kind : Option Kind) (reached : Name → Type 0) → length scope.before < 65536 → step_length step ≤ 65536 → ((label : Name) → is_ahead following label ≡ true → reached label) → Clean (step_checks scope.unit step) →
-    Clean (step_rules scope line step following kind) → IsStepLayable scope reached step
-step_layable scope line (Load true term) following kind reached few short go named c = (readable scope term named c.1.0 (inl (of_some (is_kind KindBool) (term_kind scope term) c.1.1.0)), loadable scope term c.1.1.0)
-step_layable scope line (Load false term) following kind reached few short go named c = (readable scope term named c.1.0 (inl c.1.1.0), loadable_plain term)
-step_layable scope line (Store storing target) following kind reached few short go named c = store_writable scope line storing target kind named c
-step_layable scope line (Apply operator term) following kind reached few short go named c = apply_readable scope line operator term kind named c
-step_layable scope line Negate following kind reached few short go named c = tt
-step_layable scope line (Jump condition label) following kind reached few short go named c = go label c.0
-step_layable scope line (Call condition instance arguments) following kind reached few short go named c =
-    let both = call_layable scope line condition instance arguments kind few named c in
+step_lowerable : (scope : Scope) (line : ℕ) (step : Step) (following : List BodyLine) (kind : Option Kind) (reached : Name → Type 0) → length scope.before < 65536 → step_length step ≤ 65536 → ((label : Name) → is_ahead following label ≡ true → reached label) → Clean (step_checks scope.unit step) →
+    Clean (step_rules scope line step following kind) → IsStepLowerable scope reached step
+step_lowerable scope line (Load true term) following kind reached few short go named c = (readable scope term named c.1.0 (inl (of_some (is_kind KindBool) (term_kind scope term) c.1.1.0)), loadable scope term c.1.1.0)
+step_lowerable scope line (Load false term) following kind reached few short go named c = (readable scope term named c.1.0 (inl c.1.1.0), loadable_plain term)
+step_lowerable scope line (Store storing target) following kind reached few short go named c = store_writable scope line storing target kind named c
+step_lowerable scope line (Apply operator term) following kind reached few short go named c = apply_readable scope line operator term kind named c
+step_lowerable scope line Negate following kind reached few short go named c = tt
+step_lowerable scope line (Jump condition label) following kind reached few short go named c = go label c.0
+step_lowerable scope line (Call condition instance arguments) following kind reached few short go named c =
+    let both = call_lowerable scope line condition instance arguments kind few named c in
     (both.0, both.1, omega (arith, short))
-step_layable scope line (Return condition) following kind reached few short go named c = tt
+step_lowerable scope line (Return condition) following kind reached few short go named c = tt
 
 -- the lines inside a parenthesis
-pub inside_layable : (scope : Scope) (lines : Lines) (kind : Option Kind) → length scope.before < 65536 → flat_length lines ≤ 65536 → Clean (body_name_checks scope.unit lines) → Clean (inside_rules scope lines kind) → IsInsideLayable scope lines
-inside_layable scope End kind few short named c = tt
-inside_layable scope (Alone label rest) kind few short named c = inside_layable scope rest kind few short named.1 c
-inside_layable scope (Plain label line step rest) kind few short named c =
+pub inside_lowerable : (scope : Scope) (lines : Lines) (kind : Option Kind) → length scope.before < 65536 → flat_length lines ≤ 65536 → Clean (body_name_checks scope.unit lines) → Clean (inside_rules scope lines kind) → IsInsideLowerable scope lines
+inside_lowerable scope End kind few short named c = tt
+inside_lowerable scope (Alone label rest) kind few short named c = inside_lowerable scope rest kind few short named.1 c
+inside_lowerable scope (Plain label line step rest) kind few short named c =
     let names = three_parts (label_checks label) (step_checks scope.unit step) (body_name_checks scope.unit rest) named in
     let next = kind_after_step scope step kind in (
-      step_layable scope line step [] kind Nowhere few (omega (arith, short)) (λ label h. cc) names.1 (clean_first (step_rules scope line step [] kind) (inside_rules scope rest next) c),
-      inside_layable scope rest next few (omega (arith, short)) names.2 (clean_second (step_rules scope line step [] kind) (inside_rules scope rest next) c),
+      step_lowerable scope line step [] kind Nowhere few (omega (arith, short)) (λ label h. cc) names.1 (clean_first (step_rules scope line step [] kind) (inside_rules scope rest next) c),
+      inside_lowerable scope rest next few (omega (arith, short)) names.2 (clean_second (step_rules scope line step [] kind) (inside_rules scope rest next) c),
     )
-inside_layable scope (Nested label line operator operand inside close rest) kind few short named c =
+inside_lowerable scope (Nested label line operator operand inside close rest) kind few short named c =
     let names = nested_parts (label_checks label) (operand_checks scope.unit operand) (body_name_checks scope.unit inside) (body_name_checks scope.unit rest) named in
     let inner = opening_kind scope operand in
     let parts = nested_parts (opening_checks scope line operator operand kind) (inside_rules scope inside inner) (closing_checks close kind (kind_following scope inside inner)) (inside_rules scope rest (kind_after_operator operator kind)) c in
-    ((openable scope line operator operand kind names.1 parts.0, inside_layable scope inside inner few (omega (arith, short)) names.2 parts.1), inside_layable scope rest (kind_after_operator operator kind) few (omega (arith, short)) names.3 parts.3)
+    ((openable scope line operator operand kind names.1 parts.0, inside_lowerable scope inside inner few (omega (arith, short)) names.2 parts.1), inside_lowerable scope rest (kind_after_operator operator kind) few (omega (arith, short)) names.3 parts.3)
 
 -- a label that a later line has is ahead
 shifted : (n most : ℕ) (o : Option ℕ) → (skip : ℕ) × (o ≡ Some skip) × (skip ≤ most) → (skip : ℕ) × (option_map (λ k. n + k) o ≡ Some skip) × (skip ≤ n + most)
@@ -252,13 +252,13 @@ near : (rest : Lines) → flat_length rest ≤ 65536 → (label : Name) → is_a
 near rest short label e = let f = found_ahead rest label e in (f.0, f.1, (let l = f.2 in omega (arith, l, short)))
 
 -- the lines of a body
-pub lines_layable : (scope : Scope) (lines : Lines) (before : List BodyLine) → length scope.before < 65536 → flat_length lines ≤ 65536 → Clean (body_name_checks scope.unit lines) → Clean (flat_map (rules_at_position scope) (positions_after before (lines_of lines))) → IsLayable scope lines
-lines_layable scope End before few short named c = tt
-lines_layable scope (Alone word rest) before few short named c =
+pub lines_lowerable : (scope : Scope) (lines : Lines) (before : List BodyLine) → length scope.before < 65536 → flat_length lines ≤ 65536 → Clean (body_name_checks scope.unit lines) → Clean (flat_map (rules_at_position scope) (positions_after before (lines_of lines))) → IsLowerable scope lines
+lines_lowerable scope End before few short named c = tt
+lines_lowerable scope (Alone word rest) before few short named c =
     let line : BodyLine = AloneLine word in
     let position : Position BodyLine = record { before = before; item = line; following = lines_of rest } in
-    lines_layable scope rest (line ∷ before) few short named.1 (clean_second (rules_at_position scope position) (flat_map (rules_at_position scope) (positions_after (line ∷ before) (lines_of rest))) c)
-lines_layable scope (Plain label number step rest) before few short named c =
+    lines_lowerable scope rest (line ∷ before) few short named.1 (clean_second (rules_at_position scope position) (flat_map (rules_at_position scope) (positions_after (line ∷ before) (lines_of rest))) c)
+lines_lowerable scope (Plain label number step rest) before few short named c =
     let line : BodyLine = PlainLine label number step in
     let position : Position BodyLine = record { before = before; item = line; following = lines_of rest } in
     let names = three_parts (label_checks label) (step_checks scope.unit step) (body_name_checks scope.unit rest) named in
@@ -266,8 +266,8 @@ lines_layable scope (Plain label number step rest) before few short named c =
     let kind = kind_at scope before line in
     let own = clean_second (label_rules before label) (step_rules scope number step (lines_of rest) kind) (clean_first (rules_at_position scope position) others c) in
     let less : flat_length rest ≤ 65536 = omega (arith, short) in
-    (step_layable scope number step (lines_of rest) kind (IsNear rest) few (omega (arith, short)) (near rest less) names.1 own, lines_layable scope rest (line ∷ before) few less names.2 (clean_second (rules_at_position scope position) others c))
-lines_layable scope (Nested label number operator operand inside close rest) before few short named c =
+    (step_lowerable scope number step (lines_of rest) kind (IsNear rest) few (omega (arith, short)) (near rest less) names.1 own, lines_lowerable scope rest (line ∷ before) few less names.2 (clean_second (rules_at_position scope position) others c))
+lines_lowerable scope (Nested label number operator operand inside close rest) before few short named c =
     let line : BodyLine = NestedLine label number operator operand inside close in
     let position : Position BodyLine = record { before = before; item = line; following = lines_of rest } in
     let names = nested_parts (label_checks label) (operand_checks scope.unit operand) (body_name_checks scope.unit inside) (body_name_checks scope.unit rest) named in
@@ -276,4 +276,4 @@ lines_layable scope (Nested label number operator operand inside close rest) bef
     let inner = opening_kind scope operand in
     let own = clean_second (label_rules before label) (line_rules scope line (lines_of rest) kind) (clean_first (rules_at_position scope position) others c) in
     let parts = three_parts (opening_checks scope number operator operand kind) (inside_rules scope inside inner) (closing_checks close kind (kind_following scope inside inner)) own in
-    ((openable scope number operator operand kind names.1 parts.0, inside_layable scope inside inner few (omega (arith, short)) names.2 parts.1), lines_layable scope rest (line ∷ before) few (omega (arith, short)) names.3 (clean_second (rules_at_position scope position) others c))
+    ((openable scope number operator operand kind names.1 parts.0, inside_lowerable scope inside inner few (omega (arith, short)) names.2 parts.1), lines_lowerable scope rest (line ∷ before) few (omega (arith, short)) names.3 (clean_second (rules_at_position scope position) others c))
