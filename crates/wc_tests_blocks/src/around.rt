@@ -130,7 +130,7 @@ fn nothing_is_taken_after_a_failure(rt: HostRuntime) {
 }
 
 #[test]
-fn bytes_are_handed_on(rt: HostRuntime) {
+fn bytes_are_passed_on(rt: HostRuntime) {
     let mut writer = RetryReader::new(Vec::new(rt.alloc()));
     assert!(rt; moved(writer.write(b"abc")) == Some(3));
     assert!(rt; writer.cause().is_none());
