@@ -12,11 +12,11 @@ mark_reach_of [] = 0
 mark_reach_of (b ∷ rest) = mark_reach b rest
 
 -- what an element says of its place
-abbrev pub element_sight : LexicalElement → Sight
-element_sight Space = Pass 1
-element_sight (Comment count) = Pass count
-element_sight (Lexeme count shape) = Take count (shape_view shape)
-element_sight (Fault number) = Refuse number
+abbrev pub sight_of : LexicalElement → Sight
+sight_of Space = Pass 1
+sight_of (Comment count) = Pass count
+sight_of (Lexeme count shape) = Take count (shape_view shape)
+sight_of (Fault number) = Refuse number
 
 -- the element has at most n bytes
 abbrev pub IsWithin : ℕ → LexicalElement → Type 0

@@ -1,5 +1,5 @@
 ghost use Rattle.std.specs.Prelude.{◌≡◌, ◌+◌, ◌≤◌, ◌==◌, length, true};
-ghost use Rattle.wc_lexer.specs.Sights.{IsWithin, element_sight};
+ghost use Rattle.wc_lexer.specs.Sights.{IsWithin, sight_of};
 ghost use Rattle.wc_laws_tokens.specs.Sights.{sight, sight_by_reach, sight_in_comment};
 ghost use Rattle.wc_laws_tokens.specs.Reaches.{reach};
 ghost use Rattle.wc_model.specs.Text.Blanks.{from_bracket};
@@ -27,7 +27,7 @@ pub(crate) enum LexicalElement {
 
 /// What a comment's inside says.
 fn comment(inside: &[u8]) -> LexicalElement
-    ensures represents { element_sight result ≡ sight_in_comment inside.now (from_bracket inside.now) }
+    ensures represents { sight_of result ≡ sight_in_comment inside.now (from_bracket inside.now) }
     ensures within { IsWithin (length inside.now + 2) result }
 {
     match from_bracket(inside) {
@@ -40,7 +40,7 @@ fn comment(inside: &[u8]) -> LexicalElement
 /// The longest lexeme that is here, by its length and its shape.
 #[inline(never)]
 fn any_lexeme(text: &[u8]) -> LexicalElement
-    ensures represents { element_sight result ≡ sight_by_reach (reach text.now) text.now }
+    ensures represents { sight_of result ≡ sight_by_reach (reach text.now) text.now }
     ensures within { IsWithin (length text.now) result }
 {
     let count = lexeme_length(text);
@@ -57,7 +57,7 @@ fn any_lexeme(text: &[u8]) -> LexicalElement
 /// called.
 #[inline(always)]
 fn parse_rare_lexeme(text: &[u8]) -> LexicalElement
-    ensures represents { element_sight result ≡ sight_by_reach (reach text.now) text.now }
+    ensures represents { sight_of result ≡ sight_by_reach (reach text.now) text.now }
     ensures within { IsWithin (length text.now) result }
 {
     let found = any_lexeme(text);
@@ -68,7 +68,7 @@ fn parse_rare_lexeme(text: &[u8]) -> LexicalElement
 #[inline(always)]
 fn word(text: &[u8]) -> LexicalElement
     requires { begins starts_identifier text.now ≡ true }
-    ensures represents { element_sight result ≡ sight_by_reach (reach text.now) text.now }
+    ensures represents { sight_of result ≡ sight_by_reach (reach text.now) text.now }
     ensures within { IsWithin (length text.now) result }
 {
     let (count, has_single) = identifier_prefix(text);
@@ -86,7 +86,7 @@ fn word(text: &[u8]) -> LexicalElement
 #[inline(never)]
 fn any_element(text: &[u8]) -> LexicalElement
     requires { 1 ≤ length text.now }
-    ensures represents { element_sight result ≡ sight text.now }
+    ensures represents { sight_of result ≡ sight text.now }
     ensures within { IsWithin (length text.now) result }
 {
     if opens_comment(text) {
@@ -103,7 +103,7 @@ fn any_element(text: &[u8]) -> LexicalElement
 #[inline(always)]
 fn other_element(text: &[u8]) -> LexicalElement
     requires { 1 ≤ length text.now }
-    ensures represents { element_sight result ≡ sight text.now }
+    ensures represents { sight_of result ≡ sight text.now }
     ensures within { IsWithin (length text.now) result }
 {
     let found = any_element(text);
@@ -114,7 +114,7 @@ fn other_element(text: &[u8]) -> LexicalElement
 #[inline(always)]
 fn colon(text: &[u8]) -> LexicalElement
     requires { begins (λ byte. byte == 58) text.now ≡ true }
-    ensures represents { element_sight result ≡ sight text.now }
+    ensures represents { sight_of result ≡ sight text.now }
     ensures within { IsWithin (length text.now) result }
 {
     let after = following_first(text);
@@ -129,7 +129,7 @@ fn colon(text: &[u8]) -> LexicalElement
 #[inline(always)]
 pub(crate) fn first_element(text: &[u8]) -> LexicalElement
     requires { 1 ≤ length text.now }
-    ensures represents { element_sight result ≡ sight text.now }
+    ensures represents { sight_of result ≡ sight text.now }
     ensures within { IsWithin (length text.now) result }
 {
     match text {

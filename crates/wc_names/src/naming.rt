@@ -9,7 +9,7 @@ ghost use Rattle.wc_names.specs.Numbered.{numbered_entity};
 ghost use Rattle.wc_names.specs.RepresentsText.{Represents};
 
 use crate::entity::Entity;
-use crate::lookup::{direct_number, offset_by, number_after, row};
+use crate::lookup::{direct_number, number_after, offset_by, row};
 use crate::member::{kind_of, member_of};
 use crate::unit_table::UnitTable;
 use wc_built_in::variable_at;

@@ -46,7 +46,8 @@ pub fn has_program(units: &[Unit]) -> bool
 fn too_many(units: &[Unit], line: u32) -> Option<Fault>
     ensures { result
         ≡ option_map fault_of
-        (moves.fault_if (nat_le most_units (length (map unit_view units.now))) faults.TooMany line) }
+        (moves.fault_if (nat_le most_units (length (map unit_view units.now))) faults.TooMany
+        line) }
 {
     if units.len() >= MOST_UNITS {
         Some(Fault::Refused {
@@ -64,7 +65,8 @@ fn word_fault(units: &[Unit], line: u32) -> Option<Fault>
         ≡ option_map fault_of
         (moves.first_fault
         (moves.fault_if (moves.has_program (map unit_view units.now)) faults.NotOneProgramLast line)
-        (moves.fault_if (nat_le most_units (length (map unit_view units.now))) faults.TooMany line)) }
+        (moves.fault_if (nat_le most_units (length (map unit_view units.now))) faults.TooMany
+        line)) }
 {
     if has_program(units) {
         Some(Fault::Refused {
@@ -130,7 +132,8 @@ pub(crate) fn fault_at<'a>(reading: &Reading<'a>, token: Token<'a>, colon: bool)
     requires { IsStateCounted reading.now.state }
     ensures { result
         ≡ option_map fault_of
-        (moves.fault_at (reading_view reading.now) (symbol_view token.entry) token.entry.line colon) }
+        (moves.fault_at (reading_view reading.now) (symbol_view token.entry) token.entry.line
+        colon) }
 {
     match &reading.state {
         TextState::Outside => outside_fault(&reading.units, token),

@@ -220,7 +220,8 @@ fn line_fault(body: &Body, token: Token, colon: bool) -> Option<Fault>
     ensures { (units : List ProgramUnit)
         → result
         ≡ option_map fault_of
-        (moves.fault_at_line (position_view units body.now) (openings_view [] body.now.openings.items)
+        (moves.fault_at_line (position_view units body.now)
+        (openings_view [] body.now.openings.items)
         (symbol_view token.entry) token.entry.line colon) }
 {
     match innermost(&body.openings) {
