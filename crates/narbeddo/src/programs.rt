@@ -21,14 +21,14 @@ pub extern "C" fn narbeddo_path(
     alloc: Global,
     text: &[u8],
     unit: u32,
-    capacity: &mut [u32],
+    buffer: &mut [u32],
 ) -> PathAnswer
-    ensures reported { ReportsPath text.now unit capacity.new result }
-    ensures kept { ¬ (result.text.status ≡ 0) → capacity.new ≡ capacity.old }
+    ensures reported { ReportsPath text.now unit buffer.new result }
+    ensures kept { ¬ (result.text.status ≡ 0) → buffer.new ≡ buffer.old }
     ensures no_unit { ReportsNoUnit text.now unit result.text }
-    ensures too_small { ReportsTooSmall text.now unit capacity.old result }
+    ensures too_small { ReportsTooSmall text.now unit buffer.old result }
     ensures status { IsPathStatus result.text.status }
     ensures refused { RefusesText text.now result.text }
 {
-    path(alloc, text, unit, capacity)
+    path(alloc, text, unit, buffer)
 }

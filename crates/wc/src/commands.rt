@@ -31,12 +31,12 @@ fn finish(
         Ok(mut gathered) => (gathered.empty().is_ok(), gathered.get_ref().cause()),
         Err(_) => (false, None),
     };
-    let raised = CommandEnd {
+    let outcome = CommandEnd {
         ending: if written { ending } else { Ending::WriteFault },
         reading,
         writing,
     };
-    end(session, &raised, sources, row)
+    end(session, &outcome, sources, row)
 }
 
 /// Tells how a run of these files ended: the exit status.

@@ -279,11 +279,11 @@ pub(crate) fn report_write_fault(rt: &HostRuntime, cause: Option<io::Error>) -> 
 /// Says on standard error how a command ended, if it did not succeed.
 fn report(
     session: Session<'_>,
-    raised: &CommandEnd,
+    outcome: &CommandEnd,
     sources: &Sources<'_>,
     row: &RefusedRow,
 ) -> io::Result<()> {
-    match raised.ending {
+    match outcome.ending {
         Ending::Done => Ok(()),
         Ending::Refused {
             input,
@@ -294,9 +294,9 @@ fn report(
             session.rt,
             sources,
             input,
-            raised.reading,
+            outcome.reading,
         ),
-        Ending::WriteFault => report_write_fault(session.rt, raised.writing),
+        Ending::WriteFault => report_write_fault(session.rt, outcome.writing),
         Ending::NoMemory => session.rt.eprintln("memory"),
     }
 }
@@ -308,8 +308,8 @@ pub(crate) fn without_memory(rt: &HostRuntime) -> u8 {
 }
 
 /// The ending, if the system's own calls ran out of memory too.
-fn with_memory(raised: &CommandEnd) -> Ending {
-    match (raised.ending, raised.reading) {
+fn with_memory(outcome: &CommandEnd) -> Ending {
+    match (outcome.ending, outcome.reading) {
         (Ending::ReadFault { input }, Some(error)) => {
             if error.kind() == io::ErrorKind::OutOfMemory {
                 Ending::NoMemory
@@ -324,15 +324,15 @@ fn with_memory(raised: &CommandEnd) -> Ending {
 /// Tells how a command ended: the exit status.
 pub(crate) fn end(
     session: Session<'_>,
-    raised: &CommandEnd,
+    outcome: &CommandEnd,
     sources: &Sources<'_>,
     row: &RefusedRow,
 ) -> u8 {
-    let raised = CommandEnd {
-        ending: with_memory(raised),
-        ..*raised
+    let outcome = CommandEnd {
+        ending: with_memory(outcome),
+        ..*outcome
     };
     // If standard error fails there is nobody left to report to.
-    let _reported = report(session, &raised, sources, row);
-    raised.ending.status()
+    let _reported = report(session, &outcome, sources, row);
+    outcome.ending.status()
 }

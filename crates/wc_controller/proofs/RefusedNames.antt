@@ -1,7 +1,7 @@
 -- What an observer that refused to begin holds of the programs with which it did.
 use Rattle.std.proofs.Common.{◌≡◌, ℕ, List, Bool, false, Option, Some, None, Result, Ok, Err, sym, subst, ◌∙◌}
 use Rattle.std.specs.Prelude.{IfSome}
-use Rattle.wc_controller.specs.Endings.{EndsAfter, EndsAfterFault, IsAt, StopsAt, started_input}
+use Rattle.wc_controller.specs.Endings.{EndsAfter, EndsAfterFault, IsAt, StopsAt, begin_fault_input}
 use Rattle.wc_controller.specs.InputStates.{Reader}
 use Rattle.wc_controller.specs.TakenLogs.{AreReadOf, IfKnown, IsNextLoadedOf, OfLogic, OfPrograms}
 use Rattle.wc_controller.specs.declared.ending.Ending.{Ending}
@@ -20,7 +20,7 @@ use Rattle.wc_run.specs.declared.fault.RunFault.{RunFault}
 use Rattle.wc_run.specs.declared.fault.RunFault.TheVariants.{Refused, Read, Write, Memory}
 
 -- the names are at fault if it refused to begin
-pub refused_at_names : (begins : Bool) (held : Type 0) (why : RunFault) → started_input why ≡ input.Names → RefusesToBegin begins held why → (begins ≡ false) × held
+pub refused_at_names : (begins : Bool) (held : Type 0) (why : RunFault) → begin_fault_input why ≡ input.Names → RefusesToBegin begins held why → (begins ≡ false) × held
 refused_at_names begins held (Refused number place) at h = (h.0, h.1)
 refused_at_names begins held Read at h = absurd h
 refused_at_names begins held Write at h = absurd h
@@ -28,7 +28,7 @@ refused_at_names begins held Memory at h = absurd (cc (at))
 
 -- with the next text, if there is one
 pub next_refused : (first : Text) (bytes : Option (List ℕ)) (next : Option LoadedText) (begins : Option Logic → Bool) (held : Option Logic → Type 0) (why : RunFault)
-    → IsNextLoadedOf bytes next → started_input why ≡ input.Names
+    → IsNextLoadedOf bytes next → begin_fault_input why ≡ input.Names
     → RefusesToBegin (begins (Some (first_logic first (text_of_next next)))) (held (Some (first_logic first (text_of_next next)))) why
     → OfLogic first bytes (λ logic. (begins logic ≡ false) × held logic)
 next_refused first None None begins held why is at h = refused_at_names (begins (Some (first_logic first None))) (held (Some (first_logic first None))) why at h

@@ -144,9 +144,9 @@ ReportsWriteFaults None old new = new ≡ old
 ReportsWriteFaults (Some fault) old new = ReportsWrite fault old new
 
 -- the input that is named if an observer does not begin: the names that it was to observe, or, when out of memory, the log
-abbrev pub started_input : RunFault → Input
-started_input (Refused number place) = input.Names
-started_input fault = input.Log
+abbrev pub begin_fault_input : RunFault → Input
+begin_fault_input (Refused number place) = input.Names
+begin_fault_input fault = input.Log
 
 -- it stopped at this input
 abbrev pub StopsAt : {X : Type 0} → Input → Result X Stopped → Type 0

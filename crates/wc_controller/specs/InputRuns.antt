@@ -36,7 +36,7 @@ pub record TakesInputs (before after : InputStates) : Type 0 where
 
 -- The plate is read and checked, then the program, then the next program, then the log is run; and the ending names the input
 -- at which that stopped:
---     blames_..     the input that a refusal names is the one that breaks the rule, and `told` has the fields of a refused row
+--     blames_..     the input that a refusal names is the one that breaks the rule, and `reported` has the fields of a refused row
 --     no_job        there is no job: what the ending names is one of these inputs
 --     .._there      it names a program or a next one only if there is one, and a next one only if there is a program
 --     unread_..     what follows the input that it names is not read; without a program the next one is not read;

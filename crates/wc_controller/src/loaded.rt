@@ -1,6 +1,6 @@
 ghost use Rattle.std.specs.Prelude.{◌≡◌, [], ℕ, true, false, Some, None, Option, IfErr, IfOk, IfSome, IsOkUnless, OnOk, is_some, option_map};
 ghost use Rattle.wc_controller.specs.Blames.{IsNextUnloaded, IsUnloaded, RefusesLog, StopsFor};
-ghost use Rattle.wc_controller.specs.Endings.{HasNotFailedAt, IsReadFaultAt, StopsAt, ReportsMemory, ReportsWriteFaults, WritesUpTo, started_input, raised};
+ghost use Rattle.wc_controller.specs.Endings.{HasNotFailedAt, IsReadFaultAt, StopsAt, ReportsMemory, ReportsWriteFaults, WritesUpTo, begin_fault_input, raised};
 ghost use Rattle.wc_controller.specs.Files.{AnswersPrinting, IsLineAnswer, answer_written};
 ghost use Rattle.wc_controller.specs.InputStates.{observed_by, reader_of};
 ghost use Rattle.wc_controller.specs.TakenLogs.{IsLater, IsNextLoadedOf, OfLogic, log_alone, log_alongside, log_by};
@@ -93,8 +93,8 @@ fn next_program<'l, 't>(
 }
 
 /// The input that is named if an observer does not begin.
-fn started_input(fault: RunFault) -> Input
-    ensures { result ≡ started_input fault }
+fn begin_fault_input(fault: RunFault) -> Input
+    ensures { result ≡ begin_fault_input fault }
 {
     match fault {
         RunFault::Refused { .. } => Input::Names,
@@ -120,12 +120,12 @@ fn begin<W: ByteOut, O: Observer<SlotStore, W>>(
         (O.has_refused observer.old observer.new
         (logic_of (loaded_of first.entry) (loaded_of next.entry)))
         stopped.fault) }
-    ensures input { IfErr result (λ stopped. stopped.input ≡ started_input stopped.fault) }
+    ensures input { IfErr result (λ stopped. stopped.input ≡ begin_fault_input stopped.fault) }
 {
     match observer.begin(first, next) {
         Ok(()) => Ok(()),
         Err(fault) => Err(Stopped {
-            input: started_input(fault),
+            input: begin_fault_input(fault),
             fault,
         }),
     }

@@ -4,7 +4,7 @@ ghost use Rattle.wc_model.specs.Say.LogFor.{log_for};
 ghost use Rattle.wc_model.specs.Say.ProgramReport.{Logic};
 ghost use Rattle.wc_record.specs.Left.{HasCause};
 ghost use Rattle.wc_record.specs.Reading.{records_of};
-ghost use Rattle.wc_run.specs.Doing.{IsValidated};
+ghost use Rattle.wc_run.specs.Doing.{IsClassified};
 ghost use Rattle.wc_run.specs.Logics.{IsAt};
 ghost use Rattle.wc_run.specs.Runs.{HasNotFailed, LeavesLine, Reports, ReportsWrites};
 
@@ -14,13 +14,13 @@ use wc_machine::Machine;
 use wc_model::{ByteIn, ByteOut};
 use wc_plate::Plate;
 use wc_record::RefusedRow;
-use wc_run::{LastScans, Report, RunFault, Scale, validated};
+use wc_run::{LastScans, Report, RunFault, Scale, classified};
 use wc_store::Store;
 
 /// The fault of a run that is out of memory before it begins: if the reader has failed already as often as can be counted,
 /// that is reported.
-fn not_started<R: ByteIn>(fault: RunFault, reader: &R) -> RunFault
-    ensures validated { IsValidated fault result }
+fn fault_at_start<R: ByteIn>(fault: RunFault, reader: &R) -> RunFault
+    ensures classified { IsClassified fault result }
     ensures read { result ≡ RunFault.Read
         → HasCause (R.failure_count reader.now) (R.failure_count reader.now)
         (R.spent_count reader.now) (R.spent_count reader.now) }
@@ -28,7 +28,7 @@ fn not_started<R: ByteIn>(fault: RunFault, reader: &R) -> RunFault
         → ¬ HasCause (R.failure_count reader.now) (R.failure_count reader.now)
         (R.spent_count reader.now) (R.spent_count reader.now) }
 {
-    validated(fault, reader, reader.failures(), reader.spent())
+    classified(fault, reader, reader.failures(), reader.spent())
 }
 
 /// Runs a log and writes its report, with a line for every scan. Each row is read and carried out,
@@ -98,7 +98,7 @@ pub fn run<'a, S: Store, R: ByteIn, W: ByteOut>(
             writer,
             &mut RefusedRow::new(alloc),
         ),
-        Err(fault) => Err(not_started(fault, reader)),
+        Err(fault) => Err(fault_at_start(fault, reader)),
     }
 }
 
@@ -151,7 +151,7 @@ pub fn run_last<'a, S: Store, R: ByteIn, W: ByteOut>(
 {
     let mut scans = match LastScans::new(alloc, last) {
         Ok(scans) => scans,
-        Err(fault) => return Err(not_started(fault, reader)),
+        Err(fault) => return Err(fault_at_start(fault, reader)),
     };
     match Scale::new(alloc, plate, machine, next) {
         Ok(mut scale) => wc_run::run(
@@ -162,6 +162,6 @@ pub fn run_last<'a, S: Store, R: ByteIn, W: ByteOut>(
             writer,
             &mut RefusedRow::new(alloc),
         ),
-        Err(fault) => Err(not_started(fault, reader)),
+        Err(fault) => Err(fault_at_start(fault, reader)),
     }
 }

@@ -77,7 +77,7 @@ pub fn run_inputs<
 /// then the log is run row by row, and what the observer writes of a row is written before the next
 /// row is read. With no program the line alone does anything.
 ///
-/// `told` is given the fields of a row that is refused.
+/// `reported` is given the fields of a row that is refused.
 ///
 /// The first input that breaks a rule is refused, after what is written of the rows before, and what
 /// follows it is not read. A row that changes the program takes the next one; if none is left it

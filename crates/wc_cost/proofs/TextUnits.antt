@@ -23,9 +23,9 @@ use Rattle.wc_laws_soundness.proofs.Steps.{clean_first, clean_second}
 use Rattle.wc_laws_soundness.proofs.Texts.{none_broken}
 use Rattle.wc_laws_soundness.specs.Laws.{UnitsNestSimply}
 use Rattle.wc_laws_soundness.specs.Sound.{Clean, NestsSimply}
-use Rattle.wc_lowering.proofs.LayableLines.{lines_layable}
+use Rattle.wc_lowering.proofs.LowerableLines.{lines_lowerable}
 use Rattle.wc_cost.specs.Faultless.{IsFaultless, IsSpelled}
-use Rattle.wc_lowering.specs.Layable.{IsLayable}
+use Rattle.wc_lowering.specs.Lowerable.{IsLowerable}
 use Rattle.wc_verify.specs.CheckedTexts.{WasRead}
 
 -- the rules of a unit by its number
@@ -92,14 +92,14 @@ unit_short text h k scope is =
     let f = h.read.few in
     omega (arith, a, b, f)
 
-pub unit_layable : (text : Text) → IsFaultless text → (k : ℕ) (scope : Scope) → IsUnit text k scope → IsLayable scope scope.unit.body
-unit_layable text h k scope is =
+pub unit_lowerable : (text : Text) → IsFaultless text → (k : ℕ) (scope : Scope) → IsUnit text k scope → IsLowerable scope scope.unit.body
+unit_lowerable text h k scope is =
     let bodies = unit_clean (λ (position : Position ProgramUnit). body_rules (record { before = position.before; unit = position.item })) [] text (none_broken (text_body_checks text) h.sound) k scope is in
     let names = unit_clean (λ (position : Position ProgramUnit). unit_checks text position.before position.item) [] text (none_broken (text_declaration_checks text) h.declared) k scope is in
     let own = clean_second (unit_declaration_checks text scope.before scope.unit) (body_name_checks scope.unit scope.unit.body) names.1.1.1 in
     let few = count_before [] text k scope is in
     let most = h.read.within_limits.units in
-    lines_layable scope scope.unit.body [] (omega (arith, few, most)) (unit_short text h k scope is) own bodies.1
+    lines_lowerable scope scope.unit.body [] (omega (arith, few, most)) (unit_short text h k scope is) own bodies.1
 
 -- a unit between those before it and those after
 at_split : (before units : List ProgramUnit) (k : ℕ) → slice_get (map scope_of_position (positions_after [] (onto before units))) (length before + k) ≡ slice_get (map scope_of_position (positions_after before units)) k

@@ -4,7 +4,7 @@ ghost use Rattle.wc_cost.specs.Faultless.{IsFaultless, Measures};
 ghost use Rattle.wc_names.specs.RepresentsText.{AreTables};
 
 use crate::loaded::Loaded;
-use crate::units::lay_units;
+use crate::units::lower_units;
 use std::alloc::Global;
 use wc_model::{Fault, Source};
 use wc_names::Tables;
@@ -17,7 +17,7 @@ pub fn measure<'a>(alloc: Global, source: &Source<'a>, tables: &Tables<'a>) -> R
     ensures { AreTables tables.now (text_view source.now) → IsFaultless (text_view source.now)
         → Measures (text_view source.now) result }
 {
-    lay_units(alloc, tables, source)?;
+    lower_units(alloc, tables, source)?;
     Ok(())
 }
 
@@ -26,7 +26,7 @@ pub fn measure<'a>(alloc: Global, source: &Source<'a>, tables: &Tables<'a>) -> R
 pub fn cost<'a>(alloc: Global, checked: Checked<'a>) -> Result<Loaded<'a>, Fault>
     ensures { IsCosted (text_view checked.entry.source) checked.entry.source result }
 {
-    let units = lay_units(alloc, checked.tables(), checked.source())?;
+    let units = lower_units(alloc, checked.tables(), checked.source())?;
     let last = units.len().saturating_sub(1);
     let frame = checked.tables().frame(alloc, last)?;
     Ok(Loaded {

@@ -5,7 +5,7 @@ ghost use Rattle.wc_text_flat.specs.Lowered.{IsLowered, flat_length};
 ghost use Rattle.wc_model.specs.Language.Scopes.{Scope};
 ghost use Rattle.wc_model.specs.Language.Views.{text_view, unit_view};
 ghost use Rattle.wc_cost.specs.Faultless.{IsFaultless, LoadsUnits, MeasuresUnit};
-ghost use Rattle.wc_lowering.specs.Layable.{IsLayable};
+ghost use Rattle.wc_lowering.specs.Lowerable.{IsLowerable};
 ghost use Rattle.wc_cost.specs.LoadedInside.{bounds_of};
 ghost use Rattle.wc_cost.specs.PathLengths.{AreSmall};
 ghost use Rattle.wc_verify.specs.Seeing.{IsScope};
@@ -55,7 +55,7 @@ fn with_bound(code: Vec<Code>, lines: Vec<u32>, steps: u64, line: u32) -> Result
 }
 
 /// A unit lowered and measured after those before it, or 411.
-fn lay_unit<'a>(
+fn lower_unit<'a>(
     alloc: Global,
     tables: &Tables<'a>,
     number: usize,
@@ -63,7 +63,7 @@ fn lay_unit<'a>(
     units: &[LoweredUnit],
 ) -> Result<LoweredUnit, Fault>
     ensures { (scope : Scope) → IsScope tables.now number scope → scope.unit ≡ unit_view unit.now
-        → IsLayable scope scope.unit.body → flat_length scope.unit.body ≤ 65536
+        → IsLowerable scope scope.unit.body → flat_length scope.unit.body ≤ 65536
         → AreSmall (bounds_of units.now) → MeasuresUnit (bounds_of units.now) scope result }
 {
     let flat = flat_body(alloc, tables, number, &unit.body)?;
@@ -74,7 +74,7 @@ fn lay_unit<'a>(
 
 /// The units of a text lowered and measured one after the other, or 411 at the first that is too
 /// long.
-pub(crate) fn lay_units<'a>(
+pub(crate) fn lower_units<'a>(
     alloc: Global,
     tables: &Tables<'a>,
     source: &Source<'a>,
@@ -84,7 +84,7 @@ pub(crate) fn lay_units<'a>(
 {
     let mut units = Vec::new(alloc);
     for (number, unit) in source.units.iter().enumerate() {
-        let lowered = lay_unit(alloc, tables, number, unit, &units)?;
+        let lowered = lower_unit(alloc, tables, number, unit, &units)?;
         units.push(lowered).map_err(|_| Fault::Memory)?;
     }
     Ok(units)

@@ -1,1 +1,1 @@
-pub mod HandedOn
+pub mod PassedOn

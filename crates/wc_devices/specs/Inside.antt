@@ -1,32 +1,32 @@
 -- What is inside these readers and writers, and what else they keep. (The profile's own.)
 use Rattle.std.specs.Prelude.{◌≡◌, ℕ, ◌-◌, Bool, List, ◌++◌, Option, Some, None, Result, Ok, Err, IsErrAnd, IsTrue, drop, length, take, vec_capacity, if◌then◌else◌}
 use Rattle.std.specs.Io.KnownBytes.{append_known}
-use Rattle.wc_devices.specs.declared.gathered.OutputBuffer.{OutputBuffer}
-use Rattle.wc_devices.specs.declared.keeping.TeeReader.{TeeReader}
-use Rattle.wc_devices.specs.declared.noting.RetryReader.{RetryReader}
+use Rattle.wc_devices.specs.declared.output_buffer.OutputBuffer.{OutputBuffer}
+use Rattle.wc_devices.specs.declared.tee_reader.TeeReader.{TeeReader}
+use Rattle.wc_devices.specs.declared.retry_reader.RetryReader.{RetryReader}
 use Rattle.std.specs.declared.io.Error.{Error}
 use Rattle.std.specs.declared.io.ErrorKind.TheVariants.{BrokenPipe}
 use Rattle.std.specs.IoError.{error_kind}
 
 -- the reader or writer inside
-abbrev pub noting_inner : {D : Type 0} → RetryReader D → D
-noting_inner noting = noting.inner
+abbrev pub retry_inner : {D : Type 0} → RetryReader D → D
+retry_inner retry = retry.inner
 
 -- why it failed last, if it did
-abbrev pub noted : {D : Type 0} → RetryReader D → Option Error
-noted noting = noting.cause
+abbrev pub last_cause : {D : Type 0} → RetryReader D → Option Error
+last_cause retry = retry.cause
 
 -- the reader inside
-abbrev pub keeping_inner : {D : Type 0} → TeeReader D → D
-keeping_inner keeping = keeping.inner
+abbrev pub tee_inner : {D : Type 0} → TeeReader D → D
+tee_inner tee = tee.inner
 
 -- the bytes that were read, if memory was given for all of them
 abbrev pub kept : {D : Type 0} → TeeReader D → Option (List ℕ)
-kept keeping = if keeping.whole then Some keeping.kept.items else None
+kept tee = if tee.whole then Some tee.kept.items else None
 
 -- the number of further bytes for which memory is allocated
 abbrev pub kept_space : {D : Type 0} → TeeReader D → ℕ
-kept_space keeping = vec_capacity keeping.kept - length keeping.kept.items
+kept_space tee = vec_capacity tee.kept - length tee.kept.items
 
 -- bytes that are kept grow by those that a read gives, or are given up; a failed read adds none
 abbrev pub Keeps : Option (List ℕ) → Option (List ℕ) → Result ℕ Error → List ℕ → Type 0
@@ -36,33 +36,33 @@ Keeps (Some bytes) (Some more) (Ok count) buffer = more ≡ bytes ++ take count 
 Keeps (Some bytes) new (Err error) buffer = new ≡ Some bytes
 
 -- the writer inside
-abbrev pub gathering_inner : {D : Type 0} → OutputBuffer D → D
-gathering_inner gathering = gathering.inner
+abbrev pub buffer_inner : {D : Type 0} → OutputBuffer D → D
+buffer_inner buffer = buffer.inner
 
--- what is gathered and not passed on yet
+-- what is buffered and not passed on yet
 abbrev pub pending : {D : Type 0} → OutputBuffer D → List ℕ
-pending gathering = drop gathering.given gathering.gathered.items
+pending buffer = drop buffer.given buffer.buffered.items
 
 -- whether a call of it has failed
-abbrev pub gathering_failed : {D : Type 0} → OutputBuffer D → Bool
-gathering_failed gathering = gathering.failed
+abbrev pub buffer_failed : {D : Type 0} → OutputBuffer D → Bool
+buffer_failed buffer = buffer.failed
 
 -- the number of bytes it can gather
-abbrev pub gathering_size : {D : Type 0} → OutputBuffer D → ℕ
-gathering_size gathering = gathering.capacity
+abbrev pub buffer_size : {D : Type 0} → OutputBuffer D → ℕ
+buffer_size buffer = buffer.capacity
 
 -- the number of further bytes it can gather before it has to pass some on
 abbrev pub space_left : {D : Type 0} → OutputBuffer D → ℕ
-space_left gathering = gathering.capacity - length gathering.gathered.items
+space_left buffer = buffer.capacity - length buffer.buffered.items
 
 -- a slice is taken whole, and nothing goes to the writer inside
-abbrev pub Gathers : {D : Type 0} → OutputBuffer D → OutputBuffer D → Result ℕ Error → List ℕ → Type 0
-Gathers old new result slice = (result ≡ Ok (length slice)) × (gathering_inner new ≡ gathering_inner old)
+abbrev pub Buffers : {D : Type 0} → OutputBuffer D → OutputBuffer D → Result ℕ Error → List ℕ → Type 0
+Buffers old new result slice = (result ≡ Ok (length slice)) × (buffer_inner new ≡ buffer_inner old)
 
 -- a call after one that failed is a broken pipe, and changes nothing
 abbrev pub Refuses : {D A : Type 0} → OutputBuffer D → OutputBuffer D → Result A Error → Type 0
-Refuses old new result = IsTrue (gathering_failed old) → IsErrAnd result (λ error. error_kind error ≡ BrokenPipe) × (new ≡ old)
+Refuses old new result = IsTrue (buffer_failed old) → IsErrAnd result (λ error. error_kind error ≡ BrokenPipe) × (new ≡ old)
 
 -- all that was taken: what the writer inside has, and then what is pending
 abbrev pub taken : {D : Type 0} → (D → Option (List ℕ)) → OutputBuffer D → Option (List ℕ)
-taken contents gathering = append_known (contents gathering.inner) (pending gathering)
+taken contents buffer = append_known (contents buffer.inner) (pending buffer)

@@ -3,13 +3,13 @@
 #![tactic(auto)]
 
 mod attempts;
-mod gathered;
-mod gathering;
-mod keeping;
-mod noting;
-mod trying;
+mod buffered_writes;
+mod output_buffer;
+mod retries;
+mod retry_reader;
+mod tee_reader;
 
-pub use gathered::OutputBuffer;
-pub use keeping::TeeReader;
-pub use noting::RetryReader;
-pub use trying::{open_again, read_again};
+pub use output_buffer::OutputBuffer;
+pub use retries::{open_again, read_again};
+pub use retry_reader::RetryReader;
+pub use tee_reader::TeeReader;

@@ -2,7 +2,7 @@
 use Rattle.std.proofs.Common.{◌≡◌, ◌⊎◌, inl, inr, ℕ, Bool, true, false, List, [], ◌∷◌, Option, Some, None, is_some, refl, length, option_map, subst}
 use Rattle.std.specs.Prelude.{◌||◌, if◌then◌else◌, nat_le, not}
 use Rattle.wc_laws_grammar.specs.LineMoves.{OperandOf, OfStep, OfOpening, OfArgument, InList, AtFirst, AtNext, AtAssign, AtValue, AtEnd, StartedLine, Listed as CallList, LineState, Start, Worded, Labelled, Operated, Jumped, Called, Instanced, Listing, Bracketed, Named, Pointed, Stepped, BracketedWith, Ended, at_list, at_operated, at_bracketed, at_operand, at_field, at_labelled, at_operator, at_start_in, after_operator, line_move, simple_operator}
-use Rattle.wc_laws_grammar.specs.Moves.{InDeclaration, Undeclared, AfterNames, AfterComma, AfterColon, AfterType, AfterAssign, AfterValue, State, Outside, Unnamed, Declaring, AtLine, OnLine, Closed, Raised, at_value, after_closing, after_unit, started_line, begins_transfer, closing_move, declaration_move, has_content, has_program, is_full, validate_closing, validate_line, validate_unit, raised_if, raised_or, section_started, section_or_line, start_move, word_move}
+use Rattle.wc_laws_grammar.specs.Moves.{InDeclaration, Undeclared, AfterNames, AfterComma, AfterColon, AfterType, AfterAssign, AfterValue, State, Outside, Unnamed, Declaring, AtLine, OnLine, Closed, Raised, at_value, after_closing, after_unit, started_line, begins_transfer, closing_move, declaration_move, has_content, has_program, is_full, fault_at_closing, fault_at_line, fault_at_unit, fault_if, first_fault, section_of_word, section_or_line, start_move, word_move}
 use Rattle.wc_laws_grammar.specs.Words.{Operating, Loads, Stores, Applies, Operation, found, is_transfer, literal_of, operation_of, unit_kinds}
 use Rattle.wc_model.specs.Language.Declarations.{same_name}
 use Rattle.wc_model.specs.Language.Names.{Name, name_of}
@@ -205,11 +205,11 @@ at_line p (o ∷ outer) Ampersand line colon next e = inr refl
 at_line p (o ∷ outer) AmpersandN line colon next e = inr refl
 at_line p (o ∷ outer) symbol line colon next e = absurd (cc (e))
 
-started_unit : (units : List ProgramUnit) (line : ℕ) (has : Bool) (kind : Option UnitKind) (next : State) → has_program units ≡ has → validate_unit units line kind ≡ None
+started_unit : (units : List ProgramUnit) (line : ℕ) (has : Bool) (kind : Option UnitKind) (next : State) → has_program units ≡ has → fault_at_unit units line kind ≡ None
     → option_map (λ k. Unnamed units k line) kind ≡ Some next → (has ≡ false) × (is_some kind ≡ true)
 started_unit units line has None next h j e = absurd (cc (e))
 started_unit units line true (Some kind) next h j e =
-    absurd (cc (subst (λ b. raised_or (raised_if b NotOneProgramLast line) (raised_if (nat_le most_units (length units)) TooMany line) ≡ None) h j))
+    absurd (cc (subst (λ b. first_fault (fault_if b NotOneProgramLast line) (fault_if (nat_le most_units (length units)) TooMany line) ≡ None) h j))
 started_unit units line false (Some kind) next h j e = (refl, refl)
 
 listed_unit : (has : Bool) (bytes : List ℕ) → (has ≡ false) × (is_some (found unit_kinds (name_of bytes)) ≡ true) → lists (if has then expected.Nothing else expected.UnitWord) (Identifier bytes) ≡ true
@@ -375,38 +375,38 @@ section_on p bytes line (Some section) = refl
 word_on : (p : Position) (bytes : List ℕ) (line : ℕ) → is_some (word_move p bytes line) ≡ true
 word_on p bytes line = by (same_name (name_of bytes) (end_word p.unit.kind))
   where
-    by : (same : Bool) → is_some (if same then Some (after_unit p) else section_or_line p bytes line (section_started p.done (name_of bytes))) ≡ true
+    by : (same : Bool) → is_some (if same then Some (after_unit p) else section_or_line p bytes line (section_of_word p.done (name_of bytes))) ≡ true
     by true = refl
-    by false = section_on p bytes line (section_started p.done (name_of bytes))
+    by false = section_on p bytes line (section_of_word p.done (name_of bytes))
 
 abbrev pub IsExpected : Option Raised → Option State → Type 0
-IsExpected validated moved = (is_some validated ≡ true) ⊎ (is_some moved ≡ true)
+IsExpected detected moved = (is_some detected ≡ true) ⊎ (is_some moved ≡ true)
 
 -- in parentheses a jump, a call or a return is refused by another rule
 word_inside : (p : Position) (line : ℕ) (operation : Option Operation) (rest : Option Raised) → (is_some operation || false) ≡ true
-    → IsExpected (raised_or (raised_if (begins_transfer operation) NotAllowedInParentheses line) rest) (started_line p (simple_operator line operation))
+    → IsExpected (first_fault (fault_if (begins_transfer operation) NotAllowedInParentheses line) rest) (started_line p (simple_operator line operation))
 word_inside p line None rest e = absurd (cc (e))
 word_inside p line (Some operation) rest e = by (is_transfer operation)
   where
     by : (transfer : Bool)
-        → IsExpected (raised_or (raised_if transfer NotAllowedInParentheses line) rest) (started_line p (if transfer then None else Some (after_operator None line operation)))
+        → IsExpected (first_fault (fault_if transfer NotAllowedInParentheses line) rest) (started_line p (if transfer then None else Some (after_operator None line operation)))
     by true = inl refl
     by false = inr refl
 
-closes : (p : Position) (o : Opening) (outer : List Opening) (line : ℕ) → IsExpected (validate_closing p (o ∷ outer) line) (closing_move p o outer line)
+closes : (p : Position) (o : Opening) (outer : List Opening) (line : ℕ) → IsExpected (fault_at_closing p (o ∷ outer) line) (closing_move p o outer line)
 closes p o outer line = by (has_content o.operand p.done)
   where
-    by : (content : Bool) → IsExpected (raised_or (raised_if (not content) EmptyParentheses line) (raised_if (is_full p) TooMany line)) (if content then Some (Closed (after_closing p o outer line)) else None)
+    by : (content : Bool) → IsExpected (first_fault (fault_if (not content) EmptyParentheses line) (fault_if (is_full p) TooMany line)) (if content then Some (Closed (after_closing p o outer line)) else None)
     by true = inr refl
     by false = inl refl
 
 closing : (p : Position) (openings : List Opening) (line : ℕ) (colon : Bool) → lists (allowed_at_line openings) ClosingBracket ≡ true
-    → IsExpected (validate_closing p openings line) (start_move p openings ClosingBracket line colon)
+    → IsExpected (fault_at_closing p openings line) (start_move p openings ClosingBracket line colon)
 closing p [] line colon e = absurd (cc (e))
 closing p (o ∷ outer) line colon e = closes p o outer line
 
 starts : (p : Position) (openings : List Opening) (symbol : Symbol) (line : ℕ) (colon : Bool) → is_closing symbol ≡ false → lists (allowed_at_line openings) symbol ≡ true
-    → IsExpected (validate_line p openings symbol line colon) (start_move p openings symbol line colon)
+    → IsExpected (fault_at_line p openings symbol line colon) (start_move p openings symbol line colon)
 starts p [] (Identifier bytes) line true other e = inr refl
 starts p [] (Identifier bytes) line false other e = inr (word_on p bytes line)
 starts p [] Ampersand line colon other e = inr refl

@@ -58,8 +58,8 @@ raised_by_places : (bytes : List ℕ) (tokens : List Token) (fault : Fault) (the
     → ReportsRaised (walk at_first (place_marks tokens) (length bytes)) fault there → (fault ≡ Memory → 0 < length tokens) → IsStopAt bytes tokens fault there stop
     → StopsReading bytes stop.fault stop.start stop.length stop.expected
 raised_by_places bytes tokens Memory there stop short cut m some is =
-    let capacity = needs_memory bytes (map token_view tokens) short cut (omega (arith, length-map tokens token_view, some refl)) in
-    subst (λ fault. StopsReading bytes fault stop.start stop.length stop.expected) (sym is.0) capacity
+    let memory = needs_memory bytes (map token_view tokens) short cut (omega (arith, length-map tokens token_view, some refl)) in
+    subst (λ fault. StopsReading bytes fault stop.start stop.length stop.expected) (sym is.0) memory
 raised_by_places bytes tokens (Refused number place) there stop short cut m some is = text_span bytes tokens number place there stop short cut m is
 
 -- what is found in tokens with their places for their lines, reported of the tokens

@@ -1,7 +1,7 @@
 -- Which tokens the sentence about an unexpected token lists, and that this list is exact. (The profile's own.)
 use Rattle.std.specs.Prelude.{◌≡◌, ⊤, ◌⊎◌, ◌||◌, ℕ, Bool, true, false, Some, None, is_some}
 use Rattle.wc_laws_grammar.specs.LineMoves.{Start, Ended}
-use Rattle.wc_laws_grammar.specs.Moves.{State, OnLine, validate, move, is_colon, is_identifier}
+use Rattle.wc_laws_grammar.specs.Moves.{State, OnLine, fault_at, move, is_colon, is_identifier}
 use Rattle.wc_laws_grammar.specs.Words.{found, literal_of, operation_of, unit_kinds}
 use Rattle.wc_model.specs.Language.Names.{name_of}
 use Rattle.wc_model.specs.Text.Marks.{Symbol, Identifier, Whole, Duration, Truth, Direct, OpeningBracket, ClosingBracket, Comma, Semicolon, Point, Assign, Arrow, LineEnd}
@@ -103,10 +103,10 @@ IsStop state = ⊤
 
 -- if the text goes on with a token, the sentence lists it, or it is the end of a line where lines may end
 abbrev pub ListsAll : Type 0
-ListsAll = (state next : State) (symbol : Symbol) (line : ℕ) (colon : Bool) → validate state symbol line colon ≡ None → move state symbol line colon ≡ Some next →
+ListsAll = (state next : State) (symbol : Symbol) (line : ℕ) (colon : Bool) → fault_at state symbol line colon ≡ None → move state symbol line colon ≡ Some next →
     (symbol ≡ LineEnd) ⊎ (lists (allowed state) symbol ≡ true)
 
 -- a token that the sentence lists is not unexpected: the text goes on with it, or another rule refuses it
 abbrev pub ListsNoOther : Type 0
 ListsNoOther = (state : State) (symbol : Symbol) (line : ℕ) (colon : Bool) → IsStop state → lists (allowed state) symbol ≡ true →
-    (is_some (validate state symbol line colon) ≡ true) ⊎ (is_some (move state symbol line colon) ≡ true)
+    (is_some (fault_at state symbol line colon) ≡ true) ⊎ (is_some (move state symbol line colon) ≡ true)

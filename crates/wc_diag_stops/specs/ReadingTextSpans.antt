@@ -2,7 +2,7 @@
 use Rattle.std.specs.Prelude.{◌≡◌, ◌==◌, ℕ, ◌-◌, ◌≤◌, false, List, [], ◌∷◌, find, if◌then◌else◌, length, map, nat_lt, slice_get, Option, Some, None, ◌⊎◌}
 use Rattle.std.specs.List.{prefix_len}
 use Rattle.std.specs.Option.{option_map_or}
-use Rattle.wc_laws_grammar.specs.Moves.{State, at_first, colon_next, validate, move}
+use Rattle.wc_laws_grammar.specs.Moves.{State, at_first, colon_next, fault_at, move}
 use Rattle.wc_lexer.specs.Refusals.{NeedsMemory}
 use Rattle.wc_lexer.specs.TextSpans.{IsTokenTextSpan}
 use Rattle.wc_lexer.specs.Views.{shape_view, token_view}
@@ -33,7 +33,7 @@ place_marks tokens = map place_mark tokens
 abbrev pub state_at_stop : State → List Mark → State
 state_at_stop state [] = state
 state_at_stop state (mark ∷ marks) =
-    elim (validate state mark.symbol mark.line (colon_next marks false)) as (λ _. State) [
+    elim (fault_at state mark.symbol mark.line (colon_next marks false)) as (λ _. State) [
       | Some raised ↦ state
       | None ↦ elim (move state mark.symbol mark.line (colon_next marks false)) as (λ _. State) [
         | Some next ↦ state_at_stop next marks
@@ -88,7 +88,7 @@ pub record IsReadingTextSpan (bytes : List ℕ) (number line start count : ℕ) 
   pub start_is : start ≡ start_of (offending_at tokens place expected) (length bytes)
   pub count_is : count ≡ length_of (offending_at tokens place expected)
 
--- why the reader stops there; out of memory says that capacity is needed for a token
+-- why the reader stops there; out of memory says that memory is needed for a token
 abbrev pub StopsReading : List ℕ → Fault → (start count : ℕ) → Expected → Type 0
 StopsReading bytes Memory start count expected = NeedsMemory bytes
 StopsReading bytes (Refused number place) start count expected =

@@ -60,7 +60,7 @@ fn raised_on<'a>(
         ReportsRaised (walk (reading_view reading.old) (marks_of tokens.now) last) raised.fault
         raised.expected) }
     // At the end no memory is taken.
-    ensures capacity { IfSome result (λ raised. raised.fault ≡ Fault.Memory
+    ensures memory { IfSome result (λ raised. raised.fault ≡ Fault.Memory
         → 0 < length tokens.now) }
 {
     let mut place = 0;
@@ -88,7 +88,7 @@ fn raised_in<'a>(alloc: Global, tokens: &[Token<'a>], last: u32) -> Option<Raise
     ensures stopped { IfSome result
         (λ raised. ReportsRaised (walk at_first
         (marks_of tokens.now) last) raised.fault raised.expected) }
-    ensures capacity { IfSome result (λ raised. raised.fault ≡ Fault.Memory
+    ensures memory { IfSome result (λ raised. raised.fault ≡ Fault.Memory
         → 0 < length tokens.now) }
 {
     let mut reading = reading_start(alloc);

@@ -1,14 +1,14 @@
 -- What an answer to a command says of the refusal.
 use Rattle.std.specs.Prelude.{Option, Some, None, Result, Ok, Err}
 use Rattle.wc_model.specs.Instrument.Indication.{CommandRefusal}
-use Rattle.wc_model.specs.Instrument.Indication as reported
+use Rattle.wc_model.specs.Instrument.Indication as indication
 use Rattle.wc_indicator.specs.declared.refused.Refused.{Refused}
 use Rattle.wc_indicator.specs.declared.refused.Refused.TheVariants.{Motion, Range}
 
 -- the definition's word for each reason
 abbrev pub reason : Refused → CommandRefusal
-reason Motion = reported.Motion
-reason Range = reported.Range
+reason Motion = indication.Motion
+reason Range = indication.Range
 
 -- why, if there is a reason
 abbrev pub reported_by : Option Refused → Option CommandRefusal

@@ -1,7 +1,7 @@
 ghost use Rattle.std.specs.Prelude.{◌≡◌, ◌∷◌, IfErr};
 ghost use Rattle.wc_model.specs.Instrument.Plates.{PlateData};
 ghost use Rattle.wc_model.specs.Instrument.WeighingHistories.{SetZero, SetTare, ClearTare, History};
-ghost use Rattle.wc_model.specs.Instrument.Indication as reported;
+ghost use Rattle.wc_model.specs.Instrument.Indication as indication;
 ghost use Rattle.wc_indicator.specs.Kept.{RepresentsHistory, Reports};
 ghost use Rattle.wc_indicator.specs.Refusals.{reported_by, refusal_view};
 
@@ -11,7 +11,7 @@ use crate::refused::{Refused, refused_unless};
 impl Indicator {
     /// Whether the load is within 2 % of the greatest load of the calibrated zero.
     fn near_zero(&self) -> bool
-        ensures { Reports reported.is_near_zero self.now result }
+        ensures { Reports indication.is_near_zero self.now result }
     {
         let distance = (self.present_counts() - self.plate.zero_counts()).unsigned_abs();
         50 * u64::from(distance) <= self.plate.span_counts() as u64
@@ -19,7 +19,7 @@ impl Indicator {
 
     /// Whether the gross weight lies from one interval to the greatest load.
     fn can_be_tared(&self) -> bool
-        ensures { Reports reported.can_be_tared self.now result }
+        ensures { Reports indication.can_be_tared self.now result }
     {
         let gross = self.gross_intervals();
         1 <= gross && gross <= i64::from(self.plate.n())
@@ -27,14 +27,14 @@ impl Indicator {
 
     /// Why a zero command would be refused now.
     fn zero_refusal(&self) -> Option<Refused>
-        ensures { Reports reported.zero_refusal self.now (reported_by result) }
+        ensures { Reports indication.zero_refusal self.now (reported_by result) }
     {
         refused_unless(self.stable(), self.near_zero())
     }
 
     /// Why a tare command would be refused now.
     fn tare_refusal(&self) -> Option<Refused>
-        ensures { Reports reported.tare_refusal self.now (reported_by result) }
+        ensures { Reports indication.tare_refusal self.now (reported_by result) }
     {
         refused_unless(self.stable(), self.can_be_tared())
     }
@@ -45,7 +45,7 @@ impl Indicator {
         ensures represents { (p : PlateData) (history : History)
             → RepresentsHistory self.old p history
             → RepresentsHistory self.new p (SetZero ∷ history) }
-        ensures refused { Reports reported.zero_refusal self.old (refusal_view result) }
+        ensures refused { Reports indication.zero_refusal self.old (refusal_view result) }
         // A refused command changes nothing.
         ensures same { IfErr result (λ refused. self.new ≡ self.old) }
     {
@@ -66,7 +66,7 @@ impl Indicator {
         ensures represents { (p : PlateData) (history : History)
             → RepresentsHistory self.old p history
             → RepresentsHistory self.new p (SetTare ∷ history) }
-        ensures refused { Reports reported.tare_refusal self.old (refusal_view result) }
+        ensures refused { Reports indication.tare_refusal self.old (refusal_view result) }
         // A refused command changes nothing.
         ensures same { IfErr result (λ refused. self.new ≡ self.old) }
     {

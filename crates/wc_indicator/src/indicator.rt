@@ -1,7 +1,7 @@
 ghost use Rattle.std.specs.Prelude.{◌≡◌, ◌≤ℤ◌, ◌∷◌, [], IfOk, IsOkUnless, unsigned_abs, ◌≤◌, ◌^◌};
 ghost use Rattle.wc_model.specs.Instrument.Plates.{least_sample, greatest_sample, PlateData};
 ghost use Rattle.wc_model.specs.Instrument.WeighingHistories.{Sample, History};
-ghost use Rattle.wc_model.specs.Instrument.Indication as reported;
+ghost use Rattle.wc_model.specs.Instrument.Indication as indication;
 ghost use Rattle.wc_indicator.specs.Kept.{RepresentsHistory, Reports, IsCount, IsDifference};
 
 use crate::rounding::intervals;
@@ -74,7 +74,7 @@ impl Indicator {
 
     /// The last sample, and the calibrated zero before any.
     pub(crate) fn present_counts(&self) -> i32
-        ensures reported { Reports reported.present_counts self.now result }
+        ensures reported { Reports indication.present_counts self.now result }
         ensures range { IsCount result }
     {
         self.last.unwrap_or(self.plate.zero_counts())
@@ -82,7 +82,7 @@ impl Indicator {
 
     /// The last sample, counted from the zero point.
     pub(crate) fn from_zero(&self) -> i32
-        ensures reported { Reports reported.from_zero self.now result }
+        ensures reported { Reports indication.from_zero self.now result }
         ensures range { IsDifference result }
     {
         self.present_counts() - self.zero
@@ -90,7 +90,7 @@ impl Indicator {
 
     /// The tare in counts, 0 while none is active.
     fn tare_counts(&self) -> i32
-        ensures reported { Reports reported.tare_counts self.now result }
+        ensures reported { Reports indication.tare_counts self.now result }
         ensures range { IsDifference result }
     {
         self.tare.unwrap_or(0)
@@ -99,7 +99,7 @@ impl Indicator {
     /// Counts as a whole number of intervals, the nearest.
     fn intervals_of(&self, counts: i32) -> i64
         requires { unsigned_abs counts ≤ 2 ^ 25 }
-        ensures reported { Reports (λ p history. reported.intervals_of p counts) self.now result }
+        ensures reported { Reports (λ p history. indication.intervals_of p counts) self.now result }
         ensures few { unsigned_abs result ≤ 2 ^ 25 }
     {
         intervals(
@@ -112,14 +112,14 @@ impl Indicator {
     /// A number of intervals in units of the last decimal.
     fn in_units(&self, intervals: i64) -> i32
         requires { unsigned_abs intervals ≤ 2 ^ 25 }
-        ensures { Reports (λ p history. reported.in_units p intervals) self.now result }
+        ensures { Reports (λ p history. indication.in_units p intervals) self.now result }
     {
         (intervals * i64::from(self.plate.e())) as i32
     }
 
     /// The gross weight in intervals.
     pub(crate) fn gross_intervals(&self) -> i64
-        ensures reported { Reports reported.gross_intervals self.now result }
+        ensures reported { Reports indication.gross_intervals self.now result }
         ensures few { unsigned_abs result ≤ 2 ^ 25 }
     {
         self.intervals_of(self.from_zero())
@@ -127,7 +127,7 @@ impl Indicator {
 
     /// The net weight in intervals, rounded by itself.
     fn net_intervals(&self) -> i64
-        ensures reported { Reports reported.net_intervals self.now result }
+        ensures reported { Reports indication.net_intervals self.now result }
         ensures few { unsigned_abs result ≤ 2 ^ 25 }
     {
         self.intervals_of(self.from_zero() - self.tare_counts())
@@ -135,42 +135,42 @@ impl Indicator {
 
     /// The tare value, rounded by itself.
     pub fn tare_value(&self) -> i32
-        ensures { Reports reported.tare_value self.now result }
+        ensures { Reports indication.tare_value self.now result }
     {
         self.in_units(self.intervals_of(self.tare_counts()))
     }
 
     /// Whether a tare is active.
     pub fn tare_active(&self) -> bool
-        ensures { Reports reported.is_tare_active self.now result }
+        ensures { Reports indication.is_tare_active self.now result }
     {
         self.tare.is_some()
     }
 
     /// Whether the gross weight is above the greatest load by more than 9 intervals.
     pub fn over(&self) -> bool
-        ensures { Reports reported.is_over self.now result }
+        ensures { Reports indication.is_over self.now result }
     {
         self.last.is_some() && self.gross_intervals() > i64::from(self.plate.n()) + 9
     }
 
     /// Whether the gross weight is below zero by more than 20 intervals.
     pub fn under(&self) -> bool
-        ensures { Reports reported.is_under self.now result }
+        ensures { Reports indication.is_under self.now result }
     {
         self.last.is_some() && self.gross_intervals() < -20
     }
 
     /// Whether there is an indication: a sample has come, and it is neither over nor under.
     pub fn valid(&self) -> bool
-        ensures { Reports reported.is_valid self.now result }
+        ensures { Reports indication.is_valid self.now result }
     {
         self.last.is_some() && !(self.over() || self.under())
     }
 
     /// Whether the gross weight is within a quarter of an interval of zero.
     pub fn centre(&self) -> bool
-        ensures { Reports reported.is_centre_of_zero self.now result }
+        ensures { Reports indication.is_centre_of_zero self.now result }
     {
         let distance = u64::from(self.from_zero().unsigned_abs()) * self.plate.n() as u64;
         self.last.is_some() && 4 * distance <= self.plate.span_counts() as u64
@@ -179,7 +179,7 @@ impl Indicator {
     /// Whether the load is at rest: as many samples as the window holds have come, and that many of the last lie
     /// within half an interval.
     pub fn stable(&self) -> bool
-        ensures { Reports reported.is_stable self.now result }
+        ensures { Reports indication.is_stable self.now result }
     {
         let spread = u64::from(spread(&self.latest));
         self.latest.is_full()
@@ -188,7 +188,7 @@ impl Indicator {
 
     /// The gross weight, in units of the last decimal, if there is an indication.
     pub fn gross(&self) -> Option<i32>
-        ensures { Reports reported.gross self.now result }
+        ensures { Reports indication.gross self.now result }
     {
         let weight = self.in_units(self.gross_intervals());
         if self.valid() { Some(weight) } else { None }
@@ -196,7 +196,7 @@ impl Indicator {
 
     /// The net weight, in units of the last decimal, if there is an indication.
     pub fn net(&self) -> Option<i32>
-        ensures { Reports reported.net self.now result }
+        ensures { Reports indication.net self.now result }
     {
         let weight = self.in_units(self.net_intervals());
         if self.valid() { Some(weight) } else { None }
@@ -204,7 +204,7 @@ impl Indicator {
 
     /// What is shown: the net weight while a tare is active, else the gross weight.
     pub fn shown(&self) -> Option<i32>
-        ensures { Reports reported.shown self.now result }
+        ensures { Reports indication.shown self.now result }
     {
         if self.tare_active() {
             self.net()

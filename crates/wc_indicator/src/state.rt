@@ -1,5 +1,5 @@
 ghost use Rattle.wc_laws_instrument.specs.Preludes as prelude;
-ghost use Rattle.wc_model.specs.Instrument.Indication as reported;
+ghost use Rattle.wc_model.specs.Instrument.Indication as indication;
 ghost use Rattle.wc_indicator.specs.Kept.{Reports};
 
 use crate::Indicator;
@@ -9,7 +9,7 @@ impl Indicator {
     /// The sample at which zero was set, if the zero point is not the calibrated zero.
     pub fn zero_load(&self) -> Option<i32>
         ensures { Reports (λ p history. prelude.moved_zero p
-            (reported.zero_point p history)) self.now
+            (indication.zero_point p history)) self.now
             result }
     {
         if self.zero == self.plate.zero_counts() {
@@ -21,8 +21,8 @@ impl Indicator {
 
     /// The sample at which the tare was taken, if one is active.
     pub fn tare_load(&self) -> Option<i32>
-        ensures { Reports (λ p history. prelude.tare_load (reported.zero_point p history)
-            (reported.active_tare p history)) self.now result }
+        ensures { Reports (λ p history. prelude.tare_load (indication.zero_point p history)
+            (indication.active_tare p history)) self.now result }
     {
         match self.tare {
             Some(tare) => Some(self.zero + tare),
@@ -32,7 +32,7 @@ impl Indicator {
 
     /// The last samples, the oldest first: as many as the window holds, or all if fewer have come.
     pub fn window(&self) -> ArrayVec<i32, 16>
-        ensures { Reports reported.window_of self.now result.items }
+        ensures { Reports indication.window_of self.now result.items }
     {
         let mut window = ArrayVec::new();
         let (first, second) = self.latest.as_slices();

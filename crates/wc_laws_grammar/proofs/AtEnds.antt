@@ -5,7 +5,7 @@ use Rattle.wc_laws_grammar.proofs.Appending.{append_last}
 use Rattle.wc_laws_grammar.proofs.Exits.{Completed, IsOpening, NoOpens, completed}
 use Rattle.wc_laws_grammar.proofs.InParentheses.{inside_is_reported}
 use Rattle.wc_laws_grammar.proofs.InUnit.{Split, split_closed, split_line, split_on, split_section, split_unnamed, stops_in_unit}
-use Rattle.wc_laws_grammar.proofs.Validated.{same_end}
+use Rattle.wc_laws_grammar.proofs.Detected.{same_end}
 use Rattle.wc_laws_grammar.specs.LineMoves.{LineShape, LabelAlone, Instructs, Opens, StartedLine, OfStep, OfOpening, OfArgument, LineState, Bracketed, Named, Pointed, BracketedWith}
 use Rattle.wc_laws_grammar.proofs.LineRests.{line_of, rest_of}
 use Rattle.wc_laws_grammar.proofs.LineSound.{mark_on}

@@ -5,7 +5,7 @@ use Rattle.std.specs.Prelude.{◌⊎◌}
 use Rattle.wc_laws_grammar.specs.LineMoves.{with_actual, LineShape, LabelAlone, Instructs, Opens, StartedLine, Listed, OfStep, OfOpening, OfArgument, InList, AtFirst, AtNext, AtAssign, AtValue, AtEnd, LineState, Start, Worded, Labelled, Operated, Jumped, Called, Instanced, Listing, Bracketed, Named, Pointed, Stepped, BracketedWith, Ended}
 use Rattle.wc_laws_grammar.proofs.LineRests.{rest_of}
 use Rattle.wc_laws_grammar.proofs.LineSound.{mark_on}
-use Rattle.wc_laws_grammar.specs.Moves.{InDeclaration, Undeclared, AfterNames, AfterComma, AfterColon, AfterType, AfterAssign, AfterValue, State, Outside, Unnamed, Declaring, AtLine, OnLine, Closed, after_closing, after_line, after_unit, body_start, colon_next, is_colon, has_content, lines_and, move, named_unit, start_move, on_line, open_in, open_on, unit_with, walk, section_or_line, section_started, with_declaration}
+use Rattle.wc_laws_grammar.specs.Moves.{InDeclaration, Undeclared, AfterNames, AfterComma, AfterColon, AfterType, AfterAssign, AfterValue, State, Outside, Unnamed, Declaring, AtLine, OnLine, Closed, after_closing, after_line, after_unit, body_start, colon_next, is_colon, has_content, lines_and, move, named_unit, start_move, on_line, open_in, open_on, unit_with, walk, section_or_line, section_of_word, with_declaration}
 use Rattle.wc_laws_grammar.proofs.WalkedLines.{on_line_walked, walk_on, walk_then}
 use Rattle.wc_laws_grammar.specs.Words.{step_of}
 use Rattle.wc_laws_grammar.proofs.Languages.{next, pass}
@@ -230,7 +230,7 @@ ends_unit Program = refl
 pub unit_ended : (p : Position) → p.openings ≡ [] → move (AtLine p) (Identifier (end_word p.unit.kind)) 0 false ≡ Some (after_unit p)
 unit_ended p e =
     ap (λ os. start_move p os (Identifier (end_word p.unit.kind)) 0 false) e
-    ∙ ap (λ b. if b then Some (after_unit p) else section_or_line p (end_word p.unit.kind) 0 (section_started p.done (name_of (end_word p.unit.kind)))) (ends_unit p.unit.kind)
+    ∙ ap (λ b. if b then Some (after_unit p) else section_or_line p (end_word p.unit.kind) 0 (section_of_word p.done (name_of (end_word p.unit.kind)))) (ends_unit p.unit.kind)
 
 finishes_line : (p : Position) → p.openings ≡ [] → AreBlocks p.before → Finishes (AtLine p)
 finishes_line p e h =

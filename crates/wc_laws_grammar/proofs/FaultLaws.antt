@@ -4,8 +4,8 @@ use Rattle.std.specs.Prelude.{Ok, Err, Result}
 use Rattle.wc_laws_grammar.proofs.AtEnds.{at_end_raised, reported}
 use Rattle.wc_laws_grammar.proofs.Orders.{Ordered}
 use Rattle.wc_laws_grammar.proofs.InParentheses.{inside_is_reported}
-use Rattle.wc_laws_grammar.proofs.Validated.{Validated, validated, same_end}
-use Rattle.wc_laws_grammar.specs.Moves.{State, Outside, Raised, at_end, at_first, colon_next, has_program, is_colon, validate, move, reading, walk}
+use Rattle.wc_laws_grammar.proofs.Detected.{Detected, detected, same_end}
+use Rattle.wc_laws_grammar.specs.Moves.{State, Outside, Raised, at_end, at_first, colon_next, has_program, is_colon, fault_at, move, reading, walk}
 use Rattle.wc_laws_grammar.proofs.Readings.{ended_at, outcome, program_in, read_all, read_is_spelled, refused_is_first, walk_parts}
 use Rattle.wc_laws_grammar.proofs.Reported.{Reported}
 use Rattle.wc_laws_grammar.proofs.ReportedOn.{reported_after, reported_first}
@@ -32,9 +32,9 @@ text_or_fault tokens last_line = by_reading (reading at_first tokens last_line) 
     by_reading (Err raised) e = inr (raised.fault, raised.line, refused_is_first tokens last_line raised e)
 
 -- if a token's text is read on, no fault is detected there
-none_validated : (state : State) (mark : Mark) (marks : List Mark) (last_line : ℕ) (text : Text) (fault : ReadingFault) → reading state (mark ∷ marks) last_line ≡ Ok text → Validated (validate state mark.symbol mark.line (colon_next marks false)) fault → ⊥
-none_validated state mark marks last_line text fault e j =
-    let k : outcome state mark marks last_line (Some j.validated) (move state mark.symbol mark.line (colon_next marks false)) ≡ Ok text =
+none_detected : (state : State) (mark : Mark) (marks : List Mark) (last_line : ℕ) (text : Text) (fault : ReadingFault) → reading state (mark ∷ marks) last_line ≡ Ok text → Detected (fault_at state mark.symbol mark.line (colon_next marks false)) fault → ⊥
+none_detected state mark marks last_line text fault e j =
+    let k : outcome state mark marks last_line (Some j.detected) (move state mark.symbol mark.line (colon_next marks false)) ≡ Ok text =
     subst (λ q. outcome state mark marks last_line q (move state mark.symbol mark.line (colon_next marks false)) ≡ Ok text) j.is e in
     cc
 
@@ -43,12 +43,12 @@ no_fault_raised : (state : State) (before : List Mark) (mark : Mark) (marks : Li
     → Spells (before ++ mark ∷ marks) text → ¬ (RaisedAtToken fault before mark marks line)
 no_fault_raised state before mark marks last_line line text UnexpectedToken w e s h = h.0 (marks, (text, subst (λ ts. Spells ts text) (sym (append_assoc before (mark ∷ []) marks)) s))
 no_fault_raised state before mark marks last_line line text UnitNotClosed w e s h = h
-no_fault_raised state before mark marks last_line line text NotOneProgramLast w e s h = none_validated state mark marks last_line text NotOneProgramLast e (validated NotOneProgramLast before mark marks line state w (λ f. let k = ap rank_of f in omega (arith, k)) h)
-no_fault_raised state before mark marks last_line line text EmptyParentheses w e s h = none_validated state mark marks last_line text EmptyParentheses e (validated EmptyParentheses before mark marks line state w (λ f. let k = ap rank_of f in omega (arith, k)) h)
-no_fault_raised state before mark marks last_line line text NotAllowedInParentheses w e s h = none_validated state mark marks last_line text NotAllowedInParentheses e (validated NotAllowedInParentheses before mark marks line state w (λ f. let k = ap rank_of f in omega (arith, k)) h)
-no_fault_raised state before mark marks last_line line text ParenthesisNotPaired w e s h = none_validated state mark marks last_line text ParenthesisNotPaired e (validated ParenthesisNotPaired before mark marks line state w (λ f. let k = ap rank_of f in omega (arith, k)) h)
-no_fault_raised state before mark marks last_line line text TooDeep w e s h = none_validated state mark marks last_line text TooDeep e (validated TooDeep before mark marks line state w (λ f. let k = ap rank_of f in omega (arith, k)) h)
-no_fault_raised state before mark marks last_line line text TooMany w e s h = none_validated state mark marks last_line text TooMany e (validated TooMany before mark marks line state w (λ f. let k = ap rank_of f in omega (arith, k)) h)
+no_fault_raised state before mark marks last_line line text NotOneProgramLast w e s h = none_detected state mark marks last_line text NotOneProgramLast e (detected NotOneProgramLast before mark marks line state w (λ f. let k = ap rank_of f in omega (arith, k)) h)
+no_fault_raised state before mark marks last_line line text EmptyParentheses w e s h = none_detected state mark marks last_line text EmptyParentheses e (detected EmptyParentheses before mark marks line state w (λ f. let k = ap rank_of f in omega (arith, k)) h)
+no_fault_raised state before mark marks last_line line text NotAllowedInParentheses w e s h = none_detected state mark marks last_line text NotAllowedInParentheses e (detected NotAllowedInParentheses before mark marks line state w (λ f. let k = ap rank_of f in omega (arith, k)) h)
+no_fault_raised state before mark marks last_line line text ParenthesisNotPaired w e s h = none_detected state mark marks last_line text ParenthesisNotPaired e (detected ParenthesisNotPaired before mark marks line state w (λ f. let k = ap rank_of f in omega (arith, k)) h)
+no_fault_raised state before mark marks last_line line text TooDeep w e s h = none_detected state mark marks last_line text TooDeep e (detected TooDeep before mark marks line state w (λ f. let k = ap rank_of f in omega (arith, k)) h)
+no_fault_raised state before mark marks last_line line text TooMany w e s h = none_detected state mark marks last_line text TooMany e (detected TooMany before mark marks line state w (λ f. let k = ap rank_of f in omega (arith, k)) h)
 
 -- nor at its end
 no_end_fault : (state : State) (before : List Mark) (last_line line : ℕ) (text : Text) (fault : ReadingFault) → walk at_first before false ≡ Some state → at_end state last_line ≡ Ok text → Reported state before → ¬ (RaisedAtEnd fault before last_line line)

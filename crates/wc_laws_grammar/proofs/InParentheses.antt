@@ -1,7 +1,7 @@
 -- If tokens stop in parentheses, the walk says so.
 use Rattle.std.proofs.Common.{◌≡◌, ℕ, false, List, [], ◌∷◌, ◌++◌, Option, Some, refl, ap, subst, ◌∙◌, sym, inl, inr}
 use Rattle.std.specs.Prelude.{◌⊎◌, Err}
-use Rattle.wc_laws_grammar.proofs.Validated.{operator_walked, same_end}
+use Rattle.wc_laws_grammar.proofs.Detected.{operator_walked, same_end}
 use Rattle.wc_laws_grammar.specs.LineMoves.{LineShape, Instructs, Opens, StartedLine, Bracketed, Operated}
 use Rattle.wc_laws_grammar.proofs.LineRests.{line_of}
 use Rattle.wc_laws_grammar.proofs.LineStart.{bracket_no_colon}

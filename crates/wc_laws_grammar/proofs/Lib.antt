@@ -19,7 +19,7 @@ pub mod Reported
 pub mod ExactLines
 pub mod ReportedOn
 pub mod Exits
-pub mod Validated
+pub mod Detected
 pub mod RaisedThere
 pub mod Orders
 pub mod Stops

@@ -3,7 +3,7 @@ use Rattle.std.proofs.Common.{◌≡◌, ◌≢◌, ◌≤◌, ℕ, suc, ◌*◌
 use Rattle.std.specs.Prelude.{◌⊎◌, option_map}
 use Rattle.wc_laws_grammar.proofs.AtEnds.{same_raised}
 use Rattle.wc_laws_grammar.proofs.InParentheses.{inside_is_reported, leads_inside}
-use Rattle.wc_laws_grammar.proofs.Validated.{name_no_closing, operator_walked, same_end}
+use Rattle.wc_laws_grammar.proofs.Detected.{name_no_closing, operator_walked, same_end}
 use Rattle.wc_laws_grammar.proofs.Languages.{next_is, ungroup}
 use Rattle.wc_laws_grammar.proofs.LineComplete.{named}
 use Rattle.wc_laws_grammar.proofs.LineStart.{no_colon_name}

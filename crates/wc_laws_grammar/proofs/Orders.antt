@@ -3,7 +3,7 @@ use Rattle.std.proofs.Common.{◌≡◌, ◌≢◌, ℕ, Bool, true, false, List
 use Rattle.std.specs.Prelude.{◌⊎◌, option_map, ◌||◌, nat_le}
 use Rattle.wc_laws_grammar.proofs.Exits.{AreBlocks, Finishing, blocks_and, exits_closed, exits_line, exits_on, exits_unnamed, finishes_blocks, finishes_text, finishing_exit, program_last, section_exits}
 use Rattle.wc_laws_grammar.specs.LineMoves.{LineShape, LabelAlone, Instructs, Opens, LineState, Start, Ended, line_move}
-use Rattle.wc_laws_grammar.specs.Moves.{State, Outside, Unnamed, Declaring, AtLine, OnLine, Closed, InDeclaration, Undeclared, AfterNames, AfterComma, AfterColon, AfterType, AfterAssign, AfterValue, Raised, at_value, started_line, after_closing, after_line, after_unit, body_move, body_start, declaration_move, has_content, has_program, is_program, validate, validate_unit, raised_if, raised_or, move, section_started, section_or_line, start_move, unit_with}
+use Rattle.wc_laws_grammar.specs.Moves.{State, Outside, Unnamed, Declaring, AtLine, OnLine, Closed, InDeclaration, Undeclared, AfterNames, AfterComma, AfterColon, AfterType, AfterAssign, AfterValue, Raised, at_value, started_line, after_closing, after_line, after_unit, body_move, body_start, declaration_move, has_content, has_program, is_program, fault_at, fault_at_unit, fault_if, first_fault, move, section_of_word, section_or_line, start_move, unit_with}
 use Rattle.wc_laws_grammar.proofs.Reported.{Exact, Reported}
 use Rattle.wc_laws_grammar.proofs.ReportedOn.{reported_after}
 use Rattle.wc_laws_grammar.specs.Words.{found, literal_of, unit_kinds}
@@ -54,11 +54,11 @@ all_blocks [] e = tt
 all_blocks (unit ∷ us) e = let n = neither (is_program unit.kind) (has_program us) e in (block_is unit.kind n.0, all_blocks us n.1)
 
 -- a unit's first word if no fault is detected
-unit_ordered : (us : List ProgramUnit) (line : ℕ) (kind : Option UnitKind) → validate_unit us line kind ≡ None → OrderedNext (option_map (λ kind. Unnamed us kind line) kind)
+unit_ordered : (us : List ProgramUnit) (line : ℕ) (kind : Option UnitKind) → fault_at_unit us line kind ≡ None → OrderedNext (option_map (λ kind. Unnamed us kind line) kind)
 unit_ordered us line None e = tt
-unit_ordered us line (Some kind) e = all_blocks us (no_program (has_program us) (raised_if (nat_le most_units (length us)) TooMany line) e)
+unit_ordered us line (Some kind) e = all_blocks us (no_program (has_program us) (fault_if (nat_le most_units (length us)) TooMany line) e)
   where
-    no_program : (b : Bool) (other : Option Raised) → raised_or (raised_if b NotOneProgramLast line) other ≡ None → b ≡ false
+    no_program : (b : Bool) (other : Option Raised) → first_fault (fault_if b NotOneProgramLast line) other ≡ None → b ≡ false
     no_program false other e = refl
     no_program true other e = absurd (cc)
 
@@ -101,9 +101,9 @@ section_or_line_ordered : (p : Position) (bytes : List ℕ) (line : ℕ) (sectio
 section_or_line_ordered p bytes line None h = started_ordered p (line_move InBody Start (Identifier bytes) line false) h
 section_or_line_ordered p bytes line (Some section) h = h
 
-word_ordered : (p : Position) (bytes : List ℕ) (line : ℕ) (b : Bool) → AreBlocks p.before → OrderedNext (if b then Some (after_unit p) else section_or_line p bytes line (section_started p.done (name_of bytes)))
+word_ordered : (p : Position) (bytes : List ℕ) (line : ℕ) (b : Bool) → AreBlocks p.before → OrderedNext (if b then Some (after_unit p) else section_or_line p bytes line (section_of_word p.done (name_of bytes)))
 word_ordered p bytes line true h = unit_end_ordered p p.unit.kind refl h
-word_ordered p bytes line false h = section_or_line_ordered p bytes line (section_started p.done (name_of bytes)) h
+word_ordered p bytes line false h = section_or_line_ordered p bytes line (section_of_word p.done (name_of bytes)) h
 
 body_ordered : (p : Position) (symbol : Symbol) (line : ℕ) (colon : Bool) → AreBlocks p.before → OrderedNext (body_move p symbol line colon)
 body_ordered p (Identifier bytes) line false h = word_ordered p bytes line (same_name (name_of bytes) (end_word p.unit.kind)) h
@@ -119,7 +119,7 @@ start_ordered p (o ∷ outer) ClosingBracket line colon h = closing_ordered p o 
 start_ordered p (o ∷ outer) symbol line colon h = started_ordered p (line_move InParentheses Start symbol line false) h
 
 -- a token that is taken without a fault keeps the order
-pub ordered_on : (state : State) (symbol : Symbol) (line : ℕ) (colon : Bool) → Ordered state → validate state symbol line colon ≡ None → OrderedNext (move state symbol line colon)
+pub ordered_on : (state : State) (symbol : Symbol) (line : ℕ) (colon : Bool) → Ordered state → fault_at state symbol line colon ≡ None → OrderedNext (move state symbol line colon)
 ordered_on (Outside us) LineEnd line colon h e = h
 ordered_on (Outside us) (Identifier bytes) line colon h e = unit_ordered us line (found unit_kinds (name_of bytes)) e
 ordered_on (Unnamed us kind first) (Identifier bytes) line colon h e = h

@@ -7,7 +7,7 @@ use Rattle.wc_laws_grammar.proofs.Appending.{with_nothing}
 use Rattle.wc_laws_grammar.proofs.ExactLines.{one_operator}
 use Rattle.wc_laws_grammar.specs.LineMoves.{StartedLine, LineState, Labelled, Operated}
 use Rattle.wc_laws_grammar.proofs.LineSound.{mark_on}
-use Rattle.wc_laws_grammar.specs.Moves.{State, Outside, AtLine, OnLine, begins_transfer, colon_next, has_content, has_name, has_program, is_colon, is_full, is_identifier, is_program, validate, validate_closing, validate_line, validate_on_line, validate_operator, validate_unit, Raised, raised_if, raised_or}
+use Rattle.wc_laws_grammar.specs.Moves.{State, Outside, AtLine, OnLine, begins_transfer, colon_next, has_content, has_name, has_program, is_colon, is_full, is_identifier, is_program, fault_at, fault_at_closing, fault_at_line, fault_on_line, fault_at_operator, fault_at_unit, Raised, fault_if, first_fault}
 use Rattle.wc_laws_grammar.proofs.Reported.{InLine, Reported}
 use Rattle.wc_laws_grammar.proofs.WalkedUnits.{colon_is}
 use Rattle.wc_laws_grammar.proofs.WordLaws.{found_unit_kind, is_operator_of, operation_in, same_is}
@@ -33,11 +33,11 @@ IsThere before mark following None = Unit {0}
 IsThere before mark following (Some raised) = RaisedAtToken raised.fault before mark following raised.line
 
 -- a test that holds only if the fault is found
-there_if : (before : List Mark) (mark : Mark) (following : List Mark) (test : Bool) (fault : ReadingFault) (line : ℕ) → (test ≡ true → RaisedAtToken fault before mark following line) → IsThere before mark following (raised_if test fault line)
+there_if : (before : List Mark) (mark : Mark) (following : List Mark) (test : Bool) (fault : ReadingFault) (line : ℕ) → (test ≡ true → RaisedAtToken fault before mark following line) → IsThere before mark following (fault_if test fault line)
 there_if before mark following true fault line f = f refl
 there_if before mark following false fault line f = tt
 
-there_or : (before : List Mark) (mark : Mark) (following : List Mark) (first other : Option Raised) → IsThere before mark following first → IsThere before mark following other → IsThere before mark following (raised_or first other)
+there_or : (before : List Mark) (mark : Mark) (following : List Mark) (first other : Option Raised) → IsThere before mark following first → IsThere before mark following other → IsThere before mark following (first_fault first other)
 there_or before mark following None other a b = b
 there_or before mark following (Some raised) other a b = a
 
@@ -63,7 +63,7 @@ not_holds false e = refl
 not_holds true e = absurd (cc)
 
 unit_there : (us : List ProgramUnit) (before following : List Mark) (bytes : List ℕ) (line : ℕ) (kind : Option UnitKind) → found unit_kinds (name_of bytes) ≡ kind → units us before
-    → IsThere before (mark_on (Identifier bytes) line) following (validate_unit us line kind)
+    → IsThere before (mark_on (Identifier bytes) line) following (fault_at_unit us line kind)
 unit_there us before following bytes line None e h = tt
 unit_there us before following bytes line (Some kind) e h =
     there_or before (mark_on (Identifier bytes) line) following _ _
@@ -111,7 +111,7 @@ at_bare_line : (p : Position) (before : List Mark) → at_line p before → at_i
 at_bare_line p before h = with_nothing _ refl h
 
 -- an operator at the start of a line
-operator_there : (p : Position) (before : List Mark) (mark : Mark) (following : List Mark) → at_line p before → IsThere before mark following (validate_operator p mark.symbol mark.line (colon_next following false))
+operator_there : (p : Position) (before : List Mark) (mark : Mark) (following : List Mark) → at_line p before → IsThere before mark following (fault_at_operator p mark.symbol mark.line (colon_next following false))
 operator_there p before mark following h =
     there_if before mark following (is_some (operation_of mark.symbol) && not (colon_next following false) && is_full p) TooMany mark.line (λ t.
     let a = both_hold (is_some (operation_of mark.symbol) && not (colon_next following false)) (is_full p) t in
@@ -138,7 +138,7 @@ has_is_named (Identifier bytes) name e = ap (λ n. Some n) (same_is (name_of byt
 has_is_named _ name e = absurd (cc)
 
 -- the first token of a line
-line_there : (p : Position) (openings : List Opening) (before : List Mark) (mark : Mark) (following : List Mark) → p.openings ≡ openings → at_line p before → IsThere before mark following (validate_line p openings mark.symbol mark.line (colon_next following false))
+line_there : (p : Position) (openings : List Opening) (before : List Mark) (mark : Mark) (following : List Mark) → p.openings ≡ openings → at_line p before → IsThere before mark following (fault_at_line p openings mark.symbol mark.line (colon_next following false))
 line_there p [] before mark following e h = operator_there p before mark following h
 line_there p (o ∷ outer) before mark following e h =
     there_or before mark following _ _
@@ -159,7 +159,7 @@ holds_nothing None (Alone label rest) e h = cc
 holds_nothing another third e h = cc
 
 -- a `)`
-closing_there : (p : Position) (openings : List Opening) (before following : List Mark) (line : ℕ) → p.openings ≡ openings → at_line p before → IsThere before (mark_on ClosingBracket line) following (validate_closing p openings line)
+closing_there : (p : Position) (openings : List Opening) (before following : List Mark) (line : ℕ) → p.openings ≡ openings → at_line p before → IsThere before (mark_on ClosingBracket line) following (fault_at_closing p openings line)
 closing_there p [] before following line e h = (p, h, inl (e, refl, refl))
 closing_there p (o ∷ outer) before following line e h =
     there_or before (mark_on ClosingBracket line) following _ _
@@ -170,7 +170,7 @@ closing_there p (o ∷ outer) before following line e h =
     some n = let k : o ∷ outer ≡ [] = sym e ∙ n in cc
 
 -- after a label
-labelled_there : (p : Position) (label : Word) (before : List Mark) (mark : Mark) (following : List Mark) → InLine p (Labelled label) before → IsThere before mark following (raised_if (is_some (operation_of mark.symbol) && is_full p) TooMany mark.line)
+labelled_there : (p : Position) (label : Word) (before : List Mark) (mark : Mark) (following : List Mark) → InLine p (Labelled label) before → IsThere before mark following (fault_if (is_some (operation_of mark.symbol) && is_full p) TooMany mark.line)
 labelled_there p label before mark following h =
     there_if before mark following (is_some (operation_of mark.symbol) && is_full p) TooMany mark.line (λ t.
     let b = both_hold (is_some (operation_of mark.symbol)) (is_full p) t in
@@ -181,7 +181,7 @@ labelled_there p label before mark following h =
 
 -- a bracket after an operator
 bracket_there : (p : Position) (started : StartedLine) (operator : Operator) (before following : List Mark) (line : ℕ) → InLine p (Operated started (Applies operator)) before
-    → IsThere before (mark_on OpeningBracket line) following (raised_if (nat_le most_depth (length p.openings)) TooDeep started.line)
+    → IsThere before (mark_on OpeningBracket line) following (fault_if (nat_le most_depth (length p.openings)) TooDeep started.line)
 bracket_there p started operator before following line h =
     there_if before (mark_on OpeningBracket line) following (nat_le most_depth (length p.openings)) TooDeep started.line (λ t. (p, started.label, operator, here, reaches most_depth (length p.openings) t, refl))
   where
@@ -191,13 +191,13 @@ bracket_there p started operator before following line h =
         (subst (at_instruction p started.label then one (IsOn started.line (IsOperator operator))) (append_assoc h.prefix h.exact.prefix h.exact.rest)
         (joined (h.prefix ++ h.exact.prefix) h.exact.rest (joined h.prefix h.exact.prefix h.begins h.exact.begins) (one_operator started.line operator h.exact.rest h.exact.goes_on))))
 
-on_line_there : (p : Position) (state : LineState) (before : List Mark) (symbol : Symbol) (line : ℕ) (following : List Mark) → InLine p state before → IsThere before (mark_on symbol line) following (validate_on_line p state symbol line)
+on_line_there : (p : Position) (state : LineState) (before : List Mark) (symbol : Symbol) (line : ℕ) (following : List Mark) → InLine p state before → IsThere before (mark_on symbol line) following (fault_on_line p state symbol line)
 on_line_there p (Labelled label) before symbol line following h = labelled_there p label before (mark_on symbol line) following h
 on_line_there p (Operated started (Applies operator)) before OpeningBracket line following h = bracket_there p started operator before following line h
 on_line_there p state before symbol line following h = tt
 
 -- Each fault that is detected is found.
-pub there : (state : State) (before : List Mark) (symbol : Symbol) (line : ℕ) (following : List Mark) → Reported state before → IsThere before (mark_on symbol line) following (validate state symbol line (colon_next following false))
+pub there : (state : State) (before : List Mark) (symbol : Symbol) (line : ℕ) (following : List Mark) → Reported state before → IsThere before (mark_on symbol line) following (fault_at state symbol line (colon_next following false))
 there (Outside us) before (Identifier bytes) line following h = unit_there us before following bytes line (found unit_kinds (name_of bytes)) refl h
 there (AtLine p) before ClosingBracket line following h = closing_there p p.openings before following line refl h
 there (AtLine p) before symbol line following h = line_there p p.openings before (mark_on symbol line) following refl h

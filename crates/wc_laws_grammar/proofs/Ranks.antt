@@ -3,7 +3,7 @@ use Rattle.std.proofs.Common.{◌≡◌, ◌≤◌, ℕ, suc, ◌*◌, Bool, tru
 use Rattle.std.specs.Prelude.{option_map}
 use Rattle.wc_laws_grammar.proofs.WalkedLines.{walk_on}
 use Rattle.wc_laws_grammar.specs.LineMoves.{LineShape, LabelAlone, Instructs, Opens, LineState, Start, Ended, line_move}
-use Rattle.wc_laws_grammar.specs.Moves.{InDeclaration, Undeclared, AfterNames, AfterComma, AfterColon, AfterType, AfterAssign, AfterValue, State, Outside, Unnamed, Declaring, AtLine, OnLine, Closed, at_value, started_line, after_closing, after_line, after_unit, body_move, body_start, colon_next, declaration_move, has_content, move, section_started, section_or_line, start_move, unit_with, walk}
+use Rattle.wc_laws_grammar.specs.Moves.{InDeclaration, Undeclared, AfterNames, AfterComma, AfterColon, AfterType, AfterAssign, AfterValue, State, Outside, Unnamed, Declaring, AtLine, OnLine, Closed, at_value, started_line, after_closing, after_line, after_unit, body_move, body_start, colon_next, declaration_move, has_content, move, section_of_word, section_or_line, start_move, unit_with, walk}
 use Rattle.wc_laws_grammar.specs.Words.{found, literal_of, unit_kinds}
 use Rattle.wc_model.specs.Language.Declarations.{same_name}
 use Rattle.wc_model.specs.Language.Names.{name_of}
@@ -69,9 +69,9 @@ section_or_line_rises : (p : Position) (bytes : List ℕ) (line : ℕ) (section 
 section_or_line_rises p bytes line None = started_rises p (line_move InBody Start (Identifier bytes) line false)
 section_or_line_rises p bytes line (Some section) = omega arith
 
-word_rises : (p : Position) (bytes : List ℕ) (line : ℕ) (b : Bool) → Rises (suc (2 * length p.before)) (if b then Some (after_unit p) else section_or_line p bytes line (section_started p.done (name_of bytes)))
+word_rises : (p : Position) (bytes : List ℕ) (line : ℕ) (b : Bool) → Rises (suc (2 * length p.before)) (if b then Some (after_unit p) else section_or_line p bytes line (section_of_word p.done (name_of bytes)))
 word_rises p bytes line true = let one = length-append p.before (unit_with p.unit p.done ∷ []) in omega (arith, one)
-word_rises p bytes line false = section_or_line_rises p bytes line (section_started p.done (name_of bytes))
+word_rises p bytes line false = section_or_line_rises p bytes line (section_of_word p.done (name_of bytes))
 
 body_rises : (p : Position) (symbol : Symbol) (line : ℕ) (colon : Bool) → Rises (suc (2 * length p.before)) (body_move p symbol line colon)
 body_rises p (Identifier bytes) line false = word_rises p bytes line (same_name (name_of bytes) (end_word p.unit.kind))

@@ -4,10 +4,10 @@ use Rattle.std.specs.Prelude.{Ok, Err, Result, ◌||◌}
 use Rattle.wc_laws_grammar.proofs.AtEnds.{at_end_raised}
 use Rattle.wc_laws_grammar.proofs.Bounds.{Within}
 use Rattle.wc_laws_grammar.proofs.Exits.{AreBlocks}
-use Rattle.wc_laws_grammar.proofs.Validated.{Validated, validated, same_end}
+use Rattle.wc_laws_grammar.proofs.Detected.{Detected, detected, same_end}
 use Rattle.wc_laws_grammar.specs.LineMoves.{LineState, Start, Worded, Jumped, Called, Instanced, Named, Stepped, BracketedWith, line_move}
 use Rattle.wc_laws_grammar.proofs.RaisedThere.{IsThere, there}
-use Rattle.wc_laws_grammar.specs.Moves.{State, Outside, Unnamed, Declaring, AtLine, OnLine, Closed, Raised, at_end, at_first, started_line, body_move, colon_next, has_program, is_colon, is_program, validate, move, reading, start_move, walk, section_or_line, section_started, after_unit}
+use Rattle.wc_laws_grammar.specs.Moves.{State, Outside, Unnamed, Declaring, AtLine, OnLine, Closed, Raised, at_end, at_first, started_line, body_move, colon_next, has_program, is_colon, is_program, fault_at, move, reading, start_move, walk, section_or_line, section_of_word, after_unit}
 use Rattle.wc_laws_grammar.proofs.Orders.{Ordered, OrderedNext, prefix, ordered_on}
 use Rattle.wc_laws_grammar.proofs.Reported.{Exact, Keeps, Reported}
 use Rattle.wc_laws_grammar.proofs.ReportedOn.{reported_first, reported_on}
@@ -54,9 +54,9 @@ section_taken : (p : Position) (bytes : List ℕ) (line : ℕ) (section : Option
 section_taken p bytes line None = tt
 section_taken p bytes line (Some section) = tt
 
-word_taken : (p : Position) (bytes : List ℕ) (line : ℕ) (b : Bool) → Taken (if b then Some (after_unit p) else section_or_line p bytes line (section_started p.done (name_of bytes)))
+word_taken : (p : Position) (bytes : List ℕ) (line : ℕ) (b : Bool) → Taken (if b then Some (after_unit p) else section_or_line p bytes line (section_of_word p.done (name_of bytes)))
 word_taken p bytes line true = tt
-word_taken p bytes line false = section_taken p bytes line (section_started p.done (name_of bytes))
+word_taken p bytes line false = section_taken p bytes line (section_of_word p.done (name_of bytes))
 
 not_none : (next : Option State) → Taken next → ¬ (next ≡ None)
 not_none next h e = subst Taken e h
@@ -136,9 +136,9 @@ pub record Come (state : State) (before left : List Mark) : Type 0 where
   pub free : IsFaultFree before left
 
 -- the fault that is detected at a token is the first
-validated_first : (state : State) (before : List Mark) (mark : Mark) (marks : List Mark) (last_line : ℕ) (raised : Raised) → Come state before (mark ∷ marks) → validate state mark.symbol mark.line (colon_next marks false) ≡ Some raised
+detected_first : (state : State) (before : List Mark) (mark : Mark) (marks : List Mark) (last_line : ℕ) (raised : Raised) → Come state before (mark ∷ marks) → fault_at state mark.symbol mark.line (colon_next marks false) ≡ Some raised
     → IsFirstReadingFault (before ++ mark ∷ marks) last_line raised.fault raised.line
-validated_first state before mark marks last_line raised c e = record {
+detected_first state before mark marks last_line raised c e = record {
   before = before;
   left = mark ∷ marks;
   whole = refl;
@@ -148,8 +148,8 @@ validated_first state before mark marks last_line raised c e = record {
   lowest = λ other place h. lower other place h;
 }
   where
-    by_validated : (other : ReadingFault) → Validated (validate state mark.symbol mark.line (colon_next marks false)) other → rank_of raised.fault ≤ rank_of other
-    by_validated other j = let same : Some raised ≡ Some j.validated = sym e ∙ j.is in let k : raised ≡ j.validated = cc in subst (λ m. rank_of m.fault ≤ rank_of other) (sym k) j.lower
+    by_detected : (other : ReadingFault) → Detected (fault_at state mark.symbol mark.line (colon_next marks false)) other → rank_of raised.fault ≤ rank_of other
+    by_detected other j = let same : Some raised ≡ Some j.detected = sym e ∙ j.is in let k : raised ≡ j.detected = cc in subst (λ m. rank_of m.fault ≤ rank_of other) (sym k) j.lower
 
     ranks : (fault : ReadingFault) → rank_of fault ≤ 209
     ranks UnexpectedToken = omega arith
@@ -164,20 +164,20 @@ validated_first state before mark marks last_line raised c e = record {
     lower : (other : ReadingFault) (place : ℕ) → IsRaised other before (mark ∷ marks) last_line place → rank_of raised.fault ≤ rank_of other
     lower UnexpectedToken place h = ranks raised.fault
     lower UnitNotClosed place h = absurd h
-    lower NotOneProgramLast place h = by_validated NotOneProgramLast (validated NotOneProgramLast before mark marks place state c.reached (λ f. let k = ap rank_of f in omega (arith, k)) h)
-    lower EmptyParentheses place h = by_validated EmptyParentheses (validated EmptyParentheses before mark marks place state c.reached (λ f. let k = ap rank_of f in omega (arith, k)) h)
-    lower NotAllowedInParentheses place h = by_validated NotAllowedInParentheses (validated NotAllowedInParentheses before mark marks place state c.reached (λ f. let k = ap rank_of f in omega (arith, k)) h)
-    lower ParenthesisNotPaired place h = by_validated ParenthesisNotPaired (validated ParenthesisNotPaired before mark marks place state c.reached (λ f. let k = ap rank_of f in omega (arith, k)) h)
-    lower TooDeep place h = by_validated TooDeep (validated TooDeep before mark marks place state c.reached (λ f. let k = ap rank_of f in omega (arith, k)) h)
-    lower TooMany place h = by_validated TooMany (validated TooMany before mark marks place state c.reached (λ f. let k = ap rank_of f in omega (arith, k)) h)
+    lower NotOneProgramLast place h = by_detected NotOneProgramLast (detected NotOneProgramLast before mark marks place state c.reached (λ f. let k = ap rank_of f in omega (arith, k)) h)
+    lower EmptyParentheses place h = by_detected EmptyParentheses (detected EmptyParentheses before mark marks place state c.reached (λ f. let k = ap rank_of f in omega (arith, k)) h)
+    lower NotAllowedInParentheses place h = by_detected NotAllowedInParentheses (detected NotAllowedInParentheses before mark marks place state c.reached (λ f. let k = ap rank_of f in omega (arith, k)) h)
+    lower ParenthesisNotPaired place h = by_detected ParenthesisNotPaired (detected ParenthesisNotPaired before mark marks place state c.reached (λ f. let k = ap rank_of f in omega (arith, k)) h)
+    lower TooDeep place h = by_detected TooDeep (detected TooDeep before mark marks place state c.reached (λ f. let k = ap rank_of f in omega (arith, k)) h)
+    lower TooMany place h = by_detected TooMany (detected TooMany before mark marks place state c.reached (λ f. let k = ap rank_of f in omega (arith, k)) h)
 
 -- if none is detected, no fault but an unexpected token is found
-none_raised : (state : State) (before : List Mark) (mark : Mark) (marks : List Mark) → Come state before (mark ∷ marks) → validate state mark.symbol mark.line (colon_next marks false) ≡ None
+none_raised : (state : State) (before : List Mark) (mark : Mark) (marks : List Mark) → Come state before (mark ∷ marks) → fault_at state mark.symbol mark.line (colon_next marks false) ≡ None
     → (fault : ReadingFault) (line : ℕ) → fault ≢ UnexpectedToken → ¬ (RaisedAtToken fault before mark marks line)
-none_raised state before mark marks c e fault line n h = let j = validated fault before mark marks line state c.reached n h in let k : None ≡ Some j.validated = sym e ∙ j.is in cc
+none_raised state before mark marks c e fault line n h = let j = detected fault before mark marks line state c.reached n h in let k : None ≡ Some j.detected = sym e ∙ j.is in cc
 
 -- a token that is not taken is the first fault
-unexpected_first : (state : State) (before : List Mark) (mark : Mark) (marks : List Mark) (last_line : ℕ) → Come state before (mark ∷ marks) → validate state mark.symbol mark.line (colon_next marks false) ≡ None → move state mark.symbol mark.line (colon_next marks false) ≡ None
+unexpected_first : (state : State) (before : List Mark) (mark : Mark) (marks : List Mark) (last_line : ℕ) → Come state before (mark ∷ marks) → fault_at state mark.symbol mark.line (colon_next marks false) ≡ None → move state mark.symbol mark.line (colon_next marks false) ≡ None
     → IsFirstReadingFault (before ++ mark ∷ marks) last_line UnexpectedToken mark.line
 unexpected_first state before mark marks last_line c e m = record {
   before = before;
@@ -200,7 +200,7 @@ unexpected_first state before mark marks last_line c e m = record {
     lower TooMany place h = absurd (none_raised state before mark marks c e TooMany place (λ f. let k = ap rank_of f in omega (arith, k)) h)
 
 -- one token more, at which no fault is detected
-come_on : (state next : State) (before : List Mark) (mark : Mark) (marks : List Mark) → Come state before (mark ∷ marks) → validate state mark.symbol mark.line (colon_next marks false) ≡ None → move state mark.symbol mark.line (colon_next marks false) ≡ Some next
+come_on : (state next : State) (before : List Mark) (mark : Mark) (marks : List Mark) → Come state before (mark ∷ marks) → fault_at state mark.symbol mark.line (colon_next marks false) ≡ None → move state mark.symbol mark.line (colon_next marks false) ≡ Some next
     → Come next (before ++ mark ∷ []) marks
 come_on state next before mark marks c e m =
     let t : Reported next (before ++ mark ∷ []) = subst (Keeps before mark) m (reported_on state before mark.symbol mark.line (colon_next marks false) c.reported) in
@@ -260,9 +260,9 @@ read_fault state before [] last_line raised c e =
     let k = at_end_raised state before last_line raised c.reported c.ordered c.reached e in
     record { before = before; left = []; whole = refl; is_prefix = prefix state before c.reported c.ordered; fault_free = c.free; raised = k.raised_here; lowest = k.lowest }
 read_fault state before (mark ∷ marks) last_line raised c e =
-    elim (validate state mark.symbol mark.line (colon_next marks false)) as (λ j. validate state mark.symbol mark.line (colon_next marks false) ≡ j
+    elim (fault_at state mark.symbol mark.line (colon_next marks false)) as (λ j. fault_at state mark.symbol mark.line (colon_next marks false) ≡ j
     → outcome state mark marks last_line j (move state mark.symbol mark.line (colon_next marks false)) ≡ Err raised → IsFirstReadingFault (before ++ mark ∷ marks) last_line raised.fault raised.line) [
-      | Some found ↦ λ j e. first_at (before ++ mark ∷ marks) last_line found raised (Err found) refl e (validated_first state before mark marks last_line found c j)
+      | Some found ↦ λ j e. first_at (before ++ mark ∷ marks) last_line found raised (Err found) refl e (detected_first state before mark marks last_line found c j)
       | None ↦ λ j e.
           elim (move state mark.symbol mark.line (colon_next marks false)) as (λ m. move state mark.symbol mark.line (colon_next marks false) ≡ m
           → outcome state mark marks last_line None m ≡ Err raised → IsFirstReadingFault (before ++ mark ∷ marks) last_line raised.fault raised.line) [
@@ -308,7 +308,7 @@ colon_refused next (mark ∷ marks) last_line text e r k =
     let j = (r mark.line (colon_next marks false)) in
     let m : outcome next mark marks last_line None None ≡ Ok text =
     subst (λ m. outcome next mark marks last_line None m ≡ Ok text) (ap (λ y. move next y mark.line (colon_next marks false)) s ∙ j.0)
-    (subst (λ q. outcome next mark marks last_line q (move next mark.symbol mark.line (colon_next marks false)) ≡ Ok text) (ap (λ y. validate next y mark.line (colon_next marks false)) s ∙ j.1) k) in
+    (subst (λ q. outcome next mark marks last_line q (move next mark.symbol mark.line (colon_next marks false)) ≡ Ok text) (ap (λ y. fault_at next y mark.line (colon_next marks false)) s ∙ j.1) k) in
     cc
 
 within_text : (text : Text) → Within (Outside text) → IsWithinLimits text
@@ -325,7 +325,7 @@ read_text state before [] last_line text t o w e =
       within = within_text text (subst Within k.is w);
     }
 read_text state before (mark ∷ marks) last_line text t o w e =
-    elim (validate state mark.symbol mark.line (colon_next marks false)) as (λ j. validate state mark.symbol mark.line (colon_next marks false) ≡ j
+    elim (fault_at state mark.symbol mark.line (colon_next marks false)) as (λ j. fault_at state mark.symbol mark.line (colon_next marks false) ≡ j
     → outcome state mark marks last_line j (move state mark.symbol mark.line (colon_next marks false)) ≡ Ok text → WasRead before (mark ∷ marks) text) [
       | Some found ↦ λ j e. absurd (cc)
       | None ↦ λ j e.
@@ -369,7 +369,7 @@ read_all state before (mark ∷ marks) last_line text t g p e =
       | Some next ↦ λ m e.
           let t' : Reported next (before ++ mark ∷ []) = subst (Keeps before mark) m (reported_on state before mark.symbol mark.line (colon_next marks false) t) in
           let c = read_all next (before ++ mark ∷ []) marks last_line text t' g p e in
-          let w = (subst (WasGood state (validate state mark.symbol mark.line (colon_next marks false)) (colon_next marks false)) m (was_good state mark.symbol mark.line (colon_next marks false) (has_started state before t))) c.good in
+          let w = (subst (WasGood state (fault_at state mark.symbol mark.line (colon_next marks false)) (colon_next marks false)) m (was_good state mark.symbol mark.line (colon_next marks false) (has_started state before t))) c.good in
           elim w.1 [
             | inl j ↦ record { good = w.0; read = ap (λ q. outcome state mark marks last_line q (move state mark.symbol mark.line (colon_next marks false))) j ∙ ap (outcome state mark marks last_line None) m ∙ c.read }
             | inr r ↦ absurd (colon_ends next marks (Outside text) r.0 r.1 e)

@@ -7,7 +7,7 @@ use Rattle.wc_laws_grammar.proofs.ExactLines.{ExactNext, exact_at_start, exact_m
 use Rattle.wc_laws_grammar.specs.LineMoves.{LineState, Start, Ended, line_move}
 use Rattle.wc_laws_grammar.proofs.LineRests.{line_of}
 use Rattle.wc_laws_grammar.proofs.LineSound.{Allows, AllowsFrom, FromStart, mark_on, move_allowed, start_move_allowed}
-use Rattle.wc_laws_grammar.specs.Moves.{InDeclaration, State, Outside, Unnamed, Declaring, AtLine, OnLine, Closed, at_first, started_line, after_closing, after_line, after_unit, body_move, colon_next, declaration_move, has_content, inside_move, move, section_started, section_or_line, start_move, unit_with, walk}
+use Rattle.wc_laws_grammar.specs.Moves.{InDeclaration, State, Outside, Unnamed, Declaring, AtLine, OnLine, Closed, at_first, started_line, after_closing, after_line, after_unit, body_move, colon_next, declaration_move, has_content, inside_move, move, section_of_word, section_or_line, start_move, unit_with, walk}
 use Rattle.wc_laws_grammar.proofs.Skipping.{kept}
 use Rattle.wc_laws_grammar.proofs.Reported.{AfterClosing, Exact, InLine, InSection, Keeps, Reported, name_kept, outside_end, section_done, unit_kept}
 use Rattle.wc_laws_grammar.proofs.WalkedLines.{walk_on}
@@ -145,7 +145,7 @@ start_kept setting p tokens symbol line colon e h =
     (subst (λ t. ExactNext t (mark_on symbol line ∷ []) (line_move setting Start symbol line colon)) (sym e) (exact_at_start setting symbol line colon))
 
 -- the first word of a section
-section_starts : (p : Position) (done : Lines) (tokens : List Mark) (bytes : List ℕ) (line : ℕ) (section : Option Section) → p.openings ≡ [] → p.done ≡ done → section_started done (name_of bytes) ≡ section → at_line p tokens
+section_starts : (p : Position) (done : Lines) (tokens : List Mark) (bytes : List ℕ) (line : ℕ) (section : Option Section) → p.openings ≡ [] → p.done ≡ done → section_of_word done (name_of bytes) ≡ section → at_line p tokens
     → Keeps tokens (mark_on (Identifier bytes) line) (section_or_line p bytes line section)
 section_starts p done tokens bytes line None e d s h = start_kept InBody p tokens (Identifier bytes) line false (ap setting_in e) h
 section_starts p End tokens bytes line (Some section) e d s h = record {
@@ -166,9 +166,9 @@ section_starts p (Plain label n step rest) tokens bytes line (Some section) e d 
 section_starts p (Nested label n operator x inside close rest) tokens bytes line (Some section) e d s h = absurd (cc)
 
 word_kept : (p : Position) (tokens : List Mark) (bytes : List ℕ) (line : ℕ) (b : Bool) → same_name (name_of bytes) (end_word p.unit.kind) ≡ b → p.openings ≡ [] → at_line p tokens
-    → Keeps tokens (mark_on (Identifier bytes) line) (if b then Some (after_unit p) else section_or_line p bytes line (section_started p.done (name_of bytes)))
+    → Keeps tokens (mark_on (Identifier bytes) line) (if b then Some (after_unit p) else section_or_line p bytes line (section_of_word p.done (name_of bytes)))
 word_kept p tokens bytes line true s e h = unit_done p tokens (mark_on (Identifier bytes) line) e (ap (λ n. Some n) (same_is (name_of bytes) (end_word p.unit.kind) s)) h
-word_kept p tokens bytes line false s e h = section_starts p p.done tokens bytes line (section_started p.done (name_of bytes)) e refl refl h
+word_kept p tokens bytes line false s e h = section_starts p p.done tokens bytes line (section_of_word p.done (name_of bytes)) e refl refl h
 
 body_kept : (p : Position) (tokens : List Mark) (symbol : Symbol) (line : ℕ) (colon : Bool) → p.openings ≡ [] → at_line p tokens → Keeps tokens (mark_on symbol line) (body_move p symbol line colon)
 body_kept p tokens (Identifier bytes) line false e h = word_kept p tokens bytes line (same_name (name_of bytes) (end_word p.unit.kind)) refl e h

@@ -4,7 +4,7 @@ use Rattle.wc_laws_grammar.proofs.LineComplete.{Leads, move_led}
 use Rattle.wc_laws_grammar.specs.LineMoves.{LineShape, LabelAlone, Instructs, Opens, OfStep, OfOpening, OfArgument, LineState, Start, Worded, Labelled, Operated, Jumped, Called, Instanced, Listing, Bracketed, Named, Pointed, Stepped, BracketedWith, Ended, at_start, at_start_in, line_move, operator_or_label}
 use Rattle.wc_laws_grammar.proofs.LineRests.{line_of, rest_of}
 use Rattle.wc_laws_grammar.proofs.LineStart.{start_led}
-use Rattle.wc_laws_grammar.specs.Moves.{State, AtLine, Closed, after_line, after_closing, started_line, body_move, colon_next, is_colon, lines_and, has_content, move, on_line, after_unit, section_started, start_move, section_or_line, walk, word_move}
+use Rattle.wc_laws_grammar.specs.Moves.{State, AtLine, Closed, after_line, after_closing, started_line, body_move, colon_next, is_colon, lines_and, has_content, move, on_line, after_unit, section_of_word, start_move, section_or_line, walk, word_move}
 use Rattle.wc_laws_grammar.proofs.WordLaws.{found_operation}
 use Rattle.wc_laws_grammar.specs.Words.{Loads, Stores, Applies, Operation, Operates, Jumps, Calls, Returns, found, operations, operation_word, section_words}
 use Rattle.wc_laws_grammar.proofs.Languages.{next_is, both_empty, regroup, after, given_first}
@@ -93,7 +93,7 @@ ends_no_unit Program (Returns Always) = (refl, refl)
 ends_no_unit third fourth = (refl, refl)
 
 -- an identifier of an operator's name begins no section
-no_section : (done : Lines) (name : Name) → found section_words name ≡ None → section_started done name ≡ None
+no_section : (done : Lines) (name : Name) → found section_words name ≡ None → section_of_word done name ≡ None
 no_section End name e = e
 no_section (Alone label rest) name e = refl
 no_section (Plain label line step rest) name e = refl
@@ -105,7 +105,7 @@ operator_begins : (p : Position) (bytes : List ℕ) (line : ℕ) (operation : Op
 operator_begins p bytes line operation e =
     let n = found_operation (name_of bytes) operation e in
     let k = ends_no_unit p.unit.kind operation in
-    ap (λ b. if b then Some (after_unit p) else section_or_line p bytes line (section_started p.done (name_of bytes))) (ap (λ m. same_name m (end_word p.unit.kind)) n ∙ k.0)
+    ap (λ b. if b then Some (after_unit p) else section_or_line p bytes line (section_of_word p.done (name_of bytes))) (ap (λ m. same_name m (end_word p.unit.kind)) n ∙ k.0)
     ∙ ap (section_or_line p bytes line) (no_section p.done (name_of bytes) (ap (found section_words) n ∙ k.1))
 
 -- a label's word is taken as the start of a line only if a colon follows

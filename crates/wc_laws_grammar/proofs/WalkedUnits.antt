@@ -5,7 +5,7 @@ use Rattle.wc_laws_grammar.proofs.DeclarationRests.{declarations_of}
 use Rattle.wc_laws_grammar.proofs.LineComplete.{named}
 use Rattle.wc_laws_grammar.specs.LineMoves.{Opens}
 use Rattle.wc_laws_grammar.proofs.LineStart.{no_colon, no_colon_name}
-use Rattle.wc_laws_grammar.specs.Moves.{State, Outside, Unnamed, Declaring, AtLine, Undeclared, at_first, at_first_name, after_unit, body_start, colon_next, declaration_move, is_colon, move, section_or_line, section_started, start_move, walk}
+use Rattle.wc_laws_grammar.specs.Moves.{State, Outside, Unnamed, Declaring, AtLine, Undeclared, at_first, at_first_name, after_unit, body_start, colon_next, declaration_move, is_colon, move, section_or_line, section_of_word, start_move, walk}
 use Rattle.wc_laws_grammar.proofs.Skipping.{skip_next_is}
 use Rattle.wc_laws_grammar.proofs.WalkedDeclarations.{declared_led, declarations_walked, unit_and}
 use Rattle.wc_laws_grammar.proofs.WalkedLines.{line_walked, line_ends_walked, lines_walked, parts_walked, walk_on, walk_then, with_lines}
@@ -172,7 +172,7 @@ unit_ends p (mark ∷ []) e h =
     named mark.symbol (end_word p.unit.kind) h (λ bytes y n.
     ap (λ y. walk_on (move (AtLine p) y mark.line false) [] false) y
     ∙ ap (λ os. walk_on (start_move p os (Identifier bytes) mark.line false) [] false) e
-    ∙ ap (λ b. walk_on (if b then Some (after_unit p) else section_or_line p bytes mark.line (section_started p.done (name_of bytes))) [] false) (ap (λ m. same_name m (end_word p.unit.kind)) n ∙ is_same (end_word p.unit.kind)))
+    ∙ ap (λ b. walk_on (if b then Some (after_unit p) else section_or_line p bytes mark.line (section_of_word p.done (name_of bytes))) [] false) (ap (λ m. same_name m (end_word p.unit.kind)) n ∙ is_same (end_word p.unit.kind)))
 
 -- a whole unit
 pub unit_walked : (us : List ProgramUnit) (unit : ProgramUnit) (tokens : List Mark) (colon : Bool) → colon ≡ false → unit_of unit tokens → walk (Outside us) tokens colon ≡ Some (Outside (us ++ unit ∷ []))

@@ -10,7 +10,7 @@ use Rattle.wc_laws_grammar.proofs.LineBounds.{Counts, IsSteady, count_operator, 
 use Rattle.wc_laws_grammar.proofs.LineComplete.{labelled_operator}
 use Rattle.wc_laws_grammar.specs.LineMoves.{LineShape, LabelAlone, Instructs, Opens, operator_or_label, StartedLine, LineState, Start, Labelled, Operated, Bracketed, Ended, at_labelled, at_operated, at_operator, at_start, after_operator, line_move, simple_operator}
 use Rattle.wc_laws_grammar.proofs.LineStart.{operator_taken}
-use Rattle.wc_laws_grammar.specs.Moves.{InDeclaration, Undeclared, AfterNames, AfterComma, AfterColon, AfterType, AfterAssign, AfterValue, State, Outside, Unnamed, Declaring, AtLine, OnLine, Closed, Raised, at_value, begins_transfer, started_line, after_closing, after_line, after_unit, body_move, body_start, declaration_move, has_content, has_name, has_program, inside_move, is_full, is_identifier, is_program, validate, validate_closing, validate_line, validate_on_line, validate_operator, validate_unit, raised_if, raised_or, move, on_line, section_started, section_or_line, start_move, unit_with}
+use Rattle.wc_laws_grammar.specs.Moves.{InDeclaration, Undeclared, AfterNames, AfterComma, AfterColon, AfterType, AfterAssign, AfterValue, State, Outside, Unnamed, Declaring, AtLine, OnLine, Closed, Raised, at_value, begins_transfer, started_line, after_closing, after_line, after_unit, body_move, body_start, declaration_move, has_content, has_name, has_program, inside_move, is_full, is_identifier, is_program, fault_at, fault_at_closing, fault_at_line, fault_on_line, fault_at_operator, fault_at_unit, fault_if, first_fault, move, on_line, section_of_word, section_or_line, start_move, unit_with}
 use Rattle.wc_laws_grammar.proofs.WalkedLines.{ends_no_unit}
 use Rattle.wc_laws_grammar.proofs.WithinOn.{HasStarted, RejectsColon, simple_rejects}
 use Rattle.wc_laws_grammar.proofs.WordLaws.{found_operation, found_section, same_is}
@@ -53,11 +53,11 @@ WasGood state raised colon None = Unit {0}
 WasGood state raised colon (Some next) = Good next → Good state × Passes raised colon next
 
 -- a test that fails
-fails : (test : Bool) (fault : ReadingFault) (line : ℕ) → test ≡ false → raised_if test fault line ≡ None
+fails : (test : Bool) (fault : ReadingFault) (line : ℕ) → test ≡ false → fault_if test fault line ≡ None
 fails test fault line e = ap (λ b. if b then Some (record { fault = fault; line = line }) else None) e
 
-neither_raised : (a b : Option Raised) → a ≡ None → b ≡ None → raised_or a b ≡ None
-neither_raised a b e f = ap (λ x. raised_or x b) e ∙ f
+neither_raised : (a b : Option Raised) → a ≡ None → b ≡ None → first_fault a b ≡ None
+neither_raised a b e f = ap (λ x. first_fault x b) e ∙ f
 
 above : (a b : ℕ) → suc b ≤ a → nat_le a b ≡ false
 above a b h = grind (arith, nat_tests, h)
@@ -67,7 +67,7 @@ pub no_program : (us : List ProgramUnit) → AreBlocks us → has_program us ≡
 no_program [] h = refl
 no_program (unit ∷ us) h = ap (λ k. is_program k || has_program us) h.0 ∙ no_program us h.1
 
-unit_was_good : (us : List ProgramUnit) (bytes : List ℕ) (line : ℕ) (colon : Bool) (kind : Option UnitKind) → WasGood (Outside us) (validate_unit us line kind) colon (option_map (λ kind. Unnamed us kind line) kind)
+unit_was_good : (us : List ProgramUnit) (bytes : List ℕ) (line : ℕ) (colon : Bool) (kind : Option UnitKind) → WasGood (Outside us) (fault_at_unit us line kind) colon (option_map (λ kind. Unnamed us kind line) kind)
 unit_was_good us bytes line colon None = tt
 unit_was_good us bytes line colon (Some kind) = λ g.
     (((omega (arith, g.0.0), g.0.1), inl g.1), inl (neither_raised _ _ (fails (has_program us) NotOneProgramLast line (no_program us g.1)) (fails (nat_le most_units (length us)) TooMany line (above most_units (length us) g.0.0))))
@@ -128,31 +128,31 @@ last_fails false b e = refl
 has_line : (p : Position) (d : ℕ) → PositionWithin p 1 d → is_full p ≡ false
 has_line p d h = above most_lines (lines_before p) (omega (arith, h.1))
 
-operator_passes : (p : Position) (symbol : Symbol) (line : ℕ) (colon : Bool) → is_full p ≡ false → validate_operator p symbol line colon ≡ None
+operator_passes : (p : Position) (symbol : Symbol) (line : ℕ) (colon : Bool) → is_full p ≡ false → fault_at_operator p symbol line colon ≡ None
 operator_passes p symbol line colon e = fails _ TooMany line (last_fails (is_some (operation_of symbol) && not colon) (is_full p) e)
 
-colon_passes : (p : Position) (symbol : Symbol) (line : ℕ) → validate_operator p symbol line true ≡ None
+colon_passes : (p : Position) (symbol : Symbol) (line : ℕ) → fault_at_operator p symbol line true ≡ None
 colon_passes p symbol line = fails _ TooMany line (middle_fails (is_some (operation_of symbol)) (is_full p))
 
-no_operator_passes : (p : Position) (symbol : Symbol) (line : ℕ) (colon : Bool) → operation_of symbol ≡ None → validate_operator p symbol line colon ≡ None
+no_operator_passes : (p : Position) (symbol : Symbol) (line : ℕ) (colon : Bool) → operation_of symbol ≡ None → fault_at_operator p symbol line colon ≡ None
 no_operator_passes p symbol line colon e = fails _ TooMany line (ap (λ o. is_some o && not colon && is_full p) e)
 
 -- after an operator of a line in a body
-start_was_good : (p : Position) (symbol : Symbol) (line : ℕ) (operation : Option Operation) → operation_of symbol ≡ operation → WasGood (AtLine p) (validate_operator p symbol line false) false (started_line p (at_start symbol line false))
+start_was_good : (p : Position) (symbol : Symbol) (line : ℕ) (operation : Option Operation) → operation_of symbol ≡ operation → WasGood (AtLine p) (fault_at_operator p symbol line false) false (started_line p (at_start symbol line false))
 start_was_good p symbol line None e = by_symbol symbol e
   where
-    word_good : (word : Word) (bytes : List ℕ) → found operations (name_of bytes) ≡ None → WasGood (AtLine p) (validate_operator p (Identifier bytes) line false) false (started_line p (Some (operator_or_label word (found operations (name_of bytes)))))
-    word_good word bytes e = subst (λ o. WasGood (AtLine p) (validate_operator p (Identifier bytes) line false) false (started_line p (Some (operator_or_label word o)))) (sym e)
+    word_good : (word : Word) (bytes : List ℕ) → found operations (name_of bytes) ≡ None → WasGood (AtLine p) (fault_at_operator p (Identifier bytes) line false) false (started_line p (Some (operator_or_label word (found operations (name_of bytes)))))
+    word_good word bytes e = subst (λ o. WasGood (AtLine p) (fault_at_operator p (Identifier bytes) line false) false (started_line p (Some (operator_or_label word o)))) (sym e)
         (λ good. ((less_within p 0 0 good.0, good.1), inl (no_operator_passes p (Identifier bytes) line false e)))
 
-    by_symbol : (symbol : Symbol) → operation_of symbol ≡ None → WasGood (AtLine p) (validate_operator p symbol line false) false (started_line p (at_start symbol line false))
+    by_symbol : (symbol : Symbol) → operation_of symbol ≡ None → WasGood (AtLine p) (fault_at_operator p symbol line false) false (started_line p (at_start symbol line false))
     by_symbol (Identifier bytes) e = word_good (record { line = line; name = name_of bytes }) bytes e
     by_symbol Ampersand e = absurd (cc)
     by_symbol AmpersandN e = absurd (cc)
     by_symbol _ e = tt
 start_was_good p symbol line (Some operation) e =
-    subst (λ n. WasGood (AtLine p) (validate_operator p symbol line false) false (started_line p n)) (sym (operator_taken symbol line operation false e refl))
-    (line_was_good p (AtLine p) (validate_operator p symbol line false) false 1 0 (Some (after_operator None line operation)) (count_operator None line operation) (λ k b. (less_within p 1 0 k, b)) (λ state s k. inl (operator_passes p symbol line false (has_line p 0 k))))
+    subst (λ n. WasGood (AtLine p) (fault_at_operator p symbol line false) false (started_line p n)) (sym (operator_taken symbol line operation false e refl))
+    (line_was_good p (AtLine p) (fault_at_operator p symbol line false) false 1 0 (Some (after_operator None line operation)) (count_operator None line operation) (λ k b. (less_within p 1 0 k, b)) (λ state s k. inl (operator_passes p symbol line false (has_line p 0 k))))
 
 -- no operator ends a unit
 end_no_operator : (kind : UnitKind) → found operations (end_word kind) ≡ None
@@ -189,8 +189,8 @@ unit_end_was_good p e g =
     order (inl h) = blocks_before p.before (unit_with p.unit p.done) h
     order (inr h) = last_before p.before (unit_with p.unit p.done) h
 
-section_start_was_good : (p : Position) (done : Lines) (bytes : List ℕ) (line : ℕ) (section : Option Section) → p.openings ≡ [] → p.done ≡ done → section_started done (name_of bytes) ≡ section
-    → WasGood (AtLine p) (validate_operator p (Identifier bytes) line false) false (section_or_line p bytes line section)
+section_start_was_good : (p : Position) (done : Lines) (bytes : List ℕ) (line : ℕ) (section : Option Section) → p.openings ≡ [] → p.done ≡ done → section_of_word done (name_of bytes) ≡ section
+    → WasGood (AtLine p) (fault_at_operator p (Identifier bytes) line false) false (section_or_line p bytes line section)
 section_start_was_good p done bytes line None e d s = start_was_good p (Identifier bytes) line (found operations (name_of bytes)) refl
 section_start_was_good p End bytes line (Some section) e d s = λ g.
     let l = ap lines_opened e in
@@ -204,24 +204,24 @@ section_start_was_good p (Plain label n step rest) bytes line (Some section) e d
 section_start_was_good p (Nested label n operator x inside close rest) bytes line (Some section) e d s = absurd (cc)
 
 word_was_good : (p : Position) (bytes : List ℕ) (line : ℕ) (b : Bool) → same_name (name_of bytes) (end_word p.unit.kind) ≡ b → p.openings ≡ []
-    → WasGood (AtLine p) (validate_operator p (Identifier bytes) line false) false (if b then Some (after_unit p) else section_or_line p bytes line (section_started p.done (name_of bytes)))
+    → WasGood (AtLine p) (fault_at_operator p (Identifier bytes) line false) false (if b then Some (after_unit p) else section_or_line p bytes line (section_of_word p.done (name_of bytes)))
 word_was_good p bytes line true s e = λ g. (unit_end_was_good p e g, inl (no_operator_passes p (Identifier bytes) line false (ap (found operations) (same_is (name_of bytes) (end_word p.unit.kind) s) ∙ end_no_operator p.unit.kind)))
-word_was_good p bytes line false s e = section_start_was_good p p.done bytes line (section_started p.done (name_of bytes)) e refl refl
+word_was_good p bytes line false s e = section_start_was_good p p.done bytes line (section_of_word p.done (name_of bytes)) e refl refl
 
 -- an operator after which a colon follows
-operator_colon : (p : Position) (symbol : Symbol) (line : ℕ) (operation : Option Operation) → WasGood (AtLine p) (validate_operator p symbol line true) true (started_line p (at_operator None line operation))
+operator_colon : (p : Position) (symbol : Symbol) (line : ℕ) (operation : Option Operation) → WasGood (AtLine p) (fault_at_operator p symbol line true) true (started_line p (at_operator None line operation))
 operator_colon p symbol line None = tt
 operator_colon p symbol line (Some operation) =
-    line_was_good p (AtLine p) (validate_operator p symbol line true) true 1 0 (Some (after_operator None line operation)) (count_operator None line operation) (λ k b. (less_within p 1 0 k, b)) (λ state s k. inl (colon_passes p symbol line))
+    line_was_good p (AtLine p) (fault_at_operator p symbol line true) true 1 0 (Some (after_operator None line operation)) (count_operator None line operation) (λ k b. (less_within p 1 0 k, b)) (λ state s k. inl (colon_passes p symbol line))
 
-body_was_good : (p : Position) (symbol : Symbol) (line : ℕ) (colon : Bool) → p.openings ≡ [] → WasGood (AtLine p) (validate_operator p symbol line colon) colon (body_move p symbol line colon)
+body_was_good : (p : Position) (symbol : Symbol) (line : ℕ) (colon : Bool) → p.openings ≡ [] → WasGood (AtLine p) (fault_at_operator p symbol line colon) colon (body_move p symbol line colon)
 body_was_good p (Identifier bytes) line false e = word_was_good p bytes line (same_name (name_of bytes) (end_word p.unit.kind)) refl e
 body_was_good p (Identifier bytes) line true e = λ g. ((less_within p 0 0 g.0, g.1), inl (colon_passes p (Identifier bytes) line))
 body_was_good p symbol line false e = start_was_good p symbol line (operation_of symbol) refl
 body_was_good p symbol line true e = operator_colon p symbol line (operation_of symbol)
 
 content_true : (p : Position) (o : Opening) (outer : List Opening) (line : ℕ) (colon : Bool) (b : Bool) → has_content o.operand p.done ≡ b → p.openings ≡ o ∷ outer
-    → WasGood (AtLine p) (validate_closing p (o ∷ outer) line) colon (if b then Some (Closed (after_closing p o outer line)) else None)
+    → WasGood (AtLine p) (fault_at_closing p (o ∷ outer) line) colon (if b then Some (Closed (after_closing p o outer line)) else None)
 content_true p o outer line colon false c e = tt
 content_true p o outer line colon true c e = λ g.
     let k = closed_was_within p o outer line e g.0 in
@@ -239,59 +239,59 @@ no_identifier_colon true = refl
 no_identifier_colon false = refl
 
 -- inside parentheses an operator that is not a jump, call or return
-simple_passes : (p : Position) (o : Opening) (outer : List Opening) (symbol : Symbol) (line : ℕ) (operation : Operation) → operation_of symbol ≡ Some operation → is_transfer operation ≡ false → is_full p ≡ false → validate_line p (o ∷ outer) symbol line false ≡ None
+simple_passes : (p : Position) (o : Opening) (outer : List Opening) (symbol : Symbol) (line : ℕ) (operation : Operation) → operation_of symbol ≡ Some operation → is_transfer operation ≡ false → is_full p ≡ false → fault_at_line p (o ∷ outer) symbol line false ≡ None
 simple_passes p o outer symbol line operation e t f =
     neither_raised _ _ (fails (begins_transfer (operation_of symbol)) NotAllowedInParentheses line (ap begins_transfer e ∙ t))
     (neither_raised _ _ (fails (is_identifier symbol && false) NotAllowedInParentheses line (no_identifier_colon (is_identifier symbol)))
     (neither_raised _ _ (fails (has_name symbol (end_word p.unit.kind)) ParenthesisNotPaired o.line (operator_no_end symbol p.unit.kind operation e)) (operator_passes p symbol line false f)))
 
 simple_was_good : (p : Position) (o : Opening) (outer : List Opening) (symbol : Symbol) (line : ℕ) (colon : Bool) (operation : Option Operation) → operation_of symbol ≡ operation
-    → WasGood (AtLine p) (validate_line p (o ∷ outer) symbol line colon) colon (started_line p (simple_operator line operation))
+    → WasGood (AtLine p) (fault_at_line p (o ∷ outer) symbol line colon) colon (started_line p (simple_operator line operation))
 simple_was_good p o outer symbol line colon None e = tt
 simple_was_good p o outer symbol line colon (Some operation) e = by_transfer (is_transfer operation) refl colon
   where
-    by_transfer : (b : Bool) → is_transfer operation ≡ b → (colon : Bool) → WasGood (AtLine p) (validate_line p (o ∷ outer) symbol line colon) colon (started_line p (if b then None else Some (after_operator None line operation)))
+    by_transfer : (b : Bool) → is_transfer operation ≡ b → (colon : Bool) → WasGood (AtLine p) (fault_at_line p (o ∷ outer) symbol line colon) colon (started_line p (if b then None else Some (after_operator None line operation)))
     by_transfer true t colon = tt
     by_transfer false t false =
-        line_was_good p (AtLine p) (validate_line p (o ∷ outer) symbol line false) false 1 0 (Some (after_operator None line operation)) (count_operator None line operation) (λ k b. (less_within p 1 0 k, b))
+        line_was_good p (AtLine p) (fault_at_line p (o ∷ outer) symbol line false) false 1 0 (Some (after_operator None line operation)) (count_operator None line operation) (λ k b. (less_within p 1 0 k, b))
         (λ state s k. inl (simple_passes p o outer symbol line operation e t (has_line p 0 k)))
     by_transfer false t true =
-        line_was_good p (AtLine p) (validate_line p (o ∷ outer) symbol line true) true 1 0 (Some (after_operator None line operation)) (count_operator None line operation) (λ k b. (less_within p 1 0 k, b))
+        line_was_good p (AtLine p) (fault_at_line p (o ∷ outer) symbol line true) true 1 0 (Some (after_operator None line operation)) (count_operator None line operation) (λ k b. (less_within p 1 0 k, b))
         (λ state s k. inr (refl, rejects state s))
       where
         rejects : (state : LineState) → Some (after_operator None line operation) ≡ Some state → RejectsColon (Some (on_line p state))
         rejects state s = subst (λ l. RejectsColon (started_line p l)) s (subst (λ b. RejectsColon (started_line p (if b then None else Some (after_operator None line operation)))) t (simple_rejects p line (Some operation)))
 
-inside_was_good : (p : Position) (o : Opening) (outer : List Opening) (symbol : Symbol) (line : ℕ) (colon : Bool) → p.openings ≡ o ∷ outer → WasGood (AtLine p) (validate (AtLine p) symbol line colon) colon (inside_move p o outer symbol line)
+inside_was_good : (p : Position) (o : Opening) (outer : List Opening) (symbol : Symbol) (line : ℕ) (colon : Bool) → p.openings ≡ o ∷ outer → WasGood (AtLine p) (fault_at (AtLine p) symbol line colon) colon (inside_move p o outer symbol line)
 inside_was_good p o outer ClosingBracket line colon e =
-    subst (λ os. WasGood (AtLine p) (validate_closing p os line) colon (inside_move p o outer ClosingBracket line)) (sym e) (content_true p o outer line colon (has_content o.operand p.done) refl e)
+    subst (λ os. WasGood (AtLine p) (fault_at_closing p os line) colon (inside_move p o outer ClosingBracket line)) (sym e) (content_true p o outer line colon (has_content o.operand p.done) refl e)
 inside_was_good p o outer symbol line colon e =
-    subst (λ os. WasGood (AtLine p) (validate_line p os symbol line colon) colon (inside_move p o outer symbol line)) (sym e) (simple_was_good p o outer symbol line colon (operation_of symbol) refl)
+    subst (λ os. WasGood (AtLine p) (fault_at_line p os symbol line colon) colon (inside_move p o outer symbol line)) (sym e) (simple_was_good p o outer symbol line colon (operation_of symbol) refl)
 
-first_token_was_good : (p : Position) (openings : List Opening) (symbol : Symbol) (line : ℕ) (colon : Bool) → p.openings ≡ openings → WasGood (AtLine p) (validate (AtLine p) symbol line colon) colon (start_move p openings symbol line colon)
+first_token_was_good : (p : Position) (openings : List Opening) (symbol : Symbol) (line : ℕ) (colon : Bool) → p.openings ≡ openings → WasGood (AtLine p) (fault_at (AtLine p) symbol line colon) colon (start_move p openings symbol line colon)
 first_token_was_good p [] ClosingBracket line false e = tt
 first_token_was_good p [] ClosingBracket line true e = tt
-first_token_was_good p [] symbol line colon e = subst (λ os. WasGood (AtLine p) (validate_line p os symbol line colon) colon (body_move p symbol line colon)) (sym e) (body_was_good p symbol line colon e)
+first_token_was_good p [] symbol line colon e = subst (λ os. WasGood (AtLine p) (fault_at_line p os symbol line colon) colon (body_move p symbol line colon)) (sym e) (body_was_good p symbol line colon e)
 first_token_was_good p (o ∷ outer) symbol line colon e = inside_was_good p o outer symbol line colon e
 
-line_end_passes : (p : Position) (openings : List Opening) (line : ℕ) (colon : Bool) → validate_line p openings LineEnd line colon ≡ None
+line_end_passes : (p : Position) (openings : List Opening) (line : ℕ) (colon : Bool) → fault_at_line p openings LineEnd line colon ≡ None
 line_end_passes p [] line colon = refl
 line_end_passes p (o ∷ outer) line colon = refl
 
 -- after a label
 labelled_was_good : (p : Position) (label : Word) (symbol : Symbol) (line : ℕ) (colon : Bool) (operation : Option Operation) → operation_of symbol ≡ operation
-    → WasGood (OnLine p (Labelled label)) (raised_if (is_some (operation_of symbol) && is_full p) TooMany line) colon (started_line p (at_labelled label symbol line))
+    → WasGood (OnLine p (Labelled label)) (fault_if (is_some (operation_of symbol) && is_full p) TooMany line) colon (started_line p (at_labelled label symbol line))
 labelled_was_good p label symbol line colon (Some operation) e =
-    subst (λ n. WasGood (OnLine p (Labelled label)) (raised_if (is_some (operation_of symbol) && is_full p) TooMany line) colon (started_line p n)) (sym (labelled_operator label symbol line operation e))
+    subst (λ n. WasGood (OnLine p (Labelled label)) (fault_if (is_some (operation_of symbol) && is_full p) TooMany line) colon (started_line p n)) (sym (labelled_operator label symbol line operation e))
     (line_was_good p (OnLine p (Labelled label)) _ colon 1 0 (Some (after_operator (Some label) line operation)) (count_operator (Some label) line operation) (λ k b. (less_within p 1 0 k, b))
     (λ state s k. inl (fails (is_some (operation_of symbol) && is_full p) TooMany line (last_fails (is_some (operation_of symbol)) (is_full p) (has_line p 0 k)))))
 labelled_was_good p label LineEnd line colon None e =
     line_was_good p (OnLine p (Labelled label)) _ colon 0 0 (Some (Ended (LabelAlone label))) (refl, refl) (λ k b. (less_within p 0 0 k, b)) (λ state s k. inl refl)
-labelled_was_good p label symbol line colon None e = subst (λ o. WasGood (OnLine p (Labelled label)) (raised_if (is_some (operation_of symbol) && is_full p) TooMany line) colon (started_line p (at_operator (Some label) line o))) (sym e) tt
+labelled_was_good p label symbol line colon None e = subst (λ o. WasGood (OnLine p (Labelled label)) (fault_if (is_some (operation_of symbol) && is_full p) TooMany line) colon (started_line p (at_operator (Some label) line o))) (sym e) tt
 
 -- after an operator with an operand
 operated_was_good : (p : Position) (started : StartedLine) (operating : Operating) (symbol : Symbol) (line : ℕ) (colon : Bool)
-    → WasGood (OnLine p (Operated started operating)) (validate_on_line p (Operated started operating) symbol line) colon (started_line p (at_operated started operating symbol line))
+    → WasGood (OnLine p (Operated started operating)) (fault_on_line p (Operated started operating) symbol line) colon (started_line p (at_operated started operating symbol line))
 operated_was_good p started (Applies operator) OpeningBracket line colon =
     line_was_good p (OnLine p (Operated started (Applies operator))) _ colon 1 1 (Some (Bracketed started operator)) (refl, refl) (λ k b. ((k.0, k.1, k.2, omega (arith, k.3)), b))
     (λ state s k. inl (fails (nat_le most_depth (length p.openings)) TooDeep started.line (above most_depth (length p.openings) (omega (arith, k.3)))))
@@ -300,25 +300,25 @@ operated_was_good p started (Stores storing) OpeningBracket line colon = tt
 operated_was_good p started operating symbol line colon =
     line_was_good p (OnLine p (Operated started operating)) _ colon 1 0 (at_operated started operating symbol line) (operated_counts started operating symbol line (λ e. cc)) (λ k b. (k, b)) (λ state s k. inl (no_bracket operating))
   where
-    no_bracket : (operating : Operating) → validate_on_line p (Operated started operating) symbol line ≡ None
+    no_bracket : (operating : Operating) → fault_on_line p (Operated started operating) symbol line ≡ None
     no_bracket (Loads negated) = refl
     no_bracket (Stores storing) = refl
     no_bracket (Applies operator) = refl
 
-steady_was_good : (p : Position) (state : LineState) (symbol : Symbol) (line : ℕ) (colon : Bool) → IsSteady state → validate_on_line p state symbol line ≡ None
-    → WasGood (OnLine p state) (validate_on_line p state symbol line) colon (started_line p (line_move (setting_in p.openings) state symbol line colon))
+steady_was_good : (p : Position) (state : LineState) (symbol : Symbol) (line : ℕ) (colon : Bool) → IsSteady state → fault_on_line p state symbol line ≡ None
+    → WasGood (OnLine p state) (fault_on_line p state symbol line) colon (started_line p (line_move (setting_in p.openings) state symbol line colon))
 steady_was_good p state symbol line colon s e =
     line_was_good p (OnLine p state) _ colon (counted state) (opened state) (line_move (setting_in p.openings) state symbol line colon) (steady (setting_in p.openings) state symbol line colon s) (λ k b. (k, b)) (λ next n k. inl e)
 
 on_line_was_good : (p : Position) (state : LineState) (symbol : Symbol) (line : ℕ) (colon : Bool) → state ≢ Start
-    → WasGood (OnLine p state) (validate_on_line p state symbol line) colon (started_line p (line_move (setting_in p.openings) state symbol line colon))
+    → WasGood (OnLine p state) (fault_on_line p state symbol line) colon (started_line p (line_move (setting_in p.openings) state symbol line colon))
 on_line_was_good p Start symbol line colon n = absurd (n refl)
 on_line_was_good p (Labelled label) symbol line colon n = labelled_was_good p label symbol line colon (operation_of symbol) refl
 on_line_was_good p (Operated started operating) symbol line colon n = operated_was_good p started operating symbol line colon
 on_line_was_good p state symbol line colon n = steady_was_good p state symbol line colon tt refl
 
 -- What is good after a token was good before it, and no fault was detected, or no text goes on.
-pub was_good : (state : State) (symbol : Symbol) (line : ℕ) (colon : Bool) → HasStarted state → WasGood state (validate state symbol line colon) colon (move state symbol line colon)
+pub was_good : (state : State) (symbol : Symbol) (line : ℕ) (colon : Bool) → HasStarted state → WasGood state (fault_at state symbol line colon) colon (move state symbol line colon)
 was_good (Outside us) LineEnd line colon b = λ g. (g, inl refl)
 was_good (Outside us) (Identifier bytes) line colon b = unit_was_good us bytes line colon (found unit_kinds (name_of bytes))
 was_good (Unnamed us kind first) (Identifier bytes) line colon b = λ g. ((g.0.0, g.1), inl refl)

@@ -7,7 +7,7 @@ use Rattle.std.specs.Prelude.{◌&&◌, is_some, nat_le, option_map}
 use Rattle.wc_laws_grammar.proofs.Bounds.{HasCapacity, IsDeepEnough, Within, closed_within, counted, opened}
 use Rattle.wc_laws_grammar.proofs.LineBounds.{CountsOnce, Fits, IsSteady, WithinNext, fits_by, fits_on, labelled_once, operated_counts, simple_once, start_once, steady}
 use Rattle.wc_laws_grammar.specs.LineMoves.{StartedLine, LineState, Start, Worded, Labelled, Operated, at_labelled, at_operated, at_operator, at_start, after_operator, line_move, simple_operator}
-use Rattle.wc_laws_grammar.specs.Moves.{InDeclaration, Undeclared, AfterNames, AfterComma, AfterColon, AfterType, AfterAssign, AfterValue, State, Outside, Unnamed, Declaring, AtLine, OnLine, Closed, Raised, at_value, begins_transfer, started_line, after_closing, after_unit, body_move, body_start, declaration_move, has_content, has_name, has_program, inside_move, is_full, is_identifier, validate, validate_closing, validate_line, validate_on_line, validate_operator, validate_unit, raised_if, raised_or, move, named_unit, section_started, section_or_line, start_move, unit_with}
+use Rattle.wc_laws_grammar.specs.Moves.{InDeclaration, Undeclared, AfterNames, AfterComma, AfterColon, AfterType, AfterAssign, AfterValue, State, Outside, Unnamed, Declaring, AtLine, OnLine, Closed, Raised, at_value, begins_transfer, started_line, after_closing, after_unit, body_move, body_start, declaration_move, has_content, has_name, has_program, inside_move, is_full, is_identifier, fault_at, fault_at_closing, fault_at_line, fault_on_line, fault_at_operator, fault_at_unit, fault_if, first_fault, move, named_unit, section_of_word, section_or_line, start_move, unit_with}
 use Rattle.wc_laws_grammar.specs.Words.{Applies, Operating, Loads, Stores, Operation, Operates, Negates, Jumps, Calls, Returns, found, is_transfer, literal_of, operation_of, unit_kinds}
 use Rattle.wc_model.specs.Language.Declarations.{same_name}
 use Rattle.wc_model.specs.Text.Keywords.{end_var, end_word}
@@ -24,18 +24,18 @@ use Rattle.wc_model.specs.declared.value.Value.{Value}
 -- no colon goes on from here
 abbrev pub RejectsColon : Option State → Type 0
 RejectsColon None = Unit {0}
-RejectsColon (Some state) = (line : ℕ) (colon : Bool) → (move state Colon line colon ≡ None) × (validate state Colon line colon ≡ None)
+RejectsColon (Some state) = (line : ℕ) (colon : Bool) → (move state Colon line colon ≡ None) × (fault_at state Colon line colon ≡ None)
 
 -- the limits hold after the token, or a colon follows, with which no text goes on
 abbrev pub GoesWithin : (colon : Bool) → Option State → Type 0
 GoesWithin colon next = WithinNext next ⊎ ((colon ≡ true) × RejectsColon next)
 
 -- neither of the two tests holds
-pub none_of_both : (a b : Option Raised) → raised_or a b ≡ None → (a ≡ None) × (b ≡ None)
+pub none_of_both : (a b : Option Raised) → first_fault a b ≡ None → (a ≡ None) × (b ≡ None)
 none_of_both None b e = (refl, e)
 none_of_both (Some raised) b e = absurd (cc)
 
-pub test_fails : (test : Bool) (fault : ReadingFault) (line : ℕ) → raised_if test fault line ≡ None → test ≡ false
+pub test_fails : (test : Bool) (fault : ReadingFault) (line : ℕ) → fault_if test fault line ≡ None → test ≡ false
 test_fails false fault line e = refl
 test_fails true fault line e = absurd (cc)
 
@@ -43,10 +43,10 @@ test_fails true fault line e = absurd (cc)
 pub below : (a b : ℕ) → nat_le a b ≡ false → suc b ≤ a
 below a b e = grind (arith, nat_tests, e)
 
-unit_within : (us : List ProgramUnit) (line : ℕ) (kind : Option UnitKind) → validate_unit us line kind ≡ None → Within (Outside us) → WithinNext (option_map (λ kind. Unnamed us kind line) kind)
+unit_within : (us : List ProgramUnit) (line : ℕ) (kind : Option UnitKind) → fault_at_unit us line kind ≡ None → Within (Outside us) → WithinNext (option_map (λ kind. Unnamed us kind line) kind)
 unit_within us line None e h = tt
 unit_within us line (Some kind) e h =
-    let n = none_of_both (raised_if (has_program us) NotOneProgramLast line) (raised_if (nat_le most_units (length us)) TooMany line) e in
+    let n = none_of_both (fault_if (has_program us) NotOneProgramLast line) (fault_if (nat_le most_units (length us)) TooMany line) e in
     (below most_units (length us) (test_fails (nat_le most_units (length us)) TooMany line n.1), h.1)
 
 -- the start of a body
@@ -97,7 +97,7 @@ once_within p symbol line next c h f = fits_on p next (fits next c)
     ]
 
 -- an operator is checked if no colon follows it
-not_full : (p : Position) (symbol : Symbol) (line : ℕ) → validate_operator p symbol line false ≡ None → is_some (operation_of symbol) ≡ true → is_full p ≡ false
+not_full : (p : Position) (symbol : Symbol) (line : ℕ) → fault_at_operator p symbol line false ≡ None → is_some (operation_of symbol) ≡ true → is_full p ≡ false
 not_full p symbol line e s =
     let t = test_fails (is_some (operation_of symbol) && not false && is_full p) TooMany line e in
     sym (ap (λ b. b && not false && is_full p) s) ∙ t
@@ -128,16 +128,16 @@ simple_rejects p line (Some operation) = by_transfer (is_transfer operation)
 word_within : (p : Position) (word : Word) → Within (AtLine p) → Within (OnLine p (Worded word))
 word_within p word h = (h.0, h.1, h.2, h.3)
 
-section_or_line_within : (p : Position) (bytes : List ℕ) (line : ℕ) (section : Option Section) → validate_operator p (Identifier bytes) line false ≡ None → Within (AtLine p) → WithinNext (section_or_line p bytes line section)
+section_or_line_within : (p : Position) (bytes : List ℕ) (line : ℕ) (section : Option Section) → fault_at_operator p (Identifier bytes) line false ≡ None → Within (AtLine p) → WithinNext (section_or_line p bytes line section)
 section_or_line_within p bytes line None e h = once_within p (Identifier bytes) line (at_start (Identifier bytes) line false) (start_once (Identifier bytes) line) h (not_full p (Identifier bytes) line e)
 section_or_line_within p bytes line (Some section) e h = h.0
 
-end_or_line_within : (p : Position) (bytes : List ℕ) (line : ℕ) (b : Bool) → p.openings ≡ [] → validate_operator p (Identifier bytes) line false ≡ None → Within (AtLine p)
-    → WithinNext (if b then Some (after_unit p) else section_or_line p bytes line (section_started p.done (name_of bytes)))
+end_or_line_within : (p : Position) (bytes : List ℕ) (line : ℕ) (b : Bool) → p.openings ≡ [] → fault_at_operator p (Identifier bytes) line false ≡ None → Within (AtLine p)
+    → WithinNext (if b then Some (after_unit p) else section_or_line p bytes line (section_of_word p.done (name_of bytes)))
 end_or_line_within p bytes line true o e h = unit_done_within p o h
-end_or_line_within p bytes line false o e h = section_or_line_within p bytes line (section_started p.done (name_of bytes)) e h
+end_or_line_within p bytes line false o e h = section_or_line_within p bytes line (section_of_word p.done (name_of bytes)) e h
 
-body_within : (p : Position) (symbol : Symbol) (line : ℕ) (colon : Bool) → p.openings ≡ [] → validate_operator p symbol line colon ≡ None → Within (AtLine p) → GoesWithin colon (body_move p symbol line colon)
+body_within : (p : Position) (symbol : Symbol) (line : ℕ) (colon : Bool) → p.openings ≡ [] → fault_at_operator p symbol line colon ≡ None → Within (AtLine p) → GoesWithin colon (body_move p symbol line colon)
 body_within p (Identifier bytes) line false o e h = inl (end_or_line_within p bytes line (same_name (name_of bytes) (end_word p.unit.kind)) o e h)
 body_within p (Identifier bytes) line true o e h = inl (word_within p (record { line = line; name = name_of bytes }) h)
 body_within p symbol line false o e h = inl (once_within p symbol line (at_start symbol line false) (start_once symbol line) h (not_full p symbol line e))
@@ -147,33 +147,33 @@ closing_goes : (p : Position) (o : Opening) (outer : List Opening) (line : ℕ) 
 closing_goes p o outer line false e f h = tt
 closing_goes p o outer line true e f h = let b = below most_lines (lines_before p) f in closed_within p o outer line e (h.0, omega (arith, b), h.2, h.3)
 
-inside_within : (p : Position) (o : Opening) (outer : List Opening) (symbol : Symbol) (line : ℕ) (colon : Bool) → p.openings ≡ o ∷ outer → validate (AtLine p) symbol line colon ≡ None → Within (AtLine p) → GoesWithin colon (inside_move p o outer symbol line)
+inside_within : (p : Position) (o : Opening) (outer : List Opening) (symbol : Symbol) (line : ℕ) (colon : Bool) → p.openings ≡ o ∷ outer → fault_at (AtLine p) symbol line colon ≡ None → Within (AtLine p) → GoesWithin colon (inside_move p o outer symbol line)
 inside_within p o outer ClosingBracket line colon e j h =
-    let k : validate_closing p (o ∷ outer) line ≡ None = subst (λ os. validate_closing p os line ≡ None) e j in
-    let n = none_of_both (raised_if (not (has_content o.operand p.done)) EmptyParentheses line) (raised_if (is_full p) TooMany line) k in
+    let k : fault_at_closing p (o ∷ outer) line ≡ None = subst (λ os. fault_at_closing p os line ≡ None) e j in
+    let n = none_of_both (fault_if (not (has_content o.operand p.done)) EmptyParentheses line) (fault_if (is_full p) TooMany line) k in
     inl (closing_goes p o outer line (has_content o.operand p.done) e (test_fails (is_full p) TooMany line n.1) h)
 inside_within p o outer symbol line true e j h = inr (refl, simple_rejects p line (operation_of symbol))
 inside_within p o outer symbol line false e j h =
-    let k : validate_line p (o ∷ outer) symbol line false ≡ None = subst (λ os. validate_line p os symbol line false ≡ None) e j in
-    let n = none_of_both (raised_if (begins_transfer (operation_of symbol)) NotAllowedInParentheses line) _ k in
-    let m = none_of_both (raised_if (is_identifier symbol && false) NotAllowedInParentheses line) _ n.1 in
-    let l = none_of_both (raised_if (has_name symbol (end_word p.unit.kind)) ParenthesisNotPaired o.line) _ m.1 in
+    let k : fault_at_line p (o ∷ outer) symbol line false ≡ None = subst (λ os. fault_at_line p os symbol line false ≡ None) e j in
+    let n = none_of_both (fault_if (begins_transfer (operation_of symbol)) NotAllowedInParentheses line) _ k in
+    let m = none_of_both (fault_if (is_identifier symbol && false) NotAllowedInParentheses line) _ n.1 in
+    let l = none_of_both (fault_if (has_name symbol (end_word p.unit.kind)) ParenthesisNotPaired o.line) _ m.1 in
     inl (once_within p symbol line (simple_operator line (operation_of symbol)) (simple_once symbol line (operation_of symbol) refl) h (not_full p symbol line l.1))
 
-first_token_within : (p : Position) (openings : List Opening) (symbol : Symbol) (line : ℕ) (colon : Bool) → p.openings ≡ openings → validate (AtLine p) symbol line colon ≡ None → Within (AtLine p)
+first_token_within : (p : Position) (openings : List Opening) (symbol : Symbol) (line : ℕ) (colon : Bool) → p.openings ≡ openings → fault_at (AtLine p) symbol line colon ≡ None → Within (AtLine p)
     → GoesWithin colon (start_move p openings symbol line colon)
 first_token_within p [] ClosingBracket line colon e j h = inl tt
-first_token_within p [] symbol line colon e j h = body_within p symbol line colon e (subst (λ os. validate_line p os symbol line colon ≡ None) e j) h
+first_token_within p [] symbol line colon e j h = body_within p symbol line colon e (subst (λ os. fault_at_line p os symbol line colon ≡ None) e j) h
 first_token_within p (o ∷ outer) symbol line colon e j h = inside_within p o outer symbol line colon e j h
 
 -- after a label
-labelled_within : (p : Position) (label : Word) (symbol : Symbol) (line : ℕ) → raised_if (is_some (operation_of symbol) && is_full p) TooMany line ≡ None → Within (OnLine p (Labelled label)) → WithinNext (started_line p (at_labelled label symbol line))
+labelled_within : (p : Position) (label : Word) (symbol : Symbol) (line : ℕ) → fault_if (is_some (operation_of symbol) && is_full p) TooMany line ≡ None → Within (OnLine p (Labelled label)) → WithinNext (started_line p (at_labelled label symbol line))
 labelled_within p label symbol line j h =
     once_within p symbol line (at_labelled label symbol line) (labelled_once label symbol line) h
     (λ s. sym (ap (λ b. b && is_full p) s) ∙ test_fails (is_some (operation_of symbol) && is_full p) TooMany line j)
 
 -- after an operator with an operand
-operated_within : (p : Position) (started : StartedLine) (operating : Operating) (symbol : Symbol) (line : ℕ) → validate_on_line p (Operated started operating) symbol line ≡ None → Within (OnLine p (Operated started operating)) → WithinNext (started_line p (at_operated started operating symbol line))
+operated_within : (p : Position) (started : StartedLine) (operating : Operating) (symbol : Symbol) (line : ℕ) → fault_on_line p (Operated started operating) symbol line ≡ None → Within (OnLine p (Operated started operating)) → WithinNext (started_line p (at_operated started operating symbol line))
 operated_within p started (Applies operator) OpeningBracket line j h =
     let b = below most_depth (length p.openings) (test_fails (nat_le most_depth (length p.openings)) TooDeep started.line j) in
     (h.0, h.1, h.2, omega (arith, b))
@@ -185,7 +185,7 @@ steady_within : (p : Position) (state : LineState) (symbol : Symbol) (line : ℕ
 steady_within p state symbol line colon s h =
     fits_on p (line_move (setting_in p.openings) state symbol line colon) (fits_by p (counted state) (opened state) (line_move (setting_in p.openings) state symbol line colon) (steady (setting_in p.openings) state symbol line colon s) h)
 
-on_line_within : (p : Position) (state : LineState) (symbol : Symbol) (line : ℕ) (colon : Bool) → state ≢ Start → validate_on_line p state symbol line ≡ None → Within (OnLine p state) → WithinNext (started_line p (line_move (setting_in p.openings) state symbol line colon))
+on_line_within : (p : Position) (state : LineState) (symbol : Symbol) (line : ℕ) (colon : Bool) → state ≢ Start → fault_on_line p state symbol line ≡ None → Within (OnLine p state) → WithinNext (started_line p (line_move (setting_in p.openings) state symbol line colon))
 on_line_within p Start symbol line colon n j h = absurd (n refl)
 on_line_within p (Labelled label) symbol line colon n j h = labelled_within p label symbol line j h
 on_line_within p (Operated started operating) symbol line colon n j h = operated_within p started operating symbol line j h
@@ -197,7 +197,7 @@ HasStarted (OnLine p state) = state ≢ Start
 HasStarted _ = Unit {0}
 
 -- one more token at which no fault is detected
-pub within_on : (state : State) (symbol : Symbol) (line : ℕ) (colon : Bool) → HasStarted state → Within state → validate state symbol line colon ≡ None → GoesWithin colon (move state symbol line colon)
+pub within_on : (state : State) (symbol : Symbol) (line : ℕ) (colon : Bool) → HasStarted state → Within state → fault_at state symbol line colon ≡ None → GoesWithin colon (move state symbol line colon)
 within_on (Outside us) LineEnd line colon b h e = inl h
 within_on (Outside us) (Identifier bytes) line colon b h e = inl (unit_within us line (found unit_kinds (name_of bytes)) e h)
 within_on (Unnamed us kind first) (Identifier bytes) line colon b h e = inl (start_within us (named_unit kind first line bytes) h)

@@ -132,9 +132,9 @@ started_line p None = None
 started_line p (Some line) = Some (on_line p line)
 
 -- the section that an identifier begins, if no line of the body has come
-abbrev pub section_started : Lines → Name → Option Section
-section_started End name = found section_words name
-section_started done name = None
+abbrev pub section_of_word : Lines → Name → Option Section
+section_of_word End name = found section_words name
+section_of_word done name = None
 
 -- after a section's first word, if the identifier is one, or else after a line's first identifier
 abbrev pub section_or_line : Position → List ℕ → ℕ → Option Section → Option State
@@ -145,7 +145,7 @@ section_or_line p bytes line (Some section) = Some (Declaring p.before p.unit se
 abbrev pub word_move : Position → List ℕ → ℕ → Option State
 word_move p bytes line =
     if same_name (name_of bytes) (end_word p.unit.kind) then Some (after_unit p)
-    else section_or_line p bytes line (section_started p.done (name_of bytes))
+    else section_or_line p bytes line (section_of_word p.done (name_of bytes))
 
 -- after the first token of a line of a body that is not a line end
 abbrev pub body_move : Position → Symbol → ℕ → (colon : Bool) → Option State
@@ -203,13 +203,13 @@ pub record Raised : Type 0 where
   pub line : ℕ
 
 -- a fault if the test holds
-abbrev pub raised_if : Bool → ReadingFault → ℕ → Option Raised
-raised_if test fault line = if test then Some (record { fault = fault; line = line }) else None
+abbrev pub fault_if : Bool → ReadingFault → ℕ → Option Raised
+fault_if test fault line = if test then Some (record { fault = fault; line = line }) else None
 
 -- the first of two that is found
-abbrev pub raised_or : Option Raised → Option Raised → Option Raised
-raised_or None other = other
-raised_or (Some raised) other = Some raised
+abbrev pub first_fault : Option Raised → Option Raised → Option Raised
+first_fault None other = other
+first_fault (Some raised) other = Some raised
 
 -- whether a unit is a program
 abbrev pub is_program : UnitKind → Bool
@@ -225,15 +225,15 @@ abbrev pub is_full : Position → Bool
 is_full p = nat_le most_lines (lines_before p)
 
 -- at a unit's first word: a program precedes it, or it is one too many
-abbrev pub validate_unit : List ProgramUnit → ℕ → Option UnitKind → Option Raised
-validate_unit units line None = None
-validate_unit units line (Some kind) =
-    raised_or (raised_if (has_program units) NotOneProgramLast line) (raised_if (nat_le most_units (length units)) TooMany line)
+abbrev pub fault_at_unit : List ProgramUnit → ℕ → Option UnitKind → Option Raised
+fault_at_unit units line None = None
+fault_at_unit units line (Some kind) =
+    first_fault (fault_if (has_program units) NotOneProgramLast line) (fault_if (nat_le most_units (length units)) TooMany line)
 
 -- at a `)`
-abbrev pub validate_closing : Position → List Opening → ℕ → Option Raised
-validate_closing p [] line = raised_if true ParenthesisNotPaired line
-validate_closing p (o ∷ outer) line = raised_or (raised_if (not (has_content o.operand p.done)) EmptyParentheses line) (raised_if (is_full p) TooMany line)
+abbrev pub fault_at_closing : Position → List Opening → ℕ → Option Raised
+fault_at_closing p [] line = fault_if true ParenthesisNotPaired line
+fault_at_closing p (o ∷ outer) line = first_fault (fault_if (not (has_content o.operand p.done)) EmptyParentheses line) (fault_if (is_full p) TooMany line)
 
 -- whether it is a jump, a call or a return
 abbrev pub begins_transfer : Option Operation → Bool
@@ -251,31 +251,31 @@ is_identifier (Identifier bytes) = true
 is_identifier _ = false
 
 -- at an operator if a unit has as many lines as it may
-abbrev pub validate_operator : Position → Symbol → ℕ → (colon : Bool) → Option Raised
-validate_operator p symbol line colon = raised_if (is_some (operation_of symbol) && not colon && is_full p) TooMany line
+abbrev pub fault_at_operator : Position → Symbol → ℕ → (colon : Bool) → Option Raised
+fault_at_operator p symbol line colon = fault_if (is_some (operation_of symbol) && not colon && is_full p) TooMany line
 
 -- at the first token of a line, other than a `)`
-abbrev pub validate_line : Position → List Opening → Symbol → ℕ → (colon : Bool) → Option Raised
-validate_line p [] symbol line colon = validate_operator p symbol line colon
-validate_line p (o ∷ outer) symbol line colon =
-    raised_or (raised_if (begins_transfer (operation_of symbol)) NotAllowedInParentheses line)
-    (raised_or (raised_if (is_identifier symbol && colon) NotAllowedInParentheses line)
-    (raised_or (raised_if (has_name symbol (end_word p.unit.kind)) ParenthesisNotPaired o.line)
-    (validate_operator p symbol line colon)))
+abbrev pub fault_at_line : Position → List Opening → Symbol → ℕ → (colon : Bool) → Option Raised
+fault_at_line p [] symbol line colon = fault_at_operator p symbol line colon
+fault_at_line p (o ∷ outer) symbol line colon =
+    first_fault (fault_if (begins_transfer (operation_of symbol)) NotAllowedInParentheses line)
+    (first_fault (fault_if (is_identifier symbol && colon) NotAllowedInParentheses line)
+    (first_fault (fault_if (has_name symbol (end_word p.unit.kind)) ParenthesisNotPaired o.line)
+    (fault_at_operator p symbol line colon)))
 
 -- on a line: an operator after a label, or a bracket after an operator
-abbrev pub validate_on_line : Position → LineState → Symbol → ℕ → Option Raised
-validate_on_line p (Labelled label) symbol line = raised_if (is_some (operation_of symbol) && is_full p) TooMany line
-validate_on_line p (Operated started (Applies operator)) OpeningBracket line = raised_if (nat_le most_depth (length p.openings)) TooDeep started.line
-validate_on_line p state symbol line = None
+abbrev pub fault_on_line : Position → LineState → Symbol → ℕ → Option Raised
+fault_on_line p (Labelled label) symbol line = fault_if (is_some (operation_of symbol) && is_full p) TooMany line
+fault_on_line p (Operated started (Applies operator)) OpeningBracket line = fault_if (nat_le most_depth (length p.openings)) TooDeep started.line
+fault_on_line p state symbol line = None
 
 -- the fault that is found at a token, other than that it is unexpected
-abbrev pub validate : State → Symbol → ℕ → (colon : Bool) → Option Raised
-validate (Outside units) (Identifier bytes) line colon = validate_unit units line (found unit_kinds (name_of bytes))
-validate (AtLine p) ClosingBracket line colon = validate_closing p p.openings line
-validate (AtLine p) symbol line colon = validate_line p p.openings symbol line colon
-validate (OnLine p state) symbol line colon = validate_on_line p state symbol line
-validate _ symbol line colon = None
+abbrev pub fault_at : State → Symbol → ℕ → (colon : Bool) → Option Raised
+fault_at (Outside units) (Identifier bytes) line colon = fault_at_unit units line (found unit_kinds (name_of bytes))
+fault_at (AtLine p) ClosingBracket line colon = fault_at_closing p p.openings line
+fault_at (AtLine p) symbol line colon = fault_at_line p p.openings symbol line colon
+fault_at (OnLine p state) symbol line colon = fault_on_line p state symbol line
+fault_at _ symbol line colon = None
 
 -- the line of the innermost parenthesis that is open, or the fault of a unit that is not closed
 abbrev pub open_in : ProgramUnit → List Opening → Raised
@@ -303,7 +303,7 @@ at_end (Closed p) last_line = Err (open_in p.unit p.openings)
 abbrev pub reading : State → List Mark → (last_line : ℕ) → Result Text Raised
 reading state [] last_line = at_end state last_line
 reading state (mark ∷ marks) last_line =
-    elim (validate state mark.symbol mark.line (colon_next marks false)) as (λ _. Result Text Raised) [
+    elim (fault_at state mark.symbol mark.line (colon_next marks false)) as (λ _. Result Text Raised) [
       | Some raised ↦ Err raised
       | None ↦ elim (move state mark.symbol mark.line (colon_next marks false)) as (λ _. Result Text Raised) [
         | Some next ↦ reading next marks last_line

@@ -6,7 +6,7 @@ use Rattle.std.specs.Prelude.{Option, Some, None, map, option_map, is_some, ◌=
 use Rattle.wc_laws_instrument.proofs.Requests.{completed, in_chunk, open_request_after}
 use Rattle.wc_laws_instrument.proofs.SameStates.{HaveSameState, same_after, same_answer, same_image, same_readings, same_tare_refusal, same_zero_refusal}
 use Rattle.wc_laws_instrument.specs.Preludes.{GoesOnAlike, past_after, text_kept, timed}
-use Rattle.wc_model.specs.Instrument.Answers as reported
+use Rattle.wc_model.specs.Instrument.Answers as line_answers
 use Rattle.wc_model.specs.Instrument.Answers.{AskTare, AskWeight, Clear, Command, Plain, Shown, TakeTare, TareRefused, Unknown, Zero, ZeroRefused, after_command, after_requests, answer_to, answers_to, command_of}
 use Rattle.wc_model.specs.Instrument.Plates.{PlateData}
 use Rattle.wc_model.specs.Instrument.Requests.{carriage_return, completed_by, is_text, line_feed, open_request, opened_by, requests_in}
@@ -152,12 +152,12 @@ module _ (p : PlateData) (some : 0 < p.window) where
       answer_to p command other ≡ answer_to p command history
   command_answer AskWeight history other same = same_answer p history other some same Shown Plain
   command_answer Zero history other same =
-      ap (λ r. reported.answer p (SetZero ∷ other) Shown (if is_some r then ZeroRefused else Plain)) (same_zero_refusal p history other some same)
-      ∙ same_answer p (SetZero ∷ history) (SetZero ∷ other) some (same_after p history other some same SetZero) Shown (reported.asked_zero p history)
+      ap (λ r. line_answers.answer p (SetZero ∷ other) Shown (if is_some r then ZeroRefused else Plain)) (same_zero_refusal p history other some same)
+      ∙ same_answer p (SetZero ∷ history) (SetZero ∷ other) some (same_after p history other some same SetZero) Shown (line_answers.asked_zero p history)
   command_answer TakeTare history other same =
-      ap (λ r. reported.answer p (SetTare ∷ other) Shown (if is_some r then TareRefused else Plain)) (same_tare_refusal p history other some same)
-      ∙ same_answer p (SetTare ∷ history) (SetTare ∷ other) some (same_after p history other some same SetTare) Shown (reported.asked_tare p history)
-  command_answer AskTare history other same = same_answer p history other some same reported.Tare Plain
+      ap (λ r. line_answers.answer p (SetTare ∷ other) Shown (if is_some r then TareRefused else Plain)) (same_tare_refusal p history other some same)
+      ∙ same_answer p (SetTare ∷ history) (SetTare ∷ other) some (same_after p history other some same SetTare) Shown (line_answers.asked_tare p history)
+  command_answer AskTare history other same = same_answer p history other some same line_answers.Tare Plain
   command_answer Clear history other same =
       same_answer p (ClearTare ∷ history) (ClearTare ∷ other) some (same_after p history other some same ClearTare) Shown Plain
   command_answer Unknown history other same = refl

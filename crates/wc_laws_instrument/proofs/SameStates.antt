@@ -5,7 +5,6 @@ use Rattle.std.specs.Prelude.{ℤ, pos, negsuc, ◌-ℤ◌, ◌*ℤ◌, int_le, 
 use Rattle.wc_laws_instrument.proofs.Indication.{zero_new, zero_same, tare_ended, tare_same_at_zero, tare_new, tare_same}
 use Rattle.wc_laws_instrument.proofs.LastItems.{full_window, last_of_window, one_more}
 use Rattle.wc_laws_instrument.specs.Preludes.{HaveSameReadings}
-use Rattle.wc_model.specs.Instrument.Answers as reported
 use Rattle.wc_model.specs.Instrument.Answers.{Asked, Mode, Plain, Shown, Tare, TareRefused, ZeroRefused, answer, mode_byte, scale_status, status_byte, weight_asked, weight_text}
 use Rattle.wc_model.specs.Instrument.Indication.{CommandRefusal, active_tare, from_zero, gross, gross_intervals, has_sample, in_units, intervals_of, is_centre_of_zero, is_over, is_stable, is_tare_active, is_under, is_valid, net, net_intervals, present_counts, refused_unless, shown, spread_of, tare_counts, tare_refusal, tare_value, window_of, zero_point, zero_refusal}
 use Rattle.wc_model.specs.Instrument.Plates.{PlateData}

@@ -7,6 +7,6 @@ pub mod Longest
 pub mod TracesArePaths
 pub mod UnitBounds
 pub mod Returning
-pub mod TeeReader
+pub mod KeptPlaces
 pub mod Pulsing
 pub mod OneBound

@@ -6,7 +6,7 @@ use Rattle.std.proofs.lemmas.List.Sums.{sum_by-append}
 use Rattle.wc_lexer.proofs.PartSums.{empty}
 use Rattle.wc_lexer.proofs.TextSpans.{is_stuck_length}
 use Rattle.wc_lexer.specs.Refusals.{AtToken, NeedsMemory}
-use Rattle.wc_lexer.specs.TextSpans.{IsTextSpanAt, IsTokenTextSpan, Chunk, stuck_length}
+use Rattle.wc_lexer.specs.TextSpans.{IsTextSpanAt, IsTokenTextSpan, FaultSlice, stuck_length}
 use Rattle.wc_laws_tokens.specs.Sights.{Pass, Refuse, Sight, Take, sight}
 use Rattle.wc_laws_tokens.proofs.FoundTokens.{Holds, sight_holds}
 use Rattle.wc_laws_tokens.proofs.TokenSteps.{blank_is_filled, lexeme_is_filled}
@@ -83,11 +83,11 @@ fault_here text rest n number line count size tokens short r h e l going =
     let held : FaultAt (drop n text) number = holds_at (drop n text) (Refuse number) (some_left text n h) (e ∙ ap sight r) in
     let started : n ≡ length (take n text) = sym (length-take-le n text (omega arith)) in
     let counted = size ∙ ap stuck_length r ∙ is_stuck_length (drop n text) number held in
-    Chunk (tokens ++ []) short (going.at_fault number line n count [] (Nothing (record { fault = held; here = l; starts = started; counted = counted })))
+    FaultSlice (tokens ++ []) short (going.at_fault number line n count [] (Nothing (record { fault = held; here = l; starts = started; counted = counted })))
 
 -- at a token space is needed
-pub capacity_here : (text rest : List ℕ) (n count : ℕ) (shape : Shape) (tokens : List Token) → length text ≤ most_bytes → rest ≡ drop n text → n < length text → Take count shape ≡ sight rest → Going text n tokens → NeedsMemory text
-capacity_here text rest n count shape tokens short r h e going =
+pub memory_here : (text rest : List ℕ) (n count : ℕ) (shape : Shape) (tokens : List Token) → length text ≤ most_bytes → rest ≡ drop n text → n < length text → Take count shape ≡ sight rest → Going text n tokens → NeedsMemory text
+memory_here text rest n count shape tokens short r h e going =
     let held : Holds (drop n text) (Take count shape) = holds_at (drop n text) (Take count shape) (some_left text n h) (e ∙ ap sight r) in
     record {
       short = short;

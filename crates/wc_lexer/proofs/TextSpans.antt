@@ -2,7 +2,7 @@
 use Rattle.std.proofs.Common.{◌≡◌, ◌≢◌, ℕ, zero, suc, ◌≤◌, ◌==◌, true, false, List, [], ◌∷◌, ◌++◌, length, take, refl, sym, ap, ◌∙◌, subst, arith, true≢false, if◌then◌else◌}
 use Rattle.std.proofs.lemmas.Bool.{and_parts, cond-false, eqb-true, ne_eqb}
 use Rattle.wc_lexer.specs.Refusals.{Names}
-use Rattle.wc_lexer.specs.TextSpans.{IsTextSpanAt, IsTokenTextSpan, NoChunk, Chunk, StopsAt, chunk_of, stuck_length}
+use Rattle.wc_lexer.specs.TextSpans.{IsTextSpanAt, IsTokenTextSpan, NoSlice, FaultSlice, StopsAt, fault_slice, stuck_length}
 use Rattle.wc_laws_tokens.proofs.Attained.{attained, attained_longest}
 use Rattle.wc_laws_tokens.proofs.Reach.{within_reach}
 use Rattle.wc_laws_tokens.proofs.TokenSteps.{lexeme_is_filled, no_lexeme_at_comment}
@@ -67,7 +67,7 @@ abbrev some_bytes : ℕ → ℕ
 some_bytes n = if n == 0 then 1 else n
 
 -- the slice has n bytes
-pub is_stuck_length : (rest : List ℕ) (number : ℕ) (fault : FaultAt rest number) → stuck_length rest ≡ length (chunk_of rest number fault)
+pub is_stuck_length : (rest : List ℕ) (number : ℕ) (fault : FaultAt rest number) → stuck_length rest ≡ length (fault_slice rest number fault)
 is_stuck_length rest number (Foreign f) =
     outside rest (length (take 1 rest)) f.no_comment (ap some_bytes (none_found rest f.no_lexeme) ∙ one_byte rest f.more)
 is_stuck_length rest number (Unclosed inside e unclosed) = ap stuck_length e
@@ -89,10 +89,10 @@ to_fault number line start count before rest tokens (Taken shape chunk after e l
 
 -- where the lexer stops is the text's first fault
 pub text_span_is_first : (text : List ℕ) (number line start count : ℕ) → IsTokenTextSpan text number line start count → IsFirstTokenFault text number line
-text_span_is_first text number line start count (NoChunk long) = TooLong long
-text_span_is_first text number line start count (Chunk tokens short cut) = Represents tokens short (to_fault number line start count [] text tokens cut)
+text_span_is_first text number line start count (NoSlice long) = TooLong long
+text_span_is_first text number line start count (FaultSlice tokens short cut) = Represents tokens short (to_fault number line start count [] text tokens cut)
 
 -- so its fault says what the surface says
 pub stop_names : (text : List ℕ) (fault : Fault) (start count : ℕ) → StopsAt text fault start count → Names text fault
-stop_names text Memory start count capacity = capacity
+stop_names text Memory start count memory = memory
 stop_names text (Refused number place) start count text_span = text_span_is_first text number place start count text_span

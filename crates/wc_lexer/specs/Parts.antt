@@ -3,33 +3,33 @@ use Rattle.std.specs.Prelude.{◌≡◌, ◌≤◌, ℕ, ◌^◌, ◌+◌, ◌*�
 use Rattle.std.specs.Bool.{nat_lt, then_some}
 use Rattle.std.specs.Str.Parse.{digits_value}
 use Rattle.wc_lexer.specs.Widths.{within_64_bits}
-use Rattle.wc_lexer.specs.declared.durations.Part.{Part}
+use Rattle.wc_lexer.specs.declared.durations.ParsedPart.{ParsedPart}
 use Rattle.wc_lexer.specs.declared.durations.TimeUnit.{TimeUnit}
 use Rattle.wc_model.specs.Text.Durations as durations
 
 -- the part is so long, has this unit and this whole number, and has a point or none
-pub record ReportsPart (part : durations.Part) (reported : Part) : Type 0 where
+pub record IsParsedAs (part : durations.Part) (parsed : ParsedPart) : Type 0 where
   pub format : durations.is_part part ≡ true
-  pub milliseconds : reported.milliseconds ≡ durations.unit_milliseconds part
-  pub below : reported.below ≡ durations.unit_below part
-  pub whole : reported.whole ≡ durations.whole_of part
-  pub point : reported.has_point ≡ durations.has_point part
-  pub billionths : reported.billionths ≡ durations.billionths_of part
+  pub milliseconds : parsed.milliseconds ≡ durations.unit_milliseconds part
+  pub below : parsed.below ≡ durations.unit_below part
+  pub whole : parsed.whole ≡ durations.whole_of part
+  pub point : parsed.has_point ≡ durations.has_point part
+  pub billionths : parsed.billionths ≡ durations.billionths_of part
 
 -- a part that gives nothing has a wrong form or is too long for 64 bits
-abbrev pub IsPartReported : durations.Part → Option Part → Type 0
-IsPartReported part None = (durations.is_part part ≡ false) ⊎ (2 ^ 64 ≤ durations.billionths_of part)
-IsPartReported part (Some reported) = ReportsPart part reported
+abbrev pub IsParsedPart : durations.Part → Option ParsedPart → Type 0
+IsParsedPart part None = (durations.is_part part ≡ false) ⊎ (2 ^ 64 ≤ durations.billionths_of part)
+IsParsedPart part (Some parsed) = IsParsedAs part parsed
 
 -- a part by its unit and its numbers, if its length has 64 bits
-abbrev pub part_by : TimeUnit → Option ℕ → Option ℕ → Bool → Option Part
+abbrev pub part_by : TimeUnit → Option ℕ → Option ℕ → Bool → Option ParsedPart
 part_by unit None fraction has_point = None
 part_by unit (Some whole) None has_point = None
 part_by unit (Some whole) (Some fraction) has_point = option_map (λ n. record { milliseconds = unit.milliseconds; below = unit.below; whole = whole; has_point = has_point; billionths = n }) (within_64_bits ((whole * 10 ^ 9 + fraction) * unit.milliseconds))
 
 -- the billionths after the point of a number, if its form is right and they have 64 bits
-abbrev pub fraction_reported : List ℕ → Option ℕ
-fraction_reported number =
+abbrev pub parsed_fraction : List ℕ → Option ℕ
+parsed_fraction number =
     let part : durations.Part = record { number = number; letters = [] } in
     option_and_then within_64_bits (then_some (durations.has_fraction_format part) (digits_value 10 (durations.fraction_digits part) * 10 ^ (9 - length (durations.fraction_digits part))))
 
@@ -43,8 +43,8 @@ abbrev pub are_later : ℕ → List durations.Part → Bool
 are_later above [] = true
 are_later above (part ∷ parts) = durations.is_later_part part && nat_lt (durations.unit_milliseconds part) above && (not (durations.has_point part) || are_none parts) && are_later (durations.unit_milliseconds part) parts
 
--- the sum, if the form is right; no sum is reported if the form is wrong or the sum is too long
+-- the sum, if the form is right; there is none if the form is wrong or the sum is too long
 -- for 64 bits
-abbrev pub IsSumReported : Bool → ℕ → Option ℕ → Type 0
-IsSumReported format sum None = (format ≡ false) ⊎ (2 ^ 64 ≤ sum)
-IsSumReported format sum (Some reported) = (format ≡ true) × (reported ≡ sum)
+abbrev pub IsParsedSum : Bool → ℕ → Option ℕ → Type 0
+IsParsedSum format sum None = (format ≡ false) ⊎ (2 ^ 64 ≤ sum)
+IsParsedSum format sum (Some parsed) = (format ≡ true) × (parsed ≡ sum)

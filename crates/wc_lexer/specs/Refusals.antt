@@ -17,7 +17,7 @@ pub record NeedsMemory (text : List ℕ) : Type 0 where
   pub tokens : List Token
   pub cut : Cuts AtToken [] text tokens
 
--- the fault is the text's first, or out of memory, if space is needed
+-- the fault is the text's first, or out of memory, if memory is needed
 abbrev pub Names : List ℕ → Fault → Type 0
 Names text (Refused number place) = IsFirstTokenFault text number place
 Names text Memory = NeedsMemory text

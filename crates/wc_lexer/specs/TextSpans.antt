@@ -10,11 +10,11 @@ use Rattle.wc_laws_tokens.specs.Sights.{opens_comment}
 
 -- the slice that a fault is about: the byte that belongs to nothing, the opening of the comment, or
 -- the malformed lexeme
-abbrev pub chunk_of : (rest : List ℕ) (number : ℕ) → FaultAt rest number → List ℕ
-chunk_of rest number (Foreign foreign) = take 1 rest
-chunk_of rest number (Unclosed inside opens unclosed) = comment_opening
-chunk_of rest number (Nested inside more opens nested) = comment_opening
-chunk_of rest number (Malformed chunk after whole longest validated) = chunk
+abbrev pub fault_slice : (rest : List ℕ) (number : ℕ) → FaultAt rest number → List ℕ
+fault_slice rest number (Foreign foreign) = take 1 rest
+fault_slice rest number (Unclosed inside opens unclosed) = comment_opening
+fault_slice rest number (Nested inside more opens nested) = comment_opening
+fault_slice rest number (Malformed chunk after whole longest validated) = chunk
 
 -- at a place the fault of that number is on that line; its slice starts at that byte, and has n
 -- bytes
@@ -22,15 +22,15 @@ pub record IsTextSpanAt (number line start count : ℕ) (before rest : List ℕ)
   pub fault : FaultAt rest number
   pub here : line ≡ line_after before
   pub starts : start ≡ length before
-  pub counted : count ≡ length (chunk_of rest number fault)
+  pub counted : count ≡ length (fault_slice rest number fault)
 
 -- The first fault of a text with its slice: a text that is too long has none, any other is cut up to
 -- the slice.
 pub data IsTokenTextSpan (text : List ℕ) : (number line start count : ℕ) → Type 0 where
-  NoChunk : most_bytes < length text → IsTokenTextSpan text 107 0 0 0
-  Chunk : {number line start count : ℕ} (tokens : List Token) → length text ≤ most_bytes → Cuts (IsTextSpanAt number line start count) [] text tokens → IsTokenTextSpan text number line start count
+  NoSlice : most_bytes < length text → IsTokenTextSpan text 107 0 0 0
+  FaultSlice : {number line start count : ℕ} (tokens : List Token) → length text ≤ most_bytes → Cuts (IsTextSpanAt number line start count) [] text tokens → IsTokenTextSpan text number line start count
 
--- why the lexer stops there; out of memory says that space is needed for a token
+-- why the lexer stops there; out of memory says that memory is needed for a token
 abbrev pub StopsAt : List ℕ → Fault → (start count : ℕ) → Type 0
 StopsAt text (Refused number place) start count = IsTokenTextSpan text number place start count
 StopsAt text Memory start count = NeedsMemory text

@@ -3,7 +3,7 @@ ghost use Rattle.std.specs.Bool.{nat_le, nat_lt, then_some};
 ghost use Rattle.std.specs.Char.{is_ascii_digit};
 ghost use Rattle.std.specs.List.{after_first, before_first, list_all, list_any};
 ghost use Rattle.std.specs.Str.Parse.{digits_value};
-ghost use Rattle.wc_lexer.specs.Parts.{IsPartReported, IsSumReported, are_later, fraction_reported, part_by};
+ghost use Rattle.wc_lexer.specs.Parts.{IsParsedPart, IsParsedSum, are_later, parsed_fraction, part_by};
 ghost use Rattle.wc_lexer.specs.Widths.{within_64_bits};
 ghost use Rattle.wc_model.specs.Text.Characters.{begins, is_empty, is_point, is_underscore};
 ghost use Rattle.wc_model.specs.Text.Digits.{are_digits, value_of_digits};
@@ -26,7 +26,7 @@ struct TimeUnit {
 
 /// A part of a duration.
 #[derive(Clone, Copy)]
-struct Part {
+struct ParsedPart {
     /// How long its unit is.
     milliseconds: u64,
     /// Below what number its unit counts after a greater one.
@@ -190,13 +190,13 @@ fn part_by(
     whole: Option<u64>,
     fraction: Option<u64>,
     has_point: bool,
-) -> Option<Part>
+) -> Option<ParsedPart>
     requires { 1 ≤ unit.milliseconds }
     ensures { result ≡ part_by unit whole fraction has_point }
 {
     match (whole, fraction) {
         (Some(whole), Some(fraction)) => match billionths(whole, fraction, unit.milliseconds) {
-            Some(billionths) => Some(Part {
+            Some(billionths) => Some(ParsedPart {
                 milliseconds: unit.milliseconds,
                 below: unit.below,
                 whole,
@@ -234,7 +234,7 @@ fn after_point(number: &[u8]) -> &[u8]
 
 /// The billionths after the point, none if there is no point.
 fn fraction_of(number: &[u8]) -> Option<u64>
-    ensures { result ≡ fraction_reported number.now }
+    ensures { result ≡ parsed_fraction number.now }
 {
     if has_point(number) {
         fraction(after_point(number))
@@ -244,8 +244,8 @@ fn fraction_of(number: &[u8]) -> Option<u64>
 }
 
 /// What a part says.
-fn parse_duration_part(number: &[u8], letters: &[u8]) -> Option<Part>
-    ensures { IsPartReported (record { number = number.now; letters = letters.now }) result }
+fn parse_duration_part(number: &[u8], letters: &[u8]) -> Option<ParsedPart>
+    ensures { IsParsedPart (record { number = number.now; letters = letters.now }) result }
 {
     let Some(unit) = unit_named(letters) else {
         return None;
@@ -279,7 +279,7 @@ fn is_last(rest: &[u8]) -> bool
 }
 
 /// The part may follow a part with a unit so long.
-fn may_occur_after(part: Part, above: u64, is_last: bool) -> bool
+fn may_occur_after(part: ParsedPart, above: u64, is_last: bool) -> bool
     ensures { result
         ≡
         (nat_lt part.whole part.below && nat_lt part.milliseconds above &&
@@ -289,7 +289,7 @@ fn may_occur_after(part: Part, above: u64, is_last: bool) -> bool
 }
 
 /// The first part may precede others, or is the last.
-fn may_occur_first(part: Part, is_last: bool) -> bool
+fn may_occur_first(part: ParsedPart, is_last: bool) -> bool
     ensures { result ≡ (not part.has_point || is_last) }
 {
     !part.has_point || is_last
@@ -307,7 +307,7 @@ fn with_part(first: u64, later: Option<u64>) -> Option<u64>
 
 /// The billionths of the parts after a part with a unit so long.
 fn later_billionths(text: &[u8], above: u64) -> Option<u64>
-    ensures { IsSumReported (are_later above (map without_separator (parts_of text.now)))
+    ensures { IsParsedSum (are_later above (map without_separator (parts_of text.now)))
         (billionths (map without_separator (parts_of text.now))) result }
 {
     if text.is_empty() {
@@ -325,7 +325,7 @@ fn later_billionths(text: &[u8], above: u64) -> Option<u64>
 
 /// The billionths of all parts.
 fn all_billionths(text: &[u8]) -> Option<u64>
-    ensures { IsSumReported (are_duration_parts (duration_parts text.now))
+    ensures { IsParsedSum (are_duration_parts (duration_parts text.now))
         (billionths (duration_parts text.now)) result }
 {
     if text.is_empty() {

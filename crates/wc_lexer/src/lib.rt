@@ -2,8 +2,8 @@
 #![tactic(auto)]
 
 mod characters;
-mod chunk;
 mod durations;
+mod element;
 mod identifiers;
 mod lengths;
 mod marks;

@@ -4,7 +4,7 @@ ghost use Rattle.wc_lexer.specs.TextSpans.{StopsAt, stuck_length};
 ghost use Rattle.wc_lexer.specs.Views.{token_view};
 ghost use Rattle.wc_model.specs.Text.Tokens.{IsCut, most_bytes};
 
-use crate::chunk::{Chunk, first_chunk};
+use crate::element::{LexicalElement, first_element};
 use crate::lengths::lexeme_length;
 use crate::spaces::{first_feeds, line_feeds, opens_comment};
 use crate::{Stop, Token};
@@ -75,14 +75,14 @@ pub fn tokens_or_stop<'a>(alloc: Global, text: &'a [u8]) -> Result<Vec<Token<'a>
     let mut line = 1_u32;
     while start < text.len() {
         let (_, rest) = text.split_at(start);
-        let (count, feeds) = match first_chunk(rest) {
-            Chunk::Fault(number) => return Err(stop_at(number, line, start, rest)),
-            Chunk::Space => (1, 0),
-            Chunk::Comment(count) => {
+        let (count, feeds) = match first_element(rest) {
+            LexicalElement::Fault(number) => return Err(stop_at(number, line, start, rest)),
+            LexicalElement::Space => (1, 0),
+            LexicalElement::Comment(count) => {
                 let (comment, _) = rest.split_at(count);
                 (count, line_feeds(comment))
             }
-            Chunk::Lexeme(count, shape) => {
+            LexicalElement::Lexeme(count, shape) => {
                 let (lexeme, _) = rest.split_at(count);
                 let token = Token {
                     shape,

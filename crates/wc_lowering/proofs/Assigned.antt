@@ -9,7 +9,7 @@ use Rattle.wc_model.specs.declared.code.Code.{Code}
 use Rattle.wc_model.specs.declared.operator.Direction.{Direction}
 use Rattle.wc_model.specs.declared.operator.Direction.TheVariants.{Into, OutOf}
 use Rattle.wc_lowering.specs.FlatLines.{FlatLines, put_line}
-use Rattle.wc_lowering.specs.Layable.{ArePassable, IsPassable, IsReadable, IsWritable}
+use Rattle.wc_lowering.specs.Lowerable.{ArePassable, IsPassable, IsReadable, IsWritable}
 use Rattle.wc_lowering.specs.Lowering.{AddsArguments, AddsOutputs}
 
 -- none yet, and one more before them

@@ -18,7 +18,7 @@ use Rattle.wc_names.specs.RepresentsText.{first_from, first_number}
 use Rattle.wc_names.specs.declared.declared_type.DeclaredType.{DeclaredType}
 use Rattle.wc_names.specs.declared.declared_type.DeclaredType.TheVariants as numbered
 use Rattle.wc_text_flat.specs.Lowered.{IsBodyOf, IsUnitBody, first_of_all, first_place, places_before, size_of}
-use Rattle.wc_lowering.specs.Layable.{IsCallable, IsKnownBlock}
+use Rattle.wc_lowering.specs.Lowerable.{IsCallable, IsKnownBlock}
 
 -- as many places, whatever they hold at first
 same_length : (before : List ProgramUnit) (type : Option VariableType) (a b : Option Initial) → length (variable_places (block_places before) type a) ≡ length (variable_places (block_places before) type b)

@@ -17,12 +17,12 @@ use Rattle.wc_verify.specs.Instructions.{instr_line, put}
 use Rattle.wc_model.specs.Language.Kinds.{label_of}
 use Rattle.wc_lowering.proofs.LinesLowered.{put_lowered, put_sources}
 use Rattle.wc_lowering.specs.FlatLines.{FlatLines, no_lines}
-use Rattle.wc_lowering.specs.Layable.{IsAhead, IsLayable, IsLineLayable, IsNear}
+use Rattle.wc_lowering.specs.Lowerable.{IsAhead, IsLowerable, IsLineLowerable, IsNear}
 use Rattle.wc_lowering.specs.Lowering.{AddsLine, HoldsLabels, IsFlat, IsKeptFlat, KeepsLabel, Represents}
 
 -- what can be lowered of a line can be lowered of the same one
-pub as_near : (scope : Scope) (rest : Lines) (skip : ℕ) (a b : BodyLine) → a ≡ b → (IsLineLayable scope (IsNear rest) b → IsLineLayable scope (IsAhead rest skip) b) → IsLineLayable scope (IsNear rest) a → IsLineLayable scope (IsAhead rest skip) a
-as_near scope rest skip a b e h may = subst (IsLineLayable scope (IsAhead rest skip)) (sym e) (h (subst (IsLineLayable scope (IsNear rest)) e may))
+pub as_near : (scope : Scope) (rest : Lines) (skip : ℕ) (a b : BodyLine) → a ≡ b → (IsLineLowerable scope (IsNear rest) b → IsLineLowerable scope (IsAhead rest skip) b) → IsLineLowerable scope (IsNear rest) a → IsLineLowerable scope (IsAhead rest skip) a
+as_near scope rest skip a b e h may = subst (IsLineLowerable scope (IsAhead rest skip)) (sym e) (h (subst (IsLineLowerable scope (IsNear rest)) e may))
 
 -- how far ahead a label is
 pub found_ahead : (rest : Lines) (label : Name) (o : Option ℕ) (left count far : ℕ) → Represents (lines_ahead rest label) o count → o ≡ Some left → IsNear rest label → ((n : ℕ) → n + left ≡ count → n < 4294967296 → far ≡ n) → IsAhead rest far label
@@ -94,23 +94,23 @@ label_kept scope rest (Some word) labels kept flat keeps h =
     line_kept scope rest (AloneLine word) labels kept flat flat (record { own = []; lowered = refl; code = refl; places = refl }) keeps h
 
 -- what can be lowered, line by line
-pub layable_put : (scope : Scope) (line : BodyLine) (rest : Lines) → IsLayable scope (put line rest) → IsLineLayable scope (IsNear rest) line × IsLayable scope rest
-layable_put scope (AloneLine label) rest h = (tt, h)
-layable_put scope (PlainLine label line step) rest h = h
-layable_put scope (NestedLine label line operator operand inside close) rest h = h
+pub lowerable_put : (scope : Scope) (line : BodyLine) (rest : Lines) → IsLowerable scope (put line rest) → IsLineLowerable scope (IsNear rest) line × IsLowerable scope rest
+lowerable_put scope (AloneLine label) rest h = (tt, h)
+lowerable_put scope (PlainLine label line step) rest h = h
+lowerable_put scope (NestedLine label line operator operand inside close) rest h = h
 
-layable_rest : (scope : Scope) (line : Line) (rest : Lines) (o : Option Instr) → line.instr ≡ o → IsLayable scope (line_view line rest) → IsLayable scope rest
-layable_rest scope line rest (Some instr) e h = (layable_put scope (instr_line instr (option_map word_view line.label)) rest (subst (IsLayable scope) (view_instr line instr rest e) h)).1
-layable_rest scope line rest None e h = following (option_map word_view line.label) (subst (IsLayable scope) (view_none line rest e) h)
+lowerable_rest : (scope : Scope) (line : Line) (rest : Lines) (o : Option Instr) → line.instr ≡ o → IsLowerable scope (line_view line rest) → IsLowerable scope rest
+lowerable_rest scope line rest (Some instr) e h = (lowerable_put scope (instr_line instr (option_map word_view line.label)) rest (subst (IsLowerable scope) (view_instr line instr rest e) h)).1
+lowerable_rest scope line rest None e h = following (option_map word_view line.label) (subst (IsLowerable scope) (view_none line rest e) h)
   where
-    following : (label : Option Word) → IsLayable scope (label_view label rest) → IsLayable scope rest
+    following : (label : Option Word) → IsLowerable scope (label_view label rest) → IsLowerable scope rest
     following (Some word) g = g
     following None g = g
 
-pub layable_from : (scope : Scope) (i : ℕ) (items : List Line) → IsLayable scope (lines_view items) → IsLayable scope (lines_view (drop i items))
-layable_from scope zero items h = h
-layable_from scope (suc i) [] h = tt
-layable_from scope (suc i) (line ∷ items) h = layable_from scope i items (layable_rest scope line (lines_view items) line.instr refl h)
+pub lowerable_from : (scope : Scope) (i : ℕ) (items : List Line) → IsLowerable scope (lines_view items) → IsLowerable scope (lines_view (drop i items))
+lowerable_from scope zero items h = h
+lowerable_from scope (suc i) [] h = tt
+lowerable_from scope (suc i) (line ∷ items) h = lowerable_from scope i items (lowerable_rest scope line (lines_view items) line.instr refl h)
 
 -- no lines, and no labels
 pub nothing_kept : (scope : Scope) (labels : List (Name × ℕ)) (flat : FlatLines) → labels ≡ [] → flat ≡ no_lines → IsKeptFlat scope End labels flat

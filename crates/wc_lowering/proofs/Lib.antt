@@ -3,7 +3,7 @@ pub mod Calling
 pub mod CallsLowered
 pub mod Going
 pub mod LabelsLowered
-pub mod LayableLines
+pub mod LowerableLines
 pub mod LinesLowered
 pub mod Loading
 pub mod Placed

@@ -15,7 +15,7 @@ use Rattle.wc_model.specs.declared.tree.Line.{Line}
 use Rattle.wc_verify.proofs.InstrLines.{view_instr, view_none}
 use Rattle.wc_verify.specs.Instructions.{instr_line, put}
 use Rattle.wc_lowering.specs.FlatLines.{FlatLines, put_line}
-use Rattle.wc_lowering.specs.Layable.{IsAhead, IsInsideLayable, IsLineLayable, IsStepLayable, Nowhere}
+use Rattle.wc_lowering.specs.Lowerable.{IsAhead, IsInsideLowerable, IsLineLowerable, IsStepLowerable, Nowhere}
 use Rattle.wc_lowering.specs.Lowering.{Adds, AddsLine, AddsLines, IsLineLowered, line_sources}
 
 -- one flat line
@@ -65,13 +65,13 @@ pub no_lines_added : (scope : Scope) (flat : FlatLines) → AddsLines scope End 
 no_lines_added scope flat = record { own = []; lowered = refl; code = refl; places = refl }
 
 -- what can be lowered inside a parenthesis, line by line
-pub inside_put : (scope : Scope) (line : BodyLine) (rest : Lines) → IsInsideLayable scope (put line rest) → IsLineLayable scope Nowhere line × IsInsideLayable scope rest
+pub inside_put : (scope : Scope) (line : BodyLine) (rest : Lines) → IsInsideLowerable scope (put line rest) → IsLineLowerable scope Nowhere line × IsInsideLowerable scope rest
 inside_put scope (AloneLine label) rest h = (tt, h)
 inside_put scope (PlainLine label line step) rest h = h
 inside_put scope (NestedLine label line operator operand inside close) rest h = h
 
 -- if there is no jump, it does not matter where one would lead
-pub step_anywhere : (scope : Scope) (reached : Name → Type 0) (step : Step) → IsStepLayable scope Nowhere step → IsStepLayable scope reached step
+pub step_anywhere : (scope : Scope) (reached : Name → Type 0) (step : Step) → IsStepLowerable scope Nowhere step → IsStepLowerable scope reached step
 step_anywhere scope reached (Load negated term) h = h
 step_anywhere scope reached (Store storing target) h = h
 step_anywhere scope reached (Apply operator term) h = h
@@ -80,25 +80,25 @@ step_anywhere scope reached (Jump condition label) h = absurd h
 step_anywhere scope reached (Call condition instance arguments) h = h
 step_anywhere scope reached (Return condition) h = h
 
-pub line_anywhere : (scope : Scope) (reached : Name → Type 0) (line : BodyLine) → IsLineLayable scope Nowhere line → IsLineLayable scope reached line
+pub line_anywhere : (scope : Scope) (reached : Name → Type 0) (line : BodyLine) → IsLineLowerable scope Nowhere line → IsLineLowerable scope reached line
 line_anywhere scope reached (AloneLine label) h = h
 line_anywhere scope reached (PlainLine label line step) h = step_anywhere scope reached step h
 line_anywhere scope reached (NestedLine label line operator operand inside close) h = h
 
 -- the lines from an index on
-inside_rest : (scope : Scope) (line : Line) (rest : Lines) (o : Option Instr) → line.instr ≡ o → IsInsideLayable scope (line_view line rest) → IsInsideLayable scope rest
-inside_rest scope line rest (Some instr) e h = (inside_put scope (instr_line instr (option_map word_view line.label)) rest (subst (IsInsideLayable scope) (view_instr line instr rest e) h)).1
-inside_rest scope line rest None e h = following (option_map word_view line.label) (subst (IsInsideLayable scope) (view_none line rest e) h)
+inside_rest : (scope : Scope) (line : Line) (rest : Lines) (o : Option Instr) → line.instr ≡ o → IsInsideLowerable scope (line_view line rest) → IsInsideLowerable scope rest
+inside_rest scope line rest (Some instr) e h = (inside_put scope (instr_line instr (option_map word_view line.label)) rest (subst (IsInsideLowerable scope) (view_instr line instr rest e) h)).1
+inside_rest scope line rest None e h = following (option_map word_view line.label) (subst (IsInsideLowerable scope) (view_none line rest e) h)
   where
-    following : (label : Option Word) → IsInsideLayable scope (label_view label rest) → IsInsideLayable scope rest
+    following : (label : Option Word) → IsInsideLowerable scope (label_view label rest) → IsInsideLowerable scope rest
     following (Some word) g = g
     following None g = g
 
-pub inside_from : (scope : Scope) (i : ℕ) (items : List Line) → IsInsideLayable scope (lines_view items) → IsInsideLayable scope (lines_view (drop i items))
+pub inside_from : (scope : Scope) (i : ℕ) (items : List Line) → IsInsideLowerable scope (lines_view items) → IsInsideLowerable scope (lines_view (drop i items))
 inside_from scope zero items h = h
 inside_from scope (suc i) [] h = tt
 inside_from scope (suc i) (line ∷ items) h = inside_from scope i items (inside_rest scope line (lines_view items) line.instr refl h)
 
 -- what is lowered of a line is lowered of the same one
-pub as_line : (scope : Scope) (rest : Lines) (skip : ℕ) (a b : BodyLine) (old new : FlatLines) → a ≡ b → (IsLineLayable scope (IsAhead rest skip) b → AddsLine scope rest b old new) → IsLineLayable scope (IsAhead rest skip) a → AddsLine scope rest a old new
-as_line scope rest skip a b old new e h may = subst (λ x. AddsLine scope rest x old new) (sym e) (h (subst (IsLineLayable scope (IsAhead rest skip)) e may))
+pub as_line : (scope : Scope) (rest : Lines) (skip : ℕ) (a b : BodyLine) (old new : FlatLines) → a ≡ b → (IsLineLowerable scope (IsAhead rest skip) b → AddsLine scope rest b old new) → IsLineLowerable scope (IsAhead rest skip) a → AddsLine scope rest a old new
+as_line scope rest skip a b old new e h may = subst (λ x. AddsLine scope rest x old new) (sym e) (h (subst (IsLineLowerable scope (IsAhead rest skip)) e may))

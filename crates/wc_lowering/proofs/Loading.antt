@@ -6,7 +6,7 @@ use Rattle.wc_model.specs.Language.Tree.{Term, Constant, Address, Variable, Fiel
 use Rattle.wc_model.specs.Language.Views.{term_view}
 use Rattle.wc_model.specs.declared.code.Code.{Code}
 use Rattle.wc_model.specs.declared.operand.Operand.{Operand as Spelled}
-use Rattle.wc_lowering.specs.Layable.{IsLoadable, IsNegatable, IsOpenable}
+use Rattle.wc_lowering.specs.Lowerable.{IsLoadable, IsNegatable, IsOpenable}
 
 -- a term that LDN may load is an operand that it may
 stored : (scope : Scope) (negated : Bool) (term : Term) (operand : Operand) → IsStored scope term operand → IsNegatable negated operand

@@ -19,7 +19,7 @@ use Rattle.wc_laws_soundness.proofs.Programs.{after_direct, first_store_fits}
 use Rattle.wc_laws_soundness.specs.Sound.{Clean}
 use Rattle.wc_laws_soundness.specs.Typing.{slot_of, slot_of_kind}
 use Rattle.wc_lowering.proofs.Placed.{reached}
-use Rattle.wc_lowering.specs.Layable.{HasPlace, IsReadable, IsWritable}
+use Rattle.wc_lowering.specs.Lowerable.{HasPlace, IsReadable, IsWritable}
 
 -- what a store of entries holds has a number among them
 numbered : (start : ℕ) (entries : List (Location × Content)) (place : Location) (content : Content) → store_of entries place ≡ Some content → (n : ℕ) × (position_from (λ entry. same_place entry.0 place) start entries ≡ Some n)

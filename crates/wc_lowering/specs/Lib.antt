@@ -1,4 +1,4 @@
 pub mod FlatLines
-pub mod Layable
+pub mod Lowerable
 pub mod Lowering
 pub mod Operands

@@ -4,7 +4,7 @@ ghost use Rattle.wc_model.specs.Language.Names.{name_of};
 ghost use Rattle.wc_model.specs.Language.Scopes.{Scope};
 ghost use Rattle.wc_model.specs.Language.Tree.{Field, goes_in, inputs_of, outputs_of};
 ghost use Rattle.wc_model.specs.Language.Views.{assignment_view, term_view};
-ghost use Rattle.wc_lowering.specs.Layable.{ArePassable, IsReadable, IsWritable};
+ghost use Rattle.wc_lowering.specs.Lowerable.{ArePassable, IsReadable, IsWritable};
 ghost use Rattle.wc_lowering.specs.Lowering.{AddsArguments, AddsOutputs};
 ghost use Rattle.wc_verify.specs.Seeing.{IsScope};
 

@@ -3,7 +3,7 @@ ghost use Rattle.wc_model.specs.Language.Names.{name_of};
 ghost use Rattle.wc_model.specs.Language.Scopes.{Scope};
 ghost use Rattle.wc_model.specs.Language.Tree.{Lines, Word as LabelWord};
 ghost use Rattle.wc_model.specs.Language.Views.{line_view, lines_view, word_view};
-ghost use Rattle.wc_lowering.specs.Layable.{IsAhead, IsLayable, IsLineLayable, IsNear};
+ghost use Rattle.wc_lowering.specs.Lowerable.{IsAhead, IsLowerable, IsLineLowerable, IsNear};
 ghost use Rattle.wc_lowering.specs.Lowering.{HoldsLabels, IsFlat, IsKeptFlat, KeepsLabel};
 ghost use Rattle.wc_verify.specs.Instructions.{instr_line};
 ghost use Rattle.wc_verify.specs.Seeing.{IsScope};
@@ -30,8 +30,8 @@ fn lines_ahead<'a>(labels: &LabelCounts<'a>, label: &[u8], count: usize) -> u32
 fn instr_ahead<'a>(labels: &LabelCounts<'a>, instr: &Instr<'a>, count: usize) -> u32
     ensures { (rest : Lines) (scope : Scope) (label : Option LabelWord)
         → HoldsLabels labels.now rest count
-        → IsLineLayable scope (IsNear rest) (instr_line instr.now label)
-        → IsLineLayable scope (IsAhead rest result) (instr_line instr.now label) }
+        → IsLineLowerable scope (IsNear rest) (instr_line instr.now label)
+        → IsLineLowerable scope (IsAhead rest result) (instr_line instr.now label) }
 {
     match instr {
         Instr::Jump { label, .. } => lines_ahead(labels, label, count),
@@ -81,7 +81,7 @@ fn put_line<'a>(
 ) -> Result<(), Fault>
     ensures put { OnOk result
         ((scope : Scope) (rest : Lines) → IsScope tables.now unit scope
-        → IsLayable scope (line_view line.now rest) → IsKeptFlat scope rest labels.old flat.old
+        → IsLowerable scope (line_view line.now rest) → IsKeptFlat scope rest labels.old flat.old
         → IsKeptFlat scope (line_view line.now rest) labels.new flat.new) }
     ensures memory { IsOkUnless result Fault.Memory }
 {
@@ -101,7 +101,7 @@ pub fn flat_body<'a>(
 ) -> Result<Flat, Fault>
     ensures lowered { IfOk result
         (λ flat. (scope : Scope) → IsScope tables.now unit scope
-        → IsLayable scope (lines_view lines.now) → IsFlat scope (lines_view lines.now) flat) }
+        → IsLowerable scope (lines_view lines.now) → IsFlat scope (lines_view lines.now) flat) }
     ensures memory { IsOkUnless result Fault.Memory }
 {
     let mut flat = Flat::new(alloc);

@@ -7,7 +7,7 @@ ghost use Rattle.wc_model.specs.Language.Names.{Name, name_of};
 ghost use Rattle.wc_model.specs.Language.Scopes.{Scope, type_of};
 ghost use Rattle.wc_model.specs.Language.Tree.{Call, Lines};
 ghost use Rattle.wc_model.specs.Language.Views.{assignment_view};
-ghost use Rattle.wc_lowering.specs.Layable.{ArePassable, IsCallable};
+ghost use Rattle.wc_lowering.specs.Lowerable.{ArePassable, IsCallable};
 ghost use Rattle.wc_lowering.specs.Lowering.{Adds};
 ghost use Rattle.wc_verify.specs.Seeing.{IsScope};
 

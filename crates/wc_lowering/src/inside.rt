@@ -4,7 +4,7 @@ ghost use Rattle.wc_model.specs.Language.Scopes.{Scope};
 ghost use Rattle.wc_model.specs.Language.Tree.{Lines, Word};
 ghost use Rattle.wc_model.specs.Language.Views.{line_view, lines_view, term_view};
 ghost use Rattle.wc_lowering.specs.FlatLines.{FlatLines};
-ghost use Rattle.wc_lowering.specs.Layable.{IsAhead, IsInsideLayable, IsLineLayable, IsOpenable};
+ghost use Rattle.wc_lowering.specs.Lowerable.{IsAhead, IsInsideLowerable, IsLineLowerable, IsOpenable};
 ghost use Rattle.wc_lowering.specs.Lowering.{AddsLine, AddsLines};
 ghost use Rattle.wc_verify.specs.Instructions.{instr_line};
 ghost use Rattle.wc_verify.specs.Seeing.{IsScope};
@@ -30,7 +30,7 @@ fn put_nested<'a>(
     ensures put { OnOk result
         ((scope : Scope) (rest : Lines) (label : Option Word) → IsScope tables.now unit scope
         → IsOpenable scope (option_map term_view operand.now)
-        → IsInsideLayable scope (lines_view inside.now.items)
+        → IsInsideLowerable scope (lines_view inside.now.items)
         → AddsLine scope rest
         (NestedLine label line operator (option_map term_view operand.now)
         (lines_view inside.now.items) close) flat.old flat.new) }
@@ -53,7 +53,7 @@ pub(crate) fn put_instr<'a>(
 ) -> Result<(), Fault>
     ensures put { OnOk result
         ((scope : Scope) (rest : Lines) (label : Option Word) → IsScope tables.now unit scope
-        → IsLineLayable scope (IsAhead rest skip) (instr_line instr.now label)
+        → IsLineLowerable scope (IsAhead rest skip) (instr_line instr.now label)
         → AddsLine scope rest (instr_line instr.now label) flat.old flat.new) }
     ensures memory { IsOkUnless result Fault.Memory }
 {
@@ -119,7 +119,7 @@ fn put_inside_line<'a>(
 ) -> Result<(), Fault>
     ensures put { OnOk result
         ((scope : Scope) (rest : Lines) (first : FlatLines) → IsScope tables.now unit scope
-        → IsInsideLayable scope (line_view line.now rest)
+        → IsInsideLowerable scope (line_view line.now rest)
         → AddsLines scope rest first flat.old
         → AddsLines scope (line_view line.now rest) first flat.new) }
     ensures memory { IsOkUnless result Fault.Memory }
@@ -140,7 +140,7 @@ fn put_inside<'a>(
 ) -> Result<(), Fault>
     ensures put { OnOk result
         ((scope : Scope) → IsScope tables.now unit scope
-        → IsInsideLayable scope (lines_view lines.now.items)
+        → IsInsideLowerable scope (lines_view lines.now.items)
         → AddsLines scope (lines_view lines.now.items) flat.old flat.new) }
     ensures memory { IsOkUnless result Fault.Memory }
 {

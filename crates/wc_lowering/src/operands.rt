@@ -4,7 +4,7 @@ ghost use Rattle.wc_model.specs.Language.Frames.{content_number};
 ghost use Rattle.wc_model.specs.Language.Scopes.{Scope, readable_place, writable_place};
 ghost use Rattle.wc_model.specs.Language.Store.{Plain};
 ghost use Rattle.wc_model.specs.Language.Views.{term_view};
-ghost use Rattle.wc_lowering.specs.Layable.{HasPlace, IsReadable};
+ghost use Rattle.wc_lowering.specs.Lowerable.{HasPlace, IsReadable};
 ghost use Rattle.wc_lowering.specs.Operands.{operand_view};
 ghost use Rattle.wc_verify.specs.Seeing.{IsScope};
 

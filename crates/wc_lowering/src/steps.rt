@@ -3,7 +3,7 @@ ghost use Rattle.wc_text_flat.specs.Lowered.{IsOpening, IsStepLowered, apply_lin
 ghost use Rattle.wc_model.specs.Language.Scopes.{Scope};
 ghost use Rattle.wc_model.specs.Language.Tree.{Apply, Lines, Load, Store};
 ghost use Rattle.wc_model.specs.Language.Views.{term_view};
-ghost use Rattle.wc_lowering.specs.Layable.{IsBitWhere, IsLoadable, IsNegatable, IsOpenable, IsReadable, IsWritable};
+ghost use Rattle.wc_lowering.specs.Lowerable.{IsBitWhere, IsLoadable, IsNegatable, IsOpenable, IsReadable, IsWritable};
 ghost use Rattle.wc_lowering.specs.Operands.{operand_view};
 ghost use Rattle.wc_verify.specs.Seeing.{IsScope};
 

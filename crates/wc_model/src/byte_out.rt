@@ -13,7 +13,7 @@ pub trait ByteOut {
     /// The number of calls of `write` that failed, up to the greatest number of 64 bits.
     ghost failure_count: { Self → ℕ };
 
-    /// Takes a prefix of `piece`, and returns the number of bytes. To take none of a chunk that has
+    /// Takes a prefix of `chunk`, and returns the number of bytes. To take none of a chunk that has
     /// some is a failed call, as is an error.
     fn write(&mut self, chunk: &[u8]) -> io::Result<usize>
         ensures bound { WritesAtMost result chunk.now }

@@ -18,7 +18,7 @@ pub struct FuseIn<'t> {
 }
 
 impl<'t> FuseIn<'t> {
-    /// A reader of `head` and then `piece`, `times` times; if `fails`, each read after them is an error,
+    /// A reader of `head` and then `chunk`, `times` times; if `fails`, each read after them is an error,
     /// else they end there.
     pub fn new(head: &'t [u8], chunk: &'t [u8], times: u32, fails: bool) -> Self
         ensures bytes { fuse_bytes result ≡ head.entry.now ++ repeated chunk.entry.now times }

@@ -6,9 +6,9 @@ use std::alloc::Global;
 /// no memory once it is made.
 #[derive(Drop)]
 pub struct FuseOut {
-    pub(crate) capacity: Vec<u8, Global>,
+    pub(crate) buffer: Vec<u8, Global>,
     pub(crate) taken: usize,
     pub(crate) per_call: usize,
     pub(crate) failures: u64,
-    ghost within: { taken ≤ length capacity.items },
+    ghost within: { taken ≤ length buffer.items },
 }

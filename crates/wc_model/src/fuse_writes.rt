@@ -12,13 +12,13 @@ impl FuseOut {
     /// refused.
     pub fn new(alloc: Global, per_call: usize, in_all: usize) -> Result<Self, AllocError>
         ensures empty { IfOk result (λ fuse. taken_by fuse ≡ []) }
-        ensures capacity { IfOk result (λ fuse. length fuse.capacity.items ≡ in_all) }
+        ensures buffer { IfOk result (λ fuse. length fuse.buffer.items ≡ in_all) }
         ensures step { IfOk result (λ fuse. fuse.per_call ≡ per_call) }
         ensures failures { IfOk result (λ fuse. fuse.failures ≡ 0) }
     {
-        let capacity = vec![in alloc; 0u8; in_all]?;
+        let buffer = vec![in alloc; 0u8; in_all]?;
         Ok(FuseOut {
-            capacity,
+            buffer,
             taken: 0,
             per_call,
             failures: 0,
@@ -29,7 +29,7 @@ impl FuseOut {
     pub fn written(&self) -> &[u8]
         ensures { result.now ≡ taken_by self.now }
     {
-        &self.capacity[..self.taken]
+        &self.buffer[..self.taken]
     }
 }
 
@@ -39,7 +39,7 @@ impl ByteOut for FuseOut {
     ghost failure_count = { λ fuse. fuse.failures };
 
     fn write(&mut self, chunk: &[u8]) -> io::Result<usize> {
-        let left = self.capacity.len() - self.taken;
+        let left = self.buffer.len() - self.taken;
         let count = chunk.len().min(self.per_call).min(left);
         if count == 0 && !chunk.is_empty() {
             self.failures = self.failures.saturating_add(1);
@@ -48,7 +48,7 @@ impl ByteOut for FuseOut {
             }
             return Ok(0);
         }
-        self.capacity[self.taken..self.taken + count].copy_from_slice(&chunk[..count]);
+        self.buffer[self.taken..self.taken + count].copy_from_slice(&chunk[..count]);
         self.taken += count;
         Ok(count)
     }

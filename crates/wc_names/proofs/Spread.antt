@@ -12,7 +12,7 @@ use Rattle.wc_model.specs.Language.Store.{Location, Path, Content, below, block_
 use Rattle.wc_model.specs.Language.Tree.{ProgramUnit}
 use Rattle.wc_model.specs.declared.block.StandardBlock.{StandardBlock}
 use Rattle.wc_model.specs.declared.kind.Kind.{Kind}
-use Rattle.wc_names.specs.Slots.{AreFinished, EachHoldsFirst, HoldsFirst, IsStarted, IsGrown, started_contents, contents_of}
+use Rattle.wc_names.specs.Slots.{AreFinished, EachHoldsFirst, HoldsFirst, IsStarted, IsGrown, direct_contents, contents_of}
 use Rattle.wc_names.specs.RepresentsText.{AreRows, IsRow, Represents, type_at}
 use Rattle.wc_names.specs.declared.declared_type.DeclaredType.{DeclaredType}
 use Rattle.wc_names.specs.declared.declared_type.DeclaredType.TheVariants as numbered
@@ -219,6 +219,6 @@ frame_spread scope started new begins grown = by (is_block scope.unit) begins
       grown.initials ∙ (ap (λ xs. xs ++ map content_number (contents_of places)) is.initials ∙ reported_paths content_number places),
     )
     by false is = (
-      grown.kinds ∙ (ap (λ xs. xs ++ map slot_kind_of (contents_of places)) is.kinds ∙ ap (λ xs. map slot_kind_of (started_contents false) ++ xs) (reported_paths slot_kind_of places)),
-      grown.initials ∙ (ap (λ xs. xs ++ map content_number (contents_of places)) is.initials ∙ ap (λ xs. map content_number (started_contents false) ++ xs) (reported_paths content_number places)),
+      grown.kinds ∙ (ap (λ xs. xs ++ map slot_kind_of (contents_of places)) is.kinds ∙ ap (λ xs. map slot_kind_of (direct_contents false) ++ xs) (reported_paths slot_kind_of places)),
+      grown.initials ∙ (ap (λ xs. xs ++ map content_number (contents_of places)) is.initials ∙ ap (λ xs. map content_number (direct_contents false) ++ xs) (reported_paths content_number places)),
     )

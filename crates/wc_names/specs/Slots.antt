@@ -24,13 +24,13 @@ pub record IsGrown (old new : Frame) (contents : List Content) : Type 0 where
   pub initials : new.initials.items ≡ old.initials.items ++ map content_number contents
 
 -- a frame to which nothing but the directly represented variables is added, and to a block's not even these
-abbrev pub started_contents : Bool → List Content
-started_contents true = []
-started_contents false = map (λ v. zero_of (kind_of_direct v)) direct_variables
+abbrev pub direct_contents : Bool → List Content
+direct_contents true = []
+direct_contents false = map (λ v. zero_of (kind_of_direct v)) direct_variables
 
 pub record IsStarted (is_block : Bool) (frame : Frame) : Type 0 where
-  pub kinds : frame.kinds.items ≡ map slot_kind_of (started_contents is_block)
-  pub initials : frame.initials.items ≡ map content_number (started_contents is_block)
+  pub kinds : frame.kinds.items ≡ map slot_kind_of (direct_contents is_block)
+  pub initials : frame.initials.items ≡ map content_number (direct_contents is_block)
 
 -- the slots of an instance of each of the first n units, in text order
 pub record AreFinished (units : List UnitTable) (count : ℕ) (frames : List Frame) : Type 0 where

@@ -8,7 +8,7 @@ ghost use Rattle.wc_names.specs.RepresentsText.{IsTableOf, Represents, first_pla
 ghost use Rattle.wc_names.specs.declared.variable.Variable.{Variable as Row};
 
 use crate::declared_type::DeclaredType;
-use crate::lookup::{following, row};
+use crate::lookup::{offset_by, row};
 use crate::unit_table::UnitTable;
 use crate::variable::Variable;
 use wc_model::{Kind, StandardBlock};
@@ -23,7 +23,7 @@ struct Named<'a> {
 }
 
 /// The number of those variables that begin at a place or before it, if they are in the order of their places.
-fn count_started(rows: &[Variable], number: u16) -> usize
+fn count_at_or_before(rows: &[Variable], number: u16) -> usize
     ensures before { IsNonDecreasingBy (λ (row : Row). row.first) rows.now
         → (k : ℕ) (d : Row) → k < result → (slice_index_or rows.now k d).first ≤ number }
     ensures following { IsNonDecreasingBy (λ (row : Row). row.first) rows.now
@@ -42,7 +42,7 @@ fn variable_with<'a>(table: &UnitTable<'a>, number: u16) -> Option<Named<'a>>
         → MatchOption result ⊥
         (λ found. HasPlace before u number entry (name_of found.name.now) found.row) }
 {
-    let Some(at) = count_started(&table.rows, number).checked_sub(1) else {
+    let Some(at) = count_at_or_before(&table.rows, number).checked_sub(1) else {
         return None;
     };
     let Some(name) = table.names.at(at) else {
@@ -102,15 +102,15 @@ pub(crate) fn kept_number<'a, 'o>(
     };
     let inner = number.saturating_sub(found.row.first);
     match found.row.declared {
-        DeclaredType::Elementary(kind) => following(old.first, plain_within(kind, old.declared)),
+        DeclaredType::Elementary(kind) => offset_by(old.first, plain_within(kind, old.declared)),
         DeclaredType::Standard(block) => {
-            following(old.first, field_within(block, inner, old.declared))
+            offset_by(old.first, field_within(block, inner, old.declared))
         }
         DeclaredType::Block(block) => match old.declared {
             DeclaredType::Block(other) => {
                 // A block precedes the unit that has its instance, so this is always so.
                 if block < unit {
-                    following(
+                    offset_by(
                         old.first,
                         kept_number(units, block, old_units, other, inner),
                     )

@@ -42,7 +42,7 @@ impl<'a> Tables<'a> {
         Tables { units }
     }
 
-    /// The place that a path names in a unit's frame. Fields of standard blocks that texts cannot name go by `m`,
+    /// The place that a path names in a unit's frame. Fields of standard blocks that texts cannot name go by `M`,
     /// `run`, `phase` and `start`.
     pub fn place(&self, unit: usize, path: &Path<'_>) -> Option<Place>
         ensures number { (text : Text) (scope : Scope) → AreTables self.now text

@@ -66,8 +66,8 @@ fn plain_at(names: &[&[u8]]) -> Option<u16>
     if names.is_empty() { Some(0) } else { None }
 }
 
-/// A number after others.
-pub(crate) fn following(first: u16, inner: Option<u16>) -> Option<u16>
+/// The number of a place that is that many after the first.
+pub(crate) fn offset_by(first: u16, inner: Option<u16>) -> Option<u16>
     ensures some { (n : ℕ) → inner ≡ Some n → first + n < 65536
         → result ≡ Some (first + n) }
     ensures none { inner ≡ None → result ≡ None }
@@ -113,9 +113,9 @@ pub(crate) fn number_after<'a>(
         (first_place u) (unit_places before u) }
 {
     match row.declared {
-        DeclaredType::Elementary(_) => following(row.first, plain_at(rest)),
-        DeclaredType::Standard(block) => following(row.first, field_at(block, rest)),
-        DeclaredType::Block(block) => following(row.first, number(units, block, rest)),
+        DeclaredType::Elementary(_) => offset_by(row.first, plain_at(rest)),
+        DeclaredType::Standard(block) => offset_by(row.first, field_at(block, rest)),
+        DeclaredType::Block(block) => offset_by(row.first, number(units, block, rest)),
     }
 }
 

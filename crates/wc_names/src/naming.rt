@@ -9,7 +9,7 @@ ghost use Rattle.wc_names.specs.Numbered.{numbered_entity};
 ghost use Rattle.wc_names.specs.RepresentsText.{Represents};
 
 use crate::entity::Entity;
-use crate::lookup::{direct_number, following, number_after, row};
+use crate::lookup::{direct_number, number_after, offset_by, row};
 use crate::member::{kind_of, member_of};
 use crate::unit_table::UnitTable;
 use wc_built_in::variable_at;
@@ -133,7 +133,7 @@ fn field_entity<'a>(
             kind: member.kind,
             readable: is_result(member.section),
             writable: is_input(member.section),
-            place: place_at(following(row.first, member.place)),
+            place: place_at(offset_by(row.first, member.place)),
         }),
         None => None,
     }

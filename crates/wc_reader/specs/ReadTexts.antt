@@ -17,7 +17,7 @@ pub record IsUnread (bytes : List ℕ) (number place : ℕ) : Type 0 where
   pub first : IsFirstOf bytes number place
   pub unread : (text : Text) → ¬ (IsRead bytes text)
 
--- what a refusal says; out of memory says that space is needed for a token
+-- what a refusal says; out of memory says that memory is needed for a token
 abbrev pub IsRefusedAs : List ℕ → Fault → Type 0
 IsRefusedAs bytes Memory = NeedsMemory bytes
 IsRefusedAs bytes (Refused number place) = IsUnread bytes number place

@@ -13,7 +13,7 @@ ghost use Rattle.wc_text_lines.specs.Words.{symbol_view};
 use crate::text_state::{BodyPlace, LinePlace};
 use std::alloc::{AllocError, Global};
 use wc_lexer::{Shape, Token};
-use wc_text_bodies::{Body, add_label, add_shape, close, section_started};
+use wc_text_bodies::{Body, add_label, add_shape, close, section_of_word};
 use wc_text_lines::{
     InLine, LineState, StartedLine, at_start, at_start_inside, ends_unit, line_move,
 };
@@ -106,10 +106,10 @@ fn at_word<'a>(
         → option_map (place_view (position_view units body.new)) next
         ≡ moves.section_or_line
         (position_view units body.old) token.entry.text.now token.entry.line
-        (moves.section_started (lines_view body.old.done.items) (name_of token.entry.text.now))) }
+        (moves.section_of_word (lines_view body.old.done.items) (name_of token.entry.text.now))) }
     ensures counted { IfOk result (λ next. IfSome next (λ place. IsCounted body.new)) }
 {
-    match section_started(&body.done, token.text) {
+    match section_of_word(&body.done, token.text) {
         Some(section) => Ok(Some(BodyPlace::InSection(section))),
         None => on_line(alloc, body, at_start(token, false)),
     }

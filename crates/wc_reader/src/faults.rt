@@ -46,7 +46,8 @@ pub fn has_program(units: &[Unit]) -> bool
 fn too_many(units: &[Unit], line: u32) -> Option<Fault>
     ensures { result
         ≡ option_map fault_of
-        (moves.raised_if (nat_le most_units (length (map unit_view units.now))) faults.TooMany line) }
+        (moves.fault_if (nat_le most_units (length (map unit_view units.now))) faults.TooMany
+        line) }
 {
     if units.len() >= MOST_UNITS {
         Some(Fault::Refused {
@@ -62,9 +63,10 @@ fn too_many(units: &[Unit], line: u32) -> Option<Fault>
 fn word_fault(units: &[Unit], line: u32) -> Option<Fault>
     ensures { result
         ≡ option_map fault_of
-        (moves.raised_or
-        (moves.raised_if (moves.has_program (map unit_view units.now)) faults.NotOneProgramLast line)
-        (moves.raised_if (nat_le most_units (length (map unit_view units.now))) faults.TooMany line)) }
+        (moves.first_fault
+        (moves.fault_if (moves.has_program (map unit_view units.now)) faults.NotOneProgramLast line)
+        (moves.fault_if (nat_le most_units (length (map unit_view units.now))) faults.TooMany
+        line)) }
 {
     if has_program(units) {
         Some(Fault::Refused {
@@ -80,7 +82,7 @@ fn word_fault(units: &[Unit], line: u32) -> Option<Fault>
 fn unit_fault(units: &[Unit], token: Token) -> Option<Fault>
     ensures { result
         ≡ option_map fault_of
-        (moves.validate_unit (map unit_view units.now) token.entry.line
+        (moves.fault_at_unit (map unit_view units.now) token.entry.line
         (words.found words.unit_kinds (name_of token.entry.text.now))) }
 {
     match unit_kind(token.text) {
@@ -94,7 +96,7 @@ fn outside_fault(units: &[Unit], token: Token) -> Option<Fault>
     ensures { (colon : Bool)
         → result
         ≡ option_map fault_of
-        (moves.validate (moves.Outside (map unit_view units.now))
+        (moves.fault_at (moves.Outside (map unit_view units.now))
         (symbol_view token.entry) token.entry.line colon) }
 {
     match token.shape {
@@ -114,7 +116,7 @@ fn body_fault<'a>(
     ensures { (units : List ProgramUnit)
         → result
         ≡ option_map fault_of
-        (moves.validate (line_place_view (position_view units body.now) place.now)
+        (moves.fault_at (line_place_view (position_view units body.now) place.now)
         (symbol_view token.entry) token.entry.line colon) }
 {
     match place {
@@ -130,7 +132,8 @@ pub(crate) fn fault_at<'a>(reading: &Reading<'a>, token: Token<'a>, colon: bool)
     requires { IsStateCounted reading.now.state }
     ensures { result
         ≡ option_map fault_of
-        (moves.validate (reading_view reading.now) (symbol_view token.entry) token.entry.line colon) }
+        (moves.fault_at (reading_view reading.now) (symbol_view token.entry) token.entry.line
+        colon) }
 {
     match &reading.state {
         TextState::Outside => outside_fault(&reading.units, token),

@@ -271,7 +271,7 @@ fn read_on<'a>(
     ensures reported { ReportsReading
         (walk (reading_view reading.old) (marks_of tokens.now) last_line).reported result }
     // At the end no memory is taken.
-    ensures capacity { IfErr result (λ fault. fault ≡ Fault.Memory → 0 < length tokens.now) }
+    ensures memory { IfErr result (λ fault. fault ≡ Fault.Memory → 0 < length tokens.now) }
 {
     let mut place = 0;
     while place < tokens.len() {
@@ -306,7 +306,7 @@ pub fn read_tokens<'a>(
     ensures reported { ReportsReading (walk at_first
         (marks_of tokens.now) last_line).reported result }
     // With no token no memory is taken.
-    ensures capacity { IfErr result (λ fault. fault ≡ Fault.Memory → 0 < length tokens.now) }
+    ensures memory { IfErr result (λ fault. fault ≡ Fault.Memory → 0 < length tokens.now) }
 {
     let mut reading = reading_start(alloc);
     read_on(alloc, &mut reading, tokens, last_line)

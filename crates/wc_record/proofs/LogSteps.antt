@@ -147,7 +147,7 @@ read_on bytes_left before left (Ok (Some row)) given end e h =
       record {
         represents = record { has = represents.has; number = represents.number; last = represents.last; few = represents.few };
         all = h.3.all;
-        at_hand = h.3.at_hand;
+        current = h.3.current;
       },
     )
 read_on bytes_left before left (Ok None) given end e h = rw e tt
@@ -158,7 +158,7 @@ read_on bytes_left before left (Err fault.Memory) given end e h = rw e tt
 -- what is given of the same log and the same records
 pub gives_as : {R : Type 0} (bytes_left : R → Option (List ℕ)) (before left before' left' : List Record) (answer : Answer RowHead) (given : Rows R)
     → log_following before left ≡ log_following before' left' → all_records before left ≡ all_records before' left' → GivesRecord bytes_left before' left' answer given → GivesRecord bytes_left before left answer given
-gives_as bytes_left before left before' left' (Ok (Some row)) given e f h = (h.0, h.1, e ∙ h.2, record { represents = h.3.represents; all = f ∙ h.3.all; at_hand = h.3.at_hand })
+gives_as bytes_left before left before' left' (Ok (Some row)) given e f h = (h.0, h.1, e ∙ h.2, record { represents = h.3.represents; all = f ∙ h.3.all; current = h.3.current })
 gives_as bytes_left before left before' left' (Ok None) given e f h = e ∙ h
 gives_as bytes_left before left before' left' (Err (fault.Refused number place)) given e f h = (e ∙ h.0, rw f h.1)
 gives_as bytes_left before left before' left' (Err fault.Read) given e f h = (tt, tt)
@@ -212,6 +212,6 @@ all_read bytes_left rows (Some bytes) read number last end cut h =
       record {
         represents = record { has = h (cut_from log_start bytes) cut; number = number; last = last; few = omega arith };
         all = refl;
-        at_hand = tt;
+        current = tt;
       },
     )

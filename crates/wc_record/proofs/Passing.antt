@@ -40,10 +40,10 @@ pub reads_cut : (old new : Option (List ℕ)) (here there : Place) (buffer : Lis
     → Consumes (read_of here old) (read_of there new) (take count buffer) × (count ≡ 0 → 0 < length buffer → IsAtEnd (read_of there new))
 reads_cut old new here there buffer given count cuts bound stops size h = (
   consumes_cut old new here there (take given buffer) (take count buffer) count cuts (take-take count given buffer (omega (arith, bound, size))) h.0,
-  λ none capacity. ends old new there given (length (take given buffer)) (λ some. stops (omega (arith, none, some))) (sym size) (λ e. h.1 e capacity),
+  λ none nonempty. ends old new there given (length (take given buffer)) (λ some. stops (omega (arith, none, some))) (sym size) (λ e. h.1 e nonempty),
 )
 
 -- after the cut a read gives nothing
 pub reads_none : (known : Option (List ℕ)) (place : Place) (buffer : List ℕ) (none : ℕ) → is_cut place ≡ true → none ≡ 0 → Consumes (read_of place known) (read_of place known) (take none buffer) × (none ≡ 0 → 0 < length buffer → IsAtEnd (read_of place known))
-reads_none None place buffer none e zero_is = (tt, λ at capacity. tt)
-reads_none (Some xs) place buffer none e zero_is = (rw zero_is refl, λ at capacity. cut_at_end place xs e)
+reads_none None place buffer none e zero_is = (tt, λ at nonempty. tt)
+reads_none (Some xs) place buffer none e zero_is = (rw zero_is refl, λ at nonempty. cut_at_end place xs e)

@@ -41,7 +41,7 @@ last_ms rows = rows.last
 
 -- the bytes that are borrowed with the last row
 abbrev pub row_bytes : {R : Type 0} → Rows R → List ℕ
-row_bytes rows = rows.capacity.items
+row_bytes rows = rows.buffer.items
 
 -- what the reader had spent when it was borrowed
 abbrev pub started_at : {R : Type 0} → Rows R → ℕ

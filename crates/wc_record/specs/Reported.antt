@@ -19,8 +19,8 @@ abbrev pub fields_reported : RefusedRow → Record
 fields_reported reported = fields_of reported.row
 
 -- the fields of the record that was read last
-abbrev pub at_hand : {R : Type 0} → Rows R → Record
-at_hand rows = fields_of rows.row
+abbrev pub current_record : {R : Type 0} → Rows R → Record
+current_record rows = fields_of rows.row
 
 -- the records that are read of a log's bytes
 abbrev pub records_read : List ℕ → List Record
@@ -36,15 +36,15 @@ abbrev pub all_records : List Record → List Record → List Record
 all_records before left = reverse before ++ left
 
 -- the current record was read last, if any was
-abbrev pub IsAtHand : List Record → Record → Type 0
-IsAtHand [] fields = ⊤
-IsAtHand (newest ∷ earlier) fields = fields ≡ newest
+abbrev pub IsCurrent : List Record → Record → Type 0
+IsCurrent [] fields = ⊤
+IsCurrent (newest ∷ earlier) fields = fields ≡ newest
 
 -- so far these records were read, and after them these are left
 pub record IsAmong {R : Type 0} (bytes_left : R → Option (List ℕ)) (rows : Rows R) (records before left : List Record) : Type 0 where
   pub represents : IsAfterRecords bytes_left rows before left
   pub all : records ≡ all_records before left
-  pub at_hand : IsAtHand before (fields_of rows.row)
+  pub current : IsCurrent before (fields_of rows.row)
 
 -- at a refusal the current record is the one of the refused row
 abbrev pub HasRefused : LogFault → List Record → Record → Type 0

@@ -29,7 +29,7 @@ RefusesAt raised before left rows = RefusesRow raised (log_following before left
 -- buffer and its current record, or says that none is left, or the refusal
 abbrev pub GivesRecord : {R : Type 0} → (R → Option (List ℕ)) → List Record → List Record → Answer RowHead → Rows R → Type 0
 GivesRecord bytes_left before left (Ok (Some row)) rows =
-    (read : List Record) × (rest : List Record) × (log_following before left ≡ with_row (head_view rows.capacity.items row) (log_following read rest))
+    (read : List Record) × (rest : List Record) × (log_following before left ≡ with_row (head_view rows.buffer.items row) (log_following read rest))
     × IsAmong bytes_left rows (all_records before left) read rest
 GivesRecord bytes_left before left (Ok None) rows = log_following before left ≡ nothing_left
 GivesRecord bytes_left before left (Err raised) rows = RefusesAt raised before left rows

@@ -27,7 +27,7 @@ fn read_within<R: ByteIn>(reader: &mut R, start: u64, buffer: &mut [u8]) -> io::
     ensures bytes { ReadConsumes (R.bytes_left reader.old)
         (R.bytes_left reader.new) result buffer.new }
     // What is exhausted reads no further.
-    ensures used_up { is_exhausted start (R.spent_count reader.old) ≡ true
+    ensures exhausted { is_exhausted start (R.spent_count reader.old) ≡ true
         → IsErr result × (reader.new ≡ reader.old) }
     ensures passed { is_exhausted start (R.spent_count reader.old) ≡ false
         → (R.failure_count reader.new ≡ failures_after_read (R.failure_count reader.old) result)
@@ -74,7 +74,7 @@ impl<'r, R: ByteIn> LimitedReader<'r, R> {
         ensures bytes { ReadConsumes (borrowed_bytes R.bytes_left self.old)
             (borrowed_bytes R.bytes_left self.new) result buffer.new }
         // What is exhausted reads no further.
-        ensures used_up { is_exhausted self.old.start (R.spent_count self.old.reader.now) ≡ true
+        ensures exhausted { is_exhausted self.old.start (R.spent_count self.old.reader.now) ≡ true
             → IsErr result × (self.new.reader.now ≡ self.old.reader.now) }
         ensures failures { is_exhausted self.old.start (R.spent_count self.old.reader.now) ≡ false
             → R.failure_count self.new.reader.now
@@ -111,7 +111,7 @@ impl<'r, R: ByteIn> Read for LimitedReader<'r, R> {
         ensures cut { is_cut self.old.place ≡ true
             → (result ≡ Ok 0) × (self.new.reader.now ≡ self.old.reader.now) }
         // What is exhausted reads no further.
-        ensures used_up { is_cut self.old.place ≡ false
+        ensures exhausted { is_cut self.old.place ≡ false
             → is_exhausted self.old.start (R.spent_count self.old.reader.now) ≡ true
             → IsErr result × (self.new.reader.now ≡ self.old.reader.now) }
         ensures failures { is_cut self.old.place ≡ false

@@ -51,15 +51,15 @@ pub(crate) fn is_first_row(row: &ByteRecord) -> bool
 /// row's moment was `last`, 0 before any.
 #[inline(always)]
 pub(crate) fn row_in(
-    capacity: &mut Vec<u8>,
+    buffer: &mut Vec<u8>,
     row: &ByteRecord,
     number: u32,
     last: u64,
 ) -> Result<RowHead, RowFault>
-    ensures says { SaysRow capacity.new.items result
+    ensures says { SaysRow buffer.new.items result
         (row_of_fields number (Some last) (fields_of row.now)) }
     ensures range { IfOk result (λ read. IsDataInRange
-        (head_data_view capacity.new.items read.kind)) }
+        (head_data_view buffer.new.items read.kind)) }
 {
     let Some(fields) = three_fields(row) else {
         return Err(RowFault::Refused(601));
@@ -70,7 +70,7 @@ pub(crate) fn row_in(
     if ms < last {
         return Err(RowFault::Refused(603));
     }
-    match row_data(capacity, fields.kind, fields.text) {
+    match row_data(buffer, fields.kind, fields.text) {
         Ok(kind) => Ok(RowHead { number, ms, kind }),
         Err(fault) => Err(fault),
     }

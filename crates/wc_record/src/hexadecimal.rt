@@ -5,16 +5,16 @@ use std::alloc::AllocError;
 
 /// Puts the line bytes that a text of hexadecimal digits writes into the buffer, if it writes at
 /// most 4096: whether it does. No memory is taken if the buffer is large enough.
-pub(crate) fn line_chunk(capacity: &mut Vec<u8>, text: &[u8]) -> Result<bool, AllocError>
+pub(crate) fn line_chunk(buffer: &mut Vec<u8>, text: &[u8]) -> Result<bool, AllocError>
     ensures chunk { IfOk result
-        (λ found. (if found then Some capacity.new.items else None) ≡ line_chunk_of text.now) }
-    ensures few { IfOk result (λ found. found ≡ true → length capacity.new.items ≤ 4096) }
+        (λ found. (if found then Some buffer.new.items else None) ≡ line_chunk_of text.now) }
+    ensures few { IfOk result (λ found. found ≡ true → length buffer.new.items ≤ 4096) }
 {
     if text.len() > 8192 {
         return Ok(false);
     }
-    capacity.resize(text.len() / 2, 0)?;
-    match hex::decode_to_slice(text, capacity.as_mut_slice()) {
+    buffer.resize(text.len() / 2, 0)?;
+    match hex::decode_to_slice(text, buffer.as_mut_slice()) {
         Ok(()) => Ok(true),
         Err(_) => Ok(false),
     }

@@ -5,7 +5,7 @@ ghost use Rattle.wc_record.specs.Left.{HasCauseIn, HasLeft, IsNext, IsAfterRecor
 ghost use Rattle.wc_record.specs.Left as left;
 ghost use Rattle.wc_record.specs.Reading.{HasRecords, TakesFirst, records_of};
 ghost use Rattle.wc_record.specs.Steps.{GivesRecord, IsAfterFirst, Keeps, KeepsRow, RefusesAt};
-ghost use Rattle.wc_record.specs.Reported.{Reads, at_hand, fields_reported, records_read};
+ghost use Rattle.wc_record.specs.Reported.{Reads, current_record, fields_reported, records_read};
 ghost use Rattle.wc_record.specs.Views.{head_view, row_view};
 
 use crate::bounded::{LimitedReader, is_exhausted};
@@ -31,7 +31,7 @@ const ENDS_CAPACITY: usize = 4;
 /// grows as it needs.
 #[cold]
 #[inline(never)]
-fn roomy_record(alloc: Global) -> ByteRecord
+fn buffer_record(alloc: Global) -> ByteRecord
     ensures { fields_of result ≡ [] }
 {
     match ByteRecord::with_capacity(alloc, RECORD_CAPACITY, ENDS_CAPACITY) {
@@ -80,7 +80,7 @@ pub struct Rows<'r, R> {
     alloc: Global,
     records: Records<'r, R>,
     row: ByteRecord,
-    capacity: Vec<u8>,
+    buffer: Vec<u8>,
     start: u64,
     number: u32,
     last: u64,
@@ -106,7 +106,7 @@ impl<'r, R: ByteIn> Rows<'r, R> {
             alloc,
             records: Records::new(alloc, LimitedReader::new(reader, start)),
             row: ByteRecord::new(alloc),
-            capacity: Vec::new(alloc),
+            buffer: Vec::new(alloc),
             start,
             number: 0,
             last: 0,
@@ -168,7 +168,7 @@ impl<'r, R: ByteIn> Rows<'r, R> {
             ((rows_read self.new ≡ 1) × (last_ms self.new ≡ last_ms self.old)) }
         ensures keeps { Keeps self.old self.new }
     {
-        self.row = roomy_record(self.alloc);
+        self.row = buffer_record(self.alloc);
         match self.read() {
             Ok(found) => {
                 if found && is_first_row(&self.row) {
@@ -189,7 +189,7 @@ impl<'r, R: ByteIn> Rows<'r, R> {
 
     /// The row that the record writes.
     #[inline(always)]
-    fn validated(&mut self) -> Result<Option<RowHead>, LogFault>
+    fn row_of_record(&mut self) -> Result<Option<RowHead>, LogFault>
         ensures gives { (first : Record) (before rest : List Record)
             → IsAfterRecords R.bytes_left self.old (first ∷ before) rest
             → GivesRecord R.bytes_left (first ∷ before) (fields_of self.old.row ∷ rest)
@@ -209,7 +209,7 @@ impl<'r, R: ByteIn> Rows<'r, R> {
             });
         }
         let number = self.number + 1;
-        match row_in(&mut self.capacity, &self.row, number, self.last) {
+        match row_in(&mut self.buffer, &self.row, number, self.last) {
             Ok(row) => {
                 self.number = number;
                 self.last = row.ms;
@@ -238,7 +238,7 @@ impl<'r, R: ByteIn> Rows<'r, R> {
         ensures keeps { Keeps self.old self.new }
     {
         match self.read() {
-            Ok(true) => self.validated(),
+            Ok(true) => self.row_of_record(),
             Ok(false) => Ok(None),
             Err(fault) => Err(fault),
         }
@@ -271,7 +271,7 @@ impl<'r, R: ByteIn> Rows<'r, R> {
     /// The next row, if nothing has ended the log, with the cause of what kept a record from
     /// being read.
     #[inline(always)]
-    fn reported_row(&mut self) -> Result<Option<RowHead>, LogFault>
+    fn row_or_cause(&mut self) -> Result<Option<RowHead>, LogFault>
         ensures gives { (before left : List Record)
             → IsAfterRecords R.bytes_left self.old before left
             → GivesRecord R.bytes_left before left result self.new }
@@ -330,7 +330,7 @@ impl<'r, R: ByteIn> Rows<'r, R> {
         match self.end {
             Some(end) => answer_at(end),
             None => {
-                let answer = self.reported_row();
+                let answer = self.row_or_cause();
                 if let Some(end) = end_after(&answer) {
                     self.end = Some(end);
                 }
@@ -416,7 +416,7 @@ impl<'r, R: ByteIn> Rows<'r, R> {
     pub fn bytes(&self) -> &[u8]
         ensures { result.now ≡ row_bytes self.now }
     {
-        self.capacity.as_slice()
+        self.buffer.as_slice()
     }
 
     /// The line of the log on which the row that was read last starts, counted from 1.
@@ -436,7 +436,7 @@ impl<'r, R: ByteIn> Rows<'r, R> {
     #[cold]
     #[inline(never)]
     pub fn report(&mut self, alloc: Global, reported: &mut RefusedRow)
-        ensures { fields_reported reported.new ≡ at_hand self.old }
+        ensures { fields_reported reported.new ≡ current_record self.old }
     {
         reported.line = self.line();
         reported.row = replace(&mut self.row, ByteRecord::new(alloc));

@@ -40,12 +40,12 @@ fn sample(text: &[u8]) -> Result<HeadKind, RowFault>
 }
 
 /// Bytes on the line, which are in the buffer then.
-fn line_bytes(capacity: &mut Vec<u8>, text: &[u8]) -> Result<HeadKind, RowFault>
-    ensures says { SaysData capacity.new.items result
+fn line_bytes(buffer: &mut Vec<u8>, text: &[u8]) -> Result<HeadKind, RowFault>
+    ensures says { SaysData buffer.new.items result
         (log.brings_or 606 rows.Bytes (log.line_chunk_of text.now)) }
-    ensures range { IfOk result (λ kind. IsDataInRange (head_data_view capacity.new.items kind)) }
+    ensures range { IfOk result (λ kind. IsDataInRange (head_data_view buffer.new.items kind)) }
 {
-    match line_chunk(capacity, text) {
+    match line_chunk(buffer, text) {
         Ok(true) => Ok(HeadKind::Bytes),
         Ok(false) => Err(refused(606)),
         Err(_) => Err(RowFault::Memory),
@@ -96,16 +96,16 @@ fn change(text: &[u8]) -> Result<HeadKind, RowFault>
 /// What a kind and its data bring; bytes are in the buffer then.
 #[inline(always)]
 pub(crate) fn row_data(
-    capacity: &mut Vec<u8>,
+    buffer: &mut Vec<u8>,
     kind: &[u8],
     text: &[u8],
 ) -> Result<HeadKind, RowFault>
-    ensures says { SaysData capacity.new.items result (row_data_of kind.now text.now) }
-    ensures range { IfOk result (λ kind. IsDataInRange (head_data_view capacity.new.items kind)) }
+    ensures says { SaysData buffer.new.items result (row_data_of kind.now text.now) }
+    ensures range { IfOk result (λ kind. IsDataInRange (head_data_view buffer.new.items kind)) }
 {
     match kind {
         b"C" => sample(text),
-        b"L" => line_bytes(capacity, text),
+        b"L" => line_bytes(buffer, text),
         b"I" => inputs(text),
         b"S" => scan(text),
         b"P" => change(text),

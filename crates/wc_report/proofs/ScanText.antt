@@ -25,9 +25,9 @@ parts : (ms steps : ℕ) (bits : ℕ) (first second third fourth : ℤ)
 parts ms steps bits first second third fourth = search (rules, append_assoc)
 
 -- what is written whole is what was to be written
-pub written_whole : {E : Type 0} (r : Result Unit E) (capacity size : ℕ) (out text : List ℕ) → (IsOk r ↔ (capacity ≡ size)) → capacity ≡ size → OnOk r (out ≡ text) → out ≡ text
-written_whole (Ok u) capacity size out text fits is h = h
-written_whole (Err e) capacity size out text fits is h = let no = fits.1 is in cc
+pub written_whole : {E : Type 0} (r : Result Unit E) (buffer size : ℕ) (out text : List ℕ) → (IsOk r ↔ (buffer ≡ size)) → buffer ≡ size → OnOk r (out ≡ text) → out ≡ text
+written_whole (Ok u) buffer size out text fits is h = h
+written_whole (Err e) buffer size out text fits is h = let no = fits.1 is in cc
 
 -- the line of outputs, from its end
 pub joined : (ms steps : ℕ) (outputs : Outputs) (d : ℤ) → length outputs.words ≡ 4 → (t0 t1 t2 t3 t4 t5 t6 t7 t8 : List ℕ)

@@ -22,9 +22,9 @@ pub fn put_scan_line(
         (text.new.items ≡ text.old.items ++ line_text (ScanLine ms steps.0 outputs.now)) }
     ensures memory { IsOkUnless result Fault.Memory }
 {
-    let mut capacity = [0; SCAN_CAPACITY];
-    let start = scan_backward(ms, steps, outputs, &mut capacity);
-    put_bytes(text, &capacity[start..])
+    let mut buffer = [0; SCAN_CAPACITY];
+    let start = scan_backward(ms, steps, outputs, &mut buffer);
+    put_bytes(text, &buffer[start..])
 }
 
 /// A size that is enough for each line of a scan.
@@ -35,21 +35,21 @@ fn scan_backward(
     ms: u64,
     steps: Steps,
     outputs: &Outputs,
-    capacity: &mut [u8; SCAN_CAPACITY],
+    buffer: &mut [u8; SCAN_CAPACITY],
 ) -> usize
     ensures within { result ≤ 144 }
-    ensures text { drop result capacity.new ≡ line_text (ScanLine ms steps.0 outputs.now) }
+    ensures text { drop result buffer.new ≡ line_text (ScanLine ms steps.0 outputs.now) }
 {
     let [first, second, third, fourth] = &outputs.words;
-    let at = backward::put_byte(b'\n', capacity, SCAN_CAPACITY);
-    let at = backward::put_signed(fourth, capacity, at);
-    let at = backward::put_signed(third, capacity, at);
-    let at = backward::put_signed(second, capacity, at);
-    let at = backward::put_signed(first, capacity, at);
-    let at = backward::put_word(outputs.bits, capacity, at);
-    let at = backward::put_number(u64::from(steps.0), capacity, at);
-    let at = backward::put_number(ms, capacity, at);
-    backward::put_byte(b'S', capacity, at)
+    let at = backward::put_byte(b'\n', buffer, SCAN_CAPACITY);
+    let at = backward::put_signed(fourth, buffer, at);
+    let at = backward::put_signed(third, buffer, at);
+    let at = backward::put_signed(second, buffer, at);
+    let at = backward::put_signed(first, buffer, at);
+    let at = backward::put_word(outputs.bits, buffer, at);
+    let at = backward::put_number(u64::from(steps.0), buffer, at);
+    let at = backward::put_number(ms, buffer, at);
+    backward::put_byte(b'S', buffer, at)
 }
 
 /// Appends the line of an answer to a text: `L`, the moment of its row in milliseconds, and its bytes, two hexadecimal
@@ -60,9 +60,9 @@ pub fn put_answer_line(text: &mut Vec<u8>, ms: u64, bytes: &[u8]) -> Result<(), 
         (text.new.items ≡ text.old.items ++ line_text (AnswerLine ms bytes.now)) }
     ensures memory { IsOkUnless result Fault.Memory }
 {
-    let mut capacity = [0; HEAD_CAPACITY];
-    let start = head_backward(ms, &mut capacity);
-    put_bytes(text, &capacity[start..])?;
+    let mut buffer = [0; HEAD_CAPACITY];
+    let start = head_backward(ms, &mut buffer);
+    put_bytes(text, &buffer[start..])?;
     put_hex(text, bytes)?;
     put_bytes(text, b"\n")
 }
@@ -71,13 +71,13 @@ pub fn put_answer_line(text: &mut Vec<u8>, ms: u64, bytes: &[u8]) -> Result<(), 
 const HEAD_CAPACITY: usize = 23;
 
 /// Writes the start of the line of an answer, up to its digits, at the end of its buffer, and returns where it starts.
-fn head_backward(ms: u64, capacity: &mut [u8; HEAD_CAPACITY]) -> usize
+fn head_backward(ms: u64, buffer: &mut [u8; HEAD_CAPACITY]) -> usize
     ensures within { result ≤ 23 }
-    ensures text { drop result capacity.new ≡ 76 ∷ 32 ∷ (decimal ms ++ (32 ∷ [])) }
+    ensures text { drop result buffer.new ≡ 76 ∷ 32 ∷ (decimal ms ++ (32 ∷ [])) }
 {
-    let at = backward::put_byte(b' ', capacity, HEAD_CAPACITY);
-    let at = backward::put_number(ms, capacity, at);
-    backward::put_byte(b'L', capacity, at)
+    let at = backward::put_byte(b' ', buffer, HEAD_CAPACITY);
+    let at = backward::put_number(ms, buffer, at);
+    backward::put_byte(b'L', buffer, at)
 }
 
 /// The line of a refusal: `refused`, its number and its place, a line or row counted from 1 or 0 for none, with a space

@@ -13,7 +13,7 @@ use Rattle.wc_model.specs.Run.Rows.{LogRow, Past, answer_of_row}
 use Rattle.wc_model.specs.Run.Log.{LogOf, LogRefusal}
 use Rattle.std.proofs.KnownBytes.{Appends-nil}
 use Rattle.std.specs.Io.KnownBytes.{Appends}
-use Rattle.wc_run.specs.Doing.{IsValidated, WritesBy}
+use Rattle.wc_run.specs.Doing.{IsClassified, WritesBy}
 use Rattle.wc_run.specs.Logics.{lines_of_row, lines_of_rows}
 use Rattle.wc_run.specs.Observing.{onto, text_coming, text_in_all}
 use Rattle.wc_run.specs.Reports.{last_plan, lines_so_far, plan_of, report_plan}
@@ -131,7 +131,7 @@ none_coming None plate (Some logic) = refl
 none_coming (Some number) plate logic = refl
 
 -- a run that does not begin has written the report of no rows
-pub none_reported : (last : Option ℕ) (plate : PlateData) (logic : Option Logic) (log : LogOf) (fault : RunFault) (taken : Option (List ℕ)) → IsValidated Memory fault
+pub none_reported : (last : Option ℕ) (plate : PlateData) (logic : Option Logic) (log : LogOf) (fault : RunFault) (taken : Option (List ℕ)) → IsClassified Memory fault
     → Reports last plate logic log (Err fault) taken taken
 none_reported last plate logic log fault taken (inl is) =
     subst (λ f. Reports last plate logic log (Err f) taken taken) (sym is)

@@ -6,7 +6,7 @@ use Rattle.wc_model.specs.Run.Log.{LogOf}
 use Rattle.wc_model.specs.Instrument.Plates.{PlateData}
 use Rattle.wc_model.specs.Run.Rows.{LogRow, Past}
 use Rattle.wc_run.proofs.Prefixes.{prefix_after, prefix_of_more}
-use Rattle.wc_run.specs.Doing.{HasSeenAll, IsCutShort, IsValidated, RunsRows, Seeing, Writes, WritesBy, is_cut_short, refused_in}
+use Rattle.wc_run.specs.Doing.{HasSeenAll, IsCutShort, IsClassified, RunsRows, Seeing, Writes, WritesBy, is_cut_short, refused_in}
 use Rattle.wc_model.specs.Say.ProgramReport.{Logic}
 use Rattle.wc_run.specs.Observing.{Plan, onto, refusal_of, text_coming}
 use Rattle.wc_run.specs.Runs.{ReportsBy}
@@ -59,10 +59,10 @@ module _ {O : Type 0} (has_seen : Seeing O) (plan : Plan) (plate : PlateData) (l
   ends_short observer (Err fault) short runs = runs
 
 -- what a fault says is also said by what it is classified as
-pub validated_says : (whole coming : List LogRow → List ℕ) (log : LogOf) (old new : Option (List ℕ)) (fault validated : RunFault)
-    → IsValidated fault validated → ReportsBy whole coming log (Err fault) old new → ReportsBy whole coming log (Err validated) old new
-validated_says whole coming log old new Read validated (inl same) says = subst (λ raised. ReportsBy whole coming log (Err raised) old new) (sym same) says
-validated_says whole coming log old new Read validated (inr same) says = subst (λ raised. ReportsBy whole coming log (Err raised) old new) (sym same) says
-validated_says whole coming log old new Memory validated (inl same) says = subst (λ raised. ReportsBy whole coming log (Err raised) old new) (sym same) says
-validated_says whole coming log old new Memory validated (inr same) says = subst (λ raised. ReportsBy whole coming log (Err raised) old new) (sym same) says
-validated_says whole coming log old new fault validated same says = subst (λ raised. ReportsBy whole coming log (Err raised) old new) (sym same) says
+pub classified_says : (whole coming : List LogRow → List ℕ) (log : LogOf) (old new : Option (List ℕ)) (fault classified : RunFault)
+    → IsClassified fault classified → ReportsBy whole coming log (Err fault) old new → ReportsBy whole coming log (Err classified) old new
+classified_says whole coming log old new Read classified (inl same) says = subst (λ raised. ReportsBy whole coming log (Err raised) old new) (sym same) says
+classified_says whole coming log old new Read classified (inr same) says = subst (λ raised. ReportsBy whole coming log (Err raised) old new) (sym same) says
+classified_says whole coming log old new Memory classified (inl same) says = subst (λ raised. ReportsBy whole coming log (Err raised) old new) (sym same) says
+classified_says whole coming log old new Memory classified (inr same) says = subst (λ raised. ReportsBy whole coming log (Err raised) old new) (sym same) says
+classified_says whole coming log old new fault classified same says = subst (λ raised. ReportsBy whole coming log (Err raised) old new) (sym same) says

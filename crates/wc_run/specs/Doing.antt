@@ -77,7 +77,7 @@ WritesBy plan plate logic log answer old new = ReportsBy (text_in_all plan plate
 
 -- a refusal and a write fault stay as they are; what else kept the log from being run is
 -- classified by its cause
-abbrev pub IsValidated : RunFault → RunFault → Type 0
-IsValidated Read validated = (validated ≡ Read) ⊎ (validated ≡ Memory)
-IsValidated Memory validated = (validated ≡ Read) ⊎ (validated ≡ Memory)
-IsValidated fault validated = validated ≡ fault
+abbrev pub IsClassified : RunFault → RunFault → Type 0
+IsClassified Read classified = (classified ≡ Read) ⊎ (classified ≡ Memory)
+IsClassified Memory classified = (classified ≡ Read) ⊎ (classified ≡ Memory)
+IsClassified fault classified = classified ≡ fault

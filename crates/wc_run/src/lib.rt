@@ -19,7 +19,7 @@ pub use observer::Observer;
 pub use program::Program;
 pub use report::{Report, put_answer};
 pub use row_seen::{RowSeen, ScanSeen};
-pub use running::{run, validated};
+pub use running::{classified, run};
 pub use scale::Scale;
 pub use scan_lines::{put_record, write_text};
 pub use wc_record::RefusedRow;

@@ -4,7 +4,7 @@ ghost use Rattle.wc_model.specs.Instrument.Plates.{PlateData};
 ghost use Rattle.wc_model.specs.Run.Rows.{Past};
 ghost use Rattle.wc_record.specs.Left.{HasLeft, last_ms, rows_read};
 ghost use Rattle.wc_record.specs.Reading.{records_of};
-ghost use Rattle.wc_record.specs.Reported.{Reads, at_hand, fields_reported};
+ghost use Rattle.wc_record.specs.Reported.{Reads, current_record, fields_reported};
 ghost use Rattle.wc_record.specs.Views.{IsDataInRange, head_data_view, head_view};
 ghost use Rattle.wc_run.specs.Doing.{Does, RunsRows};
 ghost use Rattle.wc_run.specs.Observing.{said};
@@ -77,7 +77,7 @@ fn run_rows<S: Store, W: ByteOut, O: Observer<S, W>, R: ByteIn>(
         observer.new result (said O.speaks (W.bytes_taken writer.old))
         (said O.speaks (W.bytes_taken writer.new)) }
     ensures reported { (records : List Record) → Reads R.bytes_left rows.old records
-        → ReportsRow records (at_hand rows.new) result }
+        → ReportsRow records (current_record rows.new) result }
     ensures failures { ReportsWrites result (W.failure_count writer.old)
         (W.failure_count writer.new) }
 {

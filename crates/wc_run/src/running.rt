@@ -4,7 +4,7 @@ ghost use Rattle.wc_model.specs.Instrument.Plates.{PlateData};
 ghost use Rattle.wc_record.specs.Left.{HasCause};
 ghost use Rattle.wc_record.specs.Reading.{records_of};
 ghost use Rattle.wc_record.specs.Reported.{fields_reported};
-ghost use Rattle.wc_run.specs.Doing.{IsValidated, WritesBy, is_cut_short, refused_in};
+ghost use Rattle.wc_run.specs.Doing.{IsClassified, WritesBy, is_cut_short, refused_in};
 ghost use Rattle.wc_model.specs.Say.LogFor.{log_for};
 ghost use Rattle.wc_model.specs.Say.ProgramReport.{Logic};
 ghost use Rattle.wc_run.specs.Observing.{said};
@@ -85,8 +85,8 @@ fn run_to_end<S: Store, W: ByteOut, O: Observer<S, W>, R: ByteIn>(
 
 /// A read fault if the reader has failed since, or as much was read as may be; else out of
 /// memory. A refusal and a write fault stay what they are.
-pub fn validated<R: ByteIn>(fault: RunFault, reader: &R, failures: u64, spent: u64) -> RunFault
-    ensures validated { IsValidated fault result }
+pub fn classified<R: ByteIn>(fault: RunFault, reader: &R, failures: u64, spent: u64) -> RunFault
+    ensures classified { IsClassified fault result }
     ensures read { result ≡ RunFault.Read
         → HasCause failures (R.failure_count reader.now) spent (R.spent_count reader.now) }
     ensures memory { result ≡ RunFault.Memory
@@ -154,6 +154,6 @@ pub fn run<S: Store, W: ByteOut, O: Observer<S, W>, R: ByteIn>(
     let spent = reader.spent();
     match run_to_end(alloc, observer, scale, reader, writer, reported) {
         Ok(count) => Ok(count),
-        Err(fault) => Err(validated(fault, reader, failures, spent)),
+        Err(fault) => Err(classified(fault, reader, failures, spent)),
     }
 }

@@ -53,20 +53,20 @@ never_cut p before byte history indicator bytes is whole cut =
     omega (arith, answer_short p (command_of cut.next) history is, all, prefix, length-append cut.written cut.unwritten, whole, cut.short)
 
 -- a write failed, so the buffer is full
-is_full : (capacity : AnswerBuffer) → HasFailedSince 0 capacity.failures → length (take capacity.taken capacity.bytes) ≡ 20
-is_full capacity failed =
-    let some : 0 < capacity.failures = elim failed [ inl more ↦ more | inr most ↦ omega (arith, most) ] in
-    let full : capacity.taken ≡ 20 = capacity.full some in
-    omega (arith, length-take capacity.taken capacity.bytes, full, capacity.whole)
+is_full : (buffer : AnswerBuffer) → HasFailedSince 0 buffer.failures → length (take buffer.taken buffer.bytes) ≡ 20
+is_full buffer failed =
+    let some : 0 < buffer.failures = elim failed [ inl more ↦ more | inr most ↦ omega (arith, most) ] in
+    let full : buffer.taken ≡ 20 = buffer.full some in
+    omega (arith, length-take buffer.taken buffer.bytes, full, buffer.whole)
 
 -- a line of a scale that is open takes each byte
-pub never_fails : {S : Type 0} (opened new : OpenScale S) (empty capacity : AnswerBuffer) (byte : ℕ) (plate : PlateData) (came : Came) →
+pub never_fails : {S : Type 0} (opened new : OpenScale S) (empty buffer : AnswerBuffer) (byte : ℕ) (plate : PlateData) (came : Came) →
     Represents opened plate came → empty.taken ≡ 0 → empty.failures ≡ 0 →
-    IsCutShortAt opened new (byte ∷ []) (Some (take empty.taken empty.bytes)) (Some (take capacity.taken capacity.bytes)) →
-    (HasLineFailed opened ⊎ HasFailedSince empty.failures capacity.failures) → ⊥
-never_fails opened new empty capacity byte plate came represents none works fails (inl failed) = absurd (cc)
-never_fails opened new empty capacity byte plate came represents none works fails (inr failed) =
-    never_cut plate came.bytes byte came.history new.indicator (take capacity.taken capacity.bytes) represents.is_plate
-    (is_full capacity (subst (λ n. HasFailedSince n capacity.failures) works failed))
-    (subst (λ n. IsCutShort plate (requests_in came.bytes (byte ∷ [])) came.history new.indicator (Some (take n empty.bytes)) (Some (take capacity.taken capacity.bytes))) none
+    IsCutShortAt opened new (byte ∷ []) (Some (take empty.taken empty.bytes)) (Some (take buffer.taken buffer.bytes)) →
+    (HasLineFailed opened ⊎ HasFailedSince empty.failures buffer.failures) → ⊥
+never_fails opened new empty buffer byte plate came represents none works fails (inl failed) = absurd (cc)
+never_fails opened new empty buffer byte plate came represents none works fails (inr failed) =
+    never_cut plate came.bytes byte came.history new.indicator (take buffer.taken buffer.bytes) represents.is_plate
+    (is_full buffer (subst (λ n. HasFailedSince n buffer.failures) works failed))
+    (subst (λ n. IsCutShort plate (requests_in came.bytes (byte ∷ [])) came.history new.indicator (Some (take n empty.bytes)) (Some (take buffer.taken buffer.bytes))) none
     (fails.cut plate came represents))

@@ -18,21 +18,21 @@ pub record IsUnitReported (text : Text) (unit : ℕ) (reported : UnitAnswer) : T
   pub name : (spelled : List ℕ) → option_map (λ u. u.spelled) (slice_get text unit) ≡ Some spelled → take reported.length reported.name ≡ take 32 spelled
 
 -- the lines of the unit's worst path are in the buffer, and there are no more than it has
-pub record IsPathReported (text : Text) (unit : ℕ) (capacity : List ℕ) (reported : PathAnswer) : Type 0 where
+pub record IsPathReported (text : Text) (unit : ℕ) (buffer : List ℕ) (reported : PathAnswer) : Type 0 where
   pub there : unit < length text
-  pub fits : reported.length ≤ length capacity
-  pub worst : AreWorstAt text unit (take reported.length capacity)
+  pub fits : reported.length ≤ length buffer
+  pub worst : AreWorstAt text unit (take reported.length buffer)
 
 -- the text has no unit of that number
 abbrev pub HasNoUnit : Text → ℕ → Type 0
 HasNoUnit text unit = length text ≤ unit
 
 -- the unit's worst path has more lines than the buffer, or than are reported; this is their number
-pub record IsTooLong (text : Text) (unit : ℕ) (capacity : List ℕ) (reported : PathAnswer) : Type 0 where
+pub record IsTooLong (text : Text) (unit : ℕ) (buffer : List ℕ) (reported : PathAnswer) : Type 0 where
   pub there : unit < length text
   pub lines : List ℕ
   pub worst : AreWorstAt text unit lines
-  pub long : (length capacity < length lines) ⊎ (4294967295 < length lines)
+  pub long : (length buffer < length lines) ⊎ (4294967295 < length lines)
   pub count : reported.length ≡ min (length lines) 4294967295
 
 -- the bytes are loaded as a text, of which this holds
@@ -45,7 +45,7 @@ abbrev pub ReportsUnit : List ℕ → ℕ → UnitAnswer → Type 0
 ReportsUnit bytes unit reported = reported.text.status ≡ 0 → IsTextWith bytes (λ text. IsUnitReported text unit reported)
 
 abbrev pub ReportsPath : List ℕ → ℕ → List ℕ → PathAnswer → Type 0
-ReportsPath bytes unit capacity reported = reported.text.status ≡ 0 → IsTextWith bytes (λ text. IsPathReported text unit capacity reported)
+ReportsPath bytes unit buffer reported = reported.text.status ≡ 0 → IsTextWith bytes (λ text. IsPathReported text unit buffer reported)
 
 -- a text that is refused is refused by its one refusal
 abbrev pub RefusesText : List ℕ → Refusal → Type 0
@@ -57,7 +57,7 @@ ReportsNoUnit bytes unit reported = reported.status ≡ 10 → IsTextWith bytes 
 
 -- if the buffer is reported to be too small, it is
 abbrev pub ReportsTooSmall : List ℕ → ℕ → List ℕ → PathAnswer → Type 0
-ReportsTooSmall bytes unit capacity reported = reported.text.status ≡ 11 → IsTextWith bytes (λ text. IsTooLong text unit capacity reported)
+ReportsTooSmall bytes unit buffer reported = reported.text.status ≡ 11 → IsTextWith bytes (λ text. IsTooLong text unit buffer reported)
 
 -- done, refused, or no memory; or there is no such unit
 abbrev pub IsUnitStatus : ℕ → Type 0

@@ -30,9 +30,9 @@ impl AnswerBuffer {
 }
 
 impl ByteOut for AnswerBuffer {
-    ghost bytes_taken = { λ capacity. Some (take capacity.taken capacity.bytes) };
+    ghost bytes_taken = { λ buffer. Some (take buffer.taken buffer.bytes) };
 
-    ghost failure_count = { λ capacity. capacity.failures };
+    ghost failure_count = { λ buffer. buffer.failures };
 
     fn write(&mut self, chunk: &[u8]) -> io::Result<usize> {
         let left = self.bytes.len() - self.taken;

@@ -18,15 +18,15 @@ fn no_answer(status: u32) -> Answer
 }
 
 /// The answer that is in the buffer.
-fn answer_in(capacity: &AnswerBuffer) -> Answer
+fn answer_in(buffer: &AnswerBuffer) -> Answer
     ensures status { result.status ≡ 0 }
-    ensures length { result.length ≡ capacity.now.taken }
-    ensures bytes { result.bytes ≡ capacity.now.bytes }
+    ensures length { result.length ≡ buffer.now.taken }
+    ensures bytes { result.bytes ≡ buffer.now.bytes }
 {
-    let bytes = capacity.bytes;
+    let bytes = buffer.bytes;
     Answer {
         status: DONE,
-        length: capacity.taken as u32,
+        length: buffer.taken as u32,
         bytes,
     }
 }
@@ -39,9 +39,9 @@ impl Scale {
     {
         match &mut self.opened {
             Some(opened) => {
-                let mut capacity = AnswerBuffer::new();
-                match opened.feed(&[byte], &mut capacity) {
-                    Ok(()) => answer_in(&capacity),
+                let mut buffer = AnswerBuffer::new();
+                match opened.feed(&[byte], &mut buffer) {
+                    Ok(()) => answer_in(&buffer),
                     Err(_) => no_answer(LINE_FAILED),
                 }
             }

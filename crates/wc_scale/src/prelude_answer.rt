@@ -13,10 +13,10 @@ use wc_open_scale::Prelude;
 fn padded(items: &ArrayVec<i32, 16>) -> (u32, [i32; 16])
     ensures { take result.0 result.1 ≡ items.now.items }
 {
-    let mut capacity = [0; 16];
+    let mut buffer = [0; 16];
     let count = items.len();
-    capacity[..count].copy_from_slice(items);
-    (count as u32, capacity)
+    buffer[..count].copy_from_slice(items);
+    (count as u32, buffer)
 }
 
 /// The bytes of a request that is open, with zeros after them, and their number.
@@ -24,14 +24,14 @@ fn opened(request: &Option<ArrayVec<u8, 2>>) -> (u32, [u8; 3])
     ensures { take result.0 result.1
         ≡ request_bytes (option_map (λ text. text.items) request.now) }
 {
-    let mut capacity = [0; 3];
+    let mut buffer = [0; 3];
     let Some(text) = request else {
-        return (0, capacity);
+        return (0, buffer);
     };
     let count = text.len() + 1;
-    capacity[0] = b'\n';
-    capacity[1..count].copy_from_slice(text);
-    (count as u32, capacity)
+    buffer[0] = b'\n';
+    buffer[1..count].copy_from_slice(text);
+    (count as u32, buffer)
 }
 
 /// A load, and whether there is one.

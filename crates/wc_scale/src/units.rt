@@ -25,10 +25,10 @@ fn no_unit(text: Refusal) -> UnitAnswer
 fn name_buffer(name: &[u8]) -> [u8; 32]
     ensures { take (min 32 (length name.now)) result ≡ take 32 name.now }
 {
-    let mut capacity = [0; 32];
+    let mut buffer = [0; 32];
     let count = 32_usize.min(name.len());
-    capacity[..count].copy_from_slice(&name[..count]);
-    capacity
+    buffer[..count].copy_from_slice(&name[..count]);
+    buffer
 }
 
 /// What is reported about a unit of a loaded text.
@@ -77,13 +77,13 @@ fn no_path(text: Refusal, length: u32) -> PathAnswer
 }
 
 /// Puts the worst path of a unit of a loaded text into the buffer, if it fits.
-fn path_answer(alloc: Global, loaded: &Loaded<'_>, unit: u32, capacity: &mut [u32]) -> PathAnswer
+fn path_answer(alloc: Global, loaded: &Loaded<'_>, unit: u32, buffer: &mut [u32]) -> PathAnswer
     ensures reported { result.text.status ≡ 0
-        → IsPathReported (text_view loaded.now.source) unit capacity.new result }
-    ensures kept { ¬ (result.text.status ≡ 0) → capacity.new ≡ capacity.old }
+        → IsPathReported (text_view loaded.now.source) unit buffer.new result }
+    ensures kept { ¬ (result.text.status ≡ 0) → buffer.new ≡ buffer.old }
     ensures no_unit { result.text.status ≡ 10 → HasNoUnit (text_view loaded.now.source) unit }
     ensures too_small { result.text.status ≡ 11
-        → IsTooLong (text_view loaded.now.source) unit capacity.old result }
+        → IsTooLong (text_view loaded.now.source) unit buffer.old result }
     ensures status { ¬ (result.text.status ≡ 1) }
     ensures statuses { IsPathStatus result.text.status }
 {
@@ -94,10 +94,10 @@ fn path_answer(alloc: Global, loaded: &Loaded<'_>, unit: u32, capacity: &mut [u3
     match loaded.worst_path(alloc, at) {
         Ok(lines) => {
             let length = lines.len().min(4294967295) as u32;
-            if lines.len() > capacity.len() || lines.len() > 4294967295 {
+            if lines.len() > buffer.len() || lines.len() > 4294967295 {
                 return no_path(only(TOO_SMALL), length);
             }
-            capacity[..lines.len()].copy_from_slice(lines.as_slice());
+            buffer[..lines.len()].copy_from_slice(lines.as_slice());
             no_path(only(DONE), length)
         }
         Err(_) => no_path(only(NO_MEMORY), 0),
@@ -105,16 +105,16 @@ fn path_answer(alloc: Global, loaded: &Loaded<'_>, unit: u32, capacity: &mut [u3
 }
 
 /// The lines of a unit's worst path, put into the buffer, and their number. The text is freed again.
-pub fn path(alloc: Global, text: &[u8], unit: u32, capacity: &mut [u32]) -> PathAnswer
-    ensures reported { ReportsPath text.now unit capacity.new result }
-    ensures kept { ¬ (result.text.status ≡ 0) → capacity.new ≡ capacity.old }
+pub fn path(alloc: Global, text: &[u8], unit: u32, buffer: &mut [u32]) -> PathAnswer
+    ensures reported { ReportsPath text.now unit buffer.new result }
+    ensures kept { ¬ (result.text.status ≡ 0) → buffer.new ≡ buffer.old }
     ensures no_unit { ReportsNoUnit text.now unit result.text }
-    ensures too_small { ReportsTooSmall text.now unit capacity.old result }
+    ensures too_small { ReportsTooSmall text.now unit buffer.old result }
     ensures status { IsPathStatus result.text.status }
     ensures refused { RefusesText text.now result.text }
 {
     match load(alloc, text) {
-        Ok(loaded) => path_answer(alloc, &loaded, unit, capacity),
+        Ok(loaded) => path_answer(alloc, &loaded, unit, buffer),
         Err(fault) => no_path(of_fault(fault), 0),
     }
 }

@@ -1,7 +1,7 @@
 -- The letters of the line's answers.
 use Rattle.std.proofs.Common.{◌≡◌, ℕ, zero, suc, ◌&&◌, ◌||◌, not, Bool, true, false, List, [], ◌∷◌, codes, refl, sym, lit<, lit≤, arith}
 use Rattle.std.specs.Prelude.{pos, negsuc, if◌then◌else◌, Contains}
-use Rattle.wc_model.specs.Instrument.Answers as reported
+use Rattle.wc_model.specs.Instrument.Answers as answers
 use Rattle.wc_model.specs.Instrument.Indication.{has_sample, is_centre_of_zero, is_over, is_stable, is_tare_active, is_under}
 use Rattle.wc_model.specs.Instrument.Plates.{PlateData, IsPlate, grams, kilograms, tonnes}
 use Rattle.wc_model.specs.Instrument.WeighingHistories.{History, Sample, SetTare}
@@ -15,13 +15,13 @@ use Rattle.wc_sma.specs.declared.letters.WeightKind.TheVariants.{Gross, Net, Tar
 
 -- the status of the scale
 scale_status : (p : PlateData) (history : History) →
-    (s : Status) × (reported.scale_status p history ≡ status_letter s ∷ []) × IsStatus p history reported.Plain s
+    (s : Status) × (answers.scale_status p history ≡ status_letter s ∷ []) × IsStatus p history answers.Plain s
 scale_status p history = go (has_sample history) refl (is_over p history) refl (is_under p history) refl (is_centre_of_zero p history) refl
   where
     go : (sampled : Bool) → has_sample history ≡ sampled → (over : Bool) → is_over p history ≡ over → (under : Bool) → is_under p history ≡ under
         → (centre : Bool) → is_centre_of_zero p history ≡ centre
         → (s : Status) × ((if not sampled then codes "I" else if over then codes "O" else if under then codes "U" else if centre then codes "Z" else codes " ") ≡ status_letter s ∷ [])
-        × IsStatus p history reported.Plain s
+        × IsStatus p history answers.Plain s
     go false h over o under u centre z = (NoSample, refl, (refl, h))
     go true h true o under u centre z = (Over, refl, (refl, o))
     go true h false o true u centre z = (Under, refl, (refl, u))
@@ -29,22 +29,22 @@ scale_status p history = go (has_sample history) refl (is_over p history) refl (
     go true h false o false u false z = (Normal, refl, (refl, (λ i. h i && not (o i || u i)), z))
 
 -- the status of an answer
-status_of : (p : PlateData) (history : History) (asked : reported.Asked) →
-    (s : Status) × (reported.status_byte p history asked ≡ status_letter s ∷ []) × IsStatus p history asked s
-status_of p history reported.Plain = scale_status p history
-status_of p history reported.ZeroRefused = (ZeroRefused, refl, refl)
-status_of p history reported.TareRefused = (TareRefused, refl, refl)
+status_of : (p : PlateData) (history : History) (asked : answers.Asked) →
+    (s : Status) × (answers.status_byte p history asked ≡ status_letter s ∷ []) × IsStatus p history asked s
+status_of p history answers.Plain = scale_status p history
+status_of p history answers.ZeroRefused = (ZeroRefused, refl, refl)
+status_of p history answers.TareRefused = (TareRefused, refl, refl)
 
 -- which weight it is
-kind_of : (p : PlateData) (history : History) (mode : reported.Mode) →
-    (k : WeightKind) × (reported.mode_byte p history mode ≡ kind_letter k ∷ []) × IsKind p history mode k
-kind_of p history reported.Shown = go (is_tare_active p history) refl
+kind_of : (p : PlateData) (history : History) (mode : answers.Mode) →
+    (k : WeightKind) × (answers.mode_byte p history mode ≡ kind_letter k ∷ []) × IsKind p history mode k
+kind_of p history answers.Shown = go (is_tare_active p history) refl
   where
     go : (tared : Bool) → is_tare_active p history ≡ tared
-        → (k : WeightKind) × ((if tared then codes "N" else codes "G") ≡ kind_letter k ∷ []) × IsKind p history reported.Shown k
+        → (k : WeightKind) × ((if tared then codes "N" else codes "G") ≡ kind_letter k ∷ []) × IsKind p history answers.Shown k
     go true t = (Net, refl, (refl, t))
     go false t = (Gross, refl, (refl, t))
-kind_of p history reported.Tare = (Tare, refl, refl)
+kind_of p history answers.Tare = (Tare, refl, refl)
 
 -- the letter of motion
 motion_of : (stable : Bool) → (if stable then codes " " else codes "M") ≡ motion_letter stable ∷ []
@@ -105,24 +105,24 @@ four = Sample (pos 60000) ∷ Sample (pos 60000) ∷ Sample (pos 60000) ∷ Samp
 
 -- an answer with each status
 each_status : (s : Status) →
-    (p : PlateData) × (history : History) × (asked : reported.Asked) × IsPlate p × (reported.status_byte p history asked ≡ status_letter s ∷ [])
-each_status Normal = (plate_in Kilogram, four, reported.Plain, is_plate Kilogram, refl)
-each_status CentreOfZero = (plate_in Kilogram, Sample (pos 10000) ∷ [], reported.Plain, is_plate Kilogram, refl)
-each_status Over = (plate_in Kilogram, Sample (pos 8388607) ∷ [], reported.Plain, is_plate Kilogram, refl)
-each_status Under = (plate_in Kilogram, Sample (negsuc 8388607) ∷ [], reported.Plain, is_plate Kilogram, refl)
-each_status NoSample = (plate_in Kilogram, [], reported.Plain, is_plate Kilogram, refl)
-each_status ZeroRefused = (plate_in Kilogram, [], reported.ZeroRefused, is_plate Kilogram, refl)
-each_status TareRefused = (plate_in Kilogram, [], reported.TareRefused, is_plate Kilogram, refl)
+    (p : PlateData) × (history : History) × (asked : answers.Asked) × IsPlate p × (answers.status_byte p history asked ≡ status_letter s ∷ [])
+each_status Normal = (plate_in Kilogram, four, answers.Plain, is_plate Kilogram, refl)
+each_status CentreOfZero = (plate_in Kilogram, Sample (pos 10000) ∷ [], answers.Plain, is_plate Kilogram, refl)
+each_status Over = (plate_in Kilogram, Sample (pos 8388607) ∷ [], answers.Plain, is_plate Kilogram, refl)
+each_status Under = (plate_in Kilogram, Sample (negsuc 8388607) ∷ [], answers.Plain, is_plate Kilogram, refl)
+each_status NoSample = (plate_in Kilogram, [], answers.Plain, is_plate Kilogram, refl)
+each_status ZeroRefused = (plate_in Kilogram, [], answers.ZeroRefused, is_plate Kilogram, refl)
+each_status TareRefused = (plate_in Kilogram, [], answers.TareRefused, is_plate Kilogram, refl)
 
 -- an answer with each weight
 each_kind : (k : WeightKind) →
-    (p : PlateData) × (history : History) × (mode : reported.Mode) × IsPlate p × (reported.mode_byte p history mode ≡ kind_letter k ∷ [])
-each_kind Gross = (plate_in Kilogram, [], reported.Shown, is_plate Kilogram, refl)
-each_kind Net = (plate_in Kilogram, SetTare ∷ four, reported.Shown, is_plate Kilogram, refl)
-each_kind Tare = (plate_in Kilogram, [], reported.Tare, is_plate Kilogram, refl)
+    (p : PlateData) × (history : History) × (mode : answers.Mode) × IsPlate p × (answers.mode_byte p history mode ≡ kind_letter k ∷ [])
+each_kind Gross = (plate_in Kilogram, [], answers.Shown, is_plate Kilogram, refl)
+each_kind Net = (plate_in Kilogram, SetTare ∷ four, answers.Shown, is_plate Kilogram, refl)
+each_kind Tare = (plate_in Kilogram, [], answers.Tare, is_plate Kilogram, refl)
 
 -- one in motion and one that is not
-each_motion : (stable : Bool) → (p : PlateData) × (history : History) × IsPlate p × (reported.motion_byte p history ≡ motion_letter stable ∷ [])
+each_motion : (stable : Bool) → (p : PlateData) × (history : History) × IsPlate p × (answers.motion_byte p history ≡ motion_letter stable ∷ [])
 each_motion true = (plate_in Kilogram, four, is_plate Kilogram, refl)
 each_motion false = (plate_in Kilogram, [], is_plate Kilogram, refl)
 

@@ -7,7 +7,7 @@ use Rattle.std.proofs.KnownBytes.{Appends-nil}
 use Rattle.wc_model.specs.Instrument.Plates.{PlateData}
 use Rattle.wc_model.specs.Instrument.WeighingHistories.{History}
 use Rattle.wc_model.specs.Instrument.Requests.{carriage_return, open_request, requests_in, completed_by, opened_by}
-use Rattle.wc_model.specs.Instrument.Answers as reported
+use Rattle.wc_model.specs.Instrument.Answers as line_answers
 use Rattle.wc_laws_instrument.proofs.Requests.{requests_in_byte, open_request_after}
 use Rattle.wc_indicator.specs.Kept.{IndicatorState, RepresentsHistory}
 use Rattle.wc_sma.specs.declared.command.Seen.{Seen}
@@ -43,17 +43,17 @@ completed_after before byte o e = requests_in_byte before byte ∙ completed_lis
 
 -- the command of the request that a byte completes
 pub command_after : (before : List ℕ) (byte : ℕ) (seen : Seen) (command : Command) → Some seen ≡ option_map seen_in (completes byte (open_request before)) →
-    ((text : List ℕ) → seen ≡ seen_in text → command_view command ≡ reported.command_of text) →
-    command_view command ∷ [] ≡ map reported.command_of (requests_in before (byte ∷ []))
+    ((text : List ℕ) → seen ≡ seen_in text → command_view command ≡ line_answers.command_of text) →
+    command_view command ∷ [] ≡ map line_answers.command_of (requests_in before (byte ∷ []))
 command_after before byte seen command was asks =
     let found = seen_text (completes byte (open_request before)) seen was in
-    ap (λ k. k ∷ []) (asks found.0 found.2) ∙ ap (map reported.command_of) (sym (completed_after before byte (Some found.0) found.1))
+    ap (λ k. k ∷ []) (asks found.0 found.2) ∙ ap (map line_answers.command_of) (sym (completed_after before byte (Some found.0) found.1))
 
 -- and none if it completes none
 pub no_command_after : (before : List ℕ) (byte : ℕ) → None ≡ option_map seen_in (completes byte (open_request before)) →
-    [] ≡ map reported.command_of (requests_in before (byte ∷ []))
+    [] ≡ map line_answers.command_of (requests_in before (byte ∷ []))
 no_command_after before byte was =
-    ap (map reported.command_of) (sym (completed_after before byte None (unseen_text (completes byte (open_request before)) was)))
+    ap (map line_answers.command_of) (sym (completed_after before byte None (unseen_text (completes byte (open_request before)) was)))
 
 module _ (line line' : Line) (indicator indicator' : IndicatorState) (taken taken' : Option (List ℕ)) (byte : ℕ) where
   -- what the line sees of a request is carried over a byte
@@ -70,8 +70,8 @@ module _ (line line' : Line) (indicator indicator' : IndicatorState) (taken take
       Feeds line indicator taken line' indicator taken (byte ∷ [])
   feeds_without now works was = record {
     represents = still_represents now works;
-    acts = λ before p history s st. subst (λ r. RepresentsHistory indicator p (reported.after_requests r history)) (sym (none before s)) st;
-    answers = λ before p history s st. subst (λ r. Appends taken taken (reported.answers_to p r history)) (sym (none before s)) (Appends-nil taken);
+    acts = λ before p history s st. subst (λ r. RepresentsHistory indicator p (line_answers.after_requests r history)) (sym (none before s)) st;
+    answers = λ before p history s st. subst (λ r. Appends taken taken (line_answers.answers_to p r history)) (sym (none before s)) (Appends-nil taken);
   }
     where
       none : (before : List ℕ) → RepresentsBytes line before → requests_in before (byte ∷ []) ≡ []
@@ -79,8 +79,8 @@ module _ (line line' : Line) (indicator indicator' : IndicatorState) (taken take
 
   module _ (seen : Seen) (command : Command)
       (was : (text : Option (List ℕ)) → line.started ≡ option_map seen_in text → Some seen ≡ option_map seen_in (completes byte text))
-      (asks : (text : List ℕ) → seen ≡ seen_in text → command_view command ≡ reported.command_of text)
-      (acted : (p : PlateData) (history : History) → RepresentsHistory indicator p history → RepresentsHistory indicator' p (reported.after_command (command_view command) history)) where
+      (asks : (text : List ℕ) → seen ≡ seen_in text → command_view command ≡ line_answers.command_of text)
+      (acted : (p : PlateData) (history : History) → RepresentsHistory indicator p history → RepresentsHistory indicator' p (line_answers.after_command (command_view command) history)) where
     -- the text of the request that is completed
     found : (before : List ℕ) → RepresentsBytes line before →
         (text : List ℕ) × (completes byte (open_request before) ≡ Some text) × (seen ≡ seen_in text)
@@ -92,27 +92,27 @@ module _ (line line' : Line) (indicator indicator' : IndicatorState) (taken take
 
     -- what it asks is acted on
     acts_on : (before : List ℕ) (p : PlateData) (history : History) (s : RepresentsBytes line before) → RepresentsHistory indicator p history →
-        RepresentsHistory indicator' p (reported.after_command (reported.command_of (found before s).0) history)
+        RepresentsHistory indicator' p (line_answers.after_command (line_answers.command_of (found before s).0) history)
     acts_on before p history s st =
-        subst (λ k. RepresentsHistory indicator' p (reported.after_command k history)) (asks (found before s).0 (found before s).2) (acted p history st)
+        subst (λ k. RepresentsHistory indicator' p (line_answers.after_command k history)) (asks (found before s).0 (found before s).2) (acted p history st)
 
     -- a byte that completes a request, if its answer is written in full
     pub feeds_with : Carries → line'.failed ≡ false →
-        ((p : PlateData) (history : History) → RepresentsHistory indicator p history → Appends taken taken' (reported.answer_to p (command_view command) history)) →
+        ((p : PlateData) (history : History) → RepresentsHistory indicator p history → Appends taken taken' (line_answers.answer_to p (command_view command) history)) →
         Feeds line indicator taken line' indicator' taken' (byte ∷ [])
     feeds_with now works whole = record {
       represents = still_represents now works;
       acts = λ before p history s st.
-          subst (λ r. RepresentsHistory indicator' p (reported.after_requests r history)) (sym (one before s)) (acts_on before p history s st);
+          subst (λ r. RepresentsHistory indicator' p (line_answers.after_requests r history)) (sym (one before s)) (acts_on before p history s st);
       answers = λ before p history s st.
-          subst (λ r. Appends taken taken' (reported.answers_to p r history)) (sym (one before s))
-          (subst (λ t. Appends taken taken' t) (sym (append-nil (reported.answer_to p (reported.command_of (found before s).0) history)))
-          (subst (λ k. Appends taken taken' (reported.answer_to p k history)) (asks (found before s).0 (found before s).2) (whole p history st)));
+          subst (λ r. Appends taken taken' (line_answers.answers_to p r history)) (sym (one before s))
+          (subst (λ t. Appends taken taken' t) (sym (append-nil (line_answers.answer_to p (line_answers.command_of (found before s).0) history)))
+          (subst (λ k. Appends taken taken' (line_answers.answer_to p k history)) (asks (found before s).0 (found before s).2) (whole p history st)));
     }
 
     -- and if it is not
     pub fails_with : line'.failed ≡ true →
-        ((p : PlateData) (history : History) → RepresentsHistory indicator p history → TakesPrefix taken taken' (reported.answer_to p (command_view command) history)) →
+        ((p : PlateData) (history : History) → RepresentsHistory indicator p history → TakesPrefix taken taken' (line_answers.answer_to p (command_view command) history)) →
         Fails line indicator taken line' indicator' taken' (byte ∷ [])
     fails_with failed part = record {
       failed = failed;
@@ -124,7 +124,7 @@ module _ (line line' : Line) (indicator indicator' : IndicatorState) (taken take
         acts = acts_on before p history s st;
         written = (part p history st).prefix;
         unwritten = (part p history st).rest;
-        in_parts = ap (λ k. reported.answer_to p k history) (sym (asks (found before s).0 (found before s).2)) ∙ (part p history st).cut;
+        in_parts = ap (λ k. line_answers.answer_to p k history) (sym (asks (found before s).0 (found before s).2)) ∙ (part p history st).cut;
         short = (part p history st).short;
         answers = (part p history st).taken;
       };

@@ -1,6 +1,6 @@
 -- The letters of an answer's fields, and what each says. The letters are those of the definition of the line's answers.
 use Rattle.std.specs.Prelude.{◌≡◌, ℕ, Bool, true, false, List, [], ◌∷◌}
-use Rattle.wc_model.specs.Instrument.Answers as reported
+use Rattle.wc_model.specs.Instrument.Answers as answers
 use Rattle.wc_model.specs.Instrument.Indication.{has_sample, is_centre_of_zero, is_over, is_stable, is_tare_active, is_under, is_valid}
 use Rattle.wc_model.specs.Instrument.Plates.{PlateData, IsPlate, grams, kilograms, tonnes}
 use Rattle.wc_model.specs.Instrument.WeighingHistories.{History}
@@ -39,35 +39,35 @@ unit_letters Kilogram = kilograms
 unit_letters Tonne = tonnes
 
 -- what a status says: that the command was refused, or else how the scale is
-abbrev pub IsStatus : PlateData → History → reported.Asked → Status → Type 0
-IsStatus p history asked Normal = (asked ≡ reported.Plain) × (is_valid p history ≡ true) × (is_centre_of_zero p history ≡ false)
-IsStatus p history asked CentreOfZero = (asked ≡ reported.Plain) × (is_valid p history ≡ true) × (is_centre_of_zero p history ≡ true)
-IsStatus p history asked Over = (asked ≡ reported.Plain) × (is_over p history ≡ true)
-IsStatus p history asked Under = (asked ≡ reported.Plain) × (is_under p history ≡ true)
-IsStatus p history asked NoSample = (asked ≡ reported.Plain) × (has_sample history ≡ false)
-IsStatus p history asked ZeroRefused = asked ≡ reported.ZeroRefused
-IsStatus p history asked TareRefused = asked ≡ reported.TareRefused
+abbrev pub IsStatus : PlateData → History → answers.Asked → Status → Type 0
+IsStatus p history asked Normal = (asked ≡ answers.Plain) × (is_valid p history ≡ true) × (is_centre_of_zero p history ≡ false)
+IsStatus p history asked CentreOfZero = (asked ≡ answers.Plain) × (is_valid p history ≡ true) × (is_centre_of_zero p history ≡ true)
+IsStatus p history asked Over = (asked ≡ answers.Plain) × (is_over p history ≡ true)
+IsStatus p history asked Under = (asked ≡ answers.Plain) × (is_under p history ≡ true)
+IsStatus p history asked NoSample = (asked ≡ answers.Plain) × (has_sample history ≡ false)
+IsStatus p history asked ZeroRefused = asked ≡ answers.ZeroRefused
+IsStatus p history asked TareRefused = asked ≡ answers.TareRefused
 
 -- what a kind of weight says: the tare was asked for, or else whether a tare is active
-abbrev pub IsKind : PlateData → History → reported.Mode → WeightKind → Type 0
-IsKind p history mode Gross = (mode ≡ reported.Shown) × (is_tare_active p history ≡ false)
-IsKind p history mode Net = (mode ≡ reported.Shown) × (is_tare_active p history ≡ true)
-IsKind p history mode Tare = mode ≡ reported.Tare
+abbrev pub IsKind : PlateData → History → answers.Mode → WeightKind → Type 0
+IsKind p history mode Gross = (mode ≡ answers.Shown) × (is_tare_active p history ≡ false)
+IsKind p history mode Net = (mode ≡ answers.Shown) × (is_tare_active p history ≡ true)
+IsKind p history mode Tare = mode ≡ answers.Tare
 
 -- The letters are just those of the line's answers.
 --     status, kind, motion, unit     in each answer each field has the letter of what is so
 --     each_status, ..                each letter is that of an answer, for some plate and history
 pub record LettersAreAnswers : Type 0 where
-  pub status : (p : PlateData) (history : History) (asked : reported.Asked) →
-      (s : Status) × (reported.status_byte p history asked ≡ status_letter s ∷ []) × IsStatus p history asked s
-  pub kind : (p : PlateData) (history : History) (mode : reported.Mode) →
-      (k : WeightKind) × (reported.mode_byte p history mode ≡ kind_letter k ∷ []) × IsKind p history mode k
-  pub motion : (p : PlateData) (history : History) → reported.motion_byte p history ≡ motion_letter (is_stable p history) ∷ []
+  pub status : (p : PlateData) (history : History) (asked : answers.Asked) →
+      (s : Status) × (answers.status_byte p history asked ≡ status_letter s ∷ []) × IsStatus p history asked s
+  pub kind : (p : PlateData) (history : History) (mode : answers.Mode) →
+      (k : WeightKind) × (answers.mode_byte p history mode ≡ kind_letter k ∷ []) × IsKind p history mode k
+  pub motion : (p : PlateData) (history : History) → answers.motion_byte p history ≡ motion_letter (is_stable p history) ∷ []
   pub unit : (p : PlateData) → IsPlate p → (u : MassUnit) × (p.unit ≡ unit_letters u)
   pub each_status : (s : Status) →
-      (p : PlateData) × (history : History) × (asked : reported.Asked) × IsPlate p × (reported.status_byte p history asked ≡ status_letter s ∷ [])
+      (p : PlateData) × (history : History) × (asked : answers.Asked) × IsPlate p × (answers.status_byte p history asked ≡ status_letter s ∷ [])
   pub each_kind : (k : WeightKind) →
-      (p : PlateData) × (history : History) × (mode : reported.Mode) × IsPlate p × (reported.mode_byte p history mode ≡ kind_letter k ∷ [])
+      (p : PlateData) × (history : History) × (mode : answers.Mode) × IsPlate p × (answers.mode_byte p history mode ≡ kind_letter k ∷ [])
   pub each_motion : (stable : Bool) →
-      (p : PlateData) × (history : History) × IsPlate p × (reported.motion_byte p history ≡ motion_letter stable ∷ [])
+      (p : PlateData) × (history : History) × IsPlate p × (answers.motion_byte p history ≡ motion_letter stable ∷ [])
   pub each_unit : (u : MassUnit) → (p : PlateData) × IsPlate p × (p.unit ≡ unit_letters u)

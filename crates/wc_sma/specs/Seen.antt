@@ -1,7 +1,7 @@
 -- What the line keeps of a request's text so far, and the command of it.
 use Rattle.std.specs.Prelude.{ℕ, List, [], ◌∷◌, ◌==◌, Option, None, if◌then◌else◌}
 use Rattle.wc_model.specs.Instrument.Requests.{carriage_return}
-use Rattle.wc_model.specs.Instrument.Answers as reported
+use Rattle.wc_model.specs.Instrument.Answers as answers
 use Rattle.wc_sma.specs.declared.command.Seen.{Seen}
 use Rattle.wc_sma.specs.declared.command.Seen.TheVariants.{Nothing, One, More}
 use Rattle.wc_sma.specs.declared.command.Command.{Command}
@@ -14,19 +14,19 @@ seen_in (byte ∷ []) = One byte
 seen_in (byte ∷ next ∷ rest) = More
 
 -- the definition's word for a command
-abbrev pub command_view : Command → reported.Command
-command_view AskWeight = reported.AskWeight
-command_view Zero = reported.Zero
-command_view TakeTare = reported.TakeTare
-command_view AskTare = reported.AskTare
-command_view Clear = reported.Clear
-command_view Unknown = reported.Unknown
+abbrev pub command_view : Command → answers.Command
+command_view AskWeight = answers.AskWeight
+command_view Zero = answers.Zero
+command_view TakeTare = answers.TakeTare
+command_view AskTare = answers.AskTare
+command_view Clear = answers.Clear
+command_view Unknown = answers.Unknown
 
 -- the command of a text of which this is known
-abbrev pub asked_by : Seen → reported.Command
-asked_by Nothing = reported.Unknown
-asked_by (One byte) = reported.command_of (byte ∷ [])
-asked_by More = reported.Unknown
+abbrev pub asked_by : Seen → answers.Command
+asked_by Nothing = answers.Unknown
+asked_by (One byte) = answers.command_of (byte ∷ [])
+asked_by More = answers.Unknown
 
 -- the open request, if this byte completes it
 abbrev pub completes : ℕ → Option (List ℕ) → Option (List ℕ)

@@ -1,7 +1,7 @@
 ghost use Rattle.std.specs.Prelude.{◌≡◌, ◌∷◌};
 ghost use Rattle.wc_model.specs.Instrument.Plates.{PlateData};
 ghost use Rattle.wc_model.specs.Instrument.WeighingHistories.{SetZero, SetTare, History};
-ghost use Rattle.wc_model.specs.Instrument.Answers as reported;
+ghost use Rattle.wc_model.specs.Instrument.Answers as answers;
 ghost use Rattle.wc_indicator.specs.Kept.{RepresentsHistory, Reports};
 ghost use Rattle.wc_sma.specs.Asking.{asked_view};
 ghost use Rattle.wc_sma.specs.Seen.{command_view};
@@ -25,7 +25,7 @@ fn set_zero(indicator: &mut Indicator) -> Asked
     ensures represents { (p : PlateData) (history : History)
         → RepresentsHistory indicator.old p history
         → RepresentsHistory indicator.new p (SetZero ∷ history) }
-    ensures asked { Reports reported.asked_zero indicator.old (asked_view result) }
+    ensures asked { Reports answers.asked_zero indicator.old (asked_view result) }
 {
     match indicator.set_zero() {
         Ok(()) => Asked::Plain,
@@ -38,7 +38,7 @@ fn take_tare(indicator: &mut Indicator) -> Asked
     ensures represents { (p : PlateData) (history : History)
         → RepresentsHistory indicator.old p history
         → RepresentsHistory indicator.new p (SetTare ∷ history) }
-    ensures asked { Reports reported.asked_tare indicator.old (asked_view result) }
+    ensures asked { Reports answers.asked_tare indicator.old (asked_view result) }
 {
     match indicator.set_tare() {
         Ok(()) => Asked::Plain,
@@ -50,11 +50,11 @@ fn take_tare(indicator: &mut Indicator) -> Asked
 pub(crate) fn act(command: Command, indicator: &mut Indicator) -> Reply
     ensures represents { (p : PlateData) (history : History)
         → RepresentsHistory indicator.old p history
-        → RepresentsHistory indicator.new p (reported.after_command
+        → RepresentsHistory indicator.new p (answers.after_command
         (command_view command) history) }
     ensures answer { (p : PlateData) (history : History) → RepresentsHistory indicator.old p history
-        → reply_bytes p (reported.after_command (command_view command) history) result
-        ≡ reported.answer_to p (command_view command) history }
+        → reply_bytes p (answers.after_command (command_view command) history) result
+        ≡ answers.answer_to p (command_view command) history }
 {
     match command {
         Command::AskWeight => Reply::Weight(Mode::Shown, Asked::Plain),

@@ -1,5 +1,5 @@
 ghost use Rattle.std.specs.Prelude.{◌∷◌, []};
-ghost use Rattle.wc_model.specs.Instrument.Answers as reported;
+ghost use Rattle.wc_model.specs.Instrument.Answers as answers;
 ghost use Rattle.wc_indicator.specs.Kept.{Reports};
 ghost use Rattle.wc_sma.specs.Asking.{mode_view, asked_view};
 
@@ -28,7 +28,7 @@ pub enum Asked {
 
 /// The status of the scale.
 fn scale_status(indicator: &Indicator) -> u8
-    ensures { Reports reported.scale_status indicator.now (result ∷ []) }
+    ensures { Reports answers.scale_status indicator.now (result ∷ []) }
 {
     if indicator.over() {
         b'O'
@@ -45,7 +45,7 @@ fn scale_status(indicator: &Indicator) -> u8
 
 /// The status of an answer.
 fn status_byte(indicator: &Indicator, asked: Asked) -> u8
-    ensures { Reports (λ p history. reported.status_byte p history (asked_view asked)) indicator.now
+    ensures { Reports (λ p history. answers.status_byte p history (asked_view asked)) indicator.now
         (result ∷ []) }
 {
     match asked {
@@ -57,7 +57,7 @@ fn status_byte(indicator: &Indicator, asked: Asked) -> u8
 
 /// Gross, net or tare.
 fn mode_byte(indicator: &Indicator, mode: Mode) -> u8
-    ensures { Reports (λ p history. reported.mode_byte p history (mode_view mode)) indicator.now
+    ensures { Reports (λ p history. answers.mode_byte p history (mode_view mode)) indicator.now
         (result ∷ []) }
 {
     match mode {
@@ -69,7 +69,7 @@ fn mode_byte(indicator: &Indicator, mode: Mode) -> u8
 
 /// In motion, or not.
 fn motion_byte(indicator: &Indicator) -> u8
-    ensures { Reports reported.motion_byte indicator.now (result ∷ []) }
+    ensures { Reports answers.motion_byte indicator.now (result ∷ []) }
 {
     if indicator.stable() { b' ' } else { b'M' }
 }
@@ -77,7 +77,7 @@ fn motion_byte(indicator: &Indicator) -> u8
 /// The weight that is asked for, if there is an indication.
 fn weight_asked(indicator: &Indicator, mode: Mode) -> Option<i32>
     ensures { Reports
-        (λ p history. reported.weight_asked p history (mode_view mode)) indicator.now result }
+        (λ p history. answers.weight_asked p history (mode_view mode)) indicator.now result }
 {
     match mode {
         Mode::Shown => indicator.shown(),
@@ -90,7 +90,7 @@ fn weight_asked(indicator: &Indicator, mode: Mode) -> Option<i32>
 /// return.
 pub fn answer(indicator: &Indicator, mode: Mode, asked: Asked) -> [u8; 20]
     ensures { Reports
-        (λ p history. reported.answer p history (mode_view mode) (asked_view asked))
+        (λ p history. answers.answer p history (mode_view mode) (asked_view asked))
         indicator.now result }
 {
     let weight = weight_field(

@@ -1,6 +1,6 @@
 ghost use Rattle.std.specs.Prelude.{◌≡◌, ℕ, List, [], ◌∷◌, ◌++◌, Option, option_map};
 ghost use Rattle.wc_model.specs.Instrument.Requests.{opened_by};
-ghost use Rattle.wc_model.specs.Instrument.Answers as reported;
+ghost use Rattle.wc_model.specs.Instrument.Answers as answers;
 ghost use Rattle.wc_sma.specs.Seen.{seen_in, asked_by, command_view};
 
 /// What the line knows of a request's text so far.
@@ -73,7 +73,7 @@ fn command_of_letter(letter: u8) -> Command
 /// The command that a request's text spells.
 pub(crate) fn command_of(seen: Seen) -> Command
     ensures { (text : List ℕ) → seen ≡ seen_in text → command_view result
-        ≡ reported.command_of text }
+        ≡ answers.command_of text }
 {
     match seen {
         Seen::One(letter) => command_of_letter(letter),

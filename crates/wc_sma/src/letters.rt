@@ -1,6 +1,6 @@
 // The fields of an answer, read back from their letters.
 ghost use Rattle.std.specs.Prelude.{◌≡◌, ◌↔◌, Bool, Some, [], ◌∷◌};
-ghost use Rattle.wc_model.specs.Instrument.Answers as reported;
+ghost use Rattle.wc_model.specs.Instrument.Answers as answers;
 ghost use Rattle.wc_sma.specs.Letters.{LettersAreAnswers, kind_letter, motion_letter, status_letter, unit_letters};
 ghost use Rattle.wc_sma.specs.Seen.{command_view};
 ghost use Rattle.wc_sma.specs.declared.command.Command.TheVariants.{Unknown};
@@ -105,7 +105,7 @@ pub fn stable_of_letter(letter: u8) -> Option<bool>
 impl Command {
     /// The letter of the command; `?` for a request that asks for none.
     pub fn letter(self) -> u8
-        ensures command { reported.command_of (result ∷ []) ≡ command_view self }
+        ensures command { answers.command_of (result ∷ []) ≡ command_view self }
         ensures unknown { self ≡ Unknown → result ≡ 63 }
     {
         match self {

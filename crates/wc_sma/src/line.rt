@@ -1,7 +1,7 @@
 ghost use Rattle.std.specs.Prelude.{◌≡◌, ◌⊎◌, ℕ, List, [], ◌∷◌, false, Option, option_map, IfOk, IfErr, IsErr};
 ghost use Rattle.wc_model.specs.Instrument.Plates.{PlateData};
 ghost use Rattle.wc_model.specs.Instrument.WeighingHistories.{History};
-ghost use Rattle.wc_model.specs.Instrument.Answers as reported;
+ghost use Rattle.wc_model.specs.Instrument.Answers as answers;
 ghost use Rattle.std.specs.Io.KnownBytes.{Appends};
 ghost use Rattle.wc_indicator.specs.Kept.{RepresentsHistory};
 ghost use Rattle.wc_sma.specs.Seen.{seen_in, command_view, completes};
@@ -38,17 +38,17 @@ fn serve<W: ByteOut>(
 ) -> Result<(), WriteFault>
     ensures represents { (p : PlateData) (history : History)
         → RepresentsHistory indicator.old p history
-        → RepresentsHistory indicator.new p (reported.after_command
+        → RepresentsHistory indicator.new p (answers.after_command
         (command_view command) history) }
     ensures whole { IfOk result
         (λ done. (p : PlateData) (history : History) → RepresentsHistory indicator.old p history
         → Appends (W.bytes_taken writer.old) (W.bytes_taken writer.new)
-        (reported.answer_to p (command_view command) history)) }
+        (answers.answer_to p (command_view command) history)) }
     ensures steady { IfOk result (λ done. W.failure_count writer.new ≡ W.failure_count writer.old) }
     ensures prefix { IfErr result
         (λ e. (p : PlateData) (history : History) → RepresentsHistory indicator.old p history
         → TakesPrefix (W.bytes_taken writer.old) (W.bytes_taken writer.new)
-        (reported.answer_to p (command_view command) history)) }
+        (answers.answer_to p (command_view command) history)) }
     ensures device { IfErr result
         (λ e. HasFailedSince (W.failure_count writer.old) (W.failure_count writer.new)) }
 {

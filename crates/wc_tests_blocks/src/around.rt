@@ -63,11 +63,11 @@ fn has_kept(kept: Option<&[u8]>, wanted: &[u8]) -> bool {
 fn a_reader_keeps_what_it_reads(rt: HostRuntime) {
     let bytes: &[u8] = b"abc";
     let mut reader = TeeReader::new(rt.alloc(), bytes);
-    let mut capacity = [0_u8; 2];
+    let mut buffer = [0_u8; 2];
     assert!(rt; has_kept(reader.bytes_read(), b""));
-    assert!(rt; moved(reader.read(&mut capacity)) == Some(2));
-    assert!(rt; moved(reader.read(&mut capacity)) == Some(1));
-    assert!(rt; moved(reader.read(&mut capacity)) == Some(0));
+    assert!(rt; moved(reader.read(&mut buffer)) == Some(2));
+    assert!(rt; moved(reader.read(&mut buffer)) == Some(1));
+    assert!(rt; moved(reader.read(&mut buffer)) == Some(0));
     assert!(rt; has_kept(reader.bytes_read(), b"abc"));
     assert!(rt; reader.get_ref().is_empty());
 }
@@ -75,9 +75,9 @@ fn a_reader_keeps_what_it_reads(rt: HostRuntime) {
 #[test]
 fn calls_are_tried_again(rt: HostRuntime) {
     let mut calls = RetryReader::new(Interrupted { left: 3 });
-    let mut capacity = [0_u8; 2];
+    let mut buffer = [0_u8; 2];
     assert!(rt; !is_broken(calls.cause()));
-    assert!(rt; moved(calls.read(&mut capacity)).is_none());
+    assert!(rt; moved(calls.read(&mut buffer)).is_none());
     assert!(rt; is_broken(calls.cause()));
     assert!(rt; moved(calls.write(b"abc")).is_none());
     assert!(rt; is_broken(calls.cause()));
@@ -85,18 +85,18 @@ fn calls_are_tried_again(rt: HostRuntime) {
 
 #[test]
 fn interruptions_have_a_bound(rt: HostRuntime) {
-    let mut capacity = [0_u8; 2];
+    let mut buffer = [0_u8; 2];
     let mut calls = RetryReader::new(Interrupted { left: 16 });
-    assert!(rt; moved(calls.read(&mut capacity)).is_none());
+    assert!(rt; moved(calls.read(&mut buffer)).is_none());
     assert!(rt; is_broken(calls.cause()));
     let mut more_calls = RetryReader::new(Interrupted { left: 17 });
-    assert!(rt; moved(more_calls.read(&mut capacity)).is_none());
+    assert!(rt; moved(more_calls.read(&mut buffer)).is_none());
     assert!(rt; !is_broken(more_calls.cause()));
-    assert!(rt; moved(more_calls.read(&mut capacity)).is_none());
+    assert!(rt; moved(more_calls.read(&mut buffer)).is_none());
     assert!(rt; is_broken(more_calls.cause()));
 }
 
-/// Whether a writer with a buffer of four bytes hands bytes on when it has no more space, and when it is flushed.
+/// Whether a writer with a buffer of four bytes passes bytes on when it has no more space, and when it is flushed.
 fn gathers(alloc: Global) -> Result<bool, AllocError> {
     let mut writer = OutputBuffer::new(alloc, Vec::new(alloc), 4)?;
     let first = moved(writer.write(b"abc")) == Some(3) && writer.get_ref().is_empty();
@@ -130,13 +130,13 @@ fn nothing_is_taken_after_a_failure(rt: HostRuntime) {
 }
 
 #[test]
-fn bytes_are_handed_on(rt: HostRuntime) {
+fn bytes_are_passed_on(rt: HostRuntime) {
     let mut writer = RetryReader::new(Vec::new(rt.alloc()));
     assert!(rt; moved(writer.write(b"abc")) == Some(3));
     assert!(rt; writer.cause().is_none());
     let bytes: &[u8] = b"abc";
     let mut reader = RetryReader::new(bytes);
-    let mut capacity = [0_u8; 2];
-    assert!(rt; moved(reader.read(&mut capacity)) == Some(2));
-    assert!(rt; capacity == *b"ab");
+    let mut buffer = [0_u8; 2];
+    assert!(rt; moved(reader.read(&mut buffer)) == Some(2));
+    assert!(rt; buffer == *b"ab");
 }

@@ -39,8 +39,8 @@ impl Write for Full {
 }
 
 /// The number of bytes a read gives; nothing if it fails.
-fn given<R: ByteIn>(reader: &mut R, capacity: &mut [u8]) -> Option<usize> {
-    match reader.read(capacity) {
+fn given<R: ByteIn>(reader: &mut R, buffer: &mut [u8]) -> Option<usize> {
+    match reader.read(buffer) {
         Ok(count) => Some(count),
         Err(_) => None,
     }
@@ -58,19 +58,19 @@ fn taken<W: ByteOut>(writer: &mut W, chunk: &[u8]) -> Option<usize> {
 fn are_read_and_counted() -> bool {
     let text: &[u8] = b"abc";
     let mut device = Device::new(text);
-    let mut capacity = [0; 2];
-    let first = given(&mut device, &mut capacity) == Some(2) && capacity == [97, 98];
-    let rest = given(&mut device, &mut capacity) == Some(1)
-        && given(&mut device, &mut capacity) == Some(0);
+    let mut buffer = [0; 2];
+    let first = given(&mut device, &mut buffer) == Some(2) && buffer == [97, 98];
+    let rest = given(&mut device, &mut buffer) == Some(1)
+        && given(&mut device, &mut buffer) == Some(0);
     first && rest && device.spent() == 6 && ByteIn::failures(&device) == 0
 }
 
 /// A reader that fails twice has failed twice.
 fn failed_reads_are_reported() -> bool {
     let mut device = Device::new(Broken);
-    let mut capacity = [0; 2];
-    let failed = given(&mut device, &mut capacity).is_none()
-        && given(&mut device, &mut capacity).is_none();
+    let mut buffer = [0; 2];
+    let failed = given(&mut device, &mut buffer).is_none()
+        && given(&mut device, &mut buffer).is_none();
     failed && ByteIn::failures(&device) == 2 && device.spent() == 2
 }
 

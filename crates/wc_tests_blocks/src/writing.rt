@@ -18,9 +18,9 @@ fn is_written(
 
 /// Whether the next read gives this chunk.
 fn gives(reader: &mut FuseIn<'_>, chunk: &[u8]) -> bool {
-    let mut capacity = [0; 2];
-    match reader.read(&mut capacity) {
-        Ok(count) => capacity.get(..count) == Some(chunk),
+    let mut buffer = [0; 2];
+    match reader.read(&mut buffer) {
+        Ok(count) => buffer.get(..count) == Some(chunk),
         Err(_) => false,
     }
 }
@@ -30,8 +30,8 @@ fn gives_its_chunks_and_fails() -> bool {
     let mut reader = FuseIn::new(b"ab", b"xyz", 2, true);
     let first = gives(&mut reader, b"ab") && gives(&mut reader, b"xy") && gives(&mut reader, b"z");
     let second = gives(&mut reader, b"xy") && gives(&mut reader, b"z") && reader.failures() == 0;
-    let mut capacity = [0; 2];
-    let failed = reader.read(&mut capacity).is_err() && reader.read(&mut capacity).is_err();
+    let mut buffer = [0; 2];
+    let failed = reader.read(&mut buffer).is_err() && reader.read(&mut buffer).is_err();
     first && second && failed && reader.failures() == 2 && reader.spent() == 15
 }
 

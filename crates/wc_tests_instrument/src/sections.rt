@@ -25,8 +25,8 @@ fn letters(head: usize, chunk: usize, times: u32, fails: bool) -> Option<FuseIn<
 
 /// The number of bytes a reader still gives.
 fn bytes_after(reader: &mut FuseIn<'_>) -> usize {
-    let mut capacity = [0; 16];
-    match reader.read(&mut capacity) {
+    let mut buffer = [0; 16];
+    match reader.read(&mut buffer) {
         Ok(count) => count,
         Err(_) => 0,
     }

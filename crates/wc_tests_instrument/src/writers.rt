@@ -20,14 +20,14 @@ fn fails_at_the_second_answer(alloc: Global) -> bool {
     let Ok(mut indicator) = at_rest(alloc, 60000) else {
         return false;
     };
-    let mut capacity = [0; 25];
-    let mut device = Device::new(capacity.as_mut_slice());
+    let mut buffer = [0; 25];
+    let mut device = Device::new(buffer.as_mut_slice());
     let mut line = Line::new();
     let first = line.feed(b"\nW\r\nT\r\nC\r", &mut indicator, &mut device) == Err(WriteFault);
     let tared = indicator.tare_active();
     let again = line.feed(b"\nC\r", &mut indicator, &mut device) == Err(WriteFault);
     let failed = first && again && ByteOut::failures(&device) == 1;
-    let written = capacity.as_slice() == b"\n 1G       1.250kg \r\n 1N ".as_slice();
+    let written = buffer.as_slice() == b"\n 1G       1.250kg \r\n 1N ".as_slice();
     failed && written && tared && indicator.tare_active()
 }
 
@@ -36,8 +36,8 @@ fn fails_once_an_answer_comes(alloc: Global) -> bool {
     let Ok(mut indicator) = at_rest(alloc, 60000) else {
         return false;
     };
-    let mut capacity = [0; 0];
-    let mut device = Device::new(capacity.as_mut_slice());
+    let mut buffer = [0; 0];
+    let mut device = Device::new(buffer.as_mut_slice());
     let mut line = Line::new();
     let before = line.feed(b"garbage\nT", &mut indicator, &mut device) == Ok(());
     let not_yet = !indicator.tare_active();

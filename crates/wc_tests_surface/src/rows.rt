@@ -53,9 +53,9 @@ fn devices_count(alloc: Global) -> bool {
     let mut writer = Device::new(Vec::new(alloc));
     let took = writer.write(b"ab");
     let mut reader = Device::new(b"abc".as_slice());
-    let mut capacity = [0; 2];
-    let gave = reader.read(&mut capacity);
-    let right = matches!(took, Ok(2)) && matches!(gave, Ok(2)) && capacity == *b"ab";
+    let mut buffer = [0; 2];
+    let gave = reader.read(&mut buffer);
+    let right = matches!(took, Ok(2)) && matches!(gave, Ok(2)) && buffer == *b"ab";
     right && ByteOut::failures(&writer) == 0 && ByteIn::spent(&reader) == 3
 }
 

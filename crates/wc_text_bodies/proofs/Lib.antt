@@ -1,4 +1,4 @@
 mod Counting
 pub mod LineLists
-mod RaisedIf
+mod FaultIf
 pub mod Openings

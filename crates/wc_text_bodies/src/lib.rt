@@ -14,5 +14,5 @@ pub use bodies::{Body, Opening, add_label, add_shape, add_step, body_start, clos
 pub use declarations::{DeclarationState, SectionPlace, declaration_move};
 pub use line_faults::start_fault;
 pub use open_lines::{open_in, open_on};
-pub use sections::section_started;
+pub use sections::section_of_word;
 pub use started_faults::state_fault;

@@ -30,7 +30,7 @@ fn full_fault(body: &Body, line: u32) -> Option<Fault>
     ensures { (units : List ProgramUnit)
         → result
         ≡ option_map fault_of
-        (moves.raised_if (moves.is_full (position_view units body.now)) faults.TooMany line) }
+        (moves.fault_if (moves.is_full (position_view units body.now)) faults.TooMany line) }
 {
     refused_if(is_full(body), 208, line)
 }
@@ -41,7 +41,7 @@ fn inner_closing_fault<'a>(body: &Body<'a>, opening: &Opening<'a>, line: u32) ->
     ensures { (units : List ProgramUnit) (outer : List positions.Opening)
         → result
         ≡ option_map fault_of
-        (moves.validate_closing (position_view units body.now)
+        (moves.fault_at_closing (position_view units body.now)
         (opening_view opening.now ∷ outer) line) }
 {
     if has_content(opening, &body.done) {
@@ -60,7 +60,7 @@ fn closing_fault(body: &Body, line: u32) -> Option<Fault>
     ensures { (units : List ProgramUnit)
         → result
         ≡ option_map fault_of
-        (moves.validate_closing (position_view units body.now)
+        (moves.fault_at_closing (position_view units body.now)
         (openings_view [] body.now.openings.items) line) }
 {
     match innermost(&body.openings) {
@@ -87,7 +87,7 @@ fn is_operator(token: Token) -> bool
 fn full_operator_fault(token: Token, colon: bool) -> Option<Fault>
     ensures { result
         ≡ option_map fault_of
-        (moves.raised_if (is_some (words.operation_of (symbol_view token.entry)) && not colon)
+        (moves.fault_if (is_some (words.operation_of (symbol_view token.entry)) && not colon)
         faults.TooMany token.entry.line) }
 {
     if colon {
@@ -103,7 +103,7 @@ fn operator_fault(body: &Body, token: Token, colon: bool) -> Option<Fault>
     ensures { (units : List ProgramUnit)
         → result
         ≡ option_map fault_of
-        (moves.validate_operator (position_view units body.now)
+        (moves.fault_at_operator (position_view units body.now)
         (symbol_view token.entry) token.entry.line colon) }
 {
     if is_full(body) {
@@ -150,11 +150,11 @@ fn inner_fault(body: &Body, open_line: u32, token: Token, colon: bool) -> Option
     ensures { (units : List ProgramUnit)
         → result
         ≡ option_map fault_of
-        (moves.raised_or
-        (moves.raised_if
+        (moves.first_fault
+        (moves.fault_if
         (moves.has_name (symbol_view token.entry) (end_word body.now.unit.kind))
         faults.ParenthesisNotPaired open_line)
-        (moves.validate_operator (position_view units body.now)
+        (moves.fault_at_operator (position_view units body.now)
         (symbol_view token.entry) token.entry.line colon)) }
 {
     if is_end_word(token, body.unit.kind) {
@@ -173,15 +173,15 @@ fn label_fault(body: &Body, open_line: u32, token: Token, colon: bool) -> Option
     ensures { (units : List ProgramUnit)
         → result
         ≡ option_map fault_of
-        (moves.raised_or
-        (moves.raised_if
+        (moves.first_fault
+        (moves.fault_if
         (moves.is_identifier (symbol_view token.entry) && colon)
         faults.NotAllowedInParentheses token.entry.line)
-        (moves.raised_or
-        (moves.raised_if
+        (moves.first_fault
+        (moves.fault_if
         (moves.has_name (symbol_view token.entry) (end_word body.now.unit.kind))
         faults.ParenthesisNotPaired open_line)
-        (moves.validate_operator (position_view units body.now)
+        (moves.fault_at_operator (position_view units body.now)
         (symbol_view token.entry) token.entry.line colon))) }
 {
     if begins_label(token, colon) {
@@ -201,7 +201,7 @@ fn inside_fault(body: &Body, open_line: u32, token: Token, colon: bool) -> Optio
         (outer : List positions.Opening) → opening.line ≡ open_line
         → result
         ≡ option_map fault_of
-        (moves.validate_line (position_view units body.now) (opening ∷ outer)
+        (moves.fault_at_line (position_view units body.now) (opening ∷ outer)
         (symbol_view token.entry) token.entry.line colon) }
 {
     if begins_transfer(token) {
@@ -220,7 +220,8 @@ fn line_fault(body: &Body, token: Token, colon: bool) -> Option<Fault>
     ensures { (units : List ProgramUnit)
         → result
         ≡ option_map fault_of
-        (moves.validate_line (position_view units body.now) (openings_view [] body.now.openings.items)
+        (moves.fault_at_line (position_view units body.now)
+        (openings_view [] body.now.openings.items)
         (symbol_view token.entry) token.entry.line colon) }
 {
     match innermost(&body.openings) {
@@ -235,7 +236,7 @@ pub fn start_fault(body: &Body, token: Token, colon: bool) -> Option<Fault>
     ensures { (units : List ProgramUnit)
         → result
         ≡ option_map fault_of
-        (moves.validate (moves.AtLine (position_view units body.now))
+        (moves.fault_at (moves.AtLine (position_view units body.now))
         (symbol_view token.entry) token.entry.line colon) }
 {
     match token.shape {
@@ -250,7 +251,7 @@ pub(crate) fn labelled_fault(body: &Body, token: Token) -> Option<Fault>
     ensures { (units : List ProgramUnit)
         → result
         ≡ option_map fault_of
-        (moves.raised_if
+        (moves.fault_if
         (is_some (words.operation_of (symbol_view token.entry)) && moves.is_full
         (position_view units body.now)) faults.TooMany token.entry.line) }
 {

@@ -20,7 +20,7 @@ use wc_text_lines::{InLine, LineState, Operating, StartedLine};
 fn depth_fault<'a>(openings: &[Opening<'a>], line: u32) -> Option<Fault>
     ensures { result
         ≡ option_map fault_of
-        (moves.raised_if
+        (moves.fault_if
         (nat_le most_depth (length (openings_view [] openings.now))) faults.TooDeep line) }
 {
     refused_if(openings.len() >= MOST_DEPTH, 207, line)
@@ -31,7 +31,7 @@ fn applied_fault(body: &Body, line: u32, token: Token) -> Option<Fault>
     ensures { (units : List ProgramUnit) (label : Option Word) (operator : Operator)
         → result
         ≡ option_map fault_of
-        (moves.validate_on_line (position_view units body.now)
+        (moves.fault_on_line (position_view units body.now)
         (lines.Operated (record { label = label; line = line }) (words.Applies operator))
         (symbol_view token.entry) token.entry.line) }
 {
@@ -51,7 +51,7 @@ fn operated_fault<'a>(
     ensures { (units : List ProgramUnit)
         → result
         ≡ option_map fault_of
-        (moves.validate_on_line (position_view units body.now)
+        (moves.fault_on_line (position_view units body.now)
         (lines.Operated (started_view started.now) (operating_view operating))
         (symbol_view token.entry) token.entry.line) }
 {
@@ -71,7 +71,7 @@ fn in_line_fault<'a>(
     ensures { (units : List ProgramUnit)
         → result
         ≡ option_map fault_of
-        (moves.validate_on_line (position_view units body.now)
+        (moves.fault_on_line (position_view units body.now)
         (in_line_view (started_view started.now) state.now)
         (symbol_view token.entry) token.entry.line) }
 {
@@ -88,7 +88,7 @@ pub fn state_fault<'a>(body: &Body<'a>, line: &LineState<'a>, token: Token<'a>) 
     ensures { (units : List ProgramUnit)
         → result
         ≡ option_map fault_of
-        (moves.validate_on_line (position_view units body.now) (line_state_view line.now)
+        (moves.fault_on_line (position_view units body.now) (line_state_view line.now)
         (symbol_view token.entry) token.entry.line) }
 {
     match line {

@@ -71,11 +71,11 @@ InsideFollows w code start put_by numbers (Done result new trace) =
 InsideFollows w code start put_by numbers (Stuck reason) = Unit {0}
 
 -- if there is space, the result is put by
-pub capacity : (put_by : List ℤ) → length put_by < 8 → nat_lt (length put_by) 8 ≡ true
-capacity put_by l = lt-ltb (length put_by) 8 l
+pub is_shallow : (put_by : List ℤ) → length put_by < 8 → nat_lt (length put_by) 8 ≡ true
+is_shallow put_by l = lt-ltb (length put_by) 8 l
 
 pub opened_by : (put_by numbers : List ℤ) (outer : Value) (inner : Option ℤ) → length put_by < 8 → opens (state_of (Some outer) put_by numbers) inner ≡ goes_on (record { result = inner; put_by = value_number outer ∷ put_by; numbers = numbers })
-opened_by put_by numbers outer inner l = ap (λ (b : Bool). if b then goes_on (record { result = inner; put_by = value_number outer ∷ put_by; numbers = numbers }) else None) (capacity put_by l)
+opened_by put_by numbers outer inner l = ap (λ (b : Bool). if b then goes_on (record { result = inner; put_by = value_number outer ∷ put_by; numbers = numbers }) else None) (is_shallow put_by l)
 
 -- the `)` after lines that are followed
 pub closing_follows : (w : Sides) (opening : Code) (inner : List Code) (number close : ℕ) (operator : Operator) (outer : Value) (start : Option Value) (put_by numbers : List ℤ) → line_runs (flat w) (state_of (Some outer) put_by numbers) opening ≡ goes_on (state_of start (value_number outer ∷ put_by) numbers) → (o : Outcome) → InsideFollows w inner start (value_number outer ∷ put_by) numbers o → OnwardFollows w (opening ∷ inner ++ Close operator ∷ []) put_by (state_of (Some outer) put_by numbers) (closed number operator close outer o)

@@ -11,7 +11,7 @@ pub mod Programs
 pub mod Images
 pub mod Texts
 pub mod Held
-pub mod TeeReader
+pub mod WithinBounds
 pub mod FlatPaths
 pub mod UnitPaths
 pub mod Depths

@@ -4,7 +4,7 @@ use Rattle.std.proofs.lemmas.List.{drop-drop}
 use Rattle.std.specs.Prelude.{◌&&◌, ◌+◌}
 use Rattle.wc_laws_grammar.specs.LineMoves as lines
 use Rattle.wc_laws_grammar.specs.Moves as moves
-use Rattle.wc_laws_grammar.specs.Moves.{State, colon_next, validate, move, validate_line, start_move, section_started, is_full, raised_if, on_line, after_line}
+use Rattle.wc_laws_grammar.specs.Moves.{State, colon_next, fault_at, move, fault_at_line, start_move, section_of_word, is_full, fault_if, on_line, after_line}
 use Rattle.wc_laws_grammar.specs.Words as words
 use Rattle.wc_laws_grammar.specs.Words.{Operation, Operating, Loads, Stores, Applies, found, operations, truths, step_of}
 use Rattle.wc_model.specs.Language.Declarations.{same_name}
@@ -27,7 +27,7 @@ use Rattle.wc_text_lines.specs.Words.{marks_of, operation_view, symbol_view}
 use Rattle.wc_text_lines.specs.declared.operators.Operation.{Operation as CodeOperation}
 
 -- after one token
-pub one_on : (state next : State) (mark : Mark) (following : List Mark) (colon : Bool) → colon_next following false ≡ colon → validate state mark.symbol mark.line colon ≡ None
+pub one_on : (state next : State) (mark : Mark) (following : List Mark) (colon : Bool) → colon_next following false ≡ colon → fault_at state mark.symbol mark.line colon ≡ None
     → move state mark.symbol mark.line colon ≡ Some next → GoesOn state (mark ∷ following) next following
 one_on state next mark following colon c e m = record { same = λ last. at_move state next mark following last colon c (ap (option_map fault_of) (sym e)) (sym m) }
 
@@ -93,20 +93,20 @@ pub operand_is_no_colon : (symbol : Symbol) (line : ℕ) (term : Term) → opera
 operand_is_no_colon = no_colon_in
 
 -- no line is too many if there is space
-capacity : (p : Position) (colon : Bool) (line : ℕ) (o : Option Operation) → is_full p ≡ false → raised_if (is_some o && not colon && is_full p) TooMany line ≡ None
-capacity p true line None full = refl
-capacity p false line None full = refl
-capacity p true line (Some operation) full = refl
-capacity p false line (Some operation) full = rw full refl
+not_full : (p : Position) (colon : Bool) (line : ℕ) (o : Option Operation) → is_full p ≡ false → fault_if (is_some o && not colon && is_full p) TooMany line ≡ None
+not_full p true line None full = refl
+not_full p false line None full = refl
+not_full p true line (Some operation) full = refl
+not_full p false line (Some operation) full = rw full refl
 
 -- nothing is wrong with a word at the start of a line if there is space
-pub word_passes : (p : Position) (bytes : List ℕ) (line : ℕ) → p.openings ≡ [] → is_full p ≡ false → validate (moves.AtLine p) (Identifier bytes) line false ≡ None
+pub word_passes : (p : Position) (bytes : List ℕ) (line : ℕ) → p.openings ≡ [] → is_full p ≡ false → fault_at (moves.AtLine p) (Identifier bytes) line false ≡ None
 word_passes p bytes line opened full =
-    subst (λ os. validate_line p os (Identifier bytes) line false ≡ None) (sym opened) (capacity p false line (found operations (name_of bytes)) full)
+    subst (λ os. fault_at_line p os (Identifier bytes) line false ≡ None) (sym opened) (not_full p false line (found operations (name_of bytes)) full)
 
 -- an operator leads on its line
 pub operator_leads : (p : Position) (bytes : List ℕ) (line : ℕ) (operation : Operation) → p.openings ≡ [] → same_name (name_of bytes) (end_word p.unit.kind) ≡ false
-    → section_started p.done (name_of bytes) ≡ None → found operations (name_of bytes) ≡ Some operation
+    → section_of_word p.done (name_of bytes) ≡ None → found operations (name_of bytes) ≡ Some operation
     → move (moves.AtLine p) (Identifier bytes) line false ≡ Some (on_line p (lines.after_operator None line operation))
 operator_leads p bytes line operation opened unended unsectioned named =
     subst (λ os. start_move p os (Identifier bytes) line false ≡ Some (on_line p (lines.after_operator None line operation))) (sym opened)
@@ -132,7 +132,7 @@ makes_operated operating mark term e = record {
 
 -- a word that is an operator at the start of a line
 pub begins_line : (p : Position) (bytes : List ℕ) (operation : Operation) → p.openings ≡ [] → is_full p ≡ false → same_name (name_of bytes) (end_word p.unit.kind) ≡ false
-    → section_started p.done (name_of bytes) ≡ None → Some operation ≡ found operations (name_of bytes) → Begins p bytes operation
+    → section_of_word p.done (name_of bytes) ≡ None → Some operation ≡ found operations (name_of bytes) → Begins p bytes operation
 begins_line p bytes operation opened full unended unsectioned named = record {
   passes = λ line. word_passes p bytes line opened full;
   leads = λ line. operator_leads p bytes line operation opened unended unsectioned (sym named);
@@ -182,7 +182,7 @@ takes_step p next (first ∷ second ∷ []) other step le end h n = absurd (omeg
 takes_step p next (first ∷ second ∷ third ∷ following) other step le end h n = three_taken p next first second third following step end h n
 
 -- a label is not a line too many
-unasked : (p : Position) (line : ℕ) (o : Option Operation) → raised_if (is_some o && not true && is_full p) TooMany line ≡ None
+unasked : (p : Position) (line : ℕ) (o : Option Operation) → fault_if (is_some o && not true && is_full p) TooMany line ≡ None
 unasked p line None = refl
 unasked p line (Some operation) = refl
 
@@ -192,8 +192,8 @@ label_on : (p : Position) (bytes : List ℕ) (line colon end : ℕ) (following :
     (moves.AtLine (after_line p (lines.LabelAlone (record { line = line; name = name_of bytes })))) following
 label_on p bytes line colon end following opened =
     let word : tree.Word = record { line = line; name = name_of bytes } in
-    let passes : validate (moves.AtLine p) (Identifier bytes) line true ≡ None =
-    subst (λ os. validate_line p os (Identifier bytes) line true ≡ None) (sym opened) (unasked p line (found operations (name_of bytes))) in
+    let passes : fault_at (moves.AtLine p) (Identifier bytes) line true ≡ None =
+    subst (λ os. fault_at_line p os (Identifier bytes) line true ≡ None) (sym opened) (unasked p line (found operations (name_of bytes))) in
     let leads : move (moves.AtLine p) (Identifier bytes) line true ≡ Some (moves.OnLine p (lines.Worded word)) =
     subst (λ os. start_move p os (Identifier bytes) line true ≡ Some (moves.OnLine p (lines.Worded word))) (sym opened) refl in
     record {

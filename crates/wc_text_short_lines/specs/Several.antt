@@ -1,7 +1,7 @@
 -- Tokens that are taken several at a time. (No rule of the language.)
 use Rattle.std.specs.Prelude.{◌≡◌, ℕ, Bool, false, List, ◌∷◌, Option, Some, None}
 use Rattle.wc_laws_grammar.specs.LineMoves.{AtNext, formal_of, StartedLine, Instructs, Listed, Listing, after_operator, with_argument}
-use Rattle.wc_laws_grammar.specs.Moves.{State, AtLine, OnLine, after_line, is_colon, validate, move, on_line}
+use Rattle.wc_laws_grammar.specs.Moves.{State, AtLine, OnLine, after_line, is_colon, fault_at, move, on_line}
 use Rattle.wc_laws_grammar.specs.Words.{Operation, found, truths}
 use Rattle.wc_model.specs.Language.Names.{Name, name_of}
 use Rattle.wc_model.specs.Language.Tree.{Assignment, Call, Step, Term, Constant, Address, Variable}
@@ -17,7 +17,7 @@ pub record GoesOn (state : State) (marks : List Mark) (next : State) (following 
 
 -- At the start of a line, if these bytes are an operator and nothing is wrong with them.
 pub record Begins (p : Position) (bytes : List ℕ) (operation : Operation) : Type 0 where
-  pub passes : (line : ℕ) → validate (AtLine p) (Identifier bytes) line false ≡ None
+  pub passes : (line : ℕ) → fault_at (AtLine p) (Identifier bytes) line false ≡ None
   pub leads : (line : ℕ) → move (AtLine p) (Identifier bytes) line false ≡ Some (on_line p (after_operator None line operation))
 
 -- An operator with the token after it is this instruction if the line ends there.

@@ -17,7 +17,7 @@ use crate::label_lines::take_empty;
 use std::alloc::AllocError;
 use wc_lexer::{Shape, Token};
 use wc_model::{Condition, Operand, Value};
-use wc_text_bodies::{Body, add_step, is_full, section_started};
+use wc_text_bodies::{Body, add_step, is_full, section_of_word};
 use wc_text_lines::{
     Operating, Operation, StartedLine, Step, ends_unit, operation_named, truth, word,
 };
@@ -85,7 +85,7 @@ fn is_plain_start(body: &Body, text: &[u8]) -> bool
     requires { IsCounted body.now }
     ensures opened { IsTrue result → (units : List ProgramUnit)
         → (position_view units body.now).openings ≡ [] }
-    ensures capacity { IsTrue result → (units : List ProgramUnit)
+    ensures not_full { IsTrue result → (units : List ProgramUnit)
         → moves.is_full (position_view units body.now) ≡ false }
     ensures unended { IsTrue result
         → same_name (name_of text.now) (end_word body.now.unit.kind) ≡ false }
@@ -108,7 +108,7 @@ pub(crate) fn operation_at<'a>(body: &Body<'a>, text: &[u8]) -> Option<Operation
     if !is_plain_start(body, text) {
         return None;
     }
-    match section_started(&body.done, text) {
+    match section_of_word(&body.done, text) {
         Some(_) => None,
         None => operation_named(text),
     }

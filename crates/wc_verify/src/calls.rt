@@ -130,7 +130,7 @@ fn validate_each<'a>(
         (first_broken
         (flat_map (argument_checks scope line (members_of scope.before type))
         (positions_of (map assignment_view arguments.now)) ++ rest)) (first_broken rest) result }
-    ensures capacity { IfErr result (λ fault. fault ≡ Fault.Memory → 0 < length arguments.now) }
+    ensures memory { IfErr result (λ fault. fault ≡ Fault.Memory → 0 < length arguments.now) }
 {
     for argument in arguments {
         validate_argument(tables, unit, declared, names, argument, line)?;
@@ -154,7 +154,7 @@ fn validate_arguments<'a>(
         (flat_map (argument_checks scope line (members_of scope.before type))
         (positions_of (map assignment_view arguments.now)) ++ rest)) (first_broken rest) result }
     // With an empty list no memory is taken.
-    ensures capacity { IfErr result (λ fault. fault ≡ Fault.Memory → 0 < length arguments.now) }
+    ensures memory { IfErr result (λ fault. fault ≡ Fault.Memory → 0 < length arguments.now) }
 {
     let mut names = Names::new(alloc);
     validate_each(tables, unit, declared, &mut names, arguments, line)
@@ -200,7 +200,7 @@ pub(crate) fn validate_call<'a>(
         (call_checks scope line condition (name_of instance.now)
         (map assignment_view arguments.now) kind ++ rest)) (first_broken rest) result }
     // With an empty list no memory is taken, so no refusal is reported as out of memory.
-    ensures capacity { IfErr result (λ fault. fault ≡ Fault.Memory → 0 < length arguments.now) }
+    ensures memory { IfErr result (λ fault. fault ≡ Fault.Memory → 0 < length arguments.now) }
 {
     let Some(declared) = type_of(tables, unit, instance) else {
         return Err(refusal(401, line));

@@ -3,7 +3,7 @@ ghost use Rattle.wc_view_columns.specs.Held.{Held, IsStateOf, held_at};
 ghost use Rattle.wc_view_columns.specs.Spans.{span_of};
 ghost use Rattle.wc_view_columns.specs.declared.span.Span.{Span};
 ghost use Rattle.wc_indicator.specs.Kept.{RepresentsHistory, Reports};
-ghost use Rattle.wc_model.specs.Instrument.Indication as reported;
+ghost use Rattle.wc_model.specs.Instrument.Indication as indication;
 ghost use Rattle.wc_model.specs.Instrument.Plates.{PlateData};
 ghost use Rattle.wc_model.specs.Instrument.WeighingHistories.{History};
 
@@ -70,7 +70,8 @@ fn either(one: bool, other: bool) -> bool
 /// The net weight while a tare is active.
 fn net_of(indicator: &Indicator) -> Option<i32>
     ensures { Reports
-        (λ p history. if reported.is_tare_active p history then reported.net p history else None)
+        (λ p history.
+        if indication.is_tare_active p history then indication.net p history else None)
         indicator.now result }
 {
     if indicator.tare_active() {

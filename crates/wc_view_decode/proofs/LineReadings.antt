@@ -15,7 +15,7 @@ use Rattle.wc_view_decode.specs.declared.answer.Answer.{Answer}
 use Rattle.wc_view_decode.specs.declared.answer.Answer.TheVariants.{Weight, NotUnderstood}
 use Rattle.wc_view_decode.specs.declared.answer.Reading.{Reading}
 use Rattle.wc_laws_instrument.proofs.Answers.{IsShort, length_answer, short_weight}
-use Rattle.wc_model.specs.Instrument.Answers as reported
+use Rattle.wc_model.specs.Instrument.Answers as line_answers
 use Rattle.wc_model.specs.Instrument.Indication.{is_stable}
 use Rattle.wc_model.specs.Instrument.Plates.{PlateData, IsPlate}
 use Rattle.wc_model.specs.Instrument.WeighingHistories.{History, SetZero, SetTare, ClearTare}
@@ -46,7 +46,7 @@ spaces_pass zero = refl
 spaces_pass (suc n) = spaces_pass n
 
 -- a minus
-minus_passes : (value : ℤ) → Passes (reported.minus_of value)
+minus_passes : (value : ℤ) → Passes (line_answers.minus_of value)
 minus_passes value = go (is_negative value)
   where
     go : (b : Bool) → Passes (cond b (45 ∷ []) [])
@@ -54,13 +54,13 @@ minus_passes value = go (is_negative value)
     go false = refl
 
 -- the last digits
-last_digits_pass : (count number : ℕ) → Passes (reported.last_digits count number)
+last_digits_pass : (count number : ℕ) → Passes (line_answers.last_digits count number)
 last_digits_pass zero number = refl
 last_digits_pass (suc count) number =
-    both_pass (reported.last_digits count (number / 10)) ((48 + number % 10) ∷ []) (last_digits_pass count (number / 10))
+    both_pass (line_answers.last_digits count (number / 10)) ((48 + number % 10) ∷ []) (last_digits_pass count (number / 10))
     (λ i. digit_passes (48 + number % 10) (omega arith) (omega arith) i && true)
 
-fraction_passes : (decimals number : ℕ) → Passes (reported.fraction_text decimals number)
+fraction_passes : (decimals number : ℕ) → Passes (line_answers.fraction_text decimals number)
 fraction_passes zero number = refl
 fraction_passes (suc decimals) number = last_digits_pass (suc decimals) number
 
@@ -73,28 +73,28 @@ whole_small (suc (suc (suc zero))) number few small = omega arith
 whole_small (suc (suc (suc (suc d)))) number few small = absurd (omega arith)
 
 -- a weight
-weight_passes : (decimals : ℕ) (weight : Option ℤ) → decimals ≤ 3 → IsShort weight → Passes (reported.weight_text decimals weight)
+weight_passes : (decimals : ℕ) (weight : Option ℤ) → decimals ≤ 3 → IsShort weight → Passes (line_answers.weight_text decimals weight)
 weight_passes decimals None few short = refl
 weight_passes decimals (Some value) few short =
     let whole : ℕ = unsigned_abs value / 10 ^ decimals in
-    let text : List ℕ = reported.value_text decimals value in
+    let text : List ℕ = line_answers.value_text decimals value in
     both_pass (replicate (10 - length text) 32) text (spaces_pass (10 - length text))
-    (both_pass (reported.minus_of value ++ decimal whole) (reported.fraction_text decimals (unsigned_abs value))
-    (both_pass (reported.minus_of value) (decimal whole) (minus_passes value)
+    (both_pass (line_answers.minus_of value ++ decimal whole) (line_answers.fraction_text decimals (unsigned_abs value))
+    (both_pass (line_answers.minus_of value) (decimal whole) (minus_passes value)
     (digits_pass (decimal whole) (decimal_is_IsNumeral whole (whole_small decimals (unsigned_abs value) few short)).0.1))
     (fraction_passes decimals (unsigned_abs value)))
 
 -- an answer with a weight
-read_one : (p : PlateData) (history : History) (mode : reported.Mode) (asked : reported.Asked) → IsPlate p
-    → (r : Reading) × IsAnswer (Weight r) × (reported.answer p history mode asked ≡ reading_bytes r) × IsReadingOf p history mode asked r
+read_one : (p : PlateData) (history : History) (mode : line_answers.Mode) (asked : line_answers.Asked) → IsPlate p
+    → (r : Reading) × IsAnswer (Weight r) × (line_answers.answer p history mode asked ≡ reading_bytes r) × IsReadingOf p history mode asked r
 read_one p history mode asked plate =
     let status = letters_are_answers.status p history asked in
     let kind = letters_are_answers.kind p history mode in
     let motion = letters_are_answers.motion p history in
     let unit = letters_are_answers.unit p plate in
-    let weight : List ℕ = reported.weight_text p.decimals (reported.weight_asked p history mode) in
+    let weight : List ℕ = line_answers.weight_text p.decimals (line_answers.weight_asked p history mode) in
     let r : Reading = record { status = status.0; kind = kind.0; is_stable = is_stable p history; weight = weight; unit = unit.0 } in
-    let same : reported.answer p history mode asked ≡ reading_bytes r =
+    let same : line_answers.answer p history mode asked ≡ reading_bytes r =
     λ i. 10 ∷ (status.1 i ++ (49 ∷ []) ++ kind.1 i ++ motion i ++ (32 ∷ []) ++ weight ++ unit.1 i ++ (13 ∷ [])) in
     let size : length weight ≡ 10 =
     omega (
@@ -106,28 +106,28 @@ read_one p history mode asked plate =
       length-append weight (unit_letters unit.0),
     ) in (
       r,
-      (size, weight_passes p.decimals (reported.weight_asked p history mode) plate.few_decimals (short_weight p history mode plate)),
+      (size, weight_passes p.decimals (line_answers.weight_asked p history mode) plate.few_decimals (short_weight p history mode plate)),
       same,
       record { status = status.2; kind = kind.2; motion = refl; weight = refl; unit = unit.1 },
     )
 
 -- the answer to a request
-read_request : (p : PlateData) (command : reported.Command) (history : History) → IsPlate p
-    → (a : Answer) × IsAnswer a × (reported.answer_to p command history ≡ answer_bytes a)
-read_request p reported.AskWeight history plate = let o = read_one p history reported.Shown reported.Plain plate in (Weight o.0, o.1, o.2)
-read_request p reported.Zero history plate = let o = read_one p (SetZero ∷ history) reported.Shown (reported.asked_zero p history) plate in (Weight o.0, o.1, o.2)
-read_request p reported.TakeTare history plate = let o = read_one p (SetTare ∷ history) reported.Shown (reported.asked_tare p history) plate in (Weight o.0, o.1, o.2)
-read_request p reported.AskTare history plate = let o = read_one p history reported.Tare reported.Plain plate in (Weight o.0, o.1, o.2)
-read_request p reported.Clear history plate = let o = read_one p (ClearTare ∷ history) reported.Shown reported.Plain plate in (Weight o.0, o.1, o.2)
-read_request p reported.Unknown history plate = (NotUnderstood, tt, refl)
+read_request : (p : PlateData) (command : line_answers.Command) (history : History) → IsPlate p
+    → (a : Answer) × IsAnswer a × (line_answers.answer_to p command history ≡ answer_bytes a)
+read_request p line_answers.AskWeight history plate = let o = read_one p history line_answers.Shown line_answers.Plain plate in (Weight o.0, o.1, o.2)
+read_request p line_answers.Zero history plate = let o = read_one p (SetZero ∷ history) line_answers.Shown (line_answers.asked_zero p history) plate in (Weight o.0, o.1, o.2)
+read_request p line_answers.TakeTare history plate = let o = read_one p (SetTare ∷ history) line_answers.Shown (line_answers.asked_tare p history) plate in (Weight o.0, o.1, o.2)
+read_request p line_answers.AskTare history plate = let o = read_one p history line_answers.Tare line_answers.Plain plate in (Weight o.0, o.1, o.2)
+read_request p line_answers.Clear history plate = let o = read_one p (ClearTare ∷ history) line_answers.Shown line_answers.Plain plate in (Weight o.0, o.1, o.2)
+read_request p line_answers.Unknown history plate = (NotUnderstood, tt, refl)
 
 -- the answers to requests
 read_all : (p : PlateData) (texts : List (List ℕ)) (history : History) → IsPlate p
-    → (answers : List Answer) × AreAllAnswers answers × AreAnswersTo p texts history answers × (reported.answers_to p texts history ≡ bytes_of_answers answers)
+    → (answers : List Answer) × AreAllAnswers answers × AreAnswersTo p texts history answers × (line_answers.answers_to p texts history ≡ bytes_of_answers answers)
 read_all p [] history plate = ([], tt, tt, refl)
 read_all p (text ∷ texts) history plate =
-    let first = read_request p (reported.command_of text) history plate in
-    let rest = read_all p texts (reported.after_command (reported.command_of text) history) plate in
+    let first = read_request p (line_answers.command_of text) history plate in
+    let rest = read_all p texts (line_answers.after_command (line_answers.command_of text) history) plate in
     (first.0 ∷ rest.0, (first.1, rest.1), (first.2, rest.2), λ i. first.2 i ++ rest.3 i)
 
 pub answers_are_read : AnswersAreRead

@@ -3,7 +3,7 @@ use Rattle.std.proofs.Common.{◌≡◌, ◌<◌, ◌+◌, ℕ, suc, ℤ, List, 
 use Rattle.std.proofs.Math.Seq.{take-suc}
 use Rattle.std.proofs.lemmas.List.{append_assoc, append-nil}
 use Rattle.std.specs.Fmt.{signed_decimal}
-use Rattle.wc_view_decode.specs.Formats.{answer_format, answer_formats, named_words, passed_byte, passed_on}
+use Rattle.wc_view_decode.specs.Formats.{answer_line, answer_lines, named_words, passed_byte, passed_on}
 use Rattle.wc_view_decode.specs.declared.answer.Answer.{Answer}
 use Rattle.wc_view_decode.specs.declared.format.DecodeFormat.{DecodeFormat}
 
@@ -37,18 +37,18 @@ four_put (Ok u) old t1 t2 t3 t4 n1 n2 n3 n4 ws d size e1 e2 e3 e4 = four_words o
 four_put (Err e) old t1 t2 t3 t4 n1 n2 n3 n4 ws d size e1 e2 e3 e4 = tt
 
 -- an answer after others
-answers_after : (format : DecodeFormat) (ms : ℕ) (prefix back : List Answer) → answer_formats format ms (prefix ++ back) ≡ answer_formats format ms prefix ++ answer_formats format ms back
+answers_after : (format : DecodeFormat) (ms : ℕ) (prefix back : List Answer) → answer_lines format ms (prefix ++ back) ≡ answer_lines format ms prefix ++ answer_lines format ms back
 answers_after format ms [] back = refl
 answers_after format ms (a ∷ prefix) back =
-    ap (λ rest. answer_format format ms a ++ rest) (answers_after format ms prefix back)
-    ∙ sym (append_assoc (answer_format format ms a) (answer_formats format ms prefix) (answer_formats format ms back))
+    ap (λ rest. answer_line format ms a ++ rest) (answers_after format ms prefix back)
+    ∙ sym (append_assoc (answer_line format ms a) (answer_lines format ms prefix) (answer_lines format ms back))
 
 pub one_answer_more : (format : DecodeFormat) (ms : ℕ) (answers : List Answer) (n : ℕ) (other : Answer) → n < length answers
-    → answer_formats format ms (take (n + 1) answers) ≡ answer_formats format ms (take n answers) ++ answer_format format ms (get_or answers n other)
+    → answer_lines format ms (take (n + 1) answers) ≡ answer_lines format ms (take n answers) ++ answer_line format ms (get_or answers n other)
 one_answer_more format ms answers n other within =
     let next : n + 1 ≡ suc n = omega arith in
-    rw next (ap (answer_formats format ms) (take-suc answers n other within) ∙ answers_after format ms (take n answers) (get_or answers n other ∷ [])
-    ∙ ap (λ text. answer_formats format ms (take n answers) ++ text) (append-nil (answer_format format ms (get_or answers n other))))
+    rw next (ap (answer_lines format ms) (take-suc answers n other within) ∙ answers_after format ms (take n answers) (get_or answers n other ∷ [])
+    ∙ ap (λ text. answer_lines format ms (take n answers) ++ text) (append-nil (answer_line format ms (get_or answers n other))))
 
 -- bytes that are passed on after others
 pub passed_after : (format : DecodeFormat) (prefix back : List ℕ) → passed_on format (prefix ++ back) ≡ passed_on format prefix ++ passed_on format back

@@ -57,33 +57,33 @@ scan_prefix ms steps outputs =
     codes "S " ++ decimal ms ++ codes "  " ++ decimal steps ++ codes " steps  on:" ++ bits_text outputs.bits
 
 -- the line of a scan
-abbrev pub scan_format : DecodeFormat → ℕ → ℕ → Outputs → List ℕ
-scan_format Text ms steps outputs =
+abbrev pub scan_line : DecodeFormat → ℕ → ℕ → Outputs → List ℕ
+scan_line Text ms steps outputs =
     scan_prefix ms steps outputs ++ named_words (word_names Text) outputs.words ++ (10 ∷ [])
-scan_format Table ms steps outputs =
+scan_line Table ms steps outputs =
     decimal ms ++ codes ",S," ++ decimal steps ++ bits_row outputs.bits ++ named_words (word_names Table) outputs.words
     ++ codes ",\n"
 
 -- the line of an answer
-abbrev pub answer_format : DecodeFormat → ℕ → Answer → List ℕ
-answer_format Text ms answer = codes "L " ++ decimal ms ++ codes "  " ++ answer_text answer ++ (10 ∷ [])
-answer_format Table ms answer = decimal ms ++ codes ",L,,,,,,,,,,,,,,,,,,,,,," ++ (34 ∷ []) ++ answer_text answer ++ (34 ∷ 10 ∷ [])
+abbrev pub answer_line : DecodeFormat → ℕ → Answer → List ℕ
+answer_line Text ms answer = codes "L " ++ decimal ms ++ codes "  " ++ answer_text answer ++ (10 ∷ [])
+answer_line Table ms answer = decimal ms ++ codes ",L,,,,,,,,,,,,,,,,,,,,,," ++ (34 ∷ []) ++ answer_text answer ++ (34 ∷ 10 ∷ [])
 
 -- a line for each answer to a row
-abbrev pub answer_formats : DecodeFormat → ℕ → List Answer → List ℕ
-answer_formats format ms [] = []
-answer_formats format ms (answer ∷ answers) = answer_format format ms answer ++ answer_formats format ms answers
+abbrev pub answer_lines : DecodeFormat → ℕ → List Answer → List ℕ
+answer_lines format ms [] = []
+answer_lines format ms (answer ∷ answers) = answer_line format ms answer ++ answer_lines format ms answers
 
 -- the line of a refusal
-abbrev pub refusal_format : DecodeFormat → ℕ → ℕ → List ℕ
-refusal_format Text number place = refused_text number place
-refusal_format Table number place = codes ",refused,,,,,,,,,,,,,,,,,,,,,," ++ decimal number ++ codes " " ++ decimal place ++ (10 ∷ [])
+abbrev pub refusal_line : DecodeFormat → ℕ → ℕ → List ℕ
+refusal_line Text number place = refused_text number place
+refusal_line Table number place = codes ",refused,,,,,,,,,,,,,,,,,,,,,," ++ decimal number ++ codes " " ++ decimal place ++ (10 ∷ [])
 
 -- what is written for a line of a report
 abbrev pub decoded : DecodeFormat → LineContent → List ℕ
-decoded format (ScanContent ms steps outputs) = scan_format format ms steps outputs
-decoded format (AnswersContent ms answers) = answer_formats format ms answers
-decoded format (RefusalContent number place) = refusal_format format number place
+decoded format (ScanContent ms steps outputs) = scan_line format ms steps outputs
+decoded format (AnswersContent ms answers) = answer_lines format ms answers
+decoded format (RefusalContent number place) = refusal_line format number place
 
 -- the line before all others
 abbrev pub heading : DecodeFormat → List ℕ

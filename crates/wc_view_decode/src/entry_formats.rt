@@ -1,6 +1,6 @@
 ghost use Rattle.std.specs.Prelude.{◌≡◌, ◌++◌, IsOkUnless, OnOk};
 ghost use Rattle.wc_view_decode.specs.Entries.{entry_content};
-ghost use Rattle.wc_view_decode.specs.Formats.{answer_format, answer_formats, decoded, refusal_format, scan_format, scan_prefix};
+ghost use Rattle.wc_view_decode.specs.Formats.{answer_line, answer_lines, decoded, refusal_line, scan_line, scan_prefix};
 
 use crate::answer::Answer;
 use crate::answer_texts::put_answer;
@@ -32,7 +32,7 @@ fn put_one_answer(
     answer: &Answer,
 ) -> Result<(), Fault>
     ensures answer { OnOk result (text.new.items
-        ≡ text.old.items ++ answer_format format ms answer.now) }
+        ≡ text.old.items ++ answer_line format ms answer.now) }
     ensures memory { IsOkUnless result Fault.Memory }
 {
     match format {
@@ -60,7 +60,7 @@ fn put_answers(
     answers: &[Answer],
 ) -> Result<(), Fault>
     ensures answers { OnOk result (text.new.items
-        ≡ text.old.items ++ answer_formats format ms answers.now) }
+        ≡ text.old.items ++ answer_lines format ms answers.now) }
     ensures memory { IsOkUnless result Fault.Memory }
 {
     for answer in answers {
@@ -72,7 +72,7 @@ fn put_answers(
 /// Appends a refusal to a text.
 fn put_refusal(text: &mut Vec<u8>, format: DecodeFormat, row: &RefusalRow) -> Result<(), Fault>
     ensures refusal { OnOk result (text.new.items
-        ≡ text.old.items ++ refusal_format format row.now.number row.now.place) }
+        ≡ text.old.items ++ refusal_line format row.now.number row.now.place) }
     ensures memory { IsOkUnless result Fault.Memory }
 {
     match format {
@@ -88,7 +88,7 @@ fn put_refusal(text: &mut Vec<u8>, format: DecodeFormat, row: &RefusalRow) -> Re
 /// Appends a scan to a text.
 fn put_scan(text: &mut Vec<u8>, format: DecodeFormat, row: &ScanRow) -> Result<(), Fault>
     ensures scan { OnOk result (text.new.items
-        ≡ text.old.items ++ scan_format format row.now.ms row.now.steps.0 row.now.outputs) }
+        ≡ text.old.items ++ scan_line format row.now.ms row.now.steps.0 row.now.outputs) }
     ensures memory { IsOkUnless result Fault.Memory }
 {
     match format {

@@ -18,4 +18,4 @@ has_burnt_in fuse = fuse.left.now ≡ [] → fuse_bytes fuse ≡ []
 
 -- what a writer took
 abbrev pub taken_by : FuseOut → List ℕ
-taken_by fuse = take fuse.taken fuse.capacity.items
+taken_by fuse = take fuse.taken fuse.buffer.items

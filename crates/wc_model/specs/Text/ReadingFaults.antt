@@ -58,7 +58,7 @@ BeginsTransferOrLabel mark following = ((step : Step) × IsTransfer step × IsOp
 abbrev pub BeginsInstruction : Option Word → Mark → List Mark → Type 0
 BeginsInstruction label mark following = ((step : Step) × IsOperatorOf step mark) × ((label ≡ None) → ¬ (ColonFollows following))
 
--- After `before` the fault is found at the token `mark`, which names the line; `behind` are the tokens after it.
+-- After `before` the fault is found at the token `mark`, which names the line; `following` are the tokens after it.
 abbrev pub RaisedAtToken : ReadingFault → (before : List Mark) → Mark → (following : List Mark) → (line : ℕ) → Type 0
 -- no text goes on so
 RaisedAtToken UnexpectedToken before mark following line = ¬ (IsPrefix (before ++ mark ∷ [])) × (line ≡ mark.line)

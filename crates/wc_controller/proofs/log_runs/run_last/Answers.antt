@@ -7,7 +7,7 @@ use Rattle.wc_model.specs.Say.LogFor.{log_for}
 use Rattle.wc_record.specs.Reading.{records_of}
 use Rattle.wc_run.proofs.LeftLines.{run_leaves}
 use Rattle.wc_run.proofs.Lines.{none_reported, writes_report}
-use Rattle.wc_run.specs.Doing.{IsValidated, WritesBy}
+use Rattle.wc_run.specs.Doing.{IsClassified, WritesBy}
 use Rattle.wc_run.specs.Reports.{HoldsScans, last_plan}
 
 pub returns-in-Err-clause-line : goal.returns-in-Err-clause-line
@@ -16,9 +16,9 @@ returns-in-Err-clause-line g c =
     on_each (g.R.ByteIn.bytes_left c.args.reader.now) _
     (λ bytes logic represents.
     let log : LogOf = log_for logic (log_of (records_of bytes)) in
-    run_leaves (Some c.args.last) c.args.plate.now logic log (Err c.not_started.result) taken taken
-    (none_reported (Some c.args.last) c.args.plate.now logic log c.not_started.result taken
-    (subst (λ fault. IsValidated fault c.not_started.result) c.in-Err.ensures.memory c.not_started.ensures.validated)))
+    run_leaves (Some c.args.last) c.args.plate.now logic log (Err c.fault_at_start.result) taken taken
+    (none_reported (Some c.args.last) c.args.plate.now logic log c.fault_at_start.result taken
+    (subst (λ fault. IsClassified fault c.fault_at_start.result) c.in-Err.ensures.memory c.fault_at_start.ensures.classified)))
 
 pub returns-in-Ok-new-clause-reports : goal.returns-in-Ok-new-clause-reports
 returns-in-Ok-new-clause-reports g c =

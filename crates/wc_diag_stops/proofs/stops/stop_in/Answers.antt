@@ -10,7 +10,7 @@ returns-in-Some-clause-stopped c =
     let stop = c.stop_raised.result in
     stops_raised c.args.text.now c.args.tokens.now c.exchange.new.tokens c.exchange-2.new.tokens c.in-Some.raised.fault c.in-Some.raised.expected stop c.requires.short c.requires.cut
     (ap marks_of c.exchange.ensures ∙ exchanged_marks c.args.tokens.now) (c.exchange-2.ensures ∙ (ap (map exchanged) c.exchange.ensures ∙ exchanged_twice c.args.tokens.now))
-    c.in-Some.ensures.stopped c.in-Some.ensures.capacity c.stop_raised.ensures
+    c.in-Some.ensures.stopped c.in-Some.ensures.memory c.stop_raised.ensures
 
 pub returns-in-None-clause-read : goal.returns-in-None-clause-read
 returns-in-None-clause-read c =

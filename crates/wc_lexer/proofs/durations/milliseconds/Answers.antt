@@ -2,12 +2,12 @@ use Rattle.std.proofs.Common.{arith, subst}
 use Rattle.std.proofs.lemmas.Grind.{common_steps}
 use Rattle.wc_lexer.proofs.PartSums.{no_milliseconds}
 use Rattle.wc_lexer.proofs.durations.milliseconds.Goals as goal
-use Rattle.wc_lexer.specs.Parts.{IsSumReported}
+use Rattle.wc_lexer.specs.Parts.{IsParsedSum}
 use Rattle.wc_model.specs.Text.Durations.{are_duration_parts, billionths, duration_parts}
 
 pub returns-in_default : goal.returns-in_default
 returns-in_default c =
-    no_milliseconds c.args.negative (duration_parts c.args.text.now) (subst (IsSumReported (are_duration_parts (duration_parts c.args.text.now)) (billionths (duration_parts c.args.text.now))) c.in_default.is c.all_billionths.ensures)
+    no_milliseconds c.args.negative (duration_parts c.args.text.now) (subst (IsParsedSum (are_duration_parts (duration_parts c.args.text.now)) (billionths (duration_parts c.args.text.now))) c.in_default.is c.all_billionths.ensures)
 
 pub returns-then-sum-eq0 : goal.returns-then-sum-eq0
 returns-then-sum-eq0 c = grind (arith, common_steps)

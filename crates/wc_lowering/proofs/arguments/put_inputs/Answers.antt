@@ -3,7 +3,7 @@ use Rattle.std.proofs.lemmas.List.{drop_all}
 use Rattle.wc_model.specs.Language.Names.{name_of}
 use Rattle.wc_model.specs.Language.Tree.{inputs_of}
 use Rattle.wc_model.specs.Language.Views.{assignment_view}
-use Rattle.wc_lowering.specs.Layable.{ArePassable}
+use Rattle.wc_lowering.specs.Lowerable.{ArePassable}
 use Rattle.wc_lowering.specs.Lowering.{AddsArguments}
 use Rattle.wc_lowering.proofs.Assigned.{asks_in, one_in, none_added, none_in, one_added, passable_from}
 use Rattle.wc_names.proofs.Lists.{from_index}

@@ -3,7 +3,7 @@ use Rattle.wc_model.specs.Language.Names.{name_of}
 use Rattle.wc_model.specs.Language.Scopes.{Scope}
 use Rattle.wc_model.specs.Language.Tree.{inputs_of}
 use Rattle.wc_model.specs.Language.Views.{assignment_view}
-use Rattle.wc_lowering.specs.Layable.{ArePassable}
+use Rattle.wc_lowering.specs.Lowerable.{ArePassable}
 use Rattle.wc_lowering.specs.Lowering.{AddsArguments}
 use Rattle.wc_verify.specs.Seeing.{IsScope}
 use Rattle.wc_lowering.proofs.arguments.put_inputs.Given as goal

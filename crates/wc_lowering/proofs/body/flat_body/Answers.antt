@@ -1,9 +1,9 @@
 use Rattle.std.proofs.Common.{◌≡◌, ◌+◌, ◌-◌, [], drop, length, sym, subst, arith}
 use Rattle.std.proofs.lemmas.List.{drop_all}
 use Rattle.wc_model.specs.Language.Views.{lines_view}
-use Rattle.wc_lowering.specs.Layable.{IsLayable}
+use Rattle.wc_lowering.specs.Lowerable.{IsLowerable}
 use Rattle.wc_lowering.specs.Lowering.{IsKeptFlat}
-use Rattle.wc_lowering.proofs.LabelsLowered.{layable_from, nothing_kept}
+use Rattle.wc_lowering.proofs.LabelsLowered.{lowerable_from, nothing_kept}
 use Rattle.wc_names.proofs.Lists.{from_index}
 use Rattle.wc_lowering.proofs.body.flat_body.Goals as goal
 
@@ -22,7 +22,7 @@ loop-index-preserved c = λ scope is may.
     let i = c.loop-index.index - 1 in
     let next : i + 1 ≡ c.loop-index.index = omega (arith, c.loop-index-test.true) in
     let cut = from_index items i c.in-Some.last.now c.in-Some.ensures.lookup.3.0 c.in-Some.ensures.lookup.1 in
-    let here = subst (λ xs. IsLayable scope (lines_view xs)) cut (layable_from scope i items may) in
+    let here = subst (λ xs. IsLowerable scope (lines_view xs)) cut (lowerable_from scope i items may) in
     let so_far = subst (λ k. IsKeptFlat scope (lines_view (drop k items)) c.loop-index.labels c.loop-index.flat) (sym next) (c.loop-index.invariant scope is may) in
     subst (λ xs. IsKeptFlat scope (lines_view xs) c.put_line.new.labels c.put_line.new.flat) (sym cut) (c.in_ok-put_line.ensures.put scope (lines_view (drop (i + 1) items)) is here so_far)
 

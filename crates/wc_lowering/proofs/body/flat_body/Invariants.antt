@@ -1,7 +1,7 @@
 use Rattle.std.proofs.Common.{drop}
 use Rattle.wc_model.specs.Language.Scopes.{Scope}
 use Rattle.wc_model.specs.Language.Views.{lines_view}
-use Rattle.wc_lowering.specs.Layable.{IsLayable}
+use Rattle.wc_lowering.specs.Lowerable.{IsLowerable}
 use Rattle.wc_lowering.specs.Lowering.{IsKeptFlat}
 use Rattle.wc_verify.specs.Seeing.{IsScope}
 use Rattle.wc_lowering.proofs.body.flat_body.Given as goal
@@ -9,4 +9,4 @@ use Rattle.wc_lowering.proofs.body.flat_body.Given as goal
 -- the lines from the index on are there, and their labels
 abbrev pub invariant-loop-index : goal.invariant-loop-index
 invariant-loop-index l =
-    (scope : Scope) → IsScope l.tables l.unit scope → IsLayable scope (lines_view l.lines) → IsKeptFlat scope (lines_view (drop l.index l.lines)) l.labels l.flat
+    (scope : Scope) → IsScope l.tables l.unit scope → IsLowerable scope (lines_view l.lines) → IsKeptFlat scope (lines_view (drop l.index l.lines)) l.labels l.flat

@@ -2,10 +2,10 @@ use Rattle.std.proofs.Common.{option_map, length, sym, subst}
 use Rattle.wc_model.specs.Language.Views.{word_view}
 use Rattle.wc_verify.proofs.InstrLines.{view_instr, view_none}
 use Rattle.wc_verify.specs.Instructions.{instr_line}
-use Rattle.wc_lowering.specs.Layable.{IsLayable}
+use Rattle.wc_lowering.specs.Lowerable.{IsLowerable}
 use Rattle.wc_lowering.specs.Lowering.{AddsLine, HoldsLabels, IsKeptFlat, KeepsLabel}
 use Rattle.wc_lowering.proofs.Going.{on_ok}
-use Rattle.wc_lowering.proofs.LabelsLowered.{label_kept, layable_put, line_kept}
+use Rattle.wc_lowering.proofs.LabelsLowered.{label_kept, lowerable_put, line_kept}
 use Rattle.wc_verify.proofs.BodyLines.{label_kept as label_instr}
 use Rattle.wc_lowering.proofs.body.put_line.Goals as goal
 use Rattle.wc_lowering.proofs.body.put_line.Goals.{in-Some+in_ok-put_instr, in_default}
@@ -17,7 +17,7 @@ returns-clause-put c = elim c.match-line.branch [
       let label = option_map word_view c.args.line.now.label in
       let line = instr_line w.in-Some.instr label in
       let seen = view_instr c.args.line.now w.in-Some.instr rest w.in-Some.is in
-      let here = layable_put scope line rest (subst (IsLayable scope) seen may) in
+      let here = lowerable_put scope line rest (subst (IsLowerable scope) seen may) in
       let far = w.instr_ahead-skip.ensures rest scope label (subst (HoldsLabels c.args.labels.now rest) (sym w.len.ensures) kept.1) here.0 in
       let keeps_own = subst (λ l. KeepsLabel l (length c.match-line.flat.code) c.args.labels.now c.keep.new.labels) (sym (label_instr w.in-Some.instr label)) (subst (λ n. KeepsLabel label n c.args.labels.now c.keep.new.labels) c.len-2.ensures keeps) in
       subst (λ ls. IsKeptFlat scope ls c.keep.new.labels c.match-line.flat) (sym seen)

@@ -13,7 +13,7 @@ use Rattle.wc_verify.specs.Instructions.{instr_line}
 use Rattle.wc_lowering.proofs.Going.{on_ok}
 use Rattle.wc_names.proofs.Lists.{from_index}
 use Rattle.wc_lowering.proofs.LinesLowered.{as_line, inside_from, inside_put, label_added, line_added, line_anywhere, nested_added, no_lines_added, one_line}
-use Rattle.wc_lowering.specs.Layable.{IsAhead, IsInsideLayable}
+use Rattle.wc_lowering.specs.Lowerable.{IsAhead, IsInsideLowerable}
 use Rattle.wc_lowering.specs.Lowering.{AddsLines}
 use Rattle.wc_lowering.proofs.inside.+inside.Goals as goal
 
@@ -99,7 +99,7 @@ put_inside_line-returns-in-Some-clause-put t c =
     let label = option_map word_view c.args.line.now.label in
     let line = instr_line c.in-Some.instr label in
     let seen = view_instr c.args.line.now c.in-Some.instr rest c.in-Some.is in
-    let here = inside_put scope line rest (subst (IsInsideLayable scope) seen may) in
+    let here = inside_put scope line rest (subst (IsInsideLowerable scope) seen may) in
     subst (λ ls. AddsLines scope ls first c.put_instr.new.flat) (sym seen)
     (line_added scope rest line first c.args.flat.now c.put_instr.new.flat (put scope rest label is (line_anywhere scope (IsAhead rest 0) line here.0)) so_far))
     c.put_instr.ensures.put
@@ -123,7 +123,7 @@ put_inside-loop-index-preserved t c = λ scope is may.
     let i = c.loop-index.index - 1 in
     let next : i + 1 ≡ c.loop-index.index = omega (arith, c.loop-index-test.true) in
     let cut = subst (λ (xs : List Line). drop i xs ≡ c.in-Some.last.now ∷ drop (i + 1) xs) c.deref.ensures.value (from_index c.deref.result.now i c.in-Some.last.now c.in-Some.ensures.lookup.3.0 c.in-Some.ensures.lookup.1) in
-    let here = subst (λ xs. IsInsideLayable scope (lines_view xs)) cut (inside_from scope i items may) in
+    let here = subst (λ xs. IsInsideLowerable scope (lines_view xs)) cut (inside_from scope i items may) in
     let so_far = subst (λ k. AddsLines scope (lines_view (drop k items)) c.args.flat.now c.loop-index.flat) (sym next) (c.loop-index.invariant scope is may) in
     subst (λ xs. AddsLines scope (lines_view xs) c.args.flat.now c.put_inside_line.new.flat) (sym cut)
     (c.in_ok-put_inside_line.ensures.put scope (lines_view (drop (i + 1) items)) c.args.flat.now is here so_far)

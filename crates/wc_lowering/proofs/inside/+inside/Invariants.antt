@@ -1,7 +1,7 @@
 use Rattle.std.proofs.Common.{drop}
 use Rattle.wc_model.specs.Language.Scopes.{Scope}
 use Rattle.wc_model.specs.Language.Views.{lines_view}
-use Rattle.wc_lowering.specs.Layable.{IsInsideLayable}
+use Rattle.wc_lowering.specs.Lowerable.{IsInsideLowerable}
 use Rattle.wc_lowering.specs.Lowering.{AddsLines}
 use Rattle.wc_verify.specs.Seeing.{IsScope}
 use Rattle.wc_lowering.proofs.inside.+inside.Given as goal
@@ -9,4 +9,4 @@ use Rattle.wc_lowering.proofs.inside.+inside.Given as goal
 -- the lines from the index on are there
 abbrev pub invariant-put_inside-loop-index : goal.invariant-put_inside-loop-index
 invariant-put_inside-loop-index l =
-    (scope : Scope) → IsScope l.tables l.unit scope → IsInsideLayable scope (lines_view l.lines.items) → AddsLines scope (lines_view (drop l.index l.lines.items)) l.initial.flat l.flat
+    (scope : Scope) → IsScope l.tables l.unit scope → IsInsideLowerable scope (lines_view l.lines.items) → AddsLines scope (lines_view (drop l.index l.lines.items)) l.initial.flat l.flat

@@ -3,7 +3,7 @@ use Rattle.wc_text_flat.specs.Lowered.{IsOperand, IsPlaceOf, At}
 use Rattle.wc_model.specs.Language.Scopes.{readable_place}
 use Rattle.wc_model.specs.Language.Views.{term_view}
 use Rattle.wc_model.specs.declared.operand.Operand.{Operand as Spelled}
-use Rattle.wc_lowering.specs.Layable.{HasPlace, IsReadable}
+use Rattle.wc_lowering.specs.Lowerable.{HasPlace, IsReadable}
 use Rattle.wc_lowering.proofs.operands.flat_operand.Goals as goal
 
 pub returns-in-Address : goal.returns-in-Address

@@ -32,7 +32,7 @@ returns-in-Elementary t c = λ before u old_before old entry h e o f least there
     let m = meets c.args.old_units.now before u old_before old c.args.number entry name c.in-Some-variable_with.found.row c.in-Some-row.old place o (sym (c.row.ensures o.table old_there (named_rows c.args.old_units.now old_before old o)) ∙ c.in-Some-row.is) in
     let old_case = type_case old_before (type_named old_before m.w.type_name) c.in-Some-row.old.declared m.old_type in
     let case = type_case before (type_named before m.v.type_name) (numbered.Elementary c.in-Elementary.kind) (m.type ∙ ap Some c.in-Elementary.is) in
-    after_is c.in-Some-row.old.first c.plain_within.result c.following.result _ c.following.ensures.some c.following.ensures.none
+    after_is c.in-Some-row.old.first c.plain_within.result c.offset_by.result _ c.offset_by.ensures.some c.offset_by.ensures.none
     (c.plain_within.ensures ∙ plain_kept before (type_named before m.v.type_name) m.v.initial c.in-Elementary.kind (c.args.number - c.in-Some-variable_with.found.row.first) m.inner old_before (type_named old_before m.w.type_name) c.in-Some-row.old.declared m.w.initial case m.represents old_case) m.capacity
     ∙ m.is
 
@@ -45,7 +45,7 @@ returns-in-Standard t c = λ before u old_before old entry h e o f least there.
     let m = meets c.args.old_units.now before u old_before old c.args.number entry name c.in-Some-variable_with.found.row c.in-Some-row.old place o (sym (c.row.ensures o.table old_there (named_rows c.args.old_units.now old_before old o)) ∙ c.in-Some-row.is) in
     let old_case = type_case old_before (type_named old_before m.w.type_name) c.in-Some-row.old.declared m.old_type in
     let case = type_case before (type_named before m.v.type_name) (numbered.Standard c.in-Standard.block) (m.type ∙ ap Some c.in-Standard.is) in
-    after_is c.in-Some-row.old.first c.field_within.result c.following-in-Standard.result _ c.following-in-Standard.ensures.some c.following-in-Standard.ensures.none
+    after_is c.in-Some-row.old.first c.field_within.result c.offset_by-in-Standard.result _ c.offset_by-in-Standard.ensures.some c.offset_by-in-Standard.ensures.none
     (c.field_within.ensures ∙ ap (λ n. field_within c.in-Standard.block n c.in-Some-row.old.declared) c.saturating_sub-inner.ensures ∙ field_kept before (type_named before m.v.type_name) m.v.initial c.in-Standard.block (c.args.number - c.in-Some-variable_with.found.row.first) m.inner old_before (type_named old_before m.w.type_name) c.in-Some-row.old.declared m.w.initial case m.represents old_case) m.capacity
     ∙ m.is
 
@@ -65,7 +65,7 @@ returns-then-block-unit t c = λ before u old_before old entry h e o f least the
     ∙ ap (λ places. slice_get places (c.args.number - c.in-Some-variable_with.found.row.first)) (sym b.places) ∙ m.represents
     in
     let inner = c.kept_number.ensures b.earlier b.unit ob.earlier ob.unit m.inner b.represents b.counted ob.represents ob.counted (let z = b.first in omega (arith, z)) at in
-    after_is c.in-Some-row.old.first c.kept_number.result c.following-then-block-unit.result _ c.following-then-block-unit.ensures.some c.following-then-block-unit.ensures.none
+    after_is c.in-Some-row.old.first c.kept_number.result c.offset_by-then-block-unit.result _ c.offset_by-then-block-unit.ensures.some c.offset_by-then-block-unit.ensures.none
     (inner ∙ block_kept c.args.units.now c.args.old_units.now before old_before (type_named before m.v.type_name) (type_named old_before m.w.type_name) m.v.initial m.w.initial c.in-Block.block c.in-Block-declared.other b ob m.inner.0) m.capacity
     ∙ m.is
 

@@ -33,7 +33,7 @@ number_after-returns-in-Elementary t c = λ before u h name found.
     let row = c.args.row in
     let f = from_row c.args.units.now before u h name ns row found in
     let inner = within_elementary before f.v c.in-Elementary.field-0 ns c.plain_at.result (f.declared ∙ ap Some c.in-Elementary.is) c.plain_at.ensures in
-    after_is row.first c.plain_at.result c.following.result _ c.following.ensures.some c.following.ensures.none inner (has_capacity row.first (own_places before f.v) ns h.table.size f.capacity h.is.small)
+    after_is row.first c.plain_at.result c.offset_by.result _ c.offset_by.ensures.some c.offset_by.ensures.none inner (has_capacity row.first (own_places before f.v) ns h.table.size f.capacity h.is.small)
     ∙ sym f.at_is
 
 pub number_after-returns-in-Standard : goal.number_after-returns-in-Standard
@@ -42,7 +42,7 @@ number_after-returns-in-Standard t c = λ before u h name found.
     let row = c.args.row in
     let f = from_row c.args.units.now before u h name ns row found in
     let inner = within_standard before f.v c.in-Standard.block ns c.field_at.result (f.declared ∙ ap Some c.in-Standard.is) c.field_at.ensures in
-    after_is row.first c.field_at.result c.following-in-Standard.result _ c.following-in-Standard.ensures.some c.following-in-Standard.ensures.none inner (has_capacity row.first (own_places before f.v) ns h.table.size f.capacity h.is.small)
+    after_is row.first c.field_at.result c.offset_by-in-Standard.result _ c.offset_by-in-Standard.ensures.some c.offset_by-in-Standard.ensures.none inner (has_capacity row.first (own_places before f.v) ns h.table.size f.capacity h.is.small)
     ∙ sym f.at_is
 
 pub number_after-returns-in-Block : goal.number_after-returns-in-Block
@@ -52,5 +52,5 @@ number_after-returns-in-Block t c = λ before u h name found.
     let f = from_row c.args.units.now before u h name ns row found in
     let b = within_block c.args.units.now before u h f.v c.in-Block.block ns (f.declared ∙ ap Some c.in-Block.is) in
     let inner = c.number.ensures b.earlier b.unit b.represents b.counted ∙ b.places in
-    after_is row.first c.number.result c.following-in-Block.result _ c.following-in-Block.ensures.some c.following-in-Block.ensures.none inner (has_capacity row.first (own_places before f.v) ns h.table.size f.capacity h.is.small)
+    after_is row.first c.number.result c.offset_by-in-Block.result _ c.offset_by-in-Block.ensures.some c.offset_by-in-Block.ensures.none inner (has_capacity row.first (own_places before f.v) ns h.table.size f.capacity h.is.small)
     ∙ sym f.at_is

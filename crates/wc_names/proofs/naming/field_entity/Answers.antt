@@ -39,7 +39,7 @@ returns-in-Some-member_of c = λ scope h e.
     let own = ap (λ o. position_from (λ e. same_path e.0 (field ∷ [])) 0 (variable_places (block_places scope.before) o f.v.initial)) (sym (type_at_found scope name f.v f.named) ∙ k.1) ∙ same_within scope.before k.0 f.v.initial (field ∷ []) in
     let inner = c.in-Some-member_of.ensures.place scope.before scope.unit k.0 h k.2 ∙ sym own in
     let at =
-    after_is c.in-Some.row.first seen.place c.following.result _ c.following.ensures.some c.following.ensures.none inner (has_capacity c.in-Some.row.first (own_places scope.before f.v) (field ∷ []) h.table.size f.capacity h.is.small)
+    after_is c.in-Some.row.first seen.place c.offset_by.result _ c.offset_by.ensures.some c.offset_by.ensures.none inner (has_capacity c.in-Some.row.first (own_places scope.before f.v) (field ∷ []) h.table.size f.capacity h.is.small)
     ∙ sym f.at_is
     in
     let place = c.place_at.ensures.place ∙ ap (option_map (λ n. record { 0 = n })) (at ∙ sym (frame_path scope (name ∷ field ∷ []))) in

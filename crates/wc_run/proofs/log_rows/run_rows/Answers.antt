@@ -3,7 +3,7 @@ use Rattle.std.proofs.Common.{Ok, Err, ap, sym, subst, ◌∙◌, arith}
 use Rattle.wc_model.specs.Say.LogFor.{log_for}
 use Rattle.wc_run.proofs.RunsOn.{at_end, at_fault, at_row, one_more}
 use Rattle.wc_record.specs.Left.{end_after}
-use Rattle.wc_record.specs.Reported.{at_hand}
+use Rattle.wc_record.specs.Reported.{current_record}
 use Rattle.wc_run.proofs.HandedOn.{propagated}
 use Rattle.wc_run.specs.Faults.{from_log_fault}
 use Rattle.wc_run.specs.Runs.{ReportsRow}
@@ -27,7 +27,7 @@ returns-in_err-run_row-clause-runs g c = λ log has plate logic represents seen.
     (taken c.args.writer.now) (taken now.writer) r c.next_head.new.self c.run_row.new.scale c.run_row.new.observer (taken c.run_row.new.writer)
     c.in-Some.row (Unit {0})
     (rw c.in-Some.is at (c.in_ok-row.ensures.takes r.left r.has_left)) fault
-    (subst (λ p. Does {X = Unit {0}} o.has_seen p plate logic r.past (head_view c.next_head.new.self.capacity.items c.in-Some.row) c.run_row.new.scale c.run_row.new.observer
+    (subst (λ p. Does {X = Unit {0}} o.has_seen p plate logic r.past (head_view c.next_head.new.self.buffer.items c.in-Some.row) c.run_row.new.scale c.run_row.new.observer
     (Err fault) (taken now.writer) (taken c.run_row.new.writer)) now.invariant.plan
     (subst (λ bytes. Does {X = Unit {0}} o.has_seen (o.plan now.observer) plate logic r.past (head_view bytes c.in-Some.row) c.run_row.new.scale c.run_row.new.observer
     (Err fault) (taken now.writer) (taken c.run_row.new.writer)) c.bytes.ensures
@@ -82,12 +82,12 @@ pub returns-in_err-run_row-clause-reported : goal.returns-in_err-run_row-clause-
 returns-in_err-run_row-clause-reported g c = λ records reads.
     let next = rw c.in-Some.is at c.in_ok-row.ensures.row in
     let fault = c.in_err-run_row.field-0.0 in
-    propagated (ReportsRow records (at_hand c.next_head.new.self)) fault c.from_residual-in_err-run_row.result c.from_residual-in_err-run_row.ensures
+    propagated (ReportsRow records (current_record c.next_head.new.self)) fault c.from_residual-in_err-run_row.result c.from_residual-in_err-run_row.ensures
     (reported_at_row g.R.ByteIn.bytes_left c.next_head.new.self records c.in-Some.row.number (c.in_ok-row.ensures.ends ∙ ap (λ given. end_after (Ok given)) c.in-Some.is) next.counted
     (omega (arith, next.number_is)) (c.in_ok-row.ensures.records records (c.loop-row.invariant.reported records reads)) fault c.in_err-run_row.ensures.place)
 
 pub returns-in_err-row-clause-reported : goal.returns-in_err-row-clause-reported
 returns-in_err-row-clause-reported g c = λ records reads.
     let raised = c.in_err-row.field-0.0 in
-    propagated (ReportsRow records (at_hand c.next_head.new.self)) (from_log_fault raised) c.from_residual.result c.from_residual.ensures
+    propagated (ReportsRow records (current_record c.next_head.new.self)) (from_log_fault raised) c.from_residual.result c.from_residual.ensures
     (reported_at_end g.R.ByteIn.bytes_left c.next_head.new.self records raised c.in_err-row.ensures.ends (c.in_err-row.ensures.records records (c.loop-row.invariant.reported records reads)))

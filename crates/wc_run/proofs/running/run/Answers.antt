@@ -4,7 +4,7 @@ use Rattle.wc_model.specs.Run.Log.{LogOf, log_of}
 use Rattle.wc_model.specs.Say.LogFor.{log_for}
 use Rattle.wc_record.specs.Reading.{records_of}
 use Rattle.wc_record.specs.Reported.{fields_reported, records_read}
-use Rattle.wc_run.proofs.RunEnds.{validated_says}
+use Rattle.wc_run.proofs.RunEnds.{classified_says}
 use Rattle.wc_run.proofs.ReportedRows.{reported_still}
 use Rattle.wc_run.proofs.running.run.Goals as goal
 use Rattle.wc_run.specs.Observing.{said_by, text_coming, text_in_all}
@@ -17,9 +17,9 @@ returns-in-Err-clause-writes g c =
     IfSome_then (g.R.ByteIn.bytes_left c.args.reader.now) c.in-Err.ensures.writes
     (λ bytes says plate logic represents seen.
     let log : LogOf = log_for logic (log_of (records_of bytes)) in
-    validated_says (text_in_all plan plate logic log.refusal) (text_coming plan plate logic []) log (taken c.args.writer.now) (taken c.run_to_end.new.writer)
-    c.in-Err.fault c.validated.result c.validated.ensures.validated (says plate logic represents seen))
+    classified_says (text_in_all plan plate logic log.refusal) (text_coming plan plate logic []) log (taken c.args.writer.now) (taken c.run_to_end.new.writer)
+    c.in-Err.fault c.classified.result c.classified.ensures.classified (says plate logic represents seen))
 
 pub returns-in-Err-clause-reported : goal.returns-in-Err-clause-reported
 returns-in-Err-clause-reported g c = IfSome_then (g.R.ByteIn.bytes_left c.args.reader.now) c.in-Err.ensures.reported
-    (λ bytes says. reported_still (records_read bytes) (fields_reported c.run_to_end.new.reported) c.in-Err.fault c.validated.result c.validated.ensures.validated says)
+    (λ bytes says. reported_still (records_read bytes) (fields_reported c.run_to_end.new.reported) c.in-Err.fault c.classified.result c.classified.ensures.classified says)

@@ -2,7 +2,7 @@ use Rattle.std.proofs.Common.{◌≡◌, ap, sym, ◌∙◌, subst, arith, to_z,
 use Rattle.std.proofs.lemmas.Int.{ints}
 use Rattle.std.specs.Prelude.{◌<◌, unsigned_abs, IfSome}
 use Rattle.wc_model.specs.Instrument.Plates.{IsPlate}
-use Rattle.wc_model.specs.Instrument.Answers as reported
+use Rattle.wc_model.specs.Instrument.Answers as answers
 use Rattle.wc_laws_instrument.proofs.Answers.{short_weight, length_unit}
 use Rattle.wc_sma.specs.Asking.{mode_view}
 use Rattle.wc_sma.proofs.Joining.{three_of, parts_joined, short_where_some}
@@ -14,10 +14,10 @@ returns c = λ p history st.
     let asked = c.weight_asked.ensures p history st in
     let short : IfSome c.weight_asked.result (λ value. unsigned_abs value < 10000000) =
     subst (λ w. IfSome w (λ value. unsigned_abs value < 10000000)) (sym asked)
-    (short_where_some (reported.weight_asked p history (mode_view c.args.mode)) (short_weight p history (mode_view c.args.mode) plate)) in
+    (short_where_some (answers.weight_asked p history (mode_view c.args.mode)) (short_weight p history (mode_view c.args.mode) plate)) in
     let decimals : unsigned_abs (to_z w32 (of_z w32 c.decimals.result)) ≡ p.decimals =
     (omega (arith, ints, c.decimals.ensures.decimals, c.decimals.ensures.ranges.few_decimals)) ∙ ap (λ q. q.decimals) (c.plate.ensures p history st) in
-    let weight = c.copy_from_slice.ensures.after ∙ c.weight_field-weight.ensures short ∙ (λ i. reported.weight_text (decimals i) (asked i)) in
+    let weight = c.copy_from_slice.ensures.after ∙ c.weight_field-weight.ensures short ∙ (λ i. answers.weight_text (decimals i) (asked i)) in
     let unit : c.unit.result ≡ p.unit = c.unit.ensures.unit ∙ ap (λ q. q.unit) (c.plate-2.ensures p history st) in
     parts_joined c.status_byte-status.result c.mode_byte-letter.result c.motion_byte-motion.result
     (get_or c.unit.result 0 0) (get_or c.unit.result 1 0) (get_or c.unit.result 2 0) c.copy_from_slice.new.self

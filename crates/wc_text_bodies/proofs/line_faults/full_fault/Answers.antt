@@ -3,7 +3,7 @@ use Rattle.wc_laws_grammar.specs.Moves.{is_full}
 use Rattle.wc_model.specs.Text.ReadingFaults.{TooMany}
 use Rattle.wc_model.specs.declared.fault.Fault.{Fault}
 use Rattle.wc_model.specs.declared.fault.Fault.TheVariants.{Refused}
-use Rattle.wc_text_bodies.proofs.RaisedIf.{reported-raised}
+use Rattle.wc_text_bodies.proofs.FaultIf.{reported-raised}
 use Rattle.wc_text_bodies.specs.BodyViews.{position_view}
 use Rattle.wc_text_bodies.proofs.line_faults.full_fault.Goals as goal
 

@@ -2,7 +2,7 @@ use Rattle.std.proofs.Common.{Bool, None, Option, Some, if◌then◌else◌, is_
 use Rattle.wc_laws_grammar.specs.Words.{operation_of}
 use Rattle.wc_model.specs.declared.fault.Fault.{Fault}
 use Rattle.wc_model.specs.declared.fault.Fault.TheVariants.{Refused}
-use Rattle.wc_text_bodies.proofs.RaisedIf.{label-meets, operator-meets}
+use Rattle.wc_text_bodies.proofs.FaultIf.{label-meets, operator-meets}
 use Rattle.wc_text_lines.specs.Words.{symbol_view}
 use Rattle.wc_text_bodies.proofs.line_faults.full_operator_fault.Goals as goal
 

@@ -1,4 +1,4 @@
-use Rattle.wc_text_flat.proofs.TeeReader.{lowered_code_keeps_within}
+use Rattle.wc_text_flat.proofs.WithinBounds.{lowered_code_keeps_within}
 use Rattle.wc_text_flat.proofs.bounds.lowered_code_keeps_within.Goals as goal
 
 pub returns : goal.returns

@@ -1,5 +1,5 @@
 use Rattle.std.proofs.Common.{◌≡◌, List, None, refl, sym, ap, ◌∙◌}
-use Rattle.wc_laws_grammar.specs.Moves.{section_started}
+use Rattle.wc_laws_grammar.specs.Moves.{section_of_word}
 use Rattle.wc_laws_grammar.specs.Words.{found, operations}
 use Rattle.wc_model.specs.Language.Names.{name_of}
 use Rattle.wc_model.specs.Language.Tree.{ProgramUnit}
@@ -11,8 +11,8 @@ use Rattle.wc_text_short_lines.proofs.body_lines.operation_at.Goals as goal
 
 pub returns-in-None : goal.returns-in-None
 returns-in-None c =
-    let none : section_started (lines_view c.args.body.now.done.items) (name_of c.args.text.now) ≡ None =
-    ap (λ items. section_started (lines_view items) (name_of c.args.text.now)) (sym c.deref.ensures.value) ∙ (sym c.section_started.ensures ∙ c.in-None.is) in
+    let none : section_of_word (lines_view c.args.body.now.done.items) (name_of c.args.text.now) ≡ None =
+    ap (λ items. section_of_word (lines_view items) (name_of c.args.text.now)) (sym c.deref.ensures.value) ∙ (sym c.section_of_word.ensures ∙ c.in-None.is) in
     if_found (λ operation. (units : List ProgramUnit) → Begins (position_view units c.args.body.now) c.args.text.now operation) c.operation_named.result (found operations (name_of c.args.text.now)) c.operation_named.ensures
     (λ operation e units. begins_line (position_view units c.args.body.now) c.args.text.now operation (c.if-not-is_plain_start.ensures.opened refl units)
-    (c.if-not-is_plain_start.ensures.capacity refl units) (c.if-not-is_plain_start.ensures.unended refl) none e)
+    (c.if-not-is_plain_start.ensures.not_full refl units) (c.if-not-is_plain_start.ensures.unended refl) none e)

@@ -7,8 +7,8 @@ returns-in-Ok-true-clause-gives g c =
     λ first before left represents.
     let read = (rw c.in-Ok-true.field-0-test at c.in-Ok-true.ensures.next) left represents.has in
     let keeps = c.in-Ok-true.ensures.keeps in
-    subst (λ l. GivesRecord g.R.ByteIn.bytes_left (first ∷ before) l c.validated.result c.validated.new.self) (sym read.1)
-    (c.validated.ensures.gives first before read.0 (record { has = read.2; number = keeps.number ∙ represents.number; last = keeps.last ∙ represents.last; few = omega (arith, keeps.number, represents.few) }))
+    subst (λ l. GivesRecord g.R.ByteIn.bytes_left (first ∷ before) l c.row_of_record.result c.row_of_record.new.self) (sym read.1)
+    (c.row_of_record.ensures.gives first before read.0 (record { has = read.2; number = keeps.number ∙ represents.number; last = keeps.last ∙ represents.last; few = omega (arith, keeps.number, represents.few) }))
 
 pub returns-in-Ok-false-clause-gives : goal.returns-in-Ok-false-clause-gives
 returns-in-Ok-false-clause-gives g c =

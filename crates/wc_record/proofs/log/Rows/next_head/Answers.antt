@@ -11,28 +11,28 @@ pub returns-in-Some-end_after-clause-takes : goal.returns-in-Some-end_after-clau
 returns-in-Some-end_after-clause-takes g c =
     λ log h.
     let now = not_ended g.R.ByteIn.bytes_left c.args.self.now log c.args.self.now.end c.in-None.is h in
-    rw now.3 (taken g.R.ByteIn.bytes_left now.0 now.1 c.reported_row-answer.result c.reported_row-answer.new.self (Some c.in-Some-end_after.end) (sym c.in-Some-end_after.is ∙ c.end_after.ensures)
-    (c.reported_row-answer.ensures.gives now.0 now.1 now.2))
+    rw now.3 (taken g.R.ByteIn.bytes_left now.0 now.1 c.row_or_cause-answer.result c.row_or_cause-answer.new.self (Some c.in-Some-end_after.end) (sym c.in-Some-end_after.is ∙ c.end_after.ensures)
+    (c.row_or_cause-answer.ensures.gives now.0 now.1 now.2))
 
 pub returns-in_default-clause-takes : goal.returns-in_default-clause-takes
 returns-in_default-clause-takes g c =
     λ log h.
     let now = not_ended g.R.ByteIn.bytes_left c.args.self.now log c.args.self.now.end c.in-None.is h in
-    let none : None ≡ c.reported_row-answer.new.self.end = sym (c.reported_row-answer.ensures.keeps.end ∙ c.in-None.is) in
-    subst (λ (end : Option LogEnd). Takes (head_view (row_bytes c.reported_row-answer.new.self)) g.R.ByteIn.bytes_left log c.reported_row-answer.result (record c.reported_row-answer.new.self { end = end })) none
-    (rw now.3 (taken g.R.ByteIn.bytes_left now.0 now.1 c.reported_row-answer.result c.reported_row-answer.new.self None (sym c.in_default.is ∙ c.end_after.ensures) (c.reported_row-answer.ensures.gives now.0 now.1 now.2)))
+    let none : None ≡ c.row_or_cause-answer.new.self.end = sym (c.row_or_cause-answer.ensures.keeps.end ∙ c.in-None.is) in
+    subst (λ (end : Option LogEnd). Takes (head_view (row_bytes c.row_or_cause-answer.new.self)) g.R.ByteIn.bytes_left log c.row_or_cause-answer.result (record c.row_or_cause-answer.new.self { end = end })) none
+    (rw now.3 (taken g.R.ByteIn.bytes_left now.0 now.1 c.row_or_cause-answer.result c.row_or_cause-answer.new.self None (sym c.in_default.is ∙ c.end_after.ensures) (c.row_or_cause-answer.ensures.gives now.0 now.1 now.2)))
 
 pub returns-in-Some-end_after-clause-records : goal.returns-in-Some-end_after-clause-records
 returns-in-Some-end_after-clause-records g c =
     λ records h.
     let now = reads_still g.R.ByteIn.bytes_left c.args.self.now records c.args.self.now.end c.in-None.is h in
-    rw now.2.all (read_on g.R.ByteIn.bytes_left now.0 now.1 c.reported_row-answer.result c.reported_row-answer.new.self (Some c.in-Some-end_after.end) (sym c.in-Some-end_after.is ∙ c.end_after.ensures)
-    (c.reported_row-answer.ensures.gives now.0 now.1 now.2.represents))
+    rw now.2.all (read_on g.R.ByteIn.bytes_left now.0 now.1 c.row_or_cause-answer.result c.row_or_cause-answer.new.self (Some c.in-Some-end_after.end) (sym c.in-Some-end_after.is ∙ c.end_after.ensures)
+    (c.row_or_cause-answer.ensures.gives now.0 now.1 now.2.represents))
 
 pub returns-in_default-clause-records : goal.returns-in_default-clause-records
 returns-in_default-clause-records g c =
     λ records h.
     let now = reads_still g.R.ByteIn.bytes_left c.args.self.now records c.args.self.now.end c.in-None.is h in
-    let none : None ≡ c.reported_row-answer.new.self.end = sym (c.reported_row-answer.ensures.keeps.end ∙ c.in-None.is) in
-    subst (λ (end : Option LogEnd). Reads g.R.ByteIn.bytes_left (record c.reported_row-answer.new.self { end = end }) records) none
-    (rw now.2.all (read_on g.R.ByteIn.bytes_left now.0 now.1 c.reported_row-answer.result c.reported_row-answer.new.self None (sym c.in_default.is ∙ c.end_after.ensures) (c.reported_row-answer.ensures.gives now.0 now.1 now.2.represents)))
+    let none : None ≡ c.row_or_cause-answer.new.self.end = sym (c.row_or_cause-answer.ensures.keeps.end ∙ c.in-None.is) in
+    subst (λ (end : Option LogEnd). Reads g.R.ByteIn.bytes_left (record c.row_or_cause-answer.new.self { end = end }) records) none
+    (rw now.2.all (read_on g.R.ByteIn.bytes_left now.0 now.1 c.row_or_cause-answer.result c.row_or_cause-answer.new.self None (sym c.in_default.is ∙ c.end_after.ensures) (c.row_or_cause-answer.ensures.gives now.0 now.1 now.2.represents)))
