@@ -43,6 +43,16 @@ fn setting_advice(alloc: Global, text: &[u8], span: &RefusalSpan) -> Result<Stri
     text_with(alloc, Values::Setting(input, instance))
 }
 
+/// What to write for a word that may be a label without its colon, or a misspelled operator.
+fn colon_advice(alloc: Global, word: &[u8]) -> Result<String, AllocError> {
+    let near = operator_advice(alloc, word)?;
+    let label = short_words(word);
+    if !near.is_empty() || label.is_empty() {
+        return Ok(near);
+    }
+    text_with(alloc, Values::LabelColon(label))
+}
+
 /// The likely END_VAR for a word almost like it; empty if the word before is not one.
 fn section_advice(alloc: Global, text: &[u8], span: &RefusalSpan) -> Result<String, AllocError> {
     let word = word_before(text, span.start);
@@ -141,6 +151,7 @@ fn advice_of_token(
     let word = excerpt(text, span.start, span.length);
     match (number, mistake) {
         (201, Case::NoOperator) => operator_advice(alloc, word),
+        (201, Case::LabelWithoutColon) => colon_advice(alloc, word),
         (201, Case::NoUnit) => unit_advice(alloc, word),
         (201, Case::ConditionSpelling) => exchanged_advice(alloc, word),
         (201, Case::InputOperator) => setting_advice(alloc, text, span),

@@ -3,6 +3,7 @@
 #![tactic(auto)]
 
 mod differences;
+mod durations;
 mod excerpts;
 mod mistakes;
 mod slices;

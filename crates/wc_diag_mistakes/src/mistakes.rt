@@ -1,3 +1,4 @@
+use crate::durations::is_long_duration;
 use crate::slices::{excerpt, following, prefix};
 use crate::types::{is_conditional, type_hint};
 use crate::words::{first_word, is_near, word_before};
@@ -211,8 +212,33 @@ fn mistaken_operator(word: &[u8], rest: &[u8]) -> Case {
         _ if is_among(&EXCHANGED, word) => Case::ConditionSpelling,
         _ if is_among(&CONDITIONAL, word) => Case::IfStatement,
         _ if is_among(&STRUCTURED, word) => Case::StructuredText,
-        _ => mistaken_word(word, next),
+        _ => match mistaken_word(word, next) {
+            Case::NoOperator if is_label(rest) => Case::LabelWithoutColon,
+            mistake => mistake,
+        },
     }
+}
+
+/// Whether what follows a word on its line is what may follow a label: nothing, or an operator.
+fn is_label(rest: &[u8]) -> bool {
+    let line = rest.split(|byte| *byte == b'\n').next().unwrap_or(b"").trim_ascii();
+    line.is_empty() || is_operator(first_word(line))
+}
+
+/// Whether a word is an operator.
+fn is_operator(word: &[u8]) -> bool {
+    matches!(
+        keyword_named(word),
+        Some(
+            Keyword::Load(_)
+                | Keyword::Store(_)
+                | Keyword::Apply(_)
+                | Keyword::Not
+                | Keyword::Jump(_)
+                | Keyword::Call(_)
+                | Keyword::Return(_)
+        )
+    )
 }
 
 /// Likewise for a word that no `:` follows.
@@ -399,6 +425,7 @@ fn mistaken_duration(token: &[u8], rest: &[u8], case: Case) -> Case {
     match token.last() {
         Some(b'0'..=b'9' | b'.' | b'_') => Case::MissingUnit,
         Some(b'#') => Case::SpacedDuration,
+        _ if is_long_duration(token) => Case::LongDuration,
         _ => case,
     }
 }

@@ -6,6 +6,7 @@ mod calls;
 mod excerpts;
 mod instances;
 mod kinds;
+mod paths;
 mod result_kind;
 mod spanned_source;
 mod text_spans;

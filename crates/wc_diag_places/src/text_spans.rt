@@ -12,6 +12,7 @@ use crate::excerpts::{
 };
 use crate::instances::{block_in, slice_of};
 use crate::kinds::unfit;
+use crate::paths::paths_to_label;
 use crate::result_kind::{result_after, result_outside};
 use crate::spanned_source::SpannedSource;
 use crate::twice::{case_of_capacity, first_of_two, unit_at};
@@ -260,6 +261,10 @@ fn text_span_of_instruction<'a>(
         return RefusalSpan::new(Fault::Memory, 0, 0);
     };
     let (result, outer) = results_before(spanned_source, tables, unit, tokens, found.case);
+    let paths = match number {
+        403 => paths_to_label(spanned_source, tables, unit, tokens),
+        _ => None,
+    };
     let block = block_in(
         &spanned_source.source,
         unit,
@@ -270,6 +275,7 @@ fn text_span_of_instruction<'a>(
     RefusalSpan {
         result,
         outer,
+        paths,
         block,
         ..text_span_of_found(spanned_source, number, tokens, place, found)
     }

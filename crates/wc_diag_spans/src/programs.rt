@@ -16,9 +16,9 @@ use wc_diag_mistakes::{
     names_operator, names_type, prefix, word_before, words_at,
 };
 use wc_diag_places::{read_by_places, text_span_in};
-use wc_diag_stops::{RefusalSpan, stop_of};
+use wc_diag_stops::{Brought, LabelPaths, PathToLabel, RefusalSpan, stop_of};
 use wc_diag_texts::{Case, Expected, Values, sentence_of, text_with};
-use wc_model::{Fault, is_word};
+use wc_model::{Fault, Kind, is_word};
 
 /// In which way a word does not begin a line, if only a colon could follow it.
 fn case_of_word(word: &[u8]) -> Case {
@@ -116,6 +116,35 @@ fn block_of_input(word: &[u8]) -> &'static str {
     }
 }
 
+/// What a path brings to a label, in words; empty if that is not sure.
+fn words_brought(path: PathToLabel) -> &'static str {
+    match path.brought {
+        Brought::Kind(Kind::Bool) => "a BOOL",
+        Brought::Kind(Kind::Dint) => "a DINT",
+        Brought::Kind(Kind::Time) => "a TIME",
+        Brought::Nothing => "no value",
+        Brought::Unsure => "",
+    }
+}
+
+/// Which paths to a label bring what; empty if that is not sure.
+fn label_text(alloc: Global, paths: Option<LabelPaths>) -> Result<String, AllocError> {
+    let Some(paths) = paths else {
+        return Ok(String::new(alloc));
+    };
+    let (first, brought) = (paths.first.line, words_brought(paths.first));
+    match paths.other {
+        Some(other) => {
+            let different = words_brought(other);
+            text_with(alloc, Values::TwoPaths(first, brought, other.line, different))
+        }
+        None if matches!(paths.first.brought, Brought::Nothing) => {
+            text_with(alloc, Values::EmptyPath(first))
+        }
+        None => Ok(String::new(alloc)),
+    }
+}
+
 /// What is said in place of the sentence, with the available values; empty: nothing.
 fn said_there(
     alloc: Global,
@@ -128,6 +157,7 @@ fn said_there(
     let word = excerpt(text, span.start, span.length);
     match mistake {
         Case::LabelAbove => text_with(alloc, Values::LabelLine(span.first)),
+        Case::AtLabel => label_text(alloc, span.paths),
         Case::InputOperator => text_with(alloc, Values::InputOf(block_of_input(word))),
         Case::StatementAddress => text_with(
             alloc,

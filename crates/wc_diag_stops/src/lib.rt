@@ -10,5 +10,5 @@ mod stops;
 
 pub use listing::the_list_is_exact;
 pub use places::exchange;
-pub use span::{RefusalSpan, ResultKind, Slice};
+pub use span::{Brought, LabelPaths, PathToLabel, RefusalSpan, ResultKind, Slice};
 pub use stops::stop_of;

@@ -12,6 +12,35 @@ pub struct ResultKind {
     pub line: u32,
 }
 
+/// What a path brings to a label.
+#[derive(Clone, Copy)]
+pub enum Brought {
+    /// A result of this kind.
+    Kind(Kind),
+    /// No result.
+    Nothing,
+    /// That is not sure, since the path comes from another label.
+    Unsure,
+}
+
+/// A path to a label.
+#[derive(Clone, Copy)]
+pub struct PathToLabel {
+    /// The line of the instruction from which it comes, counted from 1.
+    pub line: u32,
+    /// What it brings.
+    pub brought: Brought,
+}
+
+/// Two paths to a label that bring different results, or one that brings none.
+#[derive(Clone, Copy)]
+pub struct LabelPaths {
+    /// The first path to the label.
+    pub first: PathToLabel,
+    /// The first below it that brings something else, if there is one.
+    pub other: Option<PathToLabel>,
+}
+
 /// Bytes of a text.
 #[derive(Clone, Copy)]
 pub struct Slice {
@@ -42,6 +71,8 @@ pub struct RefusalSpan {
     pub result: Option<ResultKind>,
     /// Likewise for the result before the parenthesis that the slice closes.
     pub outer: Option<ResultKind>,
+    /// The paths to the label at which no result is defined, as far as they are known.
+    pub paths: Option<LabelPaths>,
     /// The name of the offending input or output of a call, or of the one with the offending value.
     pub formal: Option<Slice>,
     /// Whether that is passed to the block, and not read.
@@ -64,6 +95,7 @@ impl RefusalSpan {
           first = 0;
           result = None;
           outer = None;
+          paths = None;
           formal = None;
           is_passed = false;
           block = None;
@@ -79,6 +111,7 @@ impl RefusalSpan {
             first: 0,
             result: None,
             outer: None,
+            paths: None,
             formal: None,
             is_passed: false,
             block: None,

@@ -115,6 +115,8 @@ pub enum Case {
     LiteralTarget,
     OutputTarget,
     AtLabel,
+    LabelWithoutColon,
+    LongDuration,
     TypedNumber,
     TypedTruth,
     SpacedDuration,

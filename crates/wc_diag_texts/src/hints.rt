@@ -52,6 +52,7 @@ fn token_hint(number: u16, case: Case) -> Option<&'static str> {
         105, Case::WithPoint => "weights are whole numbers of the last decimal: at 3 decimals 1.5 kg is 1500";
         106, Case::DecimalComma => "write a decimal point instead of the comma, such as T#1.5s";
         106, Case::MissingUnit => "a duration has a unit after its number, such as T#1s or T#500ms";
+        106, Case::LongDuration => "durations are T#-24d20h31m23s648ms to T#24d20h31m23s647ms";
         106, Case::SpacedDuration => "write the number right after T#, without a space, such as T#5s";
     }
 }
@@ -63,6 +64,7 @@ fn reading_hint(number: u16, case: Case) -> Option<&'static str> {
         201, Case::SectionWord => "declarations go between VAR and END_VAR, before the first instruction";
         201, Case::UnitEnd => "a PROGRAM ends with END_PROGRAM, a FUNCTION_BLOCK with END_FUNCTION_BLOCK";
         201, Case::NoOperator => "operators: LD ST AND OR XOR (with N: LDN) S R NOT ADD SUB MUL DIV MOD GT GE EQ NE LE LT JMP CAL RET";
+        201, Case::LabelWithoutColon => "a label ends with a colon, such as skip:";
         201, Case::AfterProgram => "nothing is allowed after the END_PROGRAM of the program";
         201, Case::NoAddress => "an address begins with `%`, such as %IX0.0";
         201, Case::Closing => "the `)` needs a line of its own";

@@ -19,6 +19,12 @@ pub enum Values<'a> {
     NearEnd(&'a str, u32),
     /// A word and a number, of which another tool makes an address.
     ForeignAddress(&'a str, &'a str),
+    /// The line of a path to a label and what it brings, and likewise for another.
+    TwoPaths(u32, &'a str, u32, &'a str),
+    /// The line of a path that brings nothing to a label.
+    EmptyPath(u32),
+    /// A word that may be a label.
+    LabelColon(&'a str),
     /// The block whose input is used as an operator.
     InputOf(&'a str),
     /// An input, and the instance whose it is.
@@ -55,6 +61,17 @@ pub fn text_with(alloc: Global, values: Values<'_>) -> Result<String, AllocError
         }
         Values::ForeignAddress(word, number) => {
             format!(in alloc; "is not a number, and `{word} {number}` is not an address")
+        }
+        Values::TwoPaths(first, brought, other, different) => {
+            format!(in alloc;
+                "the current result is undefined: line {first} brings {brought} to this label, line {other} brings {different}"
+            )
+        }
+        Values::EmptyPath(line) => {
+            format!(in alloc; "the current result is undefined: line {line} brings no value to this label")
+        }
+        Values::LabelColon(word) => {
+            format!(in alloc; "a label ends with a colon: write `{word}:` if `{word}` is one")
         }
         Values::InputOf(block) => format!(in alloc; "is an input of {block}, not an operator"),
         Values::Setting(input, instance) => {

@@ -18,7 +18,7 @@ pub enum ReadFault {
     #[error("read fault")]
     Read,
     /// Memory is refused.
-    #[error("want of memory")]
+    #[error("out of memory")]
     Memory,
 }
 

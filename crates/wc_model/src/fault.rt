@@ -12,6 +12,6 @@ pub enum Fault {
         place: u32,
     },
     /// An allocation was refused: out of memory.
-    #[error("want of memory")]
+    #[error("out of memory")]
     Memory,
 }

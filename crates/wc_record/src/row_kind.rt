@@ -41,6 +41,6 @@ pub enum LogFault {
     #[error("read fault")]
     Read,
     /// Memory was refused.
-    #[error("want of memory")]
+    #[error("out of memory")]
     Memory,
 }

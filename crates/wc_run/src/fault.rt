@@ -21,7 +21,7 @@ pub enum RunFault {
     #[error("write fault")]
     Write,
     /// Memory was refused.
-    #[error("want of memory")]
+    #[error("out of memory")]
     Memory,
 }
 

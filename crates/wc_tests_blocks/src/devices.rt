@@ -114,7 +114,7 @@ fn faults_say_what_they_are(rt: HostRuntime) {
         place: 6,
     };
     assert!(rt; says(rt.alloc(), refused, "refused 403 6"));
-    assert!(rt; says(rt.alloc(), Fault::Memory, "want of memory"));
+    assert!(rt; says(rt.alloc(), Fault::Memory, "out of memory"));
     assert!(rt; write_fault_says(rt.alloc(), "write fault"));
 }
 

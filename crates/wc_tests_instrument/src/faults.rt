@@ -21,10 +21,10 @@ fn faults_say_what_they_are(rt: HostRuntime) {
     };
     assert!(rt; says(rt.alloc(), &refused, "refused 603 4"));
     assert!(rt; says(rt.alloc(), &LogFault::Read, "read fault"));
-    assert!(rt; says(rt.alloc(), &LogFault::Memory, "want of memory"));
+    assert!(rt; says(rt.alloc(), &LogFault::Memory, "out of memory"));
     assert!(rt; says(rt.alloc(), &Refused::Motion, "in motion"));
     assert!(rt; says(rt.alloc(), &Refused::Range, "out of range"));
     assert!(rt; says(rt.alloc(), &ReadFault::TooLong, "more than 1048576 bytes"));
     assert!(rt; says(rt.alloc(), &ReadFault::Read, "read fault"));
-    assert!(rt; says(rt.alloc(), &ReadFault::Memory, "want of memory"));
+    assert!(rt; says(rt.alloc(), &ReadFault::Memory, "out of memory"));
 }

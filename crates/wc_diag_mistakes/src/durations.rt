@@ -1,0 +1,74 @@
+use crate::slices::{following, prefix};
+use memchr::memchr;
+use wc_model::is_word;
+
+/// The milliseconds of a unit of time; 0 if it is none.
+fn milliseconds_of(unit: &[u8]) -> u64 {
+    if is_word(b"d", unit) {
+        86_400_000
+    } else if is_word(b"h", unit) {
+        3_600_000
+    } else if is_word(b"m", unit) {
+        60_000
+    } else if is_word(b"s", unit) {
+        1_000
+    } else {
+        u64::from(is_word(b"ms", unit))
+    }
+}
+
+/// The number that the digits of a text are, underscores apart; the greatest if it is above that.
+fn number_of(digits: &[u8]) -> u64 {
+    let mut number = 0_u64;
+    for byte in digits {
+        if byte.is_ascii_digit() {
+            number = number.saturating_mul(10).saturating_add(u64::from(*byte - b'0'));
+        }
+    }
+    number
+}
+
+/// The number of bytes at the start of a text up to the first that is a letter, or is none.
+fn length_until(text: &[u8], letter: bool) -> usize {
+    for count in 0..text.len() {
+        if text[count].is_ascii_alphabetic() == letter {
+            return count;
+        }
+    }
+    text.len()
+}
+
+/// The milliseconds of the first number of a duration with its unit, without a fraction, and what comes after them.
+fn first_part(text: &[u8]) -> (u64, &[u8]) {
+    let number = prefix(text, length_until(text, true));
+    let letters = following(text, number.len());
+    let unit = prefix(letters, length_until(letters, false));
+    let whole = number.split(|byte| *byte == b'.').next().unwrap_or(b"");
+    let milliseconds = number_of(whole).saturating_mul(milliseconds_of(unit));
+    (milliseconds, following(letters, unit.len()))
+}
+
+/// What follows the `#` of a literal.
+fn after_prefix(token: &[u8]) -> &[u8] {
+    match memchr(b'#', token) {
+        Some(place) => following(token, place.saturating_add(1)),
+        None => b"",
+    }
+}
+
+/// Whether the numbers of a duration with their units are more than a TIME holds.
+pub(crate) fn is_long_duration(token: &[u8]) -> bool {
+    let mut rest = after_prefix(token);
+    let most = if rest.starts_with(b"-") {
+        2_147_483_648
+    } else {
+        2_147_483_647
+    };
+    let mut total = 0_u64;
+    for _ in 0..token.len() {
+        let (milliseconds, after) = first_part(rest);
+        total = total.saturating_add(milliseconds);
+        rest = after;
+    }
+    total > most
+}
