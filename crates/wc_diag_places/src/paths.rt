@@ -8,6 +8,7 @@ use wc_names::Tables;
 use wc_text_lines::{Operation, operation_of};
 
 /// A body above a label, with what is known of its names.
+#[derive(Clone, Copy)]
 struct Above<'a, 't> {
     tables: &'t Tables<'a>,
     unit: usize,
