@@ -70,8 +70,8 @@ halves (high ∷ low ∷ rest) bytes e = by_parts (byte_of_digits high low) (byt
         rw (← same) (omega arith)
 
 -- what decoding into a buffer of its size gives
-sized_same : (text : List ℕ) → ok_of (decode_sized text (length text / 2)) ≡ bytes_of_hex text
-sized_same text = by_length (length text % 2 == 1) refl
+buffer_same : (text : List ℕ) → ok_of (decode_sized text (length text / 2)) ≡ bytes_of_hex text
+buffer_same text = by_length (length text % 2 == 1) refl
   where
     by_length : (odd : Bool) → (length text % 2 == 1) ≡ odd → ok_of (decode_sized text (length text / 2)) ≡ bytes_of_hex text
     by_length true e = let odd : length text % 2 ≡ 1 = grind (arith, nat_tests) in rw (e) (sym (odd_writes_nothing text odd))
@@ -163,7 +163,7 @@ Decodes decoded r out = MatchResult decoded (λ bytes. (r ≡ Ok tt) × (out ≡
 
 -- what was decoded into a buffer of its size
 read_whole : (text out : List ℕ) (size : ℕ) (r : Result Unit FromHexError) → size ≡ length text / 2 → Decodes (decode_sized text size) r out → (u : Unit) → r ≡ Ok u → bytes_of_hex text ≡ Some out
-read_whole text out size r is h u e = sym (sized_same text) ∙ ap (λ n. ok_of (decode_sized text n)) (sym is) ∙ written (decode_sized text size) r out h u e
+read_whole text out size r is h u e = sym (buffer_same text) ∙ ap (λ n. ok_of (decode_sized text n)) (sym is) ∙ written (decode_sized text size) r out h u e
 
 -- bytes that were decoded are a chunk if they are few
 pub chunk_read : (text out : List ℕ) (size : ℕ) (r : Result Unit FromHexError) → length text ≤ 8192 → size ≡ length text / 2 → Decodes (decode_sized text size) r out → (u : Unit) → r ≡ Ok u → Some out ≡ line_chunk_of text
@@ -180,7 +180,7 @@ chunk_few text out size r few is h u e = omega (arith, halves text out (read_who
 -- what is not decoded is not a chunk
 pub chunk_not_read : (text out : List ℕ) (size : ℕ) (r : Result Unit FromHexError) → size ≡ length text / 2 → Decodes (decode_sized text size) r out → (f : FromHexError) → r ≡ Err f → None ≡ line_chunk_of text
 chunk_not_read text out size r is h f e =
-    let read : bytes_of_hex text ≡ None = sym (sized_same text) ∙ ap (λ n. ok_of (decode_sized text n)) (sym is) ∙ refused (decode_sized text size) r out h f e in
+    let read : bytes_of_hex text ≡ None = sym (buffer_same text) ∙ ap (λ n. ok_of (decode_sized text n)) (sym is) ∙ refused (decode_sized text size) r out h f e in
     rw read refl
 
 -- a buffer that is written whole holds what was written

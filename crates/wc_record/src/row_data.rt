@@ -95,11 +95,7 @@ fn change(text: &[u8]) -> Result<HeadKind, RowFault>
 
 /// What a kind and its data bring; bytes are in the buffer then.
 #[inline(always)]
-pub(crate) fn row_data(
-    buffer: &mut Vec<u8>,
-    kind: &[u8],
-    text: &[u8],
-) -> Result<HeadKind, RowFault>
+pub(crate) fn row_data(buffer: &mut Vec<u8>, kind: &[u8], text: &[u8]) -> Result<HeadKind, RowFault>
     ensures says { SaysData buffer.new.items result (row_data_of kind.now text.now) }
     ensures range { IfOk result (λ kind. IsDataInRange (head_data_view buffer.new.items kind)) }
 {
