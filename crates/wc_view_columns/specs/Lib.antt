@@ -3,3 +3,4 @@ pub mod Held
 pub mod Happened
 pub mod Columns
 pub mod Followed
+pub mod Lanes
