@@ -4,3 +4,5 @@ pub mod Happened
 pub mod Columns
 pub mod Followed
 pub mod Lanes
+pub mod Rows
+pub mod TimeLines
