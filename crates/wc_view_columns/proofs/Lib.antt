@@ -1,4 +1,9 @@
 mod Followed
 mod Joined
+mod Lines
+mod Parts
+mod Rows
+mod Settled
 mod Together
+mod Totals
 mod Wholes

@@ -1,9 +1,10 @@
 -- What held after some rows and after later ones.
-use Rattle.std.proofs.Common.{◌≡◌, ◌+◌, ◌-◌, ◌%◌, ◌<◌, ◌||◌, ℕ, Bool, true, false, ℤ, List, [], ◌∷◌, ◌++◌, Option, Some, None, map, refl, sym, ap, ◌∙◌, subst, arith, rules}
+use Rattle.std.proofs.Common.{◌≡◌, ◌+◌, ◌-◌, ◌/◌, ◌%◌, ◌^◌, ◌<◌, ◌≤◌, ◌||◌, ℕ, Bool, true, false, ℤ, List, [], ◌∷◌, ◌++◌, Option, Some, None, map, refl, sym, ap, ◌∙◌, subst, arith, rules, pow_mono}
 use Rattle.std.proofs.lemmas.List.{map-append}
 use Rattle.std.proofs.lemmas.List.Elements.{filter_map-append}
 use Rattle.std.proofs.lemmas.List.Folds.{list_any-append}
 use Rattle.std.proofs.lemmas.List.Sums.{fold-append}
+use Rattle.std.proofs.lemmas.Nat.{div_below, pow_pos}
 use Rattle.std.proofs.lemmas.Nat.Bits.{bit_at-lt, bit_at_ones, bit_at_or, bit_at_xor}
 use Rattle.std.specs.Int.{bit_at}
 use Rattle.std.specs.Int.Bits.{bit_or, bit_xor}
@@ -21,7 +22,7 @@ greatest_on a [] = omega arith
 greatest_on a (b ∷ numbers) =
     omega (arith, greatest_on (max a b) numbers, greatest_on (max 0 b) numbers)
 
-greatest_of : (f : ℕ → ℕ) (earlier later : List ℕ) → fold max 0 (map f (earlier ++ later)) ≡ max (fold max 0 (map f earlier)) (fold max 0 (map f later))
+pub greatest_of : {X : Type 0} (f : X → ℕ) (earlier later : List X) → fold max 0 (map f (earlier ++ later)) ≡ max (fold max 0 (map f earlier)) (fold max 0 (map f later))
 greatest_of f earlier later =
     ap (fold max 0) (map-append f earlier later) ∙ fold-append max 0 (map f earlier) (map f later)
     ∙ greatest_on (fold max 0 (map f earlier)) (map f later)
@@ -82,3 +83,11 @@ spans_on f held others c e = e ∙ ap span_of (sym (filter_map-append f held oth
 
 pub words_on : (f : Held → ℤ) (held others : List Held) (c : Option Span) → c ≡ span_of (map f held ++ map f others) → c ≡ span_of (map f (held ++ others))
 words_on f held others c e = e ∙ ap span_of (sym (map-append f held others))
+
+-- a bit above all that a number has
+pub high_bit : (value i : ℕ) → value < 2 ^ 16 → (i < 16 → ⊥) → bit_at value i ≡ 0
+high_bit value i small high =
+    let wide : 16 ≤ i = omega (arith, high) in
+    let power : 2 ^ 16 ≤ 2 ^ i = pow_mono wide in
+    let none : value / 2 ^ i < 1 = div_below value (2 ^ i) 1 (pow_pos i) (omega (arith, small, power)) in
+    omega (arith, none)

@@ -1,5 +1,5 @@
 -- Columns, each of the rows of its time. (The profile's own.)
-use Rattle.std.specs.Prelude.{◌≡◌, ℕ, ◌<◌, ◌==◌, Bool, true, false, not, List, [], ◌∷◌, ◌++◌, Option, Some, None}
+use Rattle.std.specs.Prelude.{◌≡◌, ℕ, ◌==◌, Bool, true, false, not, List, [], ◌∷◌, ◌++◌, Option, Some, None}
 use Rattle.std.specs.Int.{bit_at}
 use Rattle.wc_view_columns.specs.declared.bits.Bits.{Bits}
 use Rattle.wc_view_columns.specs.declared.bits.Level.{Level}
@@ -44,7 +44,7 @@ IsLevelOf Over column level = level ≡ level_of column.state.over (not column.s
 IsLevelOf Under column level = level ≡ level_of column.state.under (not column.state.under)
 IsLevelOf Invalid column level = level ≡ level_of column.state.invalid (not column.state.invalid)
 IsLevelOf Requests column level = level ≡ Low
-IsLevelOf (Input i) column level = i < 16 → level ≡ bit_level column.state.inputs i
-IsLevelOf (Output i) column level = i < 16 → level ≡ bit_level column.state.outputs i
+IsLevelOf (Input i) column level = level ≡ bit_level column.state.inputs i
+IsLevelOf (Output i) column level = level ≡ bit_level column.state.outputs i
 IsLevelOf (Word i) column level = level ≡ Low
 IsLevelOf Scans column level = level ≡ Low

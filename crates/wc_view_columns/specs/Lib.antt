@@ -3,3 +3,6 @@ pub mod Held
 pub mod Happened
 pub mod Columns
 pub mod Followed
+pub mod Lanes
+pub mod Rows
+pub mod TimeLines

@@ -1,4 +1,4 @@
-ghost use Rattle.std.specs.Prelude.{◌≡◌, ◌<◌, ◌==◌, ℕ, List, [], ◌∷◌, ◌++◌};
+ghost use Rattle.std.specs.Prelude.{◌≡◌, ◌==◌, ℕ, List, [], ◌∷◌, ◌++◌};
 ghost use Rattle.std.specs.Int.{bit_at};
 ghost use Rattle.wc_view_columns.specs.Columns.{bit_level};
 ghost use Rattle.wc_view_columns.specs.Held.{AreBitsOf};
@@ -49,7 +49,7 @@ impl Bits {
 
     /// How the bit of that number stood.
     pub fn level(self, number: u32) -> Level
-        ensures { number < 16 → result ≡ bit_level self number }
+        ensures { result ≡ bit_level self number }
     {
         match (is_set(self.high, number), is_set(self.low, number)) {
             (true, true) => Level::Both,
@@ -61,7 +61,7 @@ impl Bits {
 
 /// Whether the bit of that number is 1.
 fn is_set(value: u16, number: u32) -> bool
-    ensures { number < 16 → result ≡ (bit_at value number == 1) }
+    ensures { result ≡ (bit_at value number == 1) }
 {
     match value.checked_shr(number) {
         Some(rest) => rest % 2 == 1,

@@ -1,6 +1,7 @@
-ghost use Rattle.std.specs.Prelude.{◌++◌, List};
+ghost use Rattle.std.specs.Prelude.{◌≡◌, ◌++◌, List};
 ghost use Rattle.wc_view_columns.specs.Happened.{AreBoth};
 ghost use Rattle.wc_view_columns.specs.Held.{Held, IsStateOf};
+ghost use Rattle.wc_view_columns.specs.Rows.{holding};
 
 use crate::events::Events;
 use crate::state::State;
@@ -14,7 +15,9 @@ pub struct Column {
 
 impl Column {
     /// In which this held, and nothing happened.
-    pub(crate) fn holding(state: State) -> Column {
+    pub(crate) fn holding(state: State) -> Column
+        ensures { result ≡ holding state }
+    {
         Column {
             state,
             events: Events::none(),

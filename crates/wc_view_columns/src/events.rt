@@ -2,6 +2,7 @@ ghost use Rattle.std.specs.Prelude.{◌≡◌, ◌+◌, [], ◌∷◌, ◌++◌,
 ghost use Rattle.std.specs.Option.{option_or};
 ghost use Rattle.wc_view_columns.specs.Followed.{AreCounted, IsMarked, is_refusal, is_refused};
 ghost use Rattle.wc_view_columns.specs.Happened.{AreBoth, counted};
+ghost use Rattle.wc_view_columns.specs.Rows.{nothing};
 ghost use Rattle.wc_view_columns.specs.declared.events.Request.{Request};
 
 use wc_sma::{Command, Status};
@@ -67,7 +68,7 @@ pub struct Events {
 impl Events {
     /// Nothing.
     pub fn none() -> Events
-        ensures steps { result.steps ≡ 0 }
+        ensures none { result ≡ nothing }
         ensures counts { AreCounted [] result }
     {
         Events {

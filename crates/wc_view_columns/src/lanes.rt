@@ -1,10 +1,12 @@
-ghost use Rattle.std.specs.Prelude.{◌≡◌, ◌++◌, not, List, Some, None};
+ghost use Rattle.std.specs.Prelude.{◌≡◌, ◌++◌, [], ◌∷◌, not, filter, IfOk, List, Some, None};
 ghost use Rattle.wc_view_columns.specs.Columns.{AreColumnsOf, IsLevelOf, IsWholeOf, level_of};
 ghost use Rattle.wc_view_columns.specs.Held.{Held, IsStateOf};
+ghost use Rattle.wc_view_columns.specs.Lanes.{all_lanes, is_both, is_shown};
 ghost use Rattle.wc_view_columns.specs.declared.columns.Column.{Column};
 
 use crate::bits::Level;
 use crate::columns::Column;
+use Lane::{Input, Invalid, Motion, Output, Over, Requests, Scans, Under, Word};
 use std::alloc::{AllocError, Global};
 use std::fmt;
 
@@ -48,6 +50,16 @@ fn level_of(is_so: bool) -> Level
     if is_so { Level::High } else { Level::Low }
 }
 
+/// Whether something was both so and not so.
+fn is_both(level: Level) -> bool
+    ensures { result ≡ is_both level }
+{
+    match level {
+        Level::Both => true,
+        Level::Low | Level::High => false,
+    }
+}
+
 impl Lane {
     /// What it is in a column, if it has two values.
     pub fn level(self, column: &Column) -> Level
@@ -65,14 +77,17 @@ impl Lane {
     }
 
     /// Whether something is to be seen in it: something held or happened, or a value changed.
-    fn is_shown(self, all: &Column) -> bool {
+    fn is_shown(self, all: &Column) -> bool
+        ensures { result ≡ is_shown all.now self }
+    {
         match self {
             Lane::Motion => all.state.motion,
             Lane::Over => all.state.over,
             Lane::Under => all.state.under,
             Lane::Invalid => all.state.invalid,
             Lane::Requests => all.events.requests != 0,
-            Lane::Input(_) | Lane::Output(_) => self.level(all) == Level::Both,
+            Lane::Input(number) => is_both(all.state.inputs.level(number)),
+            Lane::Output(number) => is_both(all.state.outputs.level(number)),
             Lane::Word(number) => match all.state.words.get(number) {
                 Some(word) => word.varies(),
                 None => false,
@@ -106,30 +121,78 @@ pub fn whole(columns: &[Column]) -> Option<Column>
     all
 }
 
+/// All lanes, from above.
+const LANES: [Lane; 42] = [
+    Motion,
+    Over,
+    Under,
+    Invalid,
+    Requests,
+    Input(0),
+    Input(1),
+    Input(2),
+    Input(3),
+    Input(4),
+    Input(5),
+    Input(6),
+    Input(7),
+    Input(8),
+    Input(9),
+    Input(10),
+    Input(11),
+    Input(12),
+    Input(13),
+    Input(14),
+    Input(15),
+    Output(0),
+    Output(1),
+    Output(2),
+    Output(3),
+    Output(4),
+    Output(5),
+    Output(6),
+    Output(7),
+    Output(8),
+    Output(9),
+    Output(10),
+    Output(11),
+    Output(12),
+    Output(13),
+    Output(14),
+    Output(15),
+    Word(0),
+    Word(1),
+    Word(2),
+    Word(3),
+    Scans,
+];
+
+/// All lanes.
+fn all_lanes() -> [Lane; 42]
+    ensures { result ≡ all_lanes }
+{
+    LANES
+}
+
 /// Adds a lane, if something is to be seen in it.
-fn add(lanes: &mut Vec<Lane>, all: &Column, lane: Lane) -> Result<(), AllocError> {
+fn add(shown: &mut Vec<Lane>, all: &Column, lane: Lane) -> Result<(), AllocError>
+    ensures { IfOk result
+        (λ _. shown.new.items ≡ shown.old.items ++ filter (is_shown all.now) (lane ∷ [])) }
+{
     if lane.is_shown(all) {
-        lanes.push(lane)?;
+        shown.push(lane)?;
     }
     Ok(())
 }
 
 /// The lanes in which something is to be seen, from above.
-pub fn lanes_of(alloc: Global, all: &Column) -> Result<Vec<Lane>, AllocError> {
-    let mut lanes = Vec::new(alloc);
-    for lane in [Lane::Motion, Lane::Over, Lane::Under, Lane::Invalid] {
-        add(&mut lanes, all, lane)?;
+pub fn lanes_of(alloc: Global, all: &Column) -> Result<Vec<Lane>, AllocError>
+    ensures { IfOk result (λ lanes. lanes.items ≡ filter (is_shown all.now) all_lanes) }
+{
+    let mut shown = Vec::new(alloc);
+    let lanes = all_lanes();
+    for lane in &lanes {
+        add(&mut shown, all, *lane)?;
     }
-    add(&mut lanes, all, Lane::Requests)?;
-    for number in 0..16 {
-        add(&mut lanes, all, Lane::Input(number))?;
-    }
-    for number in 0..16 {
-        add(&mut lanes, all, Lane::Output(number))?;
-    }
-    for number in 0..4 {
-        add(&mut lanes, all, Lane::Word(number))?;
-    }
-    add(&mut lanes, all, Lane::Scans)?;
-    Ok(lanes)
+    Ok(shown)
 }

@@ -1,4 +1,4 @@
-ghost use Rattle.std.specs.Prelude.{◌≡◌, ◌<ℤ◌, ℤ, List, ◌++◌, None, Some, true, false};
+ghost use Rattle.std.specs.Prelude.{◌≡◌, ℤ, List, ◌++◌, None, Some, int_lt};
 ghost use Rattle.std.specs.Int.{int_max, int_min};
 ghost use Rattle.std.specs.Option.{option_to_list};
 ghost use Rattle.wc_view_columns.specs.Spans.{span_of};
@@ -50,8 +50,7 @@ impl Span {
 
     /// Whether the numbers differ.
     pub fn varies(self) -> bool
-        ensures varies { result ≡ true → self.least <ℤ self.greatest }
-        ensures stays { result ≡ false → ¬ (self.least <ℤ self.greatest) }
+        ensures { result ≡ int_lt self.least self.greatest }
     {
         self.least < self.greatest
     }

@@ -1,29 +1,55 @@
-ghost use Rattle.std.specs.Prelude.{◌≡◌, ◌≤◌, ◌<◌, ◌^◌, length, vec_len};
+ghost use Rattle.std.specs.Prelude.{◌≡◌, ◌≤◌, ◌<◌, ◌+◌, ◌-◌, ◌^◌, ◌⊎◌, ℕ, List, [], ◌∷◌, ◌++◌, IfOk, length, replicate, vec_capacity};
+ghost use Rattle.wc_view_columns.specs.Held.{Held, IsStateOf};
+ghost use Rattle.wc_view_columns.specs.Rows.{AreFrom, AreHalved, IsPairOf, Row, column_number, holding, left_by};
+ghost use Rattle.wc_view_columns.specs.TimeLines.{AreColumns, IsTimeLineOf, row_at};
 
 use crate::columns::Column;
+use crate::line::{COLUMNS, TimeLine};
 use crate::state::State;
 use std::alloc::{AllocError, Global};
 
-/// The greatest number of columns.
-pub const COLUMNS: usize = 720;
+/// The column of that number and the one after it, if there is one, as one.
+fn pair_at(columns: &[Column], index: usize) -> Column
+    requires { index < length columns.now }
+    ensures { IsPairOf columns.now index result }
+{
+    let first = &columns[index];
+    match columns.get(index + 1) {
+        Some(second) => first.joined(second),
+        None => *first,
+    }
+}
 
-/// The time of a log in columns of one width, of which there are never more than `COLUMNS`: if a moment is past the last,
-/// two become one.
-#[derive(Drop)]
-pub struct TimeLine {
-    columns: Vec<Column>,
-    /// The first moment in milliseconds.
-    start: u64,
-    /// A column has 2 to this power milliseconds.
-    power: u32,
-    /// What holds since the last row.
-    held: Option<State>,
-    ghost few: { vec_len columns ≤ 720 },
+/// Makes one column of two, for all of them.
+fn pair_up(columns: &mut Vec<Column>)
+    ensures halved { AreHalved columns.old.items columns.new.items }
+    ensures capacity { vec_capacity columns.new ≡ vec_capacity columns.old }
+{
+    let half = columns.len().div_ceil(2);
+    for index in 0..half {
+        let pair = pair_at(columns, 2 * index);
+        columns[index] = pair;
+    }
+    columns.truncate(half);
+}
+
+/// Goes on to so many columns, in which still holds what held.
+fn fill(columns: &mut Vec<Column>, count: usize, held: &State)
+    requires { count ≤ vec_capacity columns.old }
+    ensures columns { let more = count - length columns.old.items in
+        columns.new.items ≡ columns.old.items ++ replicate more (holding held.now) }
+    ensures capacity { vec_capacity columns.new ≡ vec_capacity columns.old }
+{
+    for _number in columns.len()..count {
+        columns.push_reserved(Column::holding(*held));
+    }
 }
 
 impl TimeLine {
     /// Before the first row, with space for all columns.
-    pub fn new(alloc: Global) -> Result<TimeLine, AllocError> {
+    pub fn new(alloc: Global) -> Result<TimeLine, AllocError>
+        ensures { IfOk result (λ line. IsTimeLineOf [] line) }
+    {
         let columns = Vec::with_capacity(alloc, COLUMNS)?;
         Ok(TimeLine {
             columns,
@@ -36,6 +62,7 @@ impl TimeLine {
     /// The columns, first to last.
     pub fn columns(&self) -> &[Column]
         ensures few { length result.now ≤ 720 }
+        ensures all { result.now ≡ self.now.columns.items }
     {
         &self.columns
     }
@@ -49,96 +76,85 @@ impl TimeLine {
 
     /// The number of milliseconds a column has.
     pub fn width(&self) -> u64
-        ensures { self.now.power < 64 → result ≡ 2 ^ self.now.power }
+        ensures { result ≡ 2 ^ self.now.power }
     {
-        match 1_u64.checked_shl(self.power) {
-            Some(width) => width,
-            None => u64::MAX,
-        }
-    }
-
-    /// The number of columns before that of a moment, as wide as they are.
-    fn columns_before(&self, ms: u64) -> u64 {
-        match ms.saturating_sub(self.start).checked_shr(self.power) {
-            Some(count) => count,
-            None => 0,
-        }
+        1_u64 << self.power
     }
 
     /// The number of the column of a moment.
-    fn index(&self, ms: u64) -> usize
-        ensures { result < 720 }
+    fn number(&self, ms: u64) -> u64
+        ensures { result ≡ column_number self.now.start self.now.power ms }
     {
-        self.columns_before(ms).min(COLUMNS as u64 - 1) as usize
+        ms.saturating_sub(self.start) >> self.power
     }
 
-    /// The column of that number and the one after it as one.
-    fn pair(&self, index: usize) -> Option<Column> {
-        match (
-            self.columns.get(index),
-            self.columns.get(index.saturating_add(1)),
-        ) {
-            (Some(first), Some(second)) => Some(first.joined(second)),
-            (Some(first), None) => Some(*first),
-            _ => None,
-        }
-    }
-
-    /// Puts a column in place of the one of that number.
-    fn put(&mut self, index: usize, column: Column) {
-        if index < self.columns.len() {
-            self.columns[index] = column;
-        }
-    }
-
-    /// Makes one column of two, for all of them.
-    fn halve(&mut self) {
-        let half = self.columns.len().div_ceil(2);
-        for index in 0..half {
-            if let Some(pair) = self.pair(index.saturating_mul(2)) {
-                self.put(index, pair);
-            }
-        }
-        self.columns.truncate(half);
-        self.power = self.power.saturating_add(1);
+    /// Makes the columns twice as wide.
+    fn halve(&mut self)
+        requires { self.old.power < 63 }
+        ensures columns { (rows : List Row) → AreFrom self.old.start rows
+            → AreColumns rows self.old → AreColumns rows self.new }
+        ensures power { self.new.power ≡ self.old.power + 1 }
+        ensures start { self.new.start ≡ self.old.start }
+    {
+        pair_up(&mut self.columns);
+        self.power += 1;
     }
 
     /// Makes the columns so wide that a moment has one.
-    fn reach(&mut self, ms: u64) {
-        for _power in 0..64 {
-            if self.columns_before(ms) < COLUMNS as u64 {
-                return;
-            }
+    fn reach(&mut self, ms: u64)
+        ensures columns { (rows : List Row) → AreFrom self.old.start rows
+            → AreColumns rows self.old → AreColumns rows self.new }
+        ensures within { column_number self.new.start self.new.power ms < 720 }
+        ensures power { (p : ℕ) → p < self.new.power
+            → (p < self.old.power) ⊎ (720 ≤ column_number self.old.start p ms) }
+        ensures start { self.new.start ≡ self.old.start }
+    {
+        while self.number(ms) >= COLUMNS as u64 {
             self.halve();
         }
     }
 
-    /// Goes on to the column of that number, in which, as before it, still holds what held.
-    fn go_on(&mut self, index: usize, held: State) -> Result<(), AllocError> {
-        for _column in self.columns.len()..index.saturating_add(1) {
-            if self.columns.len() < COLUMNS {
-                self.columns.push(Column::holding(held))?;
-            }
-        }
-        Ok(())
+    /// Takes the first row.
+    fn begin(&mut self, ms: u64, row: &Column)
+        ensures columns { (held : Held) → IsStateOf (held ∷ []) row.now.state
+            → AreColumns (row_at ms held row.now ∷ []) self.new }
+        ensures power { self.new.power ≡ self.old.power }
+        ensures start { self.new.start ≡ ms }
+    {
+        self.start = ms;
+        self.columns.clear();
+        self.columns
+            .push_reserved(Column::holding(row.state).joined(row));
+    }
+
+    /// Takes a row before which this held.
+    fn follow(&mut self, ms: u64, held: &State, row: &Column)
+        ensures columns { (rows : List Row) (after : Held) → AreColumns rows self.old
+            → AreFrom self.old.start (rows ++ (row_at ms after row.now ∷ []))
+            → IsStateOf (left_by rows) held.now → IsStateOf (after ∷ []) row.now.state
+            → AreColumns (rows ++ (row_at ms after row.now ∷ [])) self.new }
+        ensures power { (p : ℕ) → p < self.new.power
+            → (p < self.old.power) ⊎ (720 ≤ column_number self.old.start p ms) }
+        ensures start { self.new.start ≡ self.old.start }
+    {
+        self.reach(ms);
+        let index = self.number(ms) as usize;
+        fill(&mut self.columns, index + 1, held);
+        let column = self.columns[index].joined(row);
+        self.columns[index] = column;
     }
 
     /// Takes a row: what holds after it, and what happened at it.
-    pub fn take(&mut self, ms: u64, row: Column) -> Result<(), AllocError> {
-        if self.columns.is_empty() {
-            self.start = ms;
-        }
-        self.reach(ms);
-        let index = self.index(ms);
-        let held = match self.held {
-            Some(held) => held,
-            None => row.state,
-        };
-        self.go_on(index, held)?;
-        if let Some(column) = self.columns.get(index).copied() {
-            self.put(index, column.joined(&row));
+    pub fn take(&mut self, ms: u64, row: Column)
+        ensures { (rows : List Row) (held : Held) → IsTimeLineOf rows self.old
+            → AreFrom 0 (rows ++ (row_at ms held row ∷ []))
+            → IsStateOf (held ∷ []) row.state
+            → IsTimeLineOf (rows ++ (row_at ms held row ∷ [])) self.new }
+    {
+        match self.held {
+            Some(held) => self.follow(ms, &held, &row),
+            None => self.begin(ms, &row),
         }
         self.held = Some(row.state);
-        Ok(())
     }
 }

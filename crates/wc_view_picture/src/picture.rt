@@ -87,10 +87,10 @@ impl Picture {
         if self.line.is_none() {
             self.line = Some(TimeLine::new(self.alloc)?);
         }
-        match &mut self.line {
-            Some(line) => line.take(ms, row),
-            None => Ok(()),
+        if let Some(line) = &mut self.line {
+            line.take(ms, row);
         }
+        Ok(())
     }
 
     /// Counts the steps of a scan.
