@@ -1,5 +1,5 @@
 use crate::excerpts::{line_at, tokens_at, tokens_from};
-use crate::result_kind::result_after;
+use crate::result_kind::{result_after, without_label};
 use crate::spanned_source::SpannedSource;
 use wc_diag_stops::{Brought, LabelPaths, PathToLabel};
 use wc_lexer::{Shape, Token};
@@ -28,20 +28,10 @@ fn first_label(unit: &Unit<'_>) -> u32 {
     u32::MAX
 }
 
-/// The instruction of a line, without its label.
-fn instruction_of<'a, 't>(line: &'t [Token<'a>]) -> &'t [Token<'a>] {
-    match line.get(1) {
-        Some(token) if matches!(token.shape, Shape::Colon) => {
-            let (_, rest) = line.split_at(2);
-            rest
-        }
-        _ => line,
-    }
-}
-
 /// The condition of the jump or the return that a line is, if it is one.
 fn leaving(line: &[Token<'_>]) -> Option<Condition> {
-    match operation_of(*instruction_of(line).first()?) {
+    let (instruction, _) = without_label(line);
+    match operation_of(*instruction.first()?) {
         Some(Operation::Jumps(condition) | Operation::Returns(condition)) => Some(condition),
         _ => None,
     }
@@ -49,7 +39,7 @@ fn leaving(line: &[Token<'_>]) -> Option<Condition> {
 
 /// Whether a line is a jump to that label.
 fn jumps_to(line: &[Token<'_>], label: &[u8]) -> bool {
-    let instruction = instruction_of(line);
+    let (instruction, _) = without_label(line);
     match (instruction.first().copied(), instruction.get(1)) {
         (Some(operator), Some(target)) => {
             matches!(operation_of(operator), Some(Operation::Jumps(_)))
@@ -62,7 +52,10 @@ fn jumps_to(line: &[Token<'_>], label: &[u8]) -> bool {
 /// What the result is after that number of tokens.
 fn brought_after(above: &Above<'_, '_>, count: usize) -> Brought {
     let tokens = tokens_at(above.tokens, 0, count);
-    match (result_after(above.tables, above.unit, tokens), tokens.last()) {
+    match (
+        result_after(above.tables, above.unit, tokens),
+        tokens.last(),
+    ) {
         (Some(result), _) => Brought::Kind(result.kind),
         (None, Some(last)) if last.start < above.first_label => Brought::Nothing,
         _ => Brought::Unsure,
@@ -71,7 +64,8 @@ fn brought_after(above: &Above<'_, '_>, count: usize) -> Brought {
 
 /// The path that a jump on a line is, which comes after that number of tokens.
 fn path_of_jump(above: &Above<'_, '_>, count: usize, line: &[Token<'_>]) -> PathToLabel {
-    let label = line.len().saturating_sub(instruction_of(line).len());
+    let (instruction, _) = without_label(line);
+    let label = line.len().saturating_sub(instruction.len());
     PathToLabel {
         line: line_at(line.first()),
         brought: brought_after(above, count.saturating_add(label)),
@@ -128,7 +122,10 @@ fn with_path(paths: Option<LabelPaths>, path: PathToLabel) -> LabelPaths {
 fn paths_from(above: &Above<'_, '_>, label: &[u8]) -> Option<LabelPaths> {
     let mut paths = None;
     let mut passed = 0_usize;
-    for line in above.tokens.split(|token| matches!(token.shape, Shape::LineEnd)) {
+    for line in above
+        .tokens
+        .split(|token| matches!(token.shape, Shape::LineEnd))
+    {
         if jumps_to(line, label) {
             paths = Some(with_path(paths, path_of_jump(above, passed, line)));
         }
@@ -152,7 +149,9 @@ fn line_ends(tokens: &[Token<'_>]) -> usize {
 
 /// The label at the end of some tokens, line ends apart, and the number of tokens before it.
 fn label_at_end<'a, 't>(tokens: &'t [Token<'a>]) -> Option<(usize, &'t Token<'a>)> {
-    let colon = tokens.len().checked_sub(line_ends(tokens).saturating_add(1))?;
+    let colon = tokens
+        .len()
+        .checked_sub(line_ends(tokens).saturating_add(1))?;
     if !matches!(tokens.get(colon)?.shape, Shape::Colon) {
         return None;
     }
@@ -171,7 +170,9 @@ pub(crate) fn paths_to_label<'a>(
     let source = spanned_source.source.units.get(unit)?;
     let before = all.len().saturating_sub(tokens.len());
     let (index, label) = label_at_end(tokens_at(all, 0, before))?;
-    let begin = all.len().saturating_sub(tokens_from(all, source.line).len());
+    let begin = all
+        .len()
+        .saturating_sub(tokens_from(all, source.line).len());
     let above = Above {
         tables,
         unit,

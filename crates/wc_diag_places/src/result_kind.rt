@@ -61,7 +61,7 @@ fn effect_on(tables: &Tables<'_>, unit: usize, tokens: &[Token<'_>]) -> Effect {
 }
 
 /// The tokens of a line without its label, and whether it has one.
-fn without_label<'a, 't>(line: &'t [Token<'a>]) -> (&'t [Token<'a>], bool) {
+pub(crate) fn without_label<'a, 't>(line: &'t [Token<'a>]) -> (&'t [Token<'a>], bool) {
     match line.get(1) {
         Some(token) if matches!(token.shape, Shape::Colon) => {
             let (_, rest) = line.split_at(2);
