@@ -3,7 +3,6 @@
 #![tactic(auto)]
 
 mod chosen;
-mod objects;
 mod trace_format;
 mod tracer;
 mod tracing;

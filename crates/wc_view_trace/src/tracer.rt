@@ -1,7 +1,6 @@
 ghost use Rattle.std.specs.Prelude.{IsOkUnless};
 
 use crate::chosen::Chosen;
-use crate::objects::{put_end_object, put_object};
 use crate::trace_format::TraceFormat;
 use std::alloc::Global;
 use wc_machine::{Machine, SeenLine};
@@ -9,6 +8,7 @@ use wc_model::ByteOut;
 use wc_record::HeadKind;
 use wc_run::{Observer, Program, RowSeen, RunFault, Scale, ScanSeen, write_text};
 use wc_store::SlotStore;
+use wc_view_trace_objects::{put_end_object, put_object};
 use wc_view_trace_rows::{Legend, ShownScan, put_none_chosen, put_scan};
 
 /// Observes a run, and writes the items of the scans that are chosen.

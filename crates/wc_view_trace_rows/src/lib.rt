@@ -21,6 +21,7 @@ pub use item::Item;
 pub use items::Items;
 pub use legend::Legend;
 pub use levels::Said;
+pub use literals::value_of;
 pub use notes::Note;
 pub use outputs::{BlockOutput, number_in, outputs_of};
 pub use rows::{is_argument, put_scan};

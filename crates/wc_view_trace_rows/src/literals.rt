@@ -5,8 +5,8 @@ use std::alloc::Global;
 use wc_model::{Fault, Kind, Value};
 use wc_view_changes::put_value;
 
-/// The value of a kind whose number it is, as a store keeps it.
-fn value_of(kind: Option<Kind>, number: i32) -> Value
+/// The value of a kind whose number it is, as a store keeps it: a DINT if the kind is not known.
+pub fn value_of(kind: Option<Kind>, number: i32) -> Value
     ensures { result ≡ value_held kind number }
 {
     match kind {

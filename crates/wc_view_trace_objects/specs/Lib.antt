@@ -1,0 +1,4 @@
+pub mod Images
+pub mod Items
+pub mod Members
+pub mod Scans
