@@ -22,7 +22,9 @@ fn number_of(digits: &[u8]) -> u64 {
     let mut number = 0_u64;
     for byte in digits {
         if byte.is_ascii_digit() {
-            number = number.saturating_mul(10).saturating_add(u64::from(*byte - b'0'));
+            number = number
+                .saturating_mul(10)
+                .saturating_add(u64::from(*byte - b'0'));
         }
     }
     number

@@ -221,7 +221,11 @@ fn mistaken_operator(word: &[u8], rest: &[u8]) -> Case {
 
 /// Whether what follows a word on its line is what may follow a label: nothing, or an operator.
 fn is_label(rest: &[u8]) -> bool {
-    let line = rest.split(|byte| *byte == b'\n').next().unwrap_or(b"").trim_ascii();
+    let line = rest
+        .split(|byte| *byte == b'\n')
+        .next()
+        .unwrap_or(b"")
+        .trim_ascii();
     line.is_empty() || is_operator(first_word(line))
 }
 

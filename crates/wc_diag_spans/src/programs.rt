@@ -136,7 +136,10 @@ fn label_text(alloc: Global, paths: Option<LabelPaths>) -> Result<String, AllocE
     match paths.other {
         Some(other) => {
             let different = words_brought(other);
-            text_with(alloc, Values::TwoPaths(first, brought, other.line, different))
+            text_with(
+                alloc,
+                Values::TwoPaths(first, brought, other.line, different),
+            )
         }
         None if matches!(paths.first.brought, Brought::Nothing) => {
             text_with(alloc, Values::EmptyPath(first))

@@ -68,7 +68,9 @@ pub fn text_with(alloc: Global, values: Values<'_>) -> Result<String, AllocError
             )
         }
         Values::EmptyPath(line) => {
-            format!(in alloc; "the current result is undefined: line {line} brings no value to this label")
+            format!(in alloc;
+                "the current result is undefined: line {line} brings no value to this label"
+            )
         }
         Values::LabelColon(word) => {
             format!(in alloc; "a label ends with a colon: write `{word}:` if `{word}` is one")

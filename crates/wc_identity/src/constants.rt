@@ -6,8 +6,8 @@ macro_rules! with_constants {
         $macro!(
             "0.1.0",
             "rattle-kit-13 logic dac8208d650f15bf",
-            "15fd1b5e08def123242c3e4d7ab587eb5a6a5336a4f7dfed8e97063787f50175",
-            "6ce3da603ab010bb287f7a40583c8503777b1f848274b11df380c070bd0da8d6"
+            "1177ae17014caf8e427f4a8dde1f7a313153b343733dd3b4fb6765f5d55be068",
+            "91262df8ec678cd507b14362f30b268887dee37d3f315466dbfb43ad0dab6e2d"
         )
     };
 }
