@@ -1,16 +1,18 @@
 -- What is written on one line has no control of ASCII in it.
-use Rattle.std.proofs.Common.{◌≡◌, ◌==◌, ◌&&◌, ◌<◌, ◌≤◌, ◌/◌, ◌%◌, ◌+◌, ◌-◌, nat_lt, nat_le, lit<, ℕ, zero, suc, Bool, true, false, if◌then◌else◌, List, [], ◌∷◌, ◌++◌, Option, Some, None, codes, decimal, length, take, refl, sym, subst, arith}
-use Rattle.std.proofs.lemmas.Bool.{and_parts, leb-true}
+use Rattle.std.proofs.Common.{◌≡◌, ◌==◌, ◌&&◌, ◌||◌, not, ◌<◌, ◌≤◌, ◌/◌, ◌%◌, ◌+◌, ◌-◌, nat_lt, nat_le, lit<, ℕ, zero, suc, Bool, true, false, if◌then◌else◌, List, [], ◌∷◌, ◌++◌, Option, Some, None, codes, decimal, length, take, refl, sym, subst, arith}
+use Rattle.std.proofs.lemmas.Bool.{and_parts, leb-true, ltb-false}
 use Rattle.std.specs.Char.{digit_char}
+use Rattle.std.specs.List.{flat_map}
+use Rattle.std.specs.Str.{is_utf8}
 use Rattle.std.specs.Fmt.{digits, digits_onto, digit_glyph}
 use Rattle.wc_diag_spans.specs.declared.diagnostic.TextSpan.{TextSpan}
 use Rattle.wc_diag_spans.specs.declared.refusal.Part.{Part}
 use Rattle.wc_diag_spans.specs.declared.refusal.Part.TheVariants.{Job, Plate, Program, Next, Log}
 use Rattle.wc_diag_spans.specs.declared.refusal.Refusal.{Refusal}
-use Rattle.wc_diag_messages.specs.Explanations.{left_out_text, line_text, quoted_text}
+use Rattle.wc_diag_messages.specs.Explanations.{QuotesAndSays, left_out_text, line_text, quoted_text}
 use Rattle.wc_diag_messages.specs.Formats.{HasNoControls, after_colon, position_text, short_text}
 use Rattle.wc_diag_messages.specs.Locations.{column_text, counted_name, counted_text, heading, number_text, place_text, row_text, section_text}
-use Rattle.wc_diag_messages.specs.Plain.{hex_digit, shown_byte, shown_text}
+use Rattle.wc_diag_messages.specs.Plain.{IsShown, acts, escaped_byte, escaped_text, hex_digit, is_calm, is_control, passes, shown_text, with_spaces}
 use Rattle.wc_diag_messages.specs.Warned.{named_text, text_span_text, warning_line, warning_number}
 
 -- of two texts joined
@@ -38,15 +40,39 @@ byte_chosen true tab byte h = (h refl, tt)
 byte_chosen false true byte h = (lit< tt, tt)
 byte_chosen false false byte h = (lit< tt, (lit< tt, (hex_chosen (nat_lt (byte / 16) 10) (byte / 16), (hex_chosen (nat_lt (byte % 16) 10) (byte % 16), tt))))
 
-byte_shown : (byte : ℕ) → HasNoControls (shown_byte byte)
-byte_shown byte =
+byte_escaped : (byte : ℕ) → HasNoControls (escaped_byte byte)
+byte_escaped byte =
     byte_chosen (nat_le 32 byte && nat_le byte 126) (byte == 9) byte
     (λ h. let least : 32 ≤ byte = leb-true 32 byte (and_parts _ _ h).0 in omega (arith, least))
 
+bytes_escaped : (text : List ℕ) → HasNoControls (escaped_text text)
+bytes_escaped [] = tt
+bytes_escaped (byte ∷ rest) = joined (escaped_byte byte) (escaped_text rest) (byte_escaped byte) (bytes_escaped rest)
+
+above_if_calm : (small other rest : Bool) (control : Bool) → (not ((small || control) || other) && rest) ≡ true → small ≡ false
+above_if_calm true other rest control e = absurd (cc)
+above_if_calm false other rest control e = refl
+
+calm_above : (bytes : List ℕ) → is_calm bytes ≡ true → HasNoControls bytes
+calm_above [] e = tt
+calm_above (byte ∷ bytes) e =
+    let least : 32 ≤ byte = ltb-false byte 32 (above_if_calm (nat_lt byte 32) (acts (byte ∷ bytes)) (is_calm bytes) (byte == 127) e) in
+    (omega (arith, least), calm_above bytes (and_parts (not (is_control byte || acts (byte ∷ bytes))) (is_calm bytes) e).1)
+
 -- bytes as they are shown
 pub bytes_shown : (text : List ℕ) → HasNoControls (shown_text text)
-bytes_shown [] = tt
-bytes_shown (byte ∷ rest) = joined (shown_byte byte) (shown_text rest) (byte_shown byte) (bytes_shown rest)
+bytes_shown text = by (passes (with_spaces text)) refl
+  where
+    by : (b : Bool) → passes (with_spaces text) ≡ b → HasNoControls (if b then with_spaces text else escaped_text text)
+    by true is = calm_above (with_spaces text) (and_parts (is_calm (with_spaces text)) (is_utf8 (with_spaces text)) is).0
+    by false is = bytes_escaped text
+
+texts_above : (texts : List (List ℕ)) → HasNoControls (flat_map shown_text texts)
+texts_above [] = tt
+texts_above (text ∷ texts) = joined (shown_text text) (flat_map shown_text texts) (bytes_shown text) (texts_above texts)
+
+shown_above : (bytes : List ℕ) → IsShown bytes → HasNoControls bytes
+shown_above bytes is = subst HasNoControls (sym is.1) (texts_above is.0)
 
 -- digits of a number
 glyph_chosen : (small upper : Bool) (d : ℕ) → 31 < (if small then 48 + d else (if upper then 55 + d else 87 + d))
@@ -84,8 +110,8 @@ quoted_above (byte ∷ rest) =
     joined (mark ++ text ++ mark ++ space) (left_out_text (length (byte ∷ rest))) c (left_out (length (byte ∷ rest)))
 
 -- what is wrong
-pub reported_above : (subject said reported : List ℕ) → reported ≡ quoted_text subject ++ shown_text said → HasNoControls reported
-reported_above subject said reported e = subst HasNoControls (sym e) (joined (quoted_text subject) (shown_text said) (quoted_above subject) (bytes_shown said))
+pub reported_above : (subject reported : List ℕ) → QuotesAndSays subject reported → HasNoControls reported
+reported_above subject reported says = subst HasNoControls (sym says.2) (joined (quoted_text subject) says.0 (quoted_above subject) (shown_above says.0 says.1))
 
 -- the place that is counted
 counted_above : (part : Part) (place : ℕ) → HasNoControls (counted_text part place)

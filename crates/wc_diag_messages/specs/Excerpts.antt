@@ -1,13 +1,20 @@
 -- The line of a text that is referred to, as a message shows it, with marks under the offending slice.
 -- The profile's own.
-use Rattle.std.specs.Prelude.{ℕ, ◌-◌, max, nat_lt, List, [], ◌∷◌, ◌++◌, Option, Some, None, codes, drop, length, replicate, take, if◌then◌else◌}
+use Rattle.std.specs.Prelude.{ℕ, ◌-◌, max, nat_lt, Bool, not, count_by, List, [], ◌∷◌, ◌++◌, Option, Some, None, codes, drop, length, replicate, take, if◌then◌else◌}
 use Rattle.wc_diag_spans.specs.declared.diagnostic.TextSpan.{TextSpan}
 use Rattle.wc_diag_messages.specs.Locations.{margin_text, number_text}
-use Rattle.wc_diag_messages.specs.Plain.{shown_text, words_after}
+use Rattle.wc_diag_messages.specs.Plain.{escaped_text, is_within, passes, shown_text, with_spaces, words_after}
 
--- the number of columns that bytes take on screen
-abbrev pub columns : List ℕ → ℕ
-columns bytes = length (shown_text bytes)
+-- the number of characters of a UTF-8 text: of its bytes that begin one
+abbrev pub is_further : ℕ → Bool
+is_further byte = is_within 128 191 byte
+
+abbrev pub characters : List ℕ → ℕ
+characters bytes = count_by (λ byte. not (is_further byte)) bytes
+
+-- the number of columns that bytes of a line take on screen, if it is shown as it is, or with escapes
+abbrev pub columns : Bool → List ℕ → ℕ
+columns is_text bytes = if is_text then characters bytes else length (escaped_text bytes)
 
 -- where the offending slice starts; at the line's start if there is none
 abbrev pub text_span_start : Option TextSpan → ℕ
@@ -25,8 +32,8 @@ shown_part line text_span = take 120 (drop (first_shown line (text_span_start te
 -- spaces under what is before a span, and a mark under each of its columns; one at least
 abbrev pub marks : List ℕ → ℕ → ℕ → List ℕ
 marks shown start long =
-    replicate (columns (take start shown)) 32
-    ++ replicate (max (columns (take long (drop start shown))) 1) 94
+    replicate (columns (passes (with_spaces shown)) (take start shown)) 32
+    ++ replicate (max (columns (passes (with_spaces shown)) (take long (drop start shown))) 1) 94
 
 -- what could be at the span, if something is known
 abbrev pub expected_text : List ℕ → List ℕ

@@ -46,12 +46,15 @@ quoted_text (byte ∷ rest) =
     shown_text (codes "`") ++ shown_text (take 120 (byte ∷ rest)) ++ shown_text (codes "`")
     ++ shown_text (codes " ") ++ left_out_text (length (byte ∷ rest))
 
+-- what is wrong, in words: the slice that is quoted, and what is said of it
+abbrev pub QuotesAndSays : List ℕ → List ℕ → Type 0
+QuotesAndSays subject reported = (said : List ℕ) × IsShown said × (reported ≡ quoted_text subject ++ said)
+
 -- what was found of a refusal in the current text, and what is said of it: what is quoted is pinned,
 -- the rest is words
 pub record Knows (refusal : Refusal) (diagnostic : Diagnostic) (reported : List ℕ) : Type 0 where
   pub found : Finds refusal diagnostic
-  pub said : List ℕ
-  pub reported_is : reported ≡ quoted_text diagnostic.subject.items ++ shown_text said
+  pub says : QuotesAndSays diagnostic.subject.items reported
 
 -- the first line: the number, and what is wrong
 abbrev pub headline : ℕ → List ℕ → List ℕ
@@ -76,7 +79,7 @@ page_text number =
 
 -- the last line: what to write instead, and the page that says more
 abbrev pub help_line : ℕ → List ℕ → List ℕ
-help_line number advice = shown_text (codes "help: ") ++ shown_text advice ++ page_text number
+help_line number advice = shown_text (codes "help: ") ++ advice ++ page_text number
 
 -- a message about a refusal
 pub record Explains (refusal : Refusal) (bytes : List ℕ) : Type 0 where
@@ -88,6 +91,7 @@ pub record Explains (refusal : Refusal) (bytes : List ℕ) : Type 0 where
   pub line : ℕ
   pub line_is : line ≡ named_line refusal diagnostic.line
   pub advice : List ℕ
+  pub advice_is : IsShown advice
   pub all :
       bytes ≡ headline refusal.number reported
       ++ place_line (margin_text line) refusal.name.now line (alongside_text refusal diagnostic.text_span)

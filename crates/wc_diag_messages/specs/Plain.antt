@@ -1,28 +1,65 @@
--- what a message may hold: bytes that a terminal only shows
-use Rattle.std.specs.Prelude.{◌≡◌, ℕ, ◌+◌, ◌/◌, ◌%◌, Bool, ◌==◌, ◌||◌, ◌&&◌, nat_le, nat_lt, if◌then◌else◌, List, [], ◌∷◌, ◌++◌}
+-- What a message may hold: characters that a terminal only shows. (The profile's own; the characters are those of Unicode in UTF-8.)
+use Rattle.std.specs.Prelude.{◌≡◌, ℕ, ◌+◌, ◌/◌, ◌%◌, Bool, true, not, ◌==◌, ◌||◌, ◌&&◌, nat_le, nat_lt, if◌then◌else◌, List, [], ◌∷◌, ◌++◌, map, slice_index}
 use Rattle.std.specs.List.{flat_map}
+use Rattle.std.specs.Str.{is_utf8}
 
--- a line feed, or a printable byte of ASCII
+-- a control character of ASCII
+abbrev pub is_control : ℕ → Bool
+is_control byte = nat_lt byte 32 || byte == 127
+
+-- a line feed, or a byte that is no control character of ASCII
 abbrev pub is_plain : ℕ → Bool
-is_plain byte = byte == 10 || (nat_le 32 byte && nat_le byte 126)
+is_plain byte = byte == 10 || not (is_control byte)
+
+abbrev pub is_within : ℕ → ℕ → ℕ → Bool
+is_within first last byte = nat_le first byte && nat_le byte last
+
+-- these bytes begin a character on which a terminal or an editor acts: a control character, U+0080 to U+009F; an end of a line or of
+-- a paragraph, U+2028 and U+2029; one that turns the direction of writing, U+200E, U+200F, U+202A to U+202E, U+2066 to U+2069
+abbrev pub acts_by : ℕ → ℕ → ℕ → Bool
+acts_by first second third =
+    first == 194 && is_within 128 159 second
+    || first == 226 && (second == 128 && (is_within 142 143 third || is_within 168 174 third) || second == 129 && is_within 166 169 third)
+
+abbrev pub acts : List ℕ → Bool
+acts bytes = acts_by (slice_index bytes 0) (slice_index bytes 1) (slice_index bytes 2)
+
+-- no character of a text acts so, and none is a control character of ASCII
+abbrev pub is_calm : List ℕ → Bool
+is_calm [] = true
+is_calm (byte ∷ bytes) = not (is_control byte || acts (byte ∷ bytes)) && is_calm bytes
+
+-- a text is shown as it is
+abbrev pub passes : List ℕ → Bool
+passes bytes = is_calm bytes && is_utf8 bytes
+
+-- a tab as a space
+abbrev pub spaced : ℕ → ℕ
+spaced byte = if byte == 9 then 32 else byte
+
+abbrev pub with_spaces : List ℕ → List ℕ
+with_spaces bytes = map spaced bytes
 
 -- a hexadecimal digit
 abbrev pub hex_digit : ℕ → ℕ
 hex_digit value = if nat_lt value 10 then 48 + value else 87 + value
 
--- how a byte is shown: printable ASCII as it is, a tab as a space, any other byte as `\x` and its two digits
-abbrev pub shown_byte : ℕ → List ℕ
-shown_byte byte =
+-- a byte of another text: printable ASCII as it is, a tab as a space, any other byte as `\x` and its two digits
+abbrev pub escaped_byte : ℕ → List ℕ
+escaped_byte byte =
     if nat_le 32 byte && nat_le byte 126 then byte ∷ []
     else (if byte == 9 then 32 ∷ [] else 92 ∷ 120 ∷ hex_digit (byte / 16) ∷ hex_digit (byte % 16) ∷ [])
 
--- how bytes are shown on a line
-abbrev pub shown_text : List ℕ → List ℕ
-shown_text bytes = flat_map shown_byte bytes
+abbrev pub escaped_text : List ℕ → List ℕ
+escaped_text bytes = flat_map escaped_byte bytes
 
--- these are bytes as they are shown on one line
+-- how bytes are shown on a line: with spaces for tabs, as they are if they pass so, and else escaped
+abbrev pub shown_text : List ℕ → List ℕ
+shown_text bytes = if passes (with_spaces bytes) then with_spaces bytes else escaped_text bytes
+
+-- these are texts as they are shown, one after another on one line
 abbrev pub IsShown : List ℕ → Type 0
-IsShown bytes = (text : List ℕ) × (bytes ≡ shown_text text)
+IsShown bytes = (texts : List (List ℕ)) × (bytes ≡ flat_map shown_text texts)
 
 -- words after a mark; nothing if there are none
 abbrev pub words_after : List ℕ → List ℕ → List ℕ

@@ -1,8 +1,9 @@
 ghost use Rattle.std.specs.Prelude.{◌≡◌, ◌-◌, ◌++◌, IfOk, OnOk, drop, take};
-ghost use Rattle.wc_diag_messages.specs.Excerpts.{bar_line, excerpt_text, first_shown, marked_text, marks, quoted_line, shown_part, text_span_start};
+ghost use Rattle.wc_diag_messages.specs.Excerpts.{bar_line, characters, columns, excerpt_text, first_shown, marked_text, marks, quoted_line, shown_part, text_span_start};
 
-use crate::message::{Message, shown};
+use crate::message::Message;
 use crate::placing::margin;
+use crate::plain::{passes, with_spaces};
 use std::alloc::{AllocError, Global};
 use wc_diag_spans::{Diagnostic, TextSpan};
 
@@ -46,6 +47,27 @@ fn shown_part(line: &[u8], text_span: Option<TextSpan>) -> &[u8]
     excerpt(line, first_shown(line, text_span_start(text_span)), WIDEST)
 }
 
+/// The number of characters of a UTF-8 text.
+fn characters(text: &[u8]) -> usize
+    ensures { result ≡ characters text.now }
+{
+    text.iter()
+        .filter(|byte| !matches!(byte, 0x80..=0xBF))
+        .count()
+}
+
+/// The number of columns that bytes of a line take, if it is shown as it is, or with escapes.
+fn columns(alloc: Global, is_text: bool, bytes: &[u8]) -> Result<usize, AllocError>
+    ensures { IfOk result (λ count. count ≡ columns is_text bytes.now) }
+{
+    if is_text {
+        return Ok(characters(bytes));
+    }
+    let mut escaped = Message::new(alloc);
+    escaped.add_escaped(bytes)?;
+    Ok(escaped.as_bytes().len())
+}
+
 /// Writes a mark under each column that some bytes of what is shown take.
 fn write_marks(
     alloc: Global,
@@ -57,10 +79,12 @@ fn write_marks(
     ensures { OnOk result (message.new.bytes.items
         ≡ message.old.bytes.items ++ marks part.now start length) }
 {
-    let before = shown(alloc, excerpt(part, 0, start))?;
-    let offending = shown(alloc, excerpt(part, start, length))?;
-    message.repeat(b' ', before.as_bytes().len())?;
-    message.repeat(b'^', offending.as_bytes().len().max(1))
+    let spaced = with_spaces(alloc, part)?;
+    let is_text = passes(&spaced);
+    let before = columns(alloc, is_text, excerpt(part, 0, start))?;
+    let offending = columns(alloc, is_text, excerpt(part, start, length))?;
+    message.repeat(b' ', before)?;
+    message.repeat(b'^', offending.max(1))
 }
 
 /// The marks under the offending slice of a line, and what could be there.

@@ -1,6 +1,6 @@
 //! What is said of a refusal, for people, editors and programs: what is wrong, where, the line with its offending slice,
-//! and what to write instead; and a page for each number. A message for people or editors has printable ASCII and line feeds
-//! alone. The fixed lines, on which machines rely, are not made here.
+//! and what to write instead; and a page for each number. A message for people or editors has line feeds and characters that a
+//! terminal only shows. The fixed lines, on which machines rely, are not made here.
 #![tactic(auto)]
 
 mod excerpts;
@@ -13,6 +13,7 @@ mod object;
 mod page;
 mod parts;
 mod placing;
+mod plain;
 mod short;
 mod warned;
 mod warned_lines;

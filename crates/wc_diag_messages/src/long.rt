@@ -75,9 +75,8 @@ fn write_page(message: &mut Message, number: u16) -> Result<(), AllocError>
 
 /// Writes what to write instead, and the page that says more.
 fn write_help(message: &mut Message, number: u16, advice: &Message) -> Result<(), AllocError>
-    ensures { (text : List ℕ) → advice.now.bytes.items ≡ shown_text text
-        → OnOk result (message.new.bytes.items
-        ≡ message.old.bytes.items ++ help_line number text) }
+    ensures { OnOk result (message.new.bytes.items
+        ≡ message.old.bytes.items ++ help_line number advice.now.bytes.items) }
 {
     message.say("help: ")?;
     message.append(advice)?;

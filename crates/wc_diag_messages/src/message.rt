@@ -1,21 +1,25 @@
 ghost use Rattle.std.specs.Prelude.{◌≡◌, ◌<◌, ◌/◌, ◌%◌, ◌∷◌, ◌++◌, ◌↔◌, [], IfOk, IsTrue, OnOk, codes, replicate, true};
 ghost use Rattle.std.specs.Fmt.{decimal};
 ghost use Rattle.std.specs.List.{list_all};
-ghost use Rattle.wc_diag_messages.specs.Plain.{IsShown, hex_digit, is_plain, shown_byte, shown_text, words_after};
+ghost use Rattle.std.specs.Str.{is_utf8};
+ghost use Rattle.wc_diag_messages.specs.Plain.{IsShown, escaped_byte, escaped_text, hex_digit, is_plain, passes, shown_text, with_spaces, words_after};
 
+use crate::plain::{has_tab, passes, with_spaces};
 use std::alloc::{AllocError, Global};
 
-/// A text for people, of bytes that a terminal only shows: printable ASCII and line feeds.
+/// A text for people, of characters that a terminal only shows, and line feeds.
 #[derive(Drop)]
 pub struct Message {
     alloc: Global,
     bytes: Vec<u8>,
     ghost plain: { list_all is_plain bytes.items ≡ true },
+    ghost text: { is_utf8 bytes.items ≡ true },
 }
 
 /// A hexadecimal digit.
 fn digit(value: u8) -> u8
     ensures plain { is_plain result ≡ true }
+    ensures ascii { result < 128 }
     ensures digit { value < 16 → result ≡ hex_digit value }
 {
     match value {
@@ -37,9 +41,10 @@ impl Message {
         }
     }
 
-    /// The bytes: printable ASCII and line feeds.
+    /// The bytes, which are UTF-8 without control characters but for line feeds.
     pub fn as_bytes(&self) -> &[u8]
         ensures plain { list_all is_plain result.now ≡ true }
+        ensures text { is_utf8 result.now ≡ true }
         ensures all { result.now ≡ self.now.bytes.items }
     {
         self.bytes.as_slice()
@@ -49,6 +54,7 @@ impl Message {
     pub(crate) fn into_bytes(self) -> Vec<u8>
         ensures all { result.items ≡ self.bytes.items }
         ensures plain { list_all is_plain result.items ≡ true }
+        ensures text { is_utf8 result.items ≡ true }
     {
         let Message { bytes, .. } = self;
         bytes
@@ -60,7 +66,7 @@ impl Message {
     {
         match str::from_utf8(self.as_bytes()) {
             Ok(text) => text,
-            // Every byte is ASCII, so this is not reached.
+            // A message is UTF-8, so this is not reached.
             Err(_) => "",
         }
     }
@@ -72,9 +78,10 @@ impl Message {
         self.bytes.is_empty()
     }
 
-    /// Adds a byte that is shown as it is.
+    /// Adds a byte of ASCII that is shown as it is.
     fn put(&mut self, byte: u8) -> Result<(), AllocError>
-        requires { is_plain byte ≡ true }
+        requires plain { is_plain byte ≡ true }
+        requires ascii { byte < 128 }
         ensures { OnOk result (self.new.bytes.items ≡ self.old.bytes.items ++ byte ∷ []) }
     {
         self.bytes.push(byte)?;
@@ -93,9 +100,17 @@ impl Message {
         self.put(digit(byte % 16))
     }
 
+    /// Adds bytes that are shown as they are.
+    fn put_text(&mut self, text: &[u8]) -> Result<(), AllocError>
+        requires { passes text.now ≡ true }
+        ensures { OnOk result (self.new.bytes.items ≡ self.old.bytes.items ++ text.now) }
+    {
+        self.bytes.extend_from_slice(text)
+    }
+
     /// Adds a byte: printable ASCII as it is, a tab as a space, any other as `\x` and two digits.
     fn show(&mut self, byte: u8) -> Result<(), AllocError>
-        ensures { OnOk result (self.new.bytes.items ≡ self.old.bytes.items ++ shown_byte byte) }
+        ensures { OnOk result (self.new.bytes.items ≡ self.old.bytes.items ++ escaped_byte byte) }
     {
         if byte >= 32 && byte <= 126 {
             self.put(byte)
@@ -106,14 +121,38 @@ impl Message {
         }
     }
 
-    /// Adds bytes on the line.
-    pub(crate) fn add(&mut self, text: &[u8]) -> Result<(), AllocError>
-        ensures { OnOk result (self.new.bytes.items ≡ self.old.bytes.items ++ shown_text text.now) }
+    /// Adds bytes with an escape for each that is not printable ASCII.
+    pub(crate) fn add_escaped(&mut self, text: &[u8]) -> Result<(), AllocError>
+        ensures { OnOk result (self.new.bytes.items
+            ≡ self.old.bytes.items ++ escaped_text text.now) }
     {
         for byte in text {
             self.show(*byte)?;
         }
         Ok(())
+    }
+
+    /// Adds bytes on the line, which are these with spaces for tabs.
+    fn add_spaced(&mut self, text: &[u8], spaced: &[u8]) -> Result<(), AllocError>
+        requires { spaced.now ≡ with_spaces text.now }
+        ensures { OnOk result (self.new.bytes.items ≡ self.old.bytes.items ++ shown_text text.now) }
+    {
+        if passes(spaced) {
+            self.put_text(spaced)
+        } else {
+            self.add_escaped(text)
+        }
+    }
+
+    /// Adds bytes on the line: as they are with spaces for tabs, if no terminal acts on them, else with escapes.
+    pub(crate) fn add(&mut self, text: &[u8]) -> Result<(), AllocError>
+        ensures { OnOk result (self.new.bytes.items ≡ self.old.bytes.items ++ shown_text text.now) }
+    {
+        if !has_tab(text) {
+            return self.add_spaced(text, text);
+        }
+        let spaced = with_spaces(self.alloc, text)?;
+        self.add_spaced(text, &spaced)
     }
 
     /// Adds words on the line.
@@ -147,7 +186,8 @@ impl Message {
 
     /// Adds a mark that number of times.
     pub(crate) fn repeat(&mut self, mark: u8, times: usize) -> Result<(), AllocError>
-        requires { is_plain mark ≡ true }
+        requires plain { is_plain mark ≡ true }
+        requires ascii { mark < 128 }
         ensures { OnOk result (self.new.bytes.items
             ≡ self.old.bytes.items ++ replicate times mark) }
     {
@@ -185,7 +225,8 @@ impl Message {
     }
 }
 
-/// Bytes as they are shown on one line: printable ASCII as it is, a tab as a space, any other byte as `\x` and two digits.
+/// Bytes as they are shown on one line: as they are with spaces for tabs, if they are UTF-8 on which no terminal acts; else printable
+/// ASCII as it is, and any other byte as `\x` and two digits.
 pub fn shown(alloc: Global, text: &[u8]) -> Result<Message, AllocError>
     ensures { IfOk result (λ message. message.bytes.items ≡ shown_text text.now) }
 {

@@ -1,7 +1,7 @@
 ghost use Rattle.std.specs.Prelude.{◌≡◌, ℕ, List, ◌++◌, IfOk, OnOk};
-ghost use Rattle.wc_diag_messages.specs.Explanations.{left_out_text, quoted_text};
+ghost use Rattle.wc_diag_messages.specs.Explanations.{QuotesAndSays, left_out_text, quoted_text};
 ghost use Rattle.wc_diag_messages.specs.Known.{IsKnown};
-ghost use Rattle.wc_diag_messages.specs.Plain.{IsShown, shown_text};
+ghost use Rattle.wc_diag_messages.specs.Plain.{IsShown};
 
 use crate::excerpts::{WIDEST, excerpt};
 use crate::message::{Message, shown};
@@ -99,8 +99,8 @@ fn statement_of(alloc: Global, number: u16, diagnostic: &Diagnostic) -> Result<M
 
 /// What is wrong, in words.
 fn reported_of(alloc: Global, number: u16, diagnostic: &Diagnostic) -> Result<Message, AllocError>
-    ensures { IfOk result (λ reported. (said : List ℕ) × (reported.bytes.items
-        ≡ quoted_text diagnostic.now.subject.items ++ shown_text said)) }
+    ensures { IfOk result
+        (λ reported. QuotesAndSays diagnostic.now.subject.items reported.bytes.items) }
 {
     let said = statement_of(alloc, number, diagnostic)?;
     let mut message = Message::new(alloc);
@@ -115,8 +115,8 @@ fn said_of(
     number: u16,
     diagnostic: &Diagnostic,
 ) -> Result<(Message, Message, Message), AllocError>
-    ensures reported { IfOk result (λ words. (said : List ℕ) × (words.0.bytes.items
-        ≡ quoted_text diagnostic.now.subject.items ++ shown_text said)) }
+    ensures reported { IfOk result
+        (λ words. QuotesAndSays diagnostic.now.subject.items words.0.bytes.items) }
     ensures expected { IfOk result (λ words. IsShown words.1.bytes.items) }
     ensures advice { IfOk result (λ words. IsShown words.2.bytes.items) }
 {

@@ -13,6 +13,7 @@ returns c =
       words_are = known.expected_are;
       line = parts.line;
       line_is = known.line_is;
-      advice = known.advice_is.0;
-      all = four_excerpts _ _ _ _ _ _ _ _ _ c.requires.empty c.in_ok-write_headline.ensures c.in_ok-write_place.ensures c.in_ok-write_excerpt.ensures (c.in_ok-write_help.ensures known.advice_is.0 known.advice_is.1);
+      advice = parts.advice.bytes.items;
+      advice_is = known.advice_is;
+      all = four_excerpts _ _ _ _ _ _ _ _ _ c.requires.empty c.in_ok-write_headline.ensures c.in_ok-write_place.ensures c.in_ok-write_excerpt.ensures c.in_ok-write_help.ensures;
     }

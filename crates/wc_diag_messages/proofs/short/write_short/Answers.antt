@@ -19,6 +19,6 @@ returns c =
       one = record {
         line = short_text refusal.name.now (position_text refusal parts.line parts.diagnostic.text_span) refusal.number parts.reported.bytes.items;
         ends = all;
-        controls = short_above refusal parts.line parts.diagnostic.text_span parts.reported.bytes.items (reported_above parts.diagnostic.subject.items known.knows.said parts.reported.bytes.items known.knows.reported_is);
+        controls = short_above refusal parts.line parts.diagnostic.text_span parts.reported.bytes.items (reported_above parts.diagnostic.subject.items parts.reported.bytes.items known.knows.says);
       };
     }

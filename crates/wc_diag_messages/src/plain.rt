@@ -1,0 +1,81 @@
+ghost use Rattle.std.specs.Prelude.{◌≡◌, IfOk, false};
+ghost use Rattle.std.specs.Str.{is_utf8};
+ghost use Rattle.wc_diag_messages.specs.Plain.{acts, is_calm, is_control, passes, spaced, with_spaces};
+
+use std::alloc::{AllocError, Global};
+
+/// Whether a byte is a control character of ASCII.
+fn is_control(byte: u8) -> bool
+    ensures { result ≡ is_control byte }
+{
+    byte < 32 || byte == 127
+}
+
+/// Whether a UTF-8 text begins with a character on which a terminal or an editor acts: a control character above ASCII, an end of
+/// a line, or one that turns the direction of writing.
+fn acts(text: &[u8]) -> bool
+    ensures { result ≡ acts text.now }
+{
+    match text {
+        [0xC2, 0x80..=0x9F, ..] => true,
+        [0xE2, 0x80, 0x8E | 0x8F | 0xA8..=0xAE, ..] => true,
+        [0xE2, 0x81, 0xA6..=0xA9, ..] => true,
+        _ => false,
+    }
+}
+
+/// Whether no character of a UTF-8 text is a control character, or acts so.
+fn is_calm(text: &[u8]) -> bool
+    ensures { result ≡ is_calm text.now }
+{
+    for (index, byte) in text.iter().enumerate() {
+        if is_control(*byte) || acts(text.split_at(index).1) {
+            return false;
+        }
+    }
+    true
+}
+
+/// Whether a text is UTF-8.
+fn is_text(bytes: &[u8]) -> bool
+    ensures { result ≡ is_utf8 bytes.now }
+{
+    str::from_utf8(bytes).is_ok()
+}
+
+/// Whether bytes are shown as they are.
+pub(crate) fn passes(bytes: &[u8]) -> bool
+    ensures { result ≡ passes bytes.now }
+{
+    is_calm(bytes) && is_text(bytes)
+}
+
+/// A tab as a space.
+fn spaced(byte: u8) -> u8
+    ensures { result ≡ spaced byte }
+{
+    if byte == b'\t' { b' ' } else { byte }
+}
+
+/// Whether a text has a tab.
+pub(crate) fn has_tab(text: &[u8]) -> bool
+    ensures { result ≡ false → with_spaces text.now ≡ text.now }
+{
+    for byte in text {
+        if *byte == b'\t' {
+            return true;
+        }
+    }
+    false
+}
+
+/// A text with spaces for its tabs.
+pub(crate) fn with_spaces(alloc: Global, text: &[u8]) -> Result<Vec<u8>, AllocError>
+    ensures { IfOk result (λ bytes. bytes.items ≡ with_spaces text.now) }
+{
+    let mut bytes = Vec::new(alloc);
+    for byte in text {
+        bytes.push(spaced(*byte))?;
+    }
+    Ok(bytes)
+}
