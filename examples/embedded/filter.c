@@ -169,7 +169,7 @@ static void give_mean(void)
     }
 }
 
-/* Gives so many commands to each scale, and says whether those with the filter were all accepted within a quarter of an interval, and some
+/* Gives `count` commands to each scale, and returns whether those with the filter were all accepted within a quarter of an interval, and some
  * without it were not. */
 static int try_commands(const char *what, char letter, int count)
 {

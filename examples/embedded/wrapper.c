@@ -1,4 +1,4 @@
-/* Three calls around a scale, as a maker's own code has them, each with what it promises in ACSL. `tools/try_c_side` proves by Frama-C that
+/* Three calls around a scale, as a maker's own code may have them, each with its contract in ACSL. `tools/try_c_side` proves by Frama-C that
  * they keep it: that the library's calls get what they require, that no index leaves its array, and that each loop ends. */
 #include "narbeddo.h"
 
