@@ -33,7 +33,7 @@ fn pair_up(columns: &mut Vec<Column>)
     columns.truncate(half);
 }
 
-/// Goes on to so many columns, in which still holds what held.
+/// Appends columns up to this count, in which the held state goes on.
 fn fill(columns: &mut Vec<Column>, count: usize, held: &State)
     requires { count ≤ vec_capacity columns.old }
     ensures columns { let more = count - length columns.old.items in
