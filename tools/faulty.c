@@ -25,10 +25,10 @@ static size_t refused_size;
 static ssize_t (*real_read)(int, void *, size_t);
 static ssize_t (*real_write)(int, const void *, size_t);
 
-static long number(const char *name, long otherwise)
+static long number(const char *name, long fallback)
 {
     const char *text = getenv(name);
-    return text ? atol(text) : otherwise;
+    return text ? atol(text) : fallback;
 }
 
 __attribute__((constructor)) static void begin(void)
@@ -100,17 +100,17 @@ static int is_interrupted(void)
 }
 
 /* The number of bytes that may be transferred, or -1 if the call fails. */
-static ssize_t allowed(long *left, long chunk, size_t wanted)
+static ssize_t allowed(long *left, long chunk, size_t requested)
 {
-    if (*left == 0 && wanted > 0) {
+    if (*left == 0 && requested > 0) {
         errno = EIO;
         return -1;
     }
-    if (*left > 0 && wanted > (size_t)*left)
-        wanted = (size_t)*left;
-    if (chunk > 0 && wanted > (size_t)chunk)
-        wanted = (size_t)chunk;
-    return (ssize_t)wanted;
+    if (*left > 0 && requested > (size_t)*left)
+        requested = (size_t)*left;
+    if (chunk > 0 && requested > (size_t)chunk)
+        requested = (size_t)chunk;
+    return (ssize_t)requested;
 }
 
 ssize_t read(int file, void *buffer, size_t size)

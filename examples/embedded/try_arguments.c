@@ -44,12 +44,12 @@ void rattle_dealloc(void *at)
     free(at);
 }
 
-static void is(const char *what, unsigned long found, unsigned long wanted)
+static void is(const char *what, unsigned long found, unsigned long expected)
 {
     tried_count++;
-    if (found != wanted) {
+    if (found != expected) {
         failed_count++;
-        printf("%s: %lu and not %lu\n", what, found, wanted);
+        printf("%s: %lu and not %lu\n", what, found, expected);
     }
 }
 

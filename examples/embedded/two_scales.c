@@ -214,7 +214,7 @@ static int feed(const part *parts, size_t count, bool is_right)
     return AGREES;
 }
 
-/* Changes the program of both scales to the same text, goes on, and closes them: then all that they keep was read once more. */
+/* Changes the program of both scales to the same text, goes on, and closes them: then everything that they keep was read again. */
 static int change_and_close(bool is_right)
 {
     const uint8_t *text = (const uint8_t *)program;
