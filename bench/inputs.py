@@ -1,4 +1,4 @@
-"""The inputs that are measured: a plate, programs and logs, made anew each time from fixed numbers."""
+"""The inputs of the measurements: a plate, programs and logs, generated each time from fixed seeds."""
 import random
 
 PLATE = 'unit = "kg"\ndecimals = 3\nmax = 15000\ne = 5\nzero_counts = 10000\nspan_counts = 600000\nwindow = 4\n'
@@ -69,7 +69,7 @@ END_PROGRAM
 
 
 def logic(lines, variables, seed=1):
-    """A program of BOOL logic: so many lines over so many variables, the inputs and the outputs."""
+    """A program of BOOL logic: `lines` lines over `variables` variables, the inputs and the outputs."""
     chance = random.Random(seed)
     names = [f"signal_{number}" for number in range(variables)]
     body = []
@@ -83,7 +83,7 @@ def logic(lines, variables, seed=1):
 
 
 def calls(blocks, rounds):
-    """A program that calls a block of the text so many times a scan; the block's body repeats its lines so many times."""
+    """A program that calls `blocks` instances of a block of the text in each scan; the block's body repeats its lines `rounds` times."""
     body = ""
     for number in range(rounds):
         body += "LD n\nADD 7\nST n\nGT m\nST a\nAND( b\nOR go\n)\nXOR c\nST c\nLD m\nSUB n\nMUL 3\nST m\nLD a\n"
@@ -99,7 +99,7 @@ def calls(blocks, rounds):
 
 
 def standard_blocks(blocks, rounds):
-    """A program that calls a block of the text so many times a scan, whose body calls the standard blocks."""
+    """A program that calls `blocks` instances of a block of the text in each scan, whose body calls the standard blocks `rounds` times."""
     body = "LD TRUE\n" + rounds * (
         "CALC on(IN := q, PT := T#5ms)\nCAL off(IN := on.Q, PT := T#7ms)\nCAL edge(CLK := off.Q)\n"
         "CAL count(CU := edge.Q, PV := 9)\nLD count.Q\nNOT\nST q\n"
@@ -115,7 +115,7 @@ def standard_blocks(blocks, rounds):
 
 
 def nested(units, lines=160):
-    """A text of blocks, each of which holds the one before."""
+    """A text of blocks, each of which has an instance of the one before."""
     text = ""
     for unit in range(units):
         inner = f" inner : Level_{unit - 1};" if unit else ""
@@ -129,28 +129,28 @@ def nested(units, lines=160):
 
 
 def filled(text, size=65536):
-    """The text behind a comment, so that it has so many bytes."""
+    """The text after a comment that pads it to `size` bytes."""
     return f"(*{'x' * (size - len(text) - 5)}*)\n{text}" if len(text) + 5 <= size else text
 
 
-def row(kind, moment, number):
-    """A row of a kind at a moment."""
+def row(kind, ms, number):
+    """A row of a kind at a time in milliseconds."""
     data = {
         "C": f"{110000 + number * 7919 % 400}",
         "I": f"{number * 7919 % 65536:04x}",
         "L": "0a570d" if number % 3 else "0a4d0d0a57",
         "S": "",
     }[kind]
-    return f"{moment},{kind},{data}\n"
+    return f"{ms},{kind},{data}\n"
 
 
 def log(kinds, rows):
-    """A log of so many rows, whose kinds go round."""
+    """A log of `rows` rows, which cycle through these kinds."""
     yield "ms,kind,data\n"
     for number in range(rows):
         yield row(kinds[number % len(kinds)], number * 3, number)
 
-# what a line of each kind is among, the counted items of one round of it, and the lines before the first round
+# lines of each kind: a title, the text of one round, the counted items of a round, and the lines before the first round
 STEPS = [
     ("LD of an input bit", "LD %IX0.0\n", 1, ""),
     ("AND of a variable", "AND a\n", 1, "LD %IX0.0\n"),
@@ -176,7 +176,7 @@ STEPS = [
 
 
 def steps(line, first, rounds):
-    """A program of so many rounds of a line; its variables and blocks are those that any of the lines names."""
+    """A program of `rounds` rounds of a line; it declares the variables and blocks of all lines."""
     blocks = (
         "FUNCTION_BLOCK Empty\nEND_FUNCTION_BLOCK\n"
         "FUNCTION_BLOCK Block\nVAR_INPUT i : BOOL; END_VAR\nVAR_OUTPUT o : BOOL; END_VAR\nEND_FUNCTION_BLOCK\n"

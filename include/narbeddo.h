@@ -1,24 +1,24 @@
-/* Narbeddo in a program of your own: a weighing indicator with its line, and the customer's program beside it.
+/* Narbeddo in a program of your own: a weighing indicator with its line, and next to it the customer's program.
  *
- *     narbeddo_scale scale;                              the room for one scale, wherever you like: static, on the stack, in a struct
+ *     narbeddo_scale scale;                              the memory of one scale, wherever you like: static, on the stack, in a struct
  *     narbeddo_make(&scale);                             once, before anything else; it is closed then
  *     narbeddo_open(&scale, plate, plate_length);        the text of the plate (TOML)
  *     narbeddo_load(&scale, text, text_length);          a program (Instruction List), or none at all
  *
- *     narbeddo_sample(&scale, counts);                   what the load cell gives, as it comes
- *     narbeddo_byte(&scale, byte);                       what the line gives, byte by byte; the answer is to be sent
+ *     narbeddo_sample(&scale, counts);                   each sample of the load cell
+ *     narbeddo_byte(&scale, byte);                       each byte from the line; send the answer
  *     narbeddo_inputs(&scale, bits);                     the digital inputs from now on
  *     narbeddo_scan(&scale, milliseconds);               one scan of the program: its steps and its outputs
  *
- *     narbeddo_close(&scale);                            gives all memory back
+ *     narbeddo_close(&scale);                            frees all memory
  *
  * docs/EMBEDDING.md says what is proved of these calls and what you owe them; examples/embedded/ has two whole programs. In short:
  *
- *   - Each call says by a status whether it was done. Where it was not, it has changed nothing.
- *   - narbeddo_open, narbeddo_load, narbeddo_change, narbeddo_value, narbeddo_about and narbeddo_path ask your allocator for memory; no other
- *     call does, and none of those others can fail on arguments in range.
+ *   - Each call returns a status, which says whether it was done. If it was not, it has changed nothing.
+ *   - narbeddo_open, narbeddo_load, narbeddo_change, narbeddo_value, narbeddo_about and narbeddo_path allocate memory by your functions; no
+ *     other call does, and none of those others can fail on arguments in range.
  *   - A scale stays on the thread that made it, and no call comes from a signal handler. There may be any number of scales.
- *   - A pointer is never null, and leads to what its type says; a text of no bytes too has some address.
+ *   - A pointer is never null, and points to what its type says; a text of no bytes needs an address too.
  */
 #ifndef NARBEDDO_H
 #define NARBEDDO_H
@@ -31,11 +31,11 @@
 extern "C" {
 #endif
 
-/* What a call says of itself. Of the statuses that a call may answer the first of its line is told:
+/* The status of a call. If several statuses apply, the first of these in the line of the call is returned:
  *
  *     narbeddo_open                      ALREADY_OPEN, then REFUSED or NO_MEMORY
- *     narbeddo_load                      CLOSED, then REFUSED or NO_MEMORY; after it any moment is accepted
- *     narbeddo_change                    CLOSED, NO_PROGRAM, then REFUSED or NO_MEMORY; the moment of the last scan stays
+ *     narbeddo_load                      CLOSED, then REFUSED or NO_MEMORY; after it any time is accepted
+ *     narbeddo_change                    CLOSED, NO_PROGRAM, then REFUSED or NO_MEMORY; the time of the last scan stays
  *     narbeddo_sample                    CLOSED, COUNTS_OUT_OF_RANGE
  *     narbeddo_byte, _inputs, _read, _plate, _prelude    CLOSED (and of a byte LINE_FAILED, which never comes)
  *     narbeddo_scan                      CLOSED, NO_PROGRAM, MOMENT_OUT_OF_RANGE, MOMENT_BACK
@@ -43,21 +43,21 @@ extern "C" {
  *     narbeddo_about, narbeddo_path      REFUSED, NO_MEMORY or NO_UNIT; of a path also NO_ROOM
  *     narbeddo_close                     DONE alone
  */
-#define NARBEDDO_DONE 0                /* it did what it is for */
+#define NARBEDDO_DONE 0                /* the call was done */
 #define NARBEDDO_REFUSED 1             /* a text breaks a rule: number and place say which and where (docs/REFUSALS.md) */
-#define NARBEDDO_NO_MEMORY 2           /* your allocator gave none */
+#define NARBEDDO_NO_MEMORY 2           /* your allocator had none left */
 #define NARBEDDO_CLOSED 3              /* the scale was not opened, or was closed */
 #define NARBEDDO_ALREADY_OPEN 4        /* close it first */
 #define NARBEDDO_NO_PROGRAM 5          /* load one first */
 #define NARBEDDO_COUNTS_OUT_OF_RANGE 6 /* below -8388608 or above 8388607 */
 #define NARBEDDO_MOMENT_OUT_OF_RANGE 7 /* above 1099511627775, some 34 years of milliseconds */
-#define NARBEDDO_MOMENT_BACK 8         /* before the moment of the last scan; the same moment again is accepted */
-#define NARBEDDO_LINE_FAILED 9         /* never of a scale that was made and opened by the calls below: so it is proved */
+#define NARBEDDO_MOMENT_BACK 8         /* before the time of the last scan; the same time again is accepted */
+#define NARBEDDO_LINE_FAILED 9         /* proved: never of a scale that was made and opened by the calls below */
 #define NARBEDDO_NO_UNIT 10            /* the text has no unit of that number */
-#define NARBEDDO_NO_ROOM 11            /* the room is too small, and nothing was put there */
+#define NARBEDDO_NO_ROOM 11            /* the buffer is too small, and nothing was written to it */
 #define NARBEDDO_NO_VARIABLE 12        /* the program has no variable of that name */
 
-/* The room for a scale. Its contents are the library's. narbeddo_size() is at most its size: the library and this header belong together. */
+/* The memory of a scale. Its contents belong to the library. narbeddo_size() is at most its size: the library and this header belong together. */
 #define NARBEDDO_WORDS 48
 typedef struct narbeddo_scale {
     uint64_t words[NARBEDDO_WORDS];
@@ -65,13 +65,13 @@ typedef struct narbeddo_scale {
 
 /* Comments that begin with an @ are for Frama-C, in ACSL (docs/EMBEDDING.md, section 3): what a call requires of its pointers, what it writes,
  * and what its result may be. Each `ensures` repeats, for a scale that the calls below made, the clause or relation of its export that it is
- * named for (crates/narbeddo, crates/wc_scale). What a call writes leaves out the blocks that your three functions of memory gave the library.
+ * named for (crates/narbeddo, crates/wc_scale). What a call writes does not include the blocks that your three memory functions returned.
  * A tool can check that storage is large enough and aligned, and that a scale has been written to; it cannot check what is in it. */
 /*@ predicate narbeddo_is_storage{L}(narbeddo_scale *scale) = \valid{L}(scale) && \offset{L}(scale) % 8 == 0;
     predicate narbeddo_is_scale{L}(narbeddo_scale *scale) = narbeddo_is_storage{L}(scale) && \initialized{L}(&scale->words[0]);
     predicate narbeddo_is_text{L}(uint8_t *text, integer length) = text != \null && \valid_read{L}(text + (0 .. length - 1)); */
 
-/* What comes of a text: the status; where it is NARBEDDO_REFUSED, the number of the rule that is broken and the line (0 of a plate). */
+/* The result for a text: the status; if it is NARBEDDO_REFUSED, the number of the rule that is broken and the line (0 of a plate). */
 typedef struct narbeddo_refusal {
     uint32_t status;
     uint32_t number;
@@ -93,7 +93,7 @@ typedef struct narbeddo_scanned {
     int32_t words[4];  /* %QD0 to %QD3 */
 } narbeddo_scanned;
 
-/* What is engraved on the scale, beside which a display shows its weights. */
+/* What is engraved on the scale, for a display to show with the weights. */
 typedef struct narbeddo_engraved {
     uint32_t status;
     uint8_t unit[3];  /* as on the line: "kg ", "g  " or "t  ", with no zero after it */
@@ -102,7 +102,7 @@ typedef struct narbeddo_engraved {
     int32_t e;        /* the scale interval (e), in units of the last decimal */
 } narbeddo_engraved;
 
-/* What the indicator shows, for a display. Weights are in units of the plate's last decimal, and 0 where it is not valid. */
+/* What the indicator shows, for a display. Weights are in units of the plate's last decimal, and 0 while it is not valid. */
 typedef struct narbeddo_reading {
     uint32_t status;
     uint32_t flags;      /* NARBEDDO_STABLE and the others */
@@ -124,12 +124,12 @@ typedef struct narbeddo_identity {
     char data_path[65];  /* SHA-256 over the sources that pass samples, line bytes and answers on, this header among them */
 } narbeddo_identity;
 
-/* What identifies the library, for a display: it needs no scale, and always answers. */
+/* What identifies the library, for a display: the call needs no scale, and is always done. */
 /*@ assigns \result \from \nothing;
     ensures IsThisVersion: \result.version[15] == 0 && \result.toolchain[47] == 0 && \result.legal_part[64] == 0 && \result.data_path[64] == 0; */
 narbeddo_identity narbeddo_identify(void);
 
-/* Makes a closed scale of the room, whatever it holds: so never of a scale that is open. */
+/* Makes a closed scale in this memory, whatever its contents: so never call it on an open scale. */
 /*@ requires narbeddo_is_storage(scale);
     assigns *scale \from \nothing;
     ensures lies_at: narbeddo_is_scale(scale); */
@@ -140,7 +140,7 @@ void narbeddo_make(narbeddo_scale *scale);
     ensures most: \result <= sizeof(narbeddo_scale); */
 size_t narbeddo_size(void);
 
-/* Opens the scale by its plate: nothing has come to it then, the inputs are 0, and it has no program. */
+/* Opens the scale by its plate: it then has no samples and no line bytes, its inputs are 0, and it has no program. */
 /*@ requires narbeddo_is_scale(scale) && narbeddo_is_text(plate, length) && \separated(scale, plate + (0 .. length - 1));
     assigns *scale, \result \from *scale, plate[0 .. length - 1];
     ensures lies_at: narbeddo_is_scale(scale);
@@ -157,8 +157,8 @@ narbeddo_refusal narbeddo_open(narbeddo_scale *scale, const uint8_t *plate, size
     ensures done: \result == NARBEDDO_DONE; */
 uint32_t narbeddo_close(narbeddo_scale *scale);
 
-/* Loads a program, which begins anew; one that was loaded is let go, and stays where the text is refused.
- * THE TEXT IS NOT COPIED: it must stay where it is, unchanged, until the scale is closed or has got another program. */
+/* Loads a program, with its first values; it replaces one that was loaded, which stays if the text is refused.
+ * THE TEXT IS NOT COPIED: it must stay where it is, unchanged, until the scale is closed or has another program. */
 /*@ requires narbeddo_is_scale(scale) && narbeddo_is_text(text, length) && \separated(scale, text + (0 .. length - 1));
     assigns *scale, \result \from *scale, text[0 .. length - 1];
     ensures lies_at: narbeddo_is_scale(scale);
@@ -166,10 +166,10 @@ uint32_t narbeddo_close(narbeddo_scale *scale);
     ensures RefusesLoad: \result.status != NARBEDDO_REFUSED ==> \result.number == 0 && \result.place == 0; */
 narbeddo_refusal narbeddo_load(narbeddo_scale *scale, const uint8_t *text, size_t length);
 
-/* Changes the program between two scans: outputs, and what both have by the same names and of the same kind keep their values, whatever stands
- * after := in the new text; all else begins anew. AN OUTPUT THAT THE NEW PROGRAM NEVER WRITES STAYS AS THE OLD ONE LEFT IT: a valve that is
- * open stays open. The old program stays where the text is refused. This text is not copied either; the old one may go once this call was
- * done. */
+/* Changes the program between two scans: outputs, and variables of the same name and type in both, keep their values, whatever the new text has
+ * after := ; everything else has its first value. AN OUTPUT THAT THE NEW PROGRAM NEVER WRITES STAYS AS THE OLD ONE LEFT IT: a valve that is
+ * open stays open. The old program stays if the text is refused. This text is not copied either; the old one is no longer needed once
+ * this call was done. */
 /*@ requires narbeddo_is_scale(scale) && narbeddo_is_text(text, length) && \separated(scale, text + (0 .. length - 1));
     assigns *scale, \result \from *scale, text[0 .. length - 1];
     ensures lies_at: narbeddo_is_scale(scale);
@@ -185,7 +185,7 @@ narbeddo_refusal narbeddo_change(narbeddo_scale *scale, const uint8_t *text, siz
     ensures RefusesSample: !(-8388608 <= counts <= 8388607) ==> \result == NARBEDDO_COUNTS_OUT_OF_RANGE || \result == NARBEDDO_CLOSED; */
 uint32_t narbeddo_sample(narbeddo_scale *scale, int32_t counts);
 
-/* Takes a byte of the line, and gives the answer to the request that it completes. Send it before you give the next byte, or keep it. */
+/* Takes a byte of the line, and returns the answer to the request that it completes. Send it before you give the next byte, or keep it. */
 /*@ requires narbeddo_is_scale(scale);
     assigns *scale, \result \from *scale, byte;
     ensures lies_at: narbeddo_is_scale(scale);
@@ -202,8 +202,8 @@ narbeddo_answer narbeddo_byte(narbeddo_scale *scale, uint8_t byte);
     ensures RefusesInputs: \result == NARBEDDO_DONE || \result == NARBEDDO_CLOSED; */
 uint32_t narbeddo_inputs(narbeddo_scale *scale, uint16_t inputs);
 
-/* Scans the program once, at a moment in milliseconds that is not before the last scan's. The outputs of a scan that was not done are 0 here:
- * keep the ones of the scan before, or go to your safe state. */
+/* Scans the program once, at a time in milliseconds that is not before the last scan's. The outputs of a scan that was not done are 0 here:
+ * keep those of the scan before, or go to your safe state. */
 /*@ requires narbeddo_is_scale(scale);
     assigns *scale, \result \from *scale, moment;
     ensures lies_at: narbeddo_is_scale(scale);
@@ -216,7 +216,7 @@ uint32_t narbeddo_inputs(narbeddo_scale *scale, uint16_t inputs);
         && (\forall integer i; 0 <= i < 4 ==> \result.words[i] == 0); */
 narbeddo_scanned narbeddo_scan(narbeddo_scale *scale, uint64_t moment);
 
-/* What the indicator shows. */
+/* The reading of the indicator. */
 /*@ requires narbeddo_is_scale(scale);
     assigns \result \from *scale;
     ensures ShowsNothing: \result.status == NARBEDDO_DONE || \result.status == NARBEDDO_CLOSED && \result.flags == 0;
@@ -243,8 +243,8 @@ typedef struct narbeddo_variable {
 #define NARBEDDO_DINT 2
 #define NARBEDDO_TIME 3
 
-/* The value that a variable of the program has after the last scan, for an online view: a name as "fill", "dose.timer.ET" through instances
- * of blocks, or "%QX0.3", in letters of either case. What a standard block keeps for itself has no name. Nothing changes. */
+/* The value that a variable of the program has after the last scan, for an online view: a name like "fill", "dose.timer.ET" through instances
+ * of blocks, or "%QX0.3", in upper or lower case. The internal state of a standard block has no name. Nothing changes. */
 /*@ requires narbeddo_is_scale(scale) && narbeddo_is_text(name, length) && \separated(scale, name + (0 .. length - 1));
     assigns \result \from *scale, name[0 .. length - 1];
     ensures RefusesValue: \result.status == NARBEDDO_DONE || \result.status == NARBEDDO_NO_MEMORY || \result.status == NARBEDDO_CLOSED
@@ -253,13 +253,13 @@ typedef struct narbeddo_variable {
     ensures ReportsValue: \result.status == NARBEDDO_DONE ==> NARBEDDO_BOOL <= \result.kind <= NARBEDDO_TIME; */
 narbeddo_variable narbeddo_value(narbeddo_scale *scale, const uint8_t *name, size_t length);
 
-/* What brings a new scale of the same plate to the state of this one, but for its program. Give that scale, in this order, and drop its answers:
+/* What brings a new scale of the same plate to the state of this one, except for its program. Give that scale, in this order, and drop its answers:
  *
  *     if has_zero is 1, `window` samples of `zero` and the bytes 10, 'Z', 13;
  *     if has_tare is 1, `window` samples of `tare` and the bytes 10, 'T', 13;
  *     the `count` samples; the inputs; and the `length` bytes of the request.
  *
- * From then on each answer, reading and scan of that scale is as it would have been here. In a log these are at most 52 rows
+ * From then on each answer, reading and scan of that scale is what it would have been here. In a log these are at most 52 rows
  * (docs/LOG.md, 4, "A log that is cut"; examples/embedded/record.c). */
 typedef struct narbeddo_state {
     uint32_t status;
@@ -284,10 +284,10 @@ typedef struct narbeddo_state {
     ensures ReportsPrelude: \result.length != 0 ==> \result.request[0] == 10; */
 narbeddo_state narbeddo_prelude(narbeddo_scale *scale);
 
-/* Your program defines these three functions over its allocator (examples/embedded/memory.c has them over malloc). The library calls them, in
+/* Your program defines these three functions over its allocator (examples/embedded/memory.c has them over malloc). The library calls them in
  * the calls that the list at the top of this file names and in narbeddo_close. A block is aligned to `align`, which is 16 at most; when one
  * grows, its first `kept` bytes stay. If there is no memory to grow, the block stays as it was. A request of no bytes gets a block too.
- * Blocks come back in any order. */
+ * Blocks are freed in any order. */
 typedef struct narbeddo_block {
     bool ok;  /* whether there was memory */
     void *at; /* where; never null, even if there was none */
@@ -299,10 +299,10 @@ void rattle_dealloc(void *at);
 
 /* One unit of a program's text, which need not be loaded: units are counted in text order from 0, and the program is the last. */
 typedef struct narbeddo_unit {
-    narbeddo_refusal text; /* NARBEDDO_NO_UNIT where the text has no unit of this number */
+    narbeddo_refusal text; /* NARBEDDO_NO_UNIT if the text has no unit of this number */
     uint32_t units;        /* how many units the text has */
     uint32_t bound;        /* how many steps the unit takes at most */
-    uint32_t length;       /* how many bytes of its name are told: all, or the first 32 */
+    uint32_t length;       /* the number of bytes of its name below: all, or the first 32 */
     uint8_t name[32];
 } narbeddo_unit;
 
@@ -313,20 +313,20 @@ typedef struct narbeddo_unit {
         unit < \result.units <= 64 && \result.bound <= 1000000 && \result.length <= 32; */
 narbeddo_unit narbeddo_about(const uint8_t *text, size_t length, uint32_t unit);
 
-/* The lines of a unit's worst path, put into the room. NARBEDDO_NO_ROOM where they do not fit, with how many there are; 1024 are always enough. */
+/* The lines of a unit's worst path, written to a buffer. NARBEDDO_NO_ROOM if they do not fit, with their number; 1024 are always enough. */
 typedef struct narbeddo_lines {
     narbeddo_refusal text;
     uint32_t length;
 } narbeddo_lines;
 
 /*@ requires narbeddo_is_text(text, length);
-    requires room != \null && \valid(room + (0 .. room_length - 1)) && \offset(room) % 4 == 0;
-    requires \separated(room + (0 .. room_length - 1), text + (0 .. length - 1));
-    assigns room[0 .. room_length - 1], \result \from text[0 .. length - 1], unit, room_length;
+    requires buffer != \null && \valid(buffer + (0 .. buffer_length - 1)) && \offset(buffer) % 4 == 0;
+    requires \separated(buffer + (0 .. buffer_length - 1), text + (0 .. length - 1));
+    assigns buffer[0 .. buffer_length - 1], \result \from text[0 .. length - 1], unit, buffer_length;
     ensures IsPathStatus: \result.text.status <= NARBEDDO_NO_MEMORY || \result.text.status == NARBEDDO_NO_UNIT || \result.text.status == NARBEDDO_NO_ROOM;
-    ensures ReportsPath: \result.text.status == NARBEDDO_DONE ==> \result.length <= room_length && \result.length <= 1024;
-    ensures ReportsTooSmall: \result.text.status == NARBEDDO_NO_ROOM ==> room_length < \result.length <= 1024; */
-narbeddo_lines narbeddo_path(const uint8_t *text, size_t length, uint32_t unit, uint32_t *room, size_t room_length);
+    ensures ReportsPath: \result.text.status == NARBEDDO_DONE ==> \result.length <= buffer_length && \result.length <= 1024;
+    ensures ReportsTooSmall: \result.text.status == NARBEDDO_NO_ROOM ==> buffer_length < \result.length <= 1024; */
+narbeddo_lines narbeddo_path(const uint8_t *text, size_t length, uint32_t unit, uint32_t *buffer, size_t buffer_length);
 
 #ifdef __cplusplus
 }

@@ -1,14 +1,14 @@
-/* A library to be loaded before the C library's calls are bound (LD_PRELOAD): memory, reads and writes fail as the environment
- * says, so that a program that is built as it is shipped can be tried.
+/* Fault injection for a program as it is shipped: a library that is preloaded (LD_PRELOAD) makes allocations, reads and writes
+ * fail as these environment variables say.
  *
- *   REFUSED_GROWTH=N   the Nth call that asks for memory gets none, counted from 1
- *   READ_ROOM=N        files that are opened give N bytes in all, and then each read fails
- *   READ_PIECE=N       a read gives at most N bytes
- *   WRITE_ROOM=N       standard output takes N bytes in all, and then each write fails
- *   WRITE_PIECE=N      a write to standard output takes at most N bytes
- *   INTERRUPTED=N      each Nth read or write is interrupted first
- *   COUNTS=FILE        at the end the number of calls that asked for memory is written there, and 1 where the call behind the
- *                      refused one asked again, for no more, else 0
+ *   REFUSED_ALLOCATION=N   the Nth allocation fails, counted from 1
+ *   READ_LIMIT=N           files that are opened give N bytes in all, and then each read fails
+ *   READ_CHUNK=N           a read gives at most N bytes
+ *   WRITE_LIMIT=N          standard output takes N bytes in all, and then each write fails
+ *   WRITE_CHUNK=N          a write to standard output takes at most N bytes
+ *   INTERRUPTED=N          each Nth read or write is interrupted first
+ *   COUNTS=FILE            at the end the number of allocations is written to this file, and 1 if the allocation after the refused
+ *                          one was a retry of no more bytes, else 0
  */
 #define _GNU_SOURCE
 #include <dlfcn.h>
@@ -19,39 +19,39 @@
 #include <sys/types.h>
 #include <unistd.h>
 
-static long growths, transfers, refused, asked_again, read_room = -1, read_piece, write_room = -1, write_piece, interrupted;
+static long allocations, transfers, refused, was_retried, read_left = -1, read_chunk, write_left = -1, write_chunk, interrupted;
 static size_t refused_size;
 
 static ssize_t (*real_read)(int, void *, size_t);
 static ssize_t (*real_write)(int, const void *, size_t);
 
-static long number(const char *name, long otherwise)
+static long number(const char *name, long fallback)
 {
     const char *text = getenv(name);
-    return text ? atol(text) : otherwise;
+    return text ? atol(text) : fallback;
 }
 
 __attribute__((constructor)) static void begin(void)
 {
     *(void **)&real_read = dlsym(RTLD_NEXT, "read");
     *(void **)&real_write = dlsym(RTLD_NEXT, "write");
-    refused = number("REFUSED_GROWTH", 0);
-    read_room = number("READ_ROOM", -1);
-    read_piece = number("READ_PIECE", 0);
-    write_room = number("WRITE_ROOM", -1);
-    write_piece = number("WRITE_PIECE", 0);
+    refused = number("REFUSED_ALLOCATION", 0);
+    read_left = number("READ_LIMIT", -1);
+    read_chunk = number("READ_CHUNK", 0);
+    write_left = number("WRITE_LIMIT", -1);
+    write_chunk = number("WRITE_CHUNK", 0);
     interrupted = number("INTERRUPTED", 0);
-    growths = 0;
+    allocations = 0;
 }
 
 __attribute__((destructor)) static void end(void)
 {
     const char *path = getenv("COUNTS");
-    long count = growths, again = asked_again;
+    long count = allocations, retried = was_retried;
     if (path) {
         FILE *file = fopen(path, "w");
         if (file) {
-            fprintf(file, "%ld %ld\n", count, again);
+            fprintf(file, "%ld %ld\n", count, retried);
             fclose(file);
         }
     }
@@ -59,10 +59,10 @@ __attribute__((destructor)) static void end(void)
 
 static int is_refused(size_t size)
 {
-    growths += 1;
-    if (refused > 0 && growths == refused + 1)
-        asked_again = size <= refused_size;
-    if (growths != refused)
+    allocations += 1;
+    if (refused > 0 && allocations == refused + 1)
+        was_retried = size <= refused_size;
+    if (allocations != refused)
         return 0;
     refused_size = size;
     errno = ENOMEM;
@@ -99,28 +99,28 @@ static int is_interrupted(void)
     return 1;
 }
 
-/* How many bytes may pass, or -1 where the call fails. */
-static ssize_t passing(long *room, long piece, size_t wanted)
+/* The number of bytes that may be transferred, or -1 if the call fails. */
+static ssize_t allowed(long *left, long chunk, size_t requested)
 {
-    if (*room == 0 && wanted > 0) {
+    if (*left == 0 && requested > 0) {
         errno = EIO;
         return -1;
     }
-    if (*room > 0 && wanted > (size_t)*room)
-        wanted = (size_t)*room;
-    if (piece > 0 && wanted > (size_t)piece)
-        wanted = (size_t)piece;
-    return (ssize_t)wanted;
+    if (*left > 0 && requested > (size_t)*left)
+        requested = (size_t)*left;
+    if (chunk > 0 && requested > (size_t)chunk)
+        requested = (size_t)chunk;
+    return (ssize_t)requested;
 }
 
 ssize_t read(int file, void *buffer, size_t size)
 {
     ssize_t count;
-    if (is_interrupted() || (count = passing(&read_room, read_piece, size)) < 0)
+    if (is_interrupted() || (count = allowed(&read_left, read_chunk, size)) < 0)
         return -1;
     count = real_read(file, buffer, (size_t)count);
-    if (count > 0 && read_room > 0)
-        read_room -= count;
+    if (count > 0 && read_left > 0)
+        read_left -= count;
     return count;
 }
 
@@ -129,10 +129,10 @@ ssize_t write(int file, const void *buffer, size_t size)
     ssize_t count;
     if (file != STDOUT_FILENO)
         return real_write(file, buffer, size);
-    if (is_interrupted() || (count = passing(&write_room, write_piece, size)) < 0)
+    if (is_interrupted() || (count = allowed(&write_left, write_chunk, size)) < 0)
         return -1;
     count = real_write(file, buffer, (size_t)count);
-    if (count > 0 && write_room > 0)
-        write_room -= count;
+    if (count > 0 && write_left > 0)
+        write_left -= count;
     return count;
 }

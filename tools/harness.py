@@ -1,6 +1,6 @@
-"""What the scripts of .ci and tools share: paths, inputs, calls with a time limit, readers of the repository's lists, and how a check ends.
+"""What the scripts of .ci and tools share: paths, inputs, calls with a time limit, readers of the repository's lists, and the end of a check.
 
-A script of tools imports it by its name. One of .ci is in another folder, and says first where it is:
+A script of tools imports it by its name. One of .ci is in another folder, and has to add the path first:
 
     sys.path.insert(0, str(Path(__file__).resolve().parent.parent / "tools"))
     from harness import PROGRAM, call, conclude, need
@@ -49,7 +49,7 @@ LONG_TEXTS = {
     411: doubling(),
 }
 
-# the seconds after which a call is ended, where nothing else is said
+# the seconds after which a call is ended, unless the caller says otherwise
 LIMIT = 120
 
 
@@ -79,7 +79,7 @@ def need(*files):
 
 
 def untried(counts):
-    """A fault for each count that is 0, by what is counted: a check that tries nothing shows nothing."""
+    """A fault for each count that is 0: a check that tries nothing shows nothing."""
     return [f"no {what}" for what, count in counts.items() if not count]
 
 
@@ -124,14 +124,14 @@ def version():
 
 
 def crates():
-    """Each crate of crates.txt, in its order, with the list of those that it stands on."""
+    """Each crate of crates.txt, in its order, with the list of its dependencies."""
     lines = [line.partition("#")[0] for line in (TOP / "crates.txt").read_text().splitlines()]
     named = [line.partition(":") for line in lines if ":" in line]
     return {name.split()[0]: below.split() for name, _, below in named}
 
 
 def closure(names):
-    """These crates and all of the repository that they stand on, the nearest first."""
+    """These crates and all their dependencies in the repository, the nearest first."""
     found, left, below = [], list(names), crates()
     while left:
         name = left.pop(0)
@@ -147,7 +147,7 @@ def kit():
 
 
 def over_the_gate(command, crate):
-    """The words of `rattle check` or `rattle build` of a crate, over the libraries that the gate has proved."""
+    """The command line of `rattle check` or `rattle build` of a crate, over the libraries that the gate has proved."""
     kit_here, below = kit(), crates()
     rlibs = {name: CRATES / name / "out" / "rlib" for name in below}
     root = "src/main.rt" if (CRATES / crate / "src" / "main.rt").is_file() else "src/lib.rt"

@@ -1,5 +1,5 @@
-(* Doses one component: coarse feed, fine feed from a given weight on, and done once the scale was still for two seconds
-   behind the target. *)
+(* Doses one component: coarse feed, fine feed alone from a given weight on, and done once the scale was still for two
+   seconds after the target was reached. *)
 FUNCTION_BLOCK Dose
 VAR_INPUT
     active, still : BOOL;
@@ -7,7 +7,7 @@ VAR_INPUT
 END_VAR
 VAR_OUTPUT coarse, fine, done : BOOL; END_VAR
 VAR
-    reached : SR;           (* stays, also where the weight falls a little behind the target *)
+    reached : SR;           (* stays set, even if the weight falls a little below the target *)
     settled : TON;
     idle : BOOL;
 END_VAR
@@ -21,7 +21,7 @@ END_VAR
 
     LD active
     ANDN reached.Q1
-    ST fine                 (* the fine feed runs beside the coarse one *)
+    ST fine                 (* the fine feed runs together with the coarse one *)
     AND(
     LD weight
     LT fine_from
@@ -37,7 +37,7 @@ END_VAR
     CAL settled(PT := T#2s, Q => done)
 END_FUNCTION_BLOCK
 
-(* Two components, the second behind the first; weights in 0.1 kg. *)
+(* Two components, one after the other; weights in 0.1 kg. *)
 FUNCTION_BLOCK Batch
 VAR_INPUT
     start, emptied, still : BOOL;
@@ -77,7 +77,7 @@ VAR
 END_VAR
     LD %ID0
     ST %QD0
-    LT 20                   (* below 2 kg the hopper is empty, where the weight is valid *)
+    LT 20                   (* below 2 kg the hopper is empty, if the weight is valid *)
     AND %IX1.5
     AND gate.Q1
     ST emptied

@@ -18,7 +18,7 @@ END_VAR
     AND %IX1.4
     AND %IX1.5
     ANDN reached
-    S %QX0.0                (* and stay open when the button is let go *)
+    S %QX0.0                (* and stay open when the button is released *)
 
     LD reached              (* close: full, or the weight is not valid *)
     ORN %IX1.5

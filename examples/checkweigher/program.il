@@ -23,17 +23,17 @@ VAR
     lightest : DINT := 985;         (* g *)
     heaviest : DINT := 1030;        (* g *)
     light, heavy, wrong : BOOL;
-    pass, reject : BOOL;            (* for one scan: a package was judged so *)
-    judge : R_TRIG;
+    pass, reject : BOOL;            (* for one scan: a package was classified so *)
+    classify : R_TRIG;
     passed, rejected : CTU;
     pusher : Pusher;
 END_VAR
-    LD %IX0.0               (* a package is judged once, as soon as it lies still *)
+    LD %IX0.0               (* a package is classified once, as soon as it lies still *)
     AND %IX1.0
     AND %IX1.5
-    ST judge.CLK
-    CAL judge
-    LD judge.Q
+    ST classify.CLK
+    CAL classify
+    LD classify.Q
     JMPCN count
 
     LD %ID0                 (* its weight, and on which side of the limits it is *)
@@ -47,10 +47,10 @@ END_VAR
     ST wrong
 
 count:
-    LD judge.Q
+    LD classify.Q
     ANDN wrong
     ST pass
-    LD judge.Q
+    LD classify.Q
     AND wrong
     ST reject
     CAL passed(CU := pass, R := %IX0.1, CV => %QD1)

@@ -1,5 +1,5 @@
 #!/usr/bin/env python3
-"""A hopper with two valves and a gate, behind the controller's log: each scan's answer comes before the next row is sent."""
+"""A simulated hopper with two valves and a gate, which writes the controller's log: it waits for each scan's answer before it sends the next row."""
 import subprocess
 import sys
 
@@ -19,21 +19,21 @@ class Controller:
         self.run.stdin.flush()
 
     def scan(self, ms):
-        """The output bits and words of a scan at that moment."""
+        """The output bits and words of a scan at this time."""
         self.send(f"{ms},S,")
         _, _, _, bits, *words = self.run.stdout.readline().split()
         return int(bits, 16), [int(word) for word in words]
 
 
 def main(program):
-    controller, ms, mass, falling, told = Controller(program), 0, 0, [0] * FLIGHT, 0
+    controller, ms, mass, falling, printed = Controller(program), 0, 0, [0] * FLIGHT, 0
     controller.send("0,I,0001")
-    while told < 10:
+    while printed < 10:
         controller.send(f"{ms},C,{10000 + 40 * mass}")
         bits, words = controller.scan(ms)
-        if words[0] > told:
-            told = words[0]
-            print(f"{ms / 1000:7.2f} s: batch {told}, {words[1]} g")
+        if words[0] > printed:
+            printed = words[0]
+            print(f"{ms / 1000:7.2f} s: batch {printed}, {words[1]} g")
         falling.append(COARSE * (bits & 1) + FINE * (bits >> 1 & 1))
         mass = max(mass + falling.pop(0) - GATE * (bits >> 2 & 1), 0)
         ms += TICK

@@ -37,14 +37,14 @@ END_VAR
     CAL batch(CLK := settling.Q)
     LD batch.Q
     S emptying
-    JMPCN told
+    JMPCN counted
     LD batches
     ADD 1
     ST batches
     LD %ID0
     ST last
 
-told:
+counted:
     LD %ID0                     (* the gate closes when the hopper is empty *)
     LT 20
     AND %IX1.0

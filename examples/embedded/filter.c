@@ -1,7 +1,7 @@
 /* A filter between a converter and a scale: each sample is the mean of COUNTS_OF_A_MEAN counts, and no count is in two means.
  *
  * A zero or a tare is the last sample, and is taken while the last `window` samples lie within half an interval of one another. So while the
- * load rests, each sample that is handed over has to lie within a quarter of an interval of the load. Then any two of them differ by at most
+ * load rests, each sample has to lie within a quarter of an interval of the load. Then any two of them differ by at most
  * half an interval: the scale is stable, and a zero or a tare is within that quarter.
  *
  * A mean over whole periods of a vibration removes it: here 80 counts are 100 ms, which is one period of a platform that swings at 10 Hz and
@@ -40,7 +40,7 @@ typedef struct filter {
 
 static const filter empty_filter = {0, 0};
 
-/* Takes a count, and says whether a sample is complete. A count at an end of the converter is no value to be averaged: it is a sample at once. */
+/* Takes a count, and returns whether a sample is complete. A count at an end of the converter is not averaged: it is a sample at once. */
 static int take_count(filter *it, int32_t count, int32_t *sample)
 {
     int64_t half = COUNTS_OF_A_MEAN / 2;
@@ -151,7 +151,7 @@ static void print_weights(seen *it)
 static seen plain, with_filter;
 static filter means;
 
-/* Gives one count to both scales, and says whether the filter's sample was complete. */
+/* Gives one count to both scales, and returns whether the filter's sample was complete. */
 static int give_count(void)
 {
     int32_t count = next_count(), sample;
@@ -169,7 +169,7 @@ static void give_mean(void)
     }
 }
 
-/* Gives so many commands to each scale, and says whether those with the filter were all accepted within a quarter of an interval, and some
+/* Gives `count` commands to each scale, and returns whether those with the filter were all accepted within a quarter of an interval, and some
  * without it were not. */
 static int try_commands(const char *what, char letter, int count)
 {

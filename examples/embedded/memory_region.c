@@ -1,7 +1,7 @@
-/* The three functions through which the library asks for memory, over one region and no malloc: an array, or bytes of yours.
+/* The three functions through which the library allocates memory, over one region instead of malloc: an array, or bytes of yours.
  *
  * First fit: a request gets the beginning of the first hole that is large enough, a block that is given back is joined with the holes next to it.
- * So where a block lies does not depend on where the region ends, and what fits into a region fits into a larger one. How large it has to be for
+ * So the place of a block does not depend on the end of the region, and what fits into a region fits into a larger one. How large it has to be for
  * your plate and your program is found by try_region.c. */
 #include "memory_region.h"
 #include "narbeddo.h"
@@ -92,7 +92,7 @@ narbeddo_block rattle_alloc(size_t size, size_t align)
     while (*at != NULL && (*at)->size < needed) {
         at = &(*at)->next;
     }
-    if (*at != NULL && needed > size) { /* a size that wraps is not there */
+    if (*at != NULL && needed > size) { /* a size that wraps is never available */
         answer.ok = true;
         answer.at = (uint8_t *)*at + GRAIN;
         *at = cut(*at, needed);

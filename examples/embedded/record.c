@@ -1,4 +1,4 @@
-/* The recorder of a scale: it keeps the last rows in a ring, and beside the oldest of them the prelude that brings a new scale there. What it
+/* The recorder of a scale: it keeps the last rows in a ring, and with the oldest of them the prelude that brings a new scale there. What it
  * writes is a log that `wc line` runs:
  *
  *     record PLATE LOG ROWS KEPT
@@ -39,7 +39,7 @@ static void start_part(recorder *it, narbeddo_scale *scale)
     fresh->count = 0;
 }
 
-/* Keeps a row that is about to be given to the scale. It takes no memory and no time that grows. */
+/* Keeps a row that is about to be given to the scale. It allocates nothing and takes constant time. */
 static void keep(recorder *it, narbeddo_scale *scale, uint64_t ms, const char *row)
 {
     if (it->parts[it->now].count == it->kept) {

@@ -1,5 +1,5 @@
-/* Arguments that can't be taken, and memory that is refused: each call must say so and change nothing. It is built with the compiler's checks
- * of addresses and of undefined behaviour. Each text stands in a block of just its size, so that a byte read behind it would be seen. */
+/* Bad arguments, and memory that is refused: each call must say so and change nothing. It is built with the compiler's checks of addresses
+ * and of undefined behaviour. Each text is in a block of exactly its size, so that a read past its end is detected. */
 #include "narbeddo.h"
 
 #include <stdio.h>
@@ -44,12 +44,12 @@ void rattle_dealloc(void *at)
     free(at);
 }
 
-static void is(const char *what, unsigned long found, unsigned long wanted)
+static void is(const char *what, unsigned long found, unsigned long expected)
 {
     tried_count++;
-    if (found != wanted) {
+    if (found != expected) {
         failed_count++;
-        printf("%s: %lu and not %lu\n", what, found, wanted);
+        printf("%s: %lu and not %lu\n", what, found, expected);
     }
 }
 
@@ -68,9 +68,9 @@ static uint8_t *exact(const char *text)
 static narbeddo_refusal open_by(narbeddo_scale *scale, const char *text)
 {
     uint8_t *block = exact(text);
-    narbeddo_refusal told = narbeddo_open(scale, block, strlen(text));
+    narbeddo_refusal refusal = narbeddo_open(scale, block, strlen(text));
     free(block);
-    return told;
+    return refusal;
 }
 
 static const char good_plate[] = "unit = \"kg\"\ndecimals = 3\nmax = 15000\ne = 5\nzero_counts = 10000\nspan_counts = 600000\nwindow = 4\n";
@@ -78,7 +78,7 @@ static const char counting[] = "FUNCTION_BLOCK Sum\nVAR_INPUT x : DINT; END_VAR\
                                "PROGRAM P\nVAR a : Sum; t : TON; END_VAR\nCAL a(x := 1)\nCAL t(IN := TRUE, PT := T#1s)\nLD a.y\nST %QD0\nLD t.Q\nST %QX0.3\nEND_PROGRAM\n";
 static const char doubling[] = "PROGRAM P\nVAR t : TON; END_VAR\nCAL t(IN := TRUE, PT := T#1s)\nLD t.ET\nGT T#0s\nST %QX0.0\nEND_PROGRAM\n";
 
-/* All that a closed scale answers. */
+/* Everything that a closed scale answers. */
 static void closed(narbeddo_scale *scale)
 {
     static const uint8_t text[1] = {0};
@@ -175,26 +175,26 @@ static void values(narbeddo_scale *scale)
 
 static void texts(narbeddo_scale *scale)
 {
-    narbeddo_refusal told = narbeddo_load(scale, (const uint8_t *)"", 0);
-    uint32_t room[8] = {77, 77, 77, 77, 77, 77, 77, 77};
-    is("no text", told.status, NARBEDDO_REFUSED);
-    is("its number", told.number, 203);
-    told = narbeddo_change(scale, (const uint8_t *)"PROGRAM P\nLD 1\nST %QX0.0\nEND_PROGRAM\n", 37);
-    is("a text that breaks a rule", told.number, 402);
-    is("its line", told.place, 3);
+    narbeddo_refusal refusal = narbeddo_load(scale, (const uint8_t *)"", 0);
+    uint32_t lines[8] = {77, 77, 77, 77, 77, 77, 77, 77};
+    is("no text", refusal.status, NARBEDDO_REFUSED);
+    is("its number", refusal.number, 203);
+    refusal = narbeddo_change(scale, (const uint8_t *)"PROGRAM P\nLD 1\nST %QX0.0\nEND_PROGRAM\n", 37);
+    is("a text that breaks a rule", refusal.number, 402);
+    is("its line", refusal.place, 3);
     is("the program stays", narbeddo_scan(scale, 9).words[0], 4);
     is("no unit", narbeddo_about((const uint8_t *)counting, strlen(counting), 2).text.status, NARBEDDO_NO_UNIT);
     is("units", narbeddo_about((const uint8_t *)counting, strlen(counting), 0).units, 2);
     is("a name", narbeddo_about((const uint8_t *)counting, strlen(counting), 0).name[0], 'S');
     is("a bound", narbeddo_about((const uint8_t *)counting, strlen(counting), 1).bound, 13);
-    is("a path in no room", narbeddo_path((const uint8_t *)counting, strlen(counting), 1, room, 5).text.status, NARBEDDO_NO_ROOM);
-    is("nothing was put there", room[0], 77);
-    is("a path", narbeddo_path((const uint8_t *)counting, strlen(counting), 1, room, 6).length, 6);
-    is("its first line", room[0], 10);
-    is("nothing behind it", room[6], 77);
+    is("a path in too small a buffer", narbeddo_path((const uint8_t *)counting, strlen(counting), 1, lines, 5).text.status, NARBEDDO_NO_ROOM);
+    is("nothing was written to it", lines[0], 77);
+    is("a path", narbeddo_path((const uint8_t *)counting, strlen(counting), 1, lines, 6).length, 6);
+    is("its first line", lines[0], 10);
+    is("nothing after it", lines[6], 77);
 }
 
-/* Refuses memory from the nth request on, until there is enough. */
+/* Refuses memory from the nth allocation on, until there is enough. */
 static void out_of_memory(void)
 {
     narbeddo_scale scale;
@@ -233,7 +233,7 @@ static void out_of_memory(void)
 int main(void)
 {
     narbeddo_scale scale;
-    is("room", narbeddo_size() <= sizeof scale, 1);
+    is("the size of a scale", narbeddo_size() <= sizeof scale, 1);
     memset(&scale, 0xa5, sizeof scale);
     narbeddo_make(&scale);
     closed(&scale);

@@ -2,7 +2,7 @@
  *
  *     try_region PLATE PROGRAM
  *
- * With one byte less the call that finds no memory must say so and every block must come back, or the status is 1. */
+ * With one byte less the call that is out of memory must say so and every block must be freed, or the status is 1. */
 #include "memory_region.h"
 #include "narbeddo.h"
 
@@ -36,7 +36,7 @@ static void read_file(text *into, const char *path)
     fclose(file);
 }
 
-/* A sample, a request, a scan: none of them asks for memory. */
+/* A sample, a request, a scan: none of them allocates memory. */
 static int is_at_work(narbeddo_scale *scale)
 {
     return narbeddo_sample(scale, 10000) == NARBEDDO_DONE && narbeddo_byte(scale, '\n').status == NARBEDDO_DONE &&
@@ -71,7 +71,7 @@ static outcome run(size_t size, int changes)
     return ended;
 }
 
-/* By halving: what fits into a region fits into a larger one. */
+/* By bisection: what fits into a region fits into a larger one. */
 static size_t least(int changes)
 {
     size_t too_small = 0, enough = sizeof region;

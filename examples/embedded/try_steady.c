@@ -1,4 +1,4 @@
-/* A million calls in steady state: none of them asks for memory, and the process does not grow. It prints what a call takes. */
+/* A million calls in steady state: none of them allocates memory, and the process does not grow. It prints the time of a call. */
 #define _POSIX_C_SOURCE 199309L
 #include "narbeddo.h"
 
@@ -9,7 +9,7 @@
 
 static unsigned long asked, held, held_most;
 
-/* Each block has its size in front, so that what is held can be summed. */
+/* Each block starts with its size, so that the memory in use can be summed. */
 static narbeddo_block block_of(void *old, size_t size)
 {
     static char none;
@@ -80,7 +80,7 @@ static size_t read_text(const char *path)
 
 static const char plate[] = "unit = \"kg\"\ndecimals = 3\nmax = 15000\ne = 5\nzero_counts = 10000\nspan_counts = 600000\nwindow = 4\n";
 
-/* So many rounds of a sample, three bytes on the line, inputs and a scan, six calls; the steps of all scans. */
+/* Rounds of six calls: a sample, three bytes on the line, inputs and a scan. Returns the steps of all scans. */
 static unsigned long long rounds(narbeddo_scale *scale, uint64_t *moment, unsigned long count, double spent[3])
 {
     unsigned long long steps = 0;

@@ -1,11 +1,11 @@
-/* Two scales side by side, fed the same and compared after each sample: how many turned bits of one scale's memory does that notice?
+/* Two scales side by side, fed the same and compared after each sample: how many flipped bits of one scale's memory does that detect?
  *
- * A bit of memory may turn by itself, and the library does not check for it. A controller that feeds two scales in two places of memory, and
- * goes to its safe state as soon as they differ, notices a bit that changed a weight, an answer or an output. This program tries it: it turns
- * each bit of the first scale's memory once (or one of so many: `two_scales 61`), each in a process of its own, and goes on with both.
+ * A bit of memory may flip by itself, and the library does not check for it. A controller that feeds two scales in two places of memory, and
+ * goes to its safe state as soon as they differ, detects a bit that changed a weight, an answer or an output. This program tries it: it flips
+ * each bit of the first scale's memory once (with `two_scales 61` every 61st bit), each in a process of its own, and goes on with both.
  *
- * A turned bit of a pointer leads to other memory. So the two scales are so far apart that no pointer into the first with one bit turned leads
- * into the second: the distance of any two of their bytes is more than 2^17 and less than 2^18.
+ * A pointer with a flipped bit leads to other memory. So the two scales are so far apart that no pointer into the first with one flipped bit
+ * leads into the second: the distance of any two of their bytes is more than 2^17 and less than 2^18.
  *
  * It brings the three functions of memory, so that it knows the blocks of each scale. */
 #define _XOPEN_SOURCE 600
@@ -39,7 +39,7 @@ static const char program[] = "PROGRAM Fill\n"
                               "ST %QD1\n"
                               "END_PROGRAM\n";
 
-/* So many samples, the first and the step from one to the next. The host asks for the weight at each, at the last for what is here. */
+/* A number of samples, the first one, and the step from one to the next. With each the host asks for the weight, with the last for what is here. */
 typedef struct part {
     int32_t counts, step, samples;
     char last;
@@ -83,7 +83,7 @@ typedef struct layout {
     uint8_t gap[2 * SIDE];
     side second;
     uint8_t gap_again[SIDE];
-    seen right[MOST_SAMPLES]; /* what is seen with no bit turned */
+    seen right[MOST_SAMPLES]; /* what is seen with no flipped bit */
 } layout;
 
 typedef struct block {
@@ -148,7 +148,7 @@ static side *fill(int number)
 }
 
 /* ---- one sample, and what is seen after it */
-static int32_t moment, sample_count; /* samples since the bit was turned */
+static int32_t moment, sample_count; /* samples since the bit was flipped */
 
 static seen see(narbeddo_scale *scale, int32_t counts, char letter)
 {
@@ -214,7 +214,7 @@ static int feed(const part *parts, size_t count, bool is_right)
     return AGREES;
 }
 
-/* Changes the program of both scales to the same text, goes on, and closes them: then all that they keep was read once more. */
+/* Changes the program of both scales to the same text, goes on, and closes them: then everything that they keep was read again. */
 static int change_and_close(bool is_right)
 {
     const uint8_t *text = (const uint8_t *)program;
@@ -229,12 +229,12 @@ static int change_and_close(bool is_right)
     return found;
 }
 
-/* ---- one turned bit */
+/* ---- one flipped bit */
 enum { FIRST, UP_TO_4, UP_TO_16, UP_TO_256, LATER, ENDED, TOO_LONG, AT_CHANGE, WRITTEN_OVER, NEVER_WRITTEN, UNUSED, WRONG, KINDS };
 static const char *const names[KINDS] = {
     "noticed after the first sample", "noticed after 2 to 4", "noticed after 5 to 16", "noticed after 17 to 256", "noticed later",
     "the process ended", "the process ran on", "noticed at a change or close", "not noticed: written over", "not noticed: never written",
-    "not noticed: still turned", "not noticed: both wrong"};
+    "not noticed: still flipped", "not noticed: both wrong"};
 
 static int noticed_after(int32_t samples)
 {
@@ -247,7 +247,7 @@ static void end_at_change(int number)
     _exit(AT_CHANGE);
 }
 
-/* What becomes of a turned bit; `at_end` is the byte at the end of a right run. */
+/* The outcome of a flipped bit; `at_end` is the byte at the end of a right run. */
 static int kind_of(uint8_t *byte, uint8_t mask, uint8_t at_end)
 {
     int found;
@@ -266,7 +266,7 @@ static int kind_of(uint8_t *byte, uint8_t mask, uint8_t at_end)
     return found == AGREES ? UNUSED : found == DIFFERS ? AT_CHANGE : WRONG;
 }
 
-/* Tries a bit in a process of its own, which a turned pointer may end. */
+/* Tries a bit in a process of its own, which a wrong pointer may end. */
 static int try_bit(uint8_t *byte, uint8_t mask, uint8_t at_end)
 {
     int status = 0;
@@ -287,13 +287,13 @@ static int try_bit(uint8_t *byte, uint8_t mask, uint8_t at_end)
     return WIFSIGNALED(status) && (WTERMSIG(status) == SIGXCPU || WTERMSIG(status) == SIGKILL) ? TOO_LONG : ENDED;
 }
 
-/* Tries each bit of some bytes, or one of so many, and counts what became of them. */
-static void try_bytes(uint8_t *bytes, const uint8_t *at_end, size_t count, size_t one_of, long counts[KINDS])
+/* Tries each bit of some bytes, or one in `stride` of them, and counts the outcomes. */
+static void try_bytes(uint8_t *bytes, const uint8_t *at_end, size_t count, size_t stride, long counts[KINDS])
 {
     static size_t passed;
     size_t i;
     for (i = 0; i < 8 * count; i++) {
-        if (passed++ % one_of == 0) {
+        if (passed++ % stride == 0) {
             int kind = try_bit(bytes + i / 8, (uint8_t)(1 << i % 8), at_end[i / 8]);
             counts[kind == UNUSED && at_end[i / 8] == NEVER ? NEVER_WRITTEN : kind]++;
         }
@@ -309,7 +309,7 @@ static bool is_opened(int number)
            narbeddo_load(&of->scale, (const uint8_t *)program, strlen(program)).status == NARBEDDO_DONE;
 }
 
-/* Runs with no bit turned, keeps what is seen and the first scale's memory before a change, and goes back to the beginning. */
+/* Runs with no flipped bit, keeps what is seen and the first scale's memory before a change, and goes back to the beginning. */
 static bool is_run_right(side *at_end)
 {
     static side first, second;
@@ -332,7 +332,7 @@ static bool is_run_right(side *at_end)
     return is_right;
 }
 
-/* Prints what became of all bits, and says whether some were noticed and none left both scales wrong. */
+/* Prints the outcomes of all bits, and returns whether some were noticed and none left both scales wrong. */
 static int print_counts(long counts[3][KINDS])
 {
     long compared = 0, ended = 0, changed_or_closed = 0, unnoticed = 0;
@@ -349,11 +349,11 @@ static int print_counts(long counts[3][KINDS])
 
 int main(int count, char **words)
 {
-    static long counts[3][KINDS]; /* of the scale's own bytes, of the rest of its room, of its blocks */
+    static long counts[3][KINDS]; /* of the scale's own bytes, of the rest of its memory, of its blocks */
     static side at_end;
-    size_t i, blocks_of_first, bytes = 0, held = 0, size = narbeddo_size(), one_of = count == 2 ? strtoul(words[1], NULL, 10) : 1;
+    size_t i, blocks_of_first, bytes = 0, held = 0, size = narbeddo_size(), stride = count == 2 ? strtoul(words[1], NULL, 10) : 1;
     all = (layout *)(bytes_of_all + (ALIGNED - (uintptr_t)bytes_of_all % ALIGNED) % ALIGNED);
-    if (one_of == 0 || sizeof(layout) > ALIGNED || size > sizeof(narbeddo_scale) || !is_opened(0)) {
+    if (stride == 0 || sizeof(layout) > ALIGNED || size > sizeof(narbeddo_scale) || !is_opened(0)) {
         return 2;
     }
     blocks_of_first = block_count;
@@ -365,7 +365,7 @@ int main(int count, char **words)
         printf("two scales that are fed the same differ after sample %ld\n", (long)sample_count);
         return 1;
     }
-    printf("bits of a scale of %lu bytes, of the %lu bytes of room after it, ", (unsigned long)size, (unsigned long)(sizeof(narbeddo_scale) - size));
+    printf("bits of a scale of %lu bytes, of the %lu spare bytes after it, ", (unsigned long)size, (unsigned long)(sizeof(narbeddo_scale) - size));
     sample_count = 0;
     for (i = 0; i < blocks_of_first; i++) {
         bytes += blocks[i].is_out ? blocks[i].size : 0;
@@ -373,11 +373,11 @@ int main(int count, char **words)
     }
     printf("and of the %lu bytes of its %lu blocks\n", (unsigned long)bytes, (unsigned long)held);
     fflush(stdout);
-    try_bytes((uint8_t *)&all->first, (uint8_t *)&at_end, size, one_of, counts[0]);
-    try_bytes((uint8_t *)&all->first + size, (uint8_t *)&at_end + size, sizeof(narbeddo_scale) - size, one_of, counts[1]);
+    try_bytes((uint8_t *)&all->first, (uint8_t *)&at_end, size, stride, counts[0]);
+    try_bytes((uint8_t *)&all->first + size, (uint8_t *)&at_end + size, sizeof(narbeddo_scale) - size, stride, counts[1]);
     for (i = 0; i < blocks_of_first; i++) {
         if (blocks[i].is_out) {
-            try_bytes(blocks[i].at, (uint8_t *)&at_end + (blocks[i].at - (uint8_t *)&all->first), blocks[i].size, one_of, counts[2]);
+            try_bytes(blocks[i].at, (uint8_t *)&at_end + (blocks[i].at - (uint8_t *)&all->first), blocks[i].size, stride, counts[2]);
         }
     }
     return print_counts(counts) ? 0 : 1;

@@ -1,4 +1,4 @@
-/* Three calls around a scale, as a maker's own code has them, each with what it promises in ACSL. `tools/try_c_side` proves by Frama-C that
+/* Three calls around a scale, as a maker's own code may have them, each with its contract in ACSL. `tools/try_c_side` proves by Frama-C that
  * they keep it: that the library's calls get what they require, that no index leaves its array, and that each loop ends. */
 #include "narbeddo.h"
 
@@ -8,7 +8,7 @@ uint32_t take_counts(narbeddo_scale *scale, int32_t counts);
 size_t take_bytes(narbeddo_scale *scale, const uint8_t *bytes, size_t count, uint8_t *out, size_t size, size_t *written);
 uint32_t scan(narbeddo_scale *scale, uint64_t moment, uint32_t before);
 
-/* A sample. At an end of the converter its last count is handed over, so that no count is out of range. */
+/* A sample. Counts are clamped to the range of the converter, so that none is out of range. */
 /*@ requires narbeddo_is_scale(scale);
     assigns *scale;
     ensures \result == NARBEDDO_DONE || \result == NARBEDDO_CLOSED; */
@@ -24,7 +24,7 @@ uint32_t take_counts(narbeddo_scale *scale, int32_t counts)
 }
 
 /* Takes bytes of the line for as long as there is space for one more answer, and puts their answers one after another. It returns how many
- * bytes were taken; the others are to be handed over again, once the answers were sent. */
+ * bytes were taken; pass the others again once the answers were sent. */
 /*@ requires narbeddo_is_scale(scale) && \valid_read(bytes + (0 .. count - 1)) && \valid(out + (0 .. size - 1)) && \valid(written);
     requires \separated(scale, bytes + (0 .. count - 1), out + (0 .. size - 1), written);
     assigns *scale, out[0 .. size - 1], *written;

@@ -2,10 +2,10 @@
  *
  *     controller PORT PLATE COUNTS [LOG]
  *
- * PORT is a terminal device (9600 bits a second, 8 bits, no parity, 1 stop bit), PLATE the text of a plate, COUNTS what plays the load cell:
- * a line for each period of 10 ms, with its counts, or empty if no sample comes. After the last line it begins again with the line after
+ * PORT is a terminal device (9600 bits a second, 8 bits, no parity, 1 stop bit), PLATE the text of a plate, COUNTS simulates the load cell:
+ * a line for each period of 10 ms, with its counts, or empty if no sample comes. After the last line it continues with the line after
  * `again`, or else stays at its end, with no sample. What happens is written to LOG, if it is given, as rows of a log (docs/LOG.md), so that
- * `wc line` can answer it again. It ends when the other end of the port is gone, by a signal, or if it can't go on. */
+ * `wc line` can answer it again. It ends when the other end of the port is gone, by a signal, or if it cannot go on. */
 #define _XOPEN_SOURCE 700
 #include "narbeddo.h"
 

@@ -1,10 +1,10 @@
 #!/usr/bin/env python3
-"""A host of a scale, written from docs/INSTRUMENT.md, section 3, with pyserial: weighs what controller.c plays from counts.txt.
+"""A host of a scale, written from docs/INSTRUMENT.md, section 3, with pyserial: weighs the loads that controller.c simulates from counts.txt.
 
   host.py PORT
 
 It prints each request that it shows, with the answer, and at the end how many statuses, modes and motions it has seen. Every answer has to be
-one that the page allows; an answer that is late or odd ends it."""
+one that the page allows; an answer that is late or invalid ends it."""
 import re
 import sys
 import time
@@ -21,7 +21,7 @@ LONGEST_WAIT = 20  # seconds until a load is there
 
 
 class Answer(NamedTuple):
-    """What an answer says; the weight is None while the scale is not valid."""
+    """The fields of an answer; the weight is None while the scale is not valid."""
 
     status: str
     mode: str
@@ -41,7 +41,7 @@ class Scale:
         self.port, self.seen = serial.Serial(port, 9600, timeout=1), set()
 
     def ask(self, text):
-        """The answer to a request, None to one that the scale does not know. A request begins with LF: what was begun before is dropped."""
+        """The answer to a request, None to one that the scale does not know. Its LF drops an unfinished request."""
         self.port.write(b"\n" + text + b"\r")
         frame = self.port.read_until(b"\r")
         if frame == b"\n?\r":

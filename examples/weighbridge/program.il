@@ -1,7 +1,7 @@
 (* Weighbridge: three weights on the display, two lights, one held weight.
 
    %QD0, %QD1, %QD2   gross, net and tare in kg
-   %QX0.0             green: the weight stands and may be read
+   %QX0.0             green: the weight is stable and may be read
    %QX0.1             red: in motion, or more than the bridge may carry
    %IX0.0, %QD3       the driver's button holds the net weight in %QD3 *)
 PROGRAM Weighbridge

@@ -7,7 +7,7 @@ macro_rules! with_constants {
             "0.1.0",
             "rattle-kit-13 logic dac8208d650f15bf",
             "1177ae17014caf8e427f4a8dde1f7a313153b343733dd3b4fb6765f5d55be068",
-            "91262df8ec678cd507b14362f30b268887dee37d3f315466dbfb43ad0dab6e2d"
+            "295159970948744c298ec98b23e05f4219827e6b478763d116f1433c36f015e2"
         )
     };
 }

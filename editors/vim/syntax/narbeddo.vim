@@ -5,7 +5,7 @@ endif
 syntax case ignore
 syntax sync fromstart
 
-" of those that begin at one place the last that is defined is taken
+" of matches that begin at the same place, the last one defined is taken
 syntax match narbeddoIllegal /\S/
 syntax match narbeddoName /\h\w*/
 syntax match narbeddoIllegal /\h\w\{32,}\|\h\w*__\w*\|\h\w*_\>/
