@@ -66,6 +66,7 @@ fn case_said(case: Case, mistake: Case) -> Case {
         | Case::EmptyText
         | Case::TypedNumber
         | Case::TypedTruth
+        | Case::LongDuration
         | Case::SpacedDuration => mistake,
         _ => case,
     }

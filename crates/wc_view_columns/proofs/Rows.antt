@@ -1,5 +1,5 @@
 -- Columns of rows: as wide again, and with one row more.
-use Rattle.std.proofs.Common.{◌≡◌, ℕ, zero, suc, ◌+◌, ◌-◌, ◌*◌, ◌/◌, ◌^◌, ◌<◌, ◌≤◌, ◌⊎◌, inl, inr, Bool, true, false, cond, nat_lt, max, List, [], ◌∷◌, ◌++◌, Option, Some, None, filter, length, get_or, replicate, set, refl, sym, ap, ◌∙◌, subst, arith, append_assoc, append-nil, length-append, length-set, pow_mono, le_of_eq, le_trans, div-mul-le_self, mul-le-mul_right}
+use Rattle.std.proofs.Common.{◌≡◌, ℕ, zero, suc, ◌+◌, ◌-◌, ◌*◌, ◌/◌, ◌^◌, ◌<◌, ◌≤◌, ◌⊎◌, inl, inr, Bool, true, false, cond, nat_lt, max, List, [], ◌∷◌, ◌++◌, Option, Some, None, filter, length, get_or, replicate, set, refl, sym, ap, ◌∙◌, subst, arith, append_assoc, append-nil, length-append, length-set, le_of_eq, le_trans}
 use Rattle.std.proofs.Math.Nat.{zero-div}
 use Rattle.std.proofs.lemmas.Bool.{cases_eq, cases_lt}
 use Rattle.std.proofs.lemmas.Bool.Decides.{nat_tests}
@@ -10,7 +10,7 @@ use Rattle.std.specs.Option.{option_to_list}
 use Rattle.std.specs.Prelude.{◌==◌}
 use Rattle.wc_view_columns.proofs.Parts.{before_next, before_two, later, of_two, wider}
 use Rattle.wc_view_columns.proofs.Settled.{left_once, settled}
-use Rattle.wc_view_columns.proofs.Totals.{both_together, none_together, one_together}
+use Rattle.wc_view_columns.proofs.Totals.{both_together, last_or-append, none_together, one_together}
 use Rattle.wc_view_columns.specs.Happened.{AreBoth}
 use Rattle.wc_view_columns.specs.Held.{Held, IsStateOf}
 use Rattle.wc_view_columns.specs.Rows.{AreFrom, AreHalved, AreJoined, AreTogether, IsColumnOf, IsPairOf, Row, column_count, column_number, events_of, held_of, holding, left_by, rows_before, rows_of}
@@ -46,11 +46,7 @@ all_before start power i (row ∷ rows) within =
     rest : (n m k : ℕ) → max (n + 1) m ≤ k → m ≤ k
     rest n m k l = omega (arith, l)
 
--- what rows leave is what is left of what was left before the last of them, and then of these
-last_or-append : {A : Type 0} (o : Option A) (earlier later : List A) → last_or o (earlier ++ later) ≡ last_or (last_or o earlier) later
-last_or-append o [] more = refl
-last_or-append o (x ∷ earlier) more = last_or-append (Some x) earlier more
-
+-- what rows and later ones leave is what the first left, and then the later ones
 last_of_left : (o : Option Held) (held : List Held) → last_or None (option_to_list o ++ held) ≡ last_or o held
 last_of_left None held = refl
 last_of_left (Some h) held = refl
@@ -291,17 +287,6 @@ none_after start power ms (r ∷ rows) row from =
 pub without_last : (ms : ℕ) (rows : List Row) (row : Row) → AreFrom ms (rows ++ row ∷ []) → AreFrom ms rows
 without_last ms [] row from = tt
 without_last ms (r ∷ rows) row from = (from.0, without_last r.ms rows row from.1)
-
--- a time whose column has a great number is much later than the start
-pub few_wide : (start power ms : ℕ) → ms < 2 ^ 64 → 720 ≤ column_number start power ms → power < 63
-few_wide start power ms below l = by (cases_lt power 63)
-  where
-    by : ((power < 63) ⊎ (63 ≤ power)) → power < 63
-    by (inl is) = is
-    by (inr wide) =
-        let size : 720 * 2 ^ power ≤ ms - start = le_trans (mul-le-mul_right (2 ^ power) l) (div-mul-le_self (ms - start) (2 ^ power)) in
-        let least : 2 ^ 63 ≤ 2 ^ power = pow_mono wide in
-        absurd (omega (arith, size, least, below))
 
 -- the first row
 at_start : (power ms : ℕ) → column_number ms power ms ≡ 0

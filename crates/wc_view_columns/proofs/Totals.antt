@@ -29,7 +29,7 @@ more_counted f earlier one a c e g =
     one_counted a (f one) c (sum_by f earlier) (sum_by f (earlier ++ one ∷ [])) e g (sum_by-append f earlier (one ∷ []))
 
 -- the last of both
-last_or-append : {A : Type 0} (o : Option A) (earlier later : List A) → last_or o (earlier ++ later) ≡ last_or (last_or o earlier) later
+pub last_or-append : {A : Type 0} (o : Option A) (earlier later : List A) → last_or o (earlier ++ later) ≡ last_or (last_or o earlier) later
 last_or-append o [] later = refl
 last_or-append o (x ∷ earlier) later = last_or-append (Some x) earlier later
 

@@ -5,26 +5,48 @@ use Rattle.wc_view_columns.specs.declared.bits.Bits.{Bits}
 use Rattle.wc_view_columns.specs.declared.bits.Level.{Level}
 use Rattle.wc_view_columns.specs.declared.bits.Level.TheVariants.{Low, Both, High}
 use Rattle.wc_view_columns.specs.Held.{Held, IsStateOf}
+use Rattle.wc_view_columns.specs.Rows.{AreTogether}
 use Rattle.wc_view_columns.specs.declared.columns.Column.{Column}
+use Rattle.wc_view_columns.specs.declared.events.Events.{Events}
 use Rattle.wc_view_columns.specs.declared.lanes.Lane.{Lane}
 use Rattle.wc_view_columns.specs.declared.lanes.Lane.TheVariants.{Motion, Over, Under, Invalid, Requests, Input, Output, Word, Scans}
 
--- each column is of what held at the rows of its time
-abbrev pub AreColumnsOf : List (List Held) → List Column → Type 0
-AreColumnsOf [] [] = Unit {0}
-AreColumnsOf [] (column ∷ columns) = ⊥
-AreColumnsOf (held ∷ more) [] = ⊥
-AreColumnsOf (held ∷ more) (column ∷ columns) = IsStateOf held column.state × AreColumnsOf more columns
+-- each column is of its own rows, of which these are what held, or what happened
+abbrev pub AreOf : {X : Type 0} → (List X → Column → Type 0) → List (List X) → List Column → Type 0
+AreOf R [] [] = Unit {0}
+AreOf R [] (column ∷ columns) = ⊥
+AreOf R (own ∷ more) [] = ⊥
+AreOf R (own ∷ more) (column ∷ columns) = R own column × AreOf R more columns
 
--- the rows of all times, one after the other
-abbrev pub all_rows : List (List Held) → List Held
-all_rows [] = []
-all_rows (held ∷ more) = held ++ all_rows more
+-- those of all times, one after the other
+abbrev pub all_of : {X : Type 0} → List (List X) → List X
+all_of [] = []
+all_of (own ∷ more) = own ++ all_of more
 
 -- one column is of all these rows, and there is none if there is no time
+abbrev pub IsOfAll : {X : Type 0} → (List X → Column → Type 0) → Option Column → List (List X) → Type 0
+IsOfAll R None own = own ≡ []
+IsOfAll R (Some column) own = R (all_of own) column
+
+-- so of what held
+abbrev pub HasHeld : List Held → Column → Type 0
+HasHeld held column = IsStateOf held column.state
+
+abbrev pub AreColumnsOf : List (List Held) → List Column → Type 0
+AreColumnsOf held columns = AreOf HasHeld held columns
+
 abbrev pub IsWholeOf : Option Column → List (List Held) → Type 0
-IsWholeOf None held = held ≡ []
-IsWholeOf (Some column) held = IsStateOf (all_rows held) column.state
+IsWholeOf column held = IsOfAll HasHeld column held
+
+-- and of what happened
+abbrev pub HasHappened : List Events → Column → Type 0
+HasHappened events column = AreTogether events column.events
+
+abbrev pub AreEventsOf : List (List Events) → List Column → Type 0
+AreEventsOf events columns = AreOf HasHappened events columns
+
+abbrev pub AreAllEvents : Option Column → List (List Events) → Type 0
+AreAllEvents column events = IsOfAll HasHappened column events
 
 -- how something stood that was so after one of the rows, or was not
 abbrev pub level_of : (was was_not : Bool) → Level

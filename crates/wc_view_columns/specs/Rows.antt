@@ -38,7 +38,7 @@ held_of rows = map (λ (row : Row). row.held) rows
 abbrev pub events_of : List Row → List Events
 events_of rows = map (λ (row : Row). row.events) rows
 
--- what some rows leave, if there is one: what holds after the last
+-- what some rows leave: what holds after the last of them, if there is one
 abbrev pub left_by : List Row → List Held
 left_by rows = option_to_list (last_or None (held_of rows))
 

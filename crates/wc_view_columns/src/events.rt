@@ -106,8 +106,8 @@ impl Events {
 
     /// One more scan of n steps.
     pub fn scan(&mut self, steps: u32)
-        ensures steps { self.new.steps ≡ max self.old.steps steps }
-        ensures scans { self.new.scans ≡ counted (self.old.scans + 1) }
+        ensures { let scans = counted (self.old.scans + 1) in let most = max self.old.steps steps in
+            self.new ≡ record self.old { scans = scans; steps = most } }
     {
         self.scans = self.scans.saturating_add(1);
         self.steps = self.steps.max(steps);

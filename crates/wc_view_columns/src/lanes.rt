@@ -1,8 +1,10 @@
 ghost use Rattle.std.specs.Prelude.{◌≡◌, ◌++◌, [], ◌∷◌, not, filter, IfOk, List, Some, None};
-ghost use Rattle.wc_view_columns.specs.Columns.{AreColumnsOf, IsLevelOf, IsWholeOf, level_of};
+ghost use Rattle.wc_view_columns.specs.Columns.{AreAllEvents, AreColumnsOf, AreEventsOf, IsLevelOf, IsWholeOf, level_of};
+ghost use Rattle.wc_view_columns.specs.Happened.{AreBoth};
 ghost use Rattle.wc_view_columns.specs.Held.{Held, IsStateOf};
 ghost use Rattle.wc_view_columns.specs.Lanes.{all_lanes, is_both, is_shown};
 ghost use Rattle.wc_view_columns.specs.declared.columns.Column.{Column};
+ghost use Rattle.wc_view_columns.specs.declared.events.Events.{Events};
 
 use crate::bits::Level;
 use crate::columns::Column;
@@ -103,6 +105,8 @@ fn with_column(all: Option<Column>, column: &Column) -> Column
     ensures more { (before : Column) (held others : List Held) → all ≡ Some before
         → IsStateOf held before.state → IsStateOf others column.now.state
         → IsStateOf (held ++ others) result.state }
+    ensures events { (before : Column) → all ≡ Some before
+        → AreBoth before.events column.now.events result.events }
 {
     match all {
         Some(all) => all.joined(column),
@@ -112,7 +116,10 @@ fn with_column(all: Option<Column>, column: &Column) -> Column
 
 /// All columns as one; none if there are none.
 pub fn whole(columns: &[Column]) -> Option<Column>
-    ensures { (held : List (List Held)) → AreColumnsOf held columns.now → IsWholeOf result held }
+    ensures held { (held : List (List Held)) → AreColumnsOf held columns.now
+        → IsWholeOf result held }
+    ensures events { (events : List (List Events)) → AreEventsOf events columns.now
+        → AreAllEvents result events }
 {
     let mut all: Option<Column> = None;
     for column in columns {

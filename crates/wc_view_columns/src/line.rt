@@ -6,12 +6,12 @@ use crate::state::State;
 /// The greatest number of columns.
 pub const COLUMNS: usize = 720;
 
-/// The time of a log in columns of one width, of which there are never more than `COLUMNS`: if a moment is past the last,
+/// The time of a log in columns of one width, of which there are never more than `COLUMNS`: if a time is past the last,
 /// two become one.
 #[derive(Drop)]
 pub struct TimeLine {
     pub(crate) columns: Vec<Column>,
-    /// The first moment in milliseconds.
+    /// The first time in milliseconds.
     pub(crate) start: u64,
     /// A column has 2 to this power milliseconds.
     pub(crate) power: u32,

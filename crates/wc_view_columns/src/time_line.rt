@@ -33,7 +33,7 @@ fn pair_up(columns: &mut Vec<Column>)
     columns.truncate(half);
 }
 
-/// Goes on to so many columns, in which still holds what held.
+/// Adds columns up to a count, in which what held still holds.
 fn fill(columns: &mut Vec<Column>, count: usize, held: &State)
     requires { count ≤ vec_capacity columns.old }
     ensures columns { let more = count - length columns.old.items in
@@ -67,7 +67,7 @@ impl TimeLine {
         &self.columns
     }
 
-    /// The first moment in milliseconds.
+    /// The first time in milliseconds.
     pub fn start(&self) -> u64
         ensures { result ≡ self.now.start }
     {
@@ -81,7 +81,7 @@ impl TimeLine {
         1_u64 << self.power
     }
 
-    /// The number of the column of a moment.
+    /// The number of the column of a time.
     fn number(&self, ms: u64) -> u64
         ensures { result ≡ column_number self.now.start self.now.power ms }
     {
@@ -100,7 +100,7 @@ impl TimeLine {
         self.power += 1;
     }
 
-    /// Makes the columns so wide that a moment has one.
+    /// Makes the columns so wide that a time has one.
     fn reach(&mut self, ms: u64)
         ensures columns { (rows : List Row) → AreFrom self.old.start rows
             → AreColumns rows self.old → AreColumns rows self.new }
