@@ -3,6 +3,7 @@
  *
  *   REFUSED_GROWTH=N   the Nth call that asks for memory gets none, counted from 1
  *   READ_ROOM=N        files that are opened give N bytes in all, and then each read fails
+ *   READ_ERROR=N       with this error in place of EIO
  *   READ_PIECE=N       a read gives at most N bytes
  *   WRITE_ROOM=N       standard output takes N bytes in all, and then each write fails
  *   WRITE_PIECE=N      a write to standard output takes at most N bytes
@@ -21,6 +22,7 @@
 
 static long growths, transfers, refused, asked_again, read_room = -1, read_piece, write_room = -1, write_piece, interrupted;
 static size_t refused_size;
+static int read_error = EIO;
 
 static ssize_t (*real_read)(int, void *, size_t);
 static ssize_t (*real_write)(int, const void *, size_t);
@@ -37,6 +39,7 @@ __attribute__((constructor)) static void begin(void)
     *(void **)&real_write = dlsym(RTLD_NEXT, "write");
     refused = number("REFUSED_GROWTH", 0);
     read_room = number("READ_ROOM", -1);
+    read_error = (int)number("READ_ERROR", EIO);
     read_piece = number("READ_PIECE", 0);
     write_room = number("WRITE_ROOM", -1);
     write_piece = number("WRITE_PIECE", 0);
@@ -116,8 +119,13 @@ static ssize_t passing(long *room, long piece, size_t wanted)
 ssize_t read(int file, void *buffer, size_t size)
 {
     ssize_t count;
-    if (is_interrupted() || (count = passing(&read_room, read_piece, size)) < 0)
+    if (is_interrupted())
         return -1;
+    count = passing(&read_room, read_piece, size);
+    if (count < 0) {
+        errno = read_error;
+        return -1;
+    }
     count = real_read(file, buffer, (size_t)count);
     if (count > 0 && read_room > 0)
         read_room -= count;
