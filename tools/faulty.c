@@ -3,6 +3,7 @@
  *
  *   REFUSED_ALLOCATION=N   the Nth allocation fails, counted from 1
  *   READ_LIMIT=N           files that are opened give N bytes in all, and then each read fails
+ *   READ_ERROR=N           with this error in place of EIO
  *   READ_CHUNK=N           a read gives at most N bytes
  *   WRITE_LIMIT=N          standard output takes N bytes in all, and then each write fails
  *   WRITE_CHUNK=N          a write to standard output takes at most N bytes
@@ -21,6 +22,7 @@
 
 static long allocations, transfers, refused, was_retried, read_left = -1, read_chunk, write_left = -1, write_chunk, interrupted;
 static size_t refused_size;
+static int read_error = EIO;
 
 static ssize_t (*real_read)(int, void *, size_t);
 static ssize_t (*real_write)(int, const void *, size_t);
@@ -37,6 +39,7 @@ __attribute__((constructor)) static void begin(void)
     *(void **)&real_write = dlsym(RTLD_NEXT, "write");
     refused = number("REFUSED_ALLOCATION", 0);
     read_left = number("READ_LIMIT", -1);
+    read_error = (int)number("READ_ERROR", EIO);
     read_chunk = number("READ_CHUNK", 0);
     write_left = number("WRITE_LIMIT", -1);
     write_chunk = number("WRITE_CHUNK", 0);
@@ -116,8 +119,13 @@ static ssize_t allowed(long *left, long chunk, size_t requested)
 ssize_t read(int file, void *buffer, size_t size)
 {
     ssize_t count;
-    if (is_interrupted() || (count = allowed(&read_left, read_chunk, size)) < 0)
+    if (is_interrupted())
         return -1;
+    count = allowed(&read_left, read_chunk, size);
+    if (count < 0) {
+        errno = read_error;
+        return -1;
+    }
     count = real_read(file, buffer, (size_t)count);
     if (count > 0 && read_left > 0)
         read_left -= count;

@@ -186,6 +186,8 @@ static void texts(narbeddo_scale *scale)
     is("no unit", narbeddo_about((const uint8_t *)counting, strlen(counting), 2).text.status, NARBEDDO_NO_UNIT);
     is("units", narbeddo_about((const uint8_t *)counting, strlen(counting), 0).units, 2);
     is("a name", narbeddo_about((const uint8_t *)counting, strlen(counting), 0).name[0], 'S');
+    is("the byte after a name", narbeddo_about((const uint8_t *)counting, strlen(counting), 0).name[3], 0);
+    is("the last byte after a name", narbeddo_about((const uint8_t *)counting, strlen(counting), 0).name[31], 0);
     is("a bound", narbeddo_about((const uint8_t *)counting, strlen(counting), 1).bound, 13);
     is("a path in too small a buffer", narbeddo_path((const uint8_t *)counting, strlen(counting), 1, lines, 5).text.status, NARBEDDO_NO_ROOM);
     is("nothing was written to it", lines[0], 77);
