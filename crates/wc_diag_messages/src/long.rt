@@ -1,8 +1,7 @@
-ghost use Rattle.std.specs.Prelude.{◌≡◌, ◌≤◌, ℕ, List, [], ◌++◌, IfOk, IfSome, OnOk, length};
+ghost use Rattle.std.specs.Prelude.{◌≡◌, ◌≤◌, [], ◌++◌, IfOk, IfSome, OnOk, length};
 ghost use Rattle.wc_diag_messages.specs.Explanations.{Explains, headline, help_line, page_text, place_line};
 ghost use Rattle.wc_diag_messages.specs.Known.{IsKnown};
 ghost use Rattle.wc_diag_messages.specs.Locations.{alongside_text, margin_text};
-ghost use Rattle.wc_diag_messages.specs.Plain.{shown_text};
 
 use crate::excerpts::write_excerpt;
 use crate::message::Message;

@@ -1,4 +1,4 @@
-ghost use Rattle.std.specs.Prelude.{◌≡◌, ℕ, List, ◌++◌, IfOk, OnOk};
+ghost use Rattle.std.specs.Prelude.{◌≡◌, ◌++◌, IfOk, OnOk};
 ghost use Rattle.wc_diag_messages.specs.Explanations.{QuotesAndSays, left_out_text, quoted_text};
 ghost use Rattle.wc_diag_messages.specs.Known.{IsKnown};
 ghost use Rattle.wc_diag_messages.specs.Plain.{IsShown};
