@@ -14,12 +14,14 @@ is_plain byte = byte == 10 || not (is_control byte)
 abbrev pub is_within : ℕ → ℕ → ℕ → Bool
 is_within first last byte = nat_le first byte && nat_le byte last
 
--- these bytes begin a character on which a terminal or an editor acts: a control character, U+0080 to U+009F; an end of a line or of
--- a paragraph, U+2028 and U+2029; one that turns the direction of writing, U+200E, U+200F, U+202A to U+202E, U+2066 to U+2069
+-- these bytes begin a character on which a terminal or an editor acts, or which is not seen: a control character, U+0080 to U+009F;
+-- an end of a line or of a paragraph, U+2028 and U+2029; one that turns the direction of writing, U+200E, U+200F, U+202A to U+202E,
+-- U+2066 to U+2069; one without a width, U+200B to U+200D and U+FEFF
 abbrev pub acts_by : ℕ → ℕ → ℕ → Bool
 acts_by first second third =
     first == 194 && is_within 128 159 second
-    || first == 226 && (second == 128 && (is_within 142 143 third || is_within 168 174 third) || second == 129 && is_within 166 169 third)
+    || first == 226 && (second == 128 && (is_within 139 143 third || is_within 168 174 third) || second == 129 && is_within 166 169 third)
+    || first == 239 && second == 187 && third == 191
 
 abbrev pub acts : List ℕ → Bool
 acts bytes = acts_by (slice_index bytes 0) (slice_index bytes 1) (slice_index bytes 2)

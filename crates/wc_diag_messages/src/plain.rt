@@ -11,15 +11,16 @@ fn is_control(byte: u8) -> bool
     byte < 32 || byte == 127
 }
 
-/// Whether a UTF-8 text begins with a character on which a terminal or an editor acts: a control character above ASCII, an end of
-/// a line, or one that turns the direction of writing.
+/// Whether a UTF-8 text begins with a character on which a terminal or an editor acts, or which is not seen: a control character
+/// above ASCII, an end of a line, one that turns the direction of writing, or one without a width.
 fn acts(text: &[u8]) -> bool
     ensures { result ≡ acts text.now }
 {
     match text {
         [0xC2, 0x80..=0x9F, ..] => true,
-        [0xE2, 0x80, 0x8E | 0x8F | 0xA8..=0xAE, ..] => true,
+        [0xE2, 0x80, 0x8B..=0x8F | 0xA8..=0xAE, ..] => true,
         [0xE2, 0x81, 0xA6..=0xA9, ..] => true,
+        [0xEF, 0xBB, 0xBF, ..] => true,
         _ => false,
     }
 }
