@@ -7,7 +7,7 @@ macro_rules! with_constants {
             "0.1.0",
             "rattle-kit-13 logic dac8208d650f15bf",
             "1177ae17014caf8e427f4a8dde1f7a313153b343733dd3b4fb6765f5d55be068",
-            "295159970948744c298ec98b23e05f4219827e6b478763d116f1433c36f015e2"
+            "3baecf3bfa2bcb22ec388fb295f8f15e0abd08ddf76ff2e97f922ffd40fd60f7"
         )
     };
 }

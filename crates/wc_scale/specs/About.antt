@@ -1,5 +1,5 @@
 -- What is reported about a unit of a program's text.
-use Rattle.std.specs.Prelude.{◌≡◌, ◌⊎◌, ℕ, ◌<◌, ◌≤◌, min, List, length, take, Some, option_map, slice_get}
+use Rattle.std.specs.Prelude.{◌≡◌, ◌⊎◌, ℕ, ◌<◌, ◌≤◌, ◌-◌, min, List, drop, length, replicate, take, Some, option_map, slice_get}
 use Rattle.wc_cost.specs.LoadedTexts.{AreWorstAt}
 use Rattle.wc_model.specs.Language.Loading.{IsLoaded}
 use Rattle.wc_model.specs.Language.Tree.{Text}
@@ -9,13 +9,14 @@ use Rattle.wc_scale.specs.declared.results.PathAnswer.{PathAnswer}
 use Rattle.wc_scale.specs.declared.results.Refusal.{Refusal}
 use Rattle.wc_scale.specs.declared.results.UnitAnswer.{UnitAnswer}
 
--- the number of units, the unit's bound, and the first 32 bytes of its name
+-- the number of units, the unit's bound, and the first 32 bytes of its name with zeros after them
 pub record IsUnitReported (text : Text) (unit : ℕ) (reported : UnitAnswer) : Type 0 where
   pub there : unit < length text
   pub units : reported.units ≡ min (length text) 4294967295
   pub bound : IsBoundAt text unit reported.bound
   pub short : reported.length ≤ 32
   pub name : (spelled : List ℕ) → option_map (λ u. u.spelled) (slice_get text unit) ≡ Some spelled → take reported.length reported.name ≡ take 32 spelled
+  pub padded : drop reported.length reported.name ≡ replicate (32 - reported.length) 0
 
 -- the lines of the unit's worst path are in the buffer, and there are no more than it has
 pub record IsPathReported (text : Text) (unit : ℕ) (buffer : List ℕ) (reported : PathAnswer) : Type 0 where

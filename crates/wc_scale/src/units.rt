@@ -1,4 +1,4 @@
-ghost use Rattle.std.specs.Prelude.{◌≡◌, ◌<◌, ◌⊎◌, length, min, take};
+ghost use Rattle.std.specs.Prelude.{◌≡◌, ◌<◌, ◌-◌, ◌⊎◌, drop, length, min, replicate, take};
 ghost use Rattle.wc_model.specs.Language.Views.{text_view};
 ghost use Rattle.wc_scale.specs.About.{HasNoUnit, IsPathStatus, IsPathReported, IsTooLong, IsUnitStatus, IsUnitReported, RefusesText, ReportsTooSmall, ReportsNoUnit, ReportsPath, ReportsUnit};
 
@@ -23,7 +23,9 @@ fn no_unit(text: Refusal) -> UnitAnswer
 
 /// The first 32 bytes of a name, and zeros after them.
 fn name_buffer(name: &[u8]) -> [u8; 32]
-    ensures { take (min 32 (length name.now)) result ≡ take 32 name.now }
+    ensures name { take (min 32 (length name.now)) result ≡ take 32 name.now }
+    ensures zeros { drop (min 32 (length name.now)) result
+        ≡ replicate (32 - min 32 (length name.now)) 0 }
 {
     let mut buffer = [0; 32];
     let count = 32_usize.min(name.len());
