@@ -229,6 +229,21 @@ fn is_label(rest: &[u8]) -> bool {
     line.is_empty() || is_operator(first_word(line))
 }
 
+/// Whether a line of a text is a jump to a label.
+fn has_jump(text: &[u8], label: &[u8]) -> bool {
+    for line in text.split(|byte| *byte == b'\n') {
+        let line = line.trim_ascii();
+        let operator = first_word(line);
+        let target = first_word(following(line, operator.len()));
+        if matches!(keyword_named(operator), Some(Keyword::Jump(_)))
+            && target.eq_ignore_ascii_case(label)
+        {
+            return true;
+        }
+    }
+    false
+}
+
 /// Whether a word is an operator.
 fn is_operator(word: &[u8]) -> bool {
     matches!(
@@ -531,7 +546,14 @@ fn mistake_in_reading(text: &[u8], number: u16, span: RefusalSpan, case: Case) -
         (101, _) => mistaken_byte(line_before(text, span.start), rest, case),
         (105, _) => mistaken_number(word_before(text, span.start), token, case),
         (106, _) => mistaken_duration(token, following(rest, span.length), case),
-        (201, Expected::LabelColon) => mistaken_operator(token, following(rest, span.length)),
+        (201, Expected::LabelColon) => {
+            match mistaken_operator(token, following(rest, span.length)) {
+                Case::LabelWithoutColon if !has_jump(prefix(text, span.start), token) => {
+                    Case::NoOperator
+                }
+                mistake => mistake,
+            }
+        }
         (201, Expected::CommaPointOrClosing | Expected::CommaOrClosing)
             if keyword_named(token).is_some() && begins_line(text, span.start) => { Case::OpenList }
         (201, _) => mistaken_at(text, span, token),

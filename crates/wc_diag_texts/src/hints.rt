@@ -66,7 +66,7 @@ fn reading_hint(number: u16, case: Case) -> Option<&'static str> {
         201, Case::NoOperator => "operators: LD ST AND OR XOR (with N: LDN) S R NOT ADD SUB MUL DIV MOD GT GE EQ NE LE LT JMP CAL RET";
         201, Case::LabelWithoutColon => "a label ends with a colon, such as skip:";
         201, Case::AfterProgram => "nothing is allowed after the END_PROGRAM of the program";
-        201, Case::NoAddress => "an address begins with `%`, such as %IX0.0";
+        201, Case::NoAddress => "an address begins with `%`, such as %IX0.0; a DINT has no bits: declare a BOOL for each";
         201, Case::Closing => "the `)` needs a line of its own";
         201, Case::NoVariable => "an input takes a variable, an address, a field or a literal: compute and store the value before the call";
         201, Case::Semicolon => "an instruction ends with its line, without a semicolon";
@@ -87,7 +87,7 @@ fn reading_hint(number: u16, case: Case) -> Option<&'static str> {
         201, Case::MissingType => "a declaration names a type, such as d, e : DINT;";
         201, Case::DecimalComma => "numbers are integers, without a decimal comma: at 3 decimals write 1.5 kg as 1500";
         201, Case::Configuration => "leave out CONFIGURATION, RESOURCE and TASK: the one PROGRAM runs in every scan";
-        201, Case::OwnType => "the types are BOOL, DINT and TIME: declare a variable for each part, or a FUNCTION_BLOCK";
+        201, Case::OwnType => "the types are BOOL, DINT and TIME: for an enumeration use a DINT with 0, 1, 2, for a structure one variable for each part";
         201, Case::Conversion => "there are no conversions: a number is a DINT, a duration is a TIME";
         201, Case::NoUnit => "begin with PROGRAM and a name; then come VAR .. END_VAR, the instructions and END_PROGRAM";
         201, Case::DownCounter => "there is no CTD: count down with SUB 1 at each edge of an R_TRIG";
@@ -130,10 +130,10 @@ fn declaration_hint(number: u16, case: Case) -> Option<&'static str> {
 fn excerpt_hint(number: u16, case: Case) -> Option<&'static str> {
     text_among! {
         number, case;
-        401, Case::Field => "after the dot comes an output of an instance that is declared in VAR, such as t.Q";
+        401, Case::Field => "before the dot comes an instance that VAR declares, after it an output, such as t.Q; there are no global variables";
         401, Case::Watched => "name a variable, or a field after its instance, such as `t.ET`, with commas and no spaces between";
         401, Case::BlockType => "declare an instance in VAR, `t : TON;`, and call that: CAL t(..)";
-        403, Case::AtLabel => "begin the line with LD, or bring the same type on every path to this label";
+        403, Case::AtLabel => "load a value with LD on the line of this label, or bring the same type on every path to it";
         403, Case::NoCondition => "load the condition with LD first, or use CAL, JMP or RET without the C";
         404, Case::InputAddress => "inputs are only read: store to an output, such as %QX0.0, or to a variable";
         404, Case::LiteralTarget => "ST takes a variable or an output: LD loads the value, ST names where it goes";
@@ -191,7 +191,7 @@ fn kind_hint(number: u16, case: Case) -> Option<&'static str> {
         402, Case::TimeWithNumber => "compare a TIME with a duration, such as GE T#500ms";
         402, Case::AddedNumber => "add a number to a DINT, such as ADD 5; a TIME cannot be converted to a number";
         402, Case::AddedTime => "add a duration to a TIME, such as ADD T#500ms; it cannot be converted to a number";
-        402, Case::MultipliedTime => "a TIME cannot be multiplied, divided or converted: compare it with a duration, such as GE T#5s";
+        402, Case::MultipliedTime => "a TIME cannot be multiplied, divided or converted: write the product as a duration, such as T#15s, or ADD the time several times";
         402, Case::NumberInParenthesis => "compare the number before the `)`, such as GE 500: a comparison gives a BOOL";
         402, Case::TimeInParenthesis => "compare the time before the `)`, such as GE T#500ms: a comparison gives a BOOL";
         402, Case::Closing => "end the lines in the parenthesis with the type of the result before it";

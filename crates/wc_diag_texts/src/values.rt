@@ -73,7 +73,7 @@ pub fn text_with(alloc: Global, values: Values<'_>) -> Result<String, AllocError
             )
         }
         Values::LabelColon(word) => {
-            format!(in alloc; "a label ends with a colon: write `{word}:` if `{word}` is one")
+            format!(in alloc; "a label ends with a colon: write `{word}:`")
         }
         Values::InputOf(block) => format!(in alloc; "is an input of {block}, not an operator"),
         Values::Setting(input, instance) => {
