@@ -130,7 +130,7 @@ Reports Long refusal bytes = Explains refusal bytes
 Reports Short refusal bytes = ReportsShortly refusal bytes
 Reports Json refusal bytes = ReportsInJson refusal bytes
 
--- in the formats for people and editors, all bytes are printable ASCII and line feeds
+-- in the formats for people and editors, no byte is a control character of ASCII but line feeds
 abbrev pub IsPlainIn : Format → List ℕ → Type 0
 IsPlainIn Long bytes = list_all is_plain bytes ≡ true
 IsPlainIn Short bytes = list_all is_plain bytes ≡ true
