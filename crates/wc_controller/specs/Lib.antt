@@ -10,4 +10,5 @@ pub mod Endings
 pub mod Blames
 pub mod Shown
 pub mod InputRuns
+pub mod WrittenRuns
 pub mod Turns

@@ -1,8 +1,9 @@
-ghost use Rattle.std.specs.Prelude.{◌≡◌, [], ℕ, true, false, Some, None, Option, IfErr, IfOk, IfSome, IsOkUnless, OnOk, is_some, option_map};
+ghost use Rattle.std.specs.Prelude.{◌≡◌, [], ℕ, List, true, false, Some, None, Option, IfErr, IfOk, IfSome, IsOkUnless, OnOk, is_some, option_map};
 ghost use Rattle.wc_controller.specs.Blames.{IsNextUnloaded, IsUnloaded, RefusesLog, StopsFor};
 ghost use Rattle.wc_controller.specs.Endings.{HasNotFailedAt, IsReadFaultAt, StopsAt, ReportsMemory, ReportsWriteFaults, WritesUpTo, begin_fault_input, raised};
 ghost use Rattle.wc_controller.specs.Files.{AnswersPrinting, IsLineAnswer, answer_written};
 ghost use Rattle.wc_controller.specs.InputStates.{observed_by, reader_of};
+ghost use Rattle.wc_controller.specs.WrittenRuns.{OnEnd, says_of};
 ghost use Rattle.wc_controller.specs.TakenLogs.{IsLater, IsNextLoadedOf, OfLogic, log_alone, log_alongside, log_by};
 ghost use Rattle.wc_model.specs.Instrument.Plates.{PlateData};
 ghost use Rattle.wc_model.specs.Language.Loading.{IsLoaded};
@@ -14,7 +15,8 @@ ghost use Rattle.wc_record.specs.Left.{HasCause};
 ghost use Rattle.wc_record.specs.Reported.{fields_reported};
 ghost use Rattle.wc_record.specs.Reading.{records_of};
 ghost use Rattle.wc_run.specs.Logics.{text_of_next};
-ghost use Rattle.wc_run.specs.Observing.{RefusesToBegin, loaded_of, logic_of, said, text_in_all};
+ghost use Rattle.wc_run.specs.Doing.{seen_writing};
+ghost use Rattle.wc_run.specs.Observing.{RefusesToBegin, Start, bytes_of, loaded_of, logic_of, said, start_of, start_with, text_in_all};
 ghost use Rattle.wc_run.specs.Representation.{IsNotAfter, Represents};
 
 use crate::input::{Input, Stopped};
@@ -81,7 +83,8 @@ fn next_program<'l, 't>(
     loaded: &'l Option<Loaded<'t>>,
 ) -> Option<Program<'l, 't>>
     requires { IsNextLoadedOf (option_map (λ text. text.now) text) loaded.now }
-    ensures { loaded_of result ≡ loaded.now }
+    ensures loaded { loaded_of result ≡ loaded.now }
+    ensures text { bytes_of result ≡ option_map (λ text. text.now) text }
 {
     match loaded {
         Some(loaded) => match text {
@@ -109,10 +112,14 @@ fn begin<W: ByteOut, O: Observer<SlotStore, W>>(
     next: Option<Program<'_, '_>>,
 ) -> Result<(), Stopped>
     requires { O.is_new observer.old }
+    ensures settings { O.settings observer.new ≡ O.settings observer.old }
     ensures plan { O.plan observer.new ≡ O.plan observer.old }
     ensures seen { OnOk result ((plate : PlateData)
         → O.has_seen observer.new plate (logic_of (loaded_of first.entry)
         (loaded_of next.entry)) []) }
+    ensures written { OnOk result ((plate : PlateData) (taken : Option (List ℕ))
+        → O.has_written observer.new (start_of first.entry next.entry taken) taken plate
+        (logic_of (loaded_of first.entry) (loaded_of next.entry)) []) }
     ensures begins { OnOk result
         (O.begins observer.old (logic_of (loaded_of first.entry) (loaded_of next.entry)) ≡ true) }
     ensures refused { IfErr result (λ stopped. RefusesToBegin
@@ -157,16 +164,27 @@ fn run_scale<W: ByteOut, O: Observer<SlotStore, W>, L: ByteIn>(
     reported: &mut RefusedRow,
 ) -> Result<(), Stopped>
     requires first { IsNotAfter scale.old 0 }
-    ensures writes { (plate : PlateData) (logic : Option Logic)
-        → Represents scale.old plate logic [] → O.has_seen observer.old plate logic []
+    ensures writes { (start : Start) (plate : PlateData) (logic : Option Logic)
+        → Represents scale.old plate logic []
+        → seen_writing O.has_seen O.has_written start (observer.old, W.bytes_taken writer.old)
+        plate logic []
         → IfSome (L.bytes_left log.old) (λ bytes.
         WritesUpTo (λ one. one ≡ answer_written (text_in_all (O.plan observer.old)) plate logic
         (log_of (records_of bytes)))
         (raised result) (said O.speaks (W.bytes_taken writer.old))
         (said O.speaks (W.bytes_taken writer.new))) }
     ensures input { IfErr result (λ stopped. stopped.input ≡ Input.Log) }
-    ensures blames { (plate : PlateData) (logic : Option Logic)
-        → Represents scale.old plate logic [] → O.has_seen observer.old plate logic []
+    ensures ended { (start : Start) (plate : PlateData) (logic : Option Logic)
+        → Represents scale.old plate logic []
+        → seen_writing O.has_seen O.has_written start (observer.old, W.bytes_taken writer.old)
+        plate logic []
+        → OnEnd result (IfSome (L.bytes_left log.old)
+        (λ bytes. says_of (O.has_ended (O.settings observer.old)) (W.bytes_taken writer.new)
+        start plate logic (log_by logic bytes))) }
+    ensures blames { (start : Start) (plate : PlateData) (logic : Option Logic)
+        → Represents scale.old plate logic []
+        → seen_writing O.has_seen O.has_written start (observer.old, W.bytes_taken writer.old)
+        plate logic []
         → StopsFor Input.Log (RefusesLog (log_by logic) (fields_reported reported.new))
         (L.bytes_left log.old) result }
     ensures read { IsReadFaultAt Input.Log result
@@ -204,6 +222,9 @@ pub(crate) fn run_alone<W: ByteOut, O: Observer<SlotStore, W>, L: ByteIn>(
         (log_of (records_of bytes)))
         (raised result) (said O.speaks (W.bytes_taken writer.old))
         (said O.speaks (W.bytes_taken writer.new))) }
+    ensures ended { OnEnd result (IfSome (L.bytes_left log.old)
+        (λ bytes. says_of (O.has_ended (O.settings observer.old)) (W.bytes_taken writer.new)
+        (start_of None None (W.bytes_taken writer.old)) plate.now None (log_by None bytes))) }
     ensures later { IsLater result }
     ensures no_next { ¬ StopsAt Input.Next result }
     ensures names { StopsAt Input.Names result
@@ -253,6 +274,12 @@ pub(crate) fn run_loaded<W: ByteOut, O: Observer<SlotStore, W>, L: ByteIn>(
         (log_of (records_of bytes)) (text_view programs.entry.loaded.source)))
         (raised result) (said O.speaks (W.bytes_taken writer.old))
         (said O.speaks (W.bytes_taken writer.new))) }
+    ensures ended { OnEnd result (OfLogic (text_view programs.entry.loaded.source)
+        (option_map (λ text. text.now) programs.entry.next)
+        (λ logic. IfSome (L.bytes_left log.old)
+        (λ bytes. says_of (O.has_ended (O.settings observer.old)) (W.bytes_taken writer.new)
+        (start_with programs.entry.text.now (option_map (λ text. text.now) programs.entry.next)
+        (W.bytes_taken writer.old)) programs.entry.plate logic (log_by logic bytes)))) }
     ensures blames_next { IfErr result
         (λ stopped. stopped.input ≡ Input.Next
         → IsNextUnloaded (option_map (λ text. text.now) programs.entry.next) stopped.fault) }

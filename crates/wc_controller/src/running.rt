@@ -4,6 +4,7 @@ ghost use Rattle.wc_controller.specs.Files.{report_observed};
 ghost use Rattle.wc_controller.specs.InputRuns.{RunsAs, RunsUpTo};
 ghost use Rattle.wc_controller.specs.InputStates.{observed_by, writer_of};
 ghost use Rattle.wc_controller.specs.TakenLogs.{OfPrograms};
+ghost use Rattle.wc_controller.specs.WrittenRuns.{EndsSaying, OfRun, OnEnd, says_of};
 ghost use Rattle.wc_record.specs.Reported.{fields_reported};
 ghost use Rattle.wc_run.specs.Observing.{said_by};
 
@@ -38,6 +39,8 @@ pub fn run_inputs<
     ensures refused { StopsAt Input.Names result → OfPrograms inputs.old.program inputs.old.next
         (λ logic. (O.begins observer.old logic ≡ false)
         × O.has_refused observer.old observer.new logic) }
+    ensures ended { OnEnd result (OfRun inputs.old (W.bytes_taken writer.old)
+        (says_of (O.has_ended (O.settings observer.old)) (W.bytes_taken writer.new))) }
     ensures runs { RunsUpTo (observed_by O.plan O.begins observer.old) inputs.old inputs.new
         (fields_reported reported.new) result
         (writer_of (said_by O.speaks W.bytes_taken) W.failure_count writer.old)
@@ -96,6 +99,9 @@ pub fn run_files<P: ByteIn, T: ByteIn, N: ByteIn, L: ByteIn, W: ByteOut, O: Obse
     ensures refused { IsAt Input.Names result → OfPrograms inputs.old.program inputs.old.next
         (λ logic. (O.begins observer.old logic ≡ false)
         × O.has_refused observer.old observer.new logic) }
+    // What the observer says of the bytes of a run that came to its end, or to a refused row.
+    ensures ended { EndsSaying (O.has_ended (O.settings observer.old)) inputs.old result
+        (W.bytes_taken writer.old) (W.bytes_taken writer.new) }
     ensures runs { RunsAs (observed_by O.plan O.begins observer.old) inputs.old inputs.new
         (fields_reported reported.new) result
         (writer_of (said_by O.speaks W.bytes_taken) W.failure_count writer.old)

@@ -1,15 +1,16 @@
 -- The end of a run: what the observer writes after the rest, and how a fault is classified.
 use Rattle.std.proofs.Common.{inl, inr, ◌≡◌, sym, subst, ℕ, List, [], Option, Ok, Err, Result, append-nil, true, false}
+use Rattle.std.specs.Result.{IsErr, IsErrAnd}
 use Rattle.std.proofs.KnownBytes.{Appends-kept, Appends-trans}
 use Rattle.std.specs.Io.KnownBytes.{Appends}
 use Rattle.wc_model.specs.Run.Log.{LogOf}
 use Rattle.wc_model.specs.Instrument.Plates.{PlateData}
 use Rattle.wc_model.specs.Run.Rows.{LogRow, Past}
 use Rattle.wc_run.proofs.Prefixes.{prefix_after, prefix_of_more}
-use Rattle.wc_run.specs.Doing.{HasSeenAll, IsCutShort, IsClassified, RunsRows, Seeing, Writes, WritesBy, is_cut_short, refused_in}
+use Rattle.wc_run.specs.Doing.{Ended, EndsWhole, HasSeenAll, IsCutShort, IsClassified, RunsRows, Seeing, Writes, WritesBy, is_cut_short, refused_in}
 use Rattle.wc_model.specs.Say.ProgramReport.{Logic}
-use Rattle.wc_run.specs.Observing.{Plan, onto, refusal_of, text_coming}
-use Rattle.wc_run.specs.Runs.{ReportsBy}
+use Rattle.wc_run.specs.Observing.{Plan, Start, onto, refusal_of, text_coming}
+use Rattle.wc_run.specs.Runs.{IsNoRefusal, ReportsBy}
 use Rattle.wc_run.specs.declared.fault.RunFault.{RunFault}
 use Rattle.wc_run.specs.declared.fault.RunFault.TheVariants.{Refused, Read, Write, Memory}
 
@@ -57,6 +58,32 @@ module _ {O : Type 0} (has_seen : Seeing O) (plan : Plan) (plate : PlateData) (l
   ends_short observer (Err Write) short runs =
       prefix_of_more old mid (text_coming plan plate logic [] log.rows) (plan.at_end plate logic log.rows log.refusal) runs
   ends_short observer (Err fault) short runs = runs
+
+-- what is said of the end of a run is said if it came there
+module _ (ended : Ended) (start : Start) (plate : PlateData) (logic : Option Logic) (log : LogOf) (taken : Option (List ℕ)) where
+  pub came_to_end : (answer : Result ℕ RunFault) → is_cut_short answer ≡ false → ended start taken plate logic log.rows log.refusal → EndsWhole ended start plate logic log answer taken
+  came_to_end (Ok count) whole says = says
+  came_to_end (Err (Refused number place)) whole says = says
+  came_to_end (Err fault) whole says = absurd (cc)
+
+  -- else nothing is
+  pub came_short : (answer : Result ℕ RunFault) → is_cut_short answer ≡ true → EndsWhole ended start plate logic log answer taken
+  came_short (Ok count) short = absurd (cc)
+  came_short (Err (Refused number place)) short = absurd (cc)
+  came_short (Err fault) short = tt
+
+  pub failed_there : (fault : RunFault) → IsNoRefusal fault → EndsWhole ended start plate logic log (Err fault) taken
+  failed_there (Refused number place) held = absurd held
+  failed_there fault held = tt
+
+  -- a fault is classified as one that is no refusal, unless it is one
+  pub classified_at_end : (fault classified : RunFault) → IsClassified fault classified → EndsWhole ended start plate logic log (Err fault) taken
+      → EndsWhole ended start plate logic log (Err classified) taken
+  classified_at_end Read classified (inl same) says = subst (λ raised. EndsWhole ended start plate logic log (Err raised) taken) (sym same) says
+  classified_at_end Read classified (inr same) says = subst (λ raised. EndsWhole ended start plate logic log (Err raised) taken) (sym same) says
+  classified_at_end Memory classified (inl same) says = subst (λ raised. EndsWhole ended start plate logic log (Err raised) taken) (sym same) says
+  classified_at_end Memory classified (inr same) says = subst (λ raised. EndsWhole ended start plate logic log (Err raised) taken) (sym same) says
+  classified_at_end fault classified same says = subst (λ raised. EndsWhole ended start plate logic log (Err raised) taken) (sym same) says
 
 -- what a fault says is also said by what it is classified as
 pub classified_says : (whole coming : List LogRow → List ℕ) (log : LogOf) (old new : Option (List ℕ)) (fault classified : RunFault)

@@ -39,6 +39,11 @@ pub on_ok_of : {T E : Type 0} (P Q : Type 0) (r : Result T E) → (P → Q) → 
 on_ok_of P Q (Ok x) f h = f h
 on_ok_of P Q (Err e) f h = tt
 
+-- two things that hold of a success hold of it together
+pub on_ok_both : {T E : Type 0} (P Q : Type 0) (r : Result T E) → OnOk r P → OnOk r Q → OnOk r (P × Q)
+on_ok_both P Q (Ok x) p q = (p, q)
+on_ok_both P Q (Err e) p q = tt
+
 -- a machine that represents the logic runs its program
 runs_program : (plate : PlateData) (machine : Option MachineState) (next : Option LoadedText) (logic : Option Logic) → IsAt machine next logic →
     IsRunning machine (program_of (logic_after plate logic []))

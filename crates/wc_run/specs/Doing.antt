@@ -1,12 +1,12 @@
 -- What comes of one row, and of a log that gives no further row, with whoever observes the run.
-use Rattle.std.specs.Prelude.{◌≡◌, ◌⊎◌, ℕ, Bool, true, false, List, [], ◌∷◌, length, Option, Some, None, Result, Ok, Err}
+use Rattle.std.specs.Prelude.{◌≡◌, ◌⊎◌, ⊤, ℕ, Bool, true, false, List, [], ◌∷◌, length, Option, Some, None, Result, Ok, Err}
 use Rattle.std.specs.Io.KnownBytes.{Appends, Keeps}
 use Rattle.wc_model.specs.Instrument.Plates.{PlateData}
-use Rattle.wc_model.specs.Run.Log.{LogOf}
+use Rattle.wc_model.specs.Run.Log.{LogOf, LogRefusal}
 use Rattle.wc_model.specs.Run.Rows.{LogRow, Past}
 use Rattle.wc_model.specs.Say.ProgramReport.{Logic}
 use Rattle.wc_run.specs.Logics.{IsRefusedRow, IsTaken, logic_after}
-use Rattle.wc_run.specs.Observing.{Plan, onto, text_coming, text_in_all}
+use Rattle.wc_run.specs.Observing.{Plan, Start, onto, text_coming, text_in_all}
 use Rattle.wc_run.specs.Runs.{AppendsFirst, AppendsPrefix, ReportsBy}
 use Rattle.wc_run.specs.Representation.{Represents}
 use Rattle.wc_run.specs.declared.fault.RunFault.{RunFault}
@@ -29,6 +29,24 @@ Writes text (Err fault) old new = IsCutShort fault old new text
 -- which rows an observer has seen, the newest first, of a run with this plate and this logic
 abbrev pub Seeing : Type 0 → Type 1
 Seeing O = O → PlateData → Option Logic → Past → Type 0
+
+-- what an observer says of the bytes that its writer has taken after these rows, the newest first, of a run that began so
+abbrev pub Writing : Type 0 → Type 1
+Writing O = O → Start → Option (List ℕ) → PlateData → Option Logic → Past → Type 0
+
+-- both, of an observer and the bytes that its writer has taken
+abbrev pub seen_writing : {O : Type 0} → Seeing O → Writing O → Start → Seeing (O × Option (List ℕ))
+seen_writing has_seen has_written start both plate logic past = has_seen both.0 plate logic past × has_written both.0 start both.1 plate logic past
+
+-- what is said of the bytes that a writer has taken once these rows are all, with the refusal after them or with none
+abbrev pub Ended : Type 1
+Ended = Start → Option (List ℕ) → PlateData → Option Logic → List LogRow → Option LogRefusal → Type 0
+
+-- so it is if a run came to the log's end, or to a refused row
+abbrev pub EndsWhole : Ended → Start → PlateData → Option Logic → LogOf → Result ℕ RunFault → Option (List ℕ) → Type 0
+EndsWhole ended start plate logic log (Ok count) taken = ended start taken plate logic log.rows log.refusal
+EndsWhole ended start plate logic log (Err (Refused number place)) taken = ended start taken plate logic log.rows log.refusal
+EndsWhole ended start plate logic log (Err fault) taken = ⊤
 
 -- The row is done, seen and written. Or it is refused, and nothing is written; or the writer failed
 -- at a prefix of what is written of it; or memory was refused, and nothing is written.

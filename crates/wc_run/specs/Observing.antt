@@ -1,5 +1,5 @@
 -- What an observer of a run is shown of a row, and what it writes. (The profile's own.)
-use Rattle.std.specs.Prelude.{◌≡◌, ⊤, ℕ, Bool, true, false, List, [], ◌∷◌, ◌++◌, Option, Some, None, IfSome, option_map}
+use Rattle.std.specs.Prelude.{◌≡◌, ⊤, ℕ, Bool, true, false, List, [], ◌∷◌, ◌++◌, Option, Some, None, IfSome, is_some, option_map}
 use Rattle.wc_cost.specs.LoadedTexts.{LoadedText}
 use Rattle.wc_machine.specs.Seeing.{IsSeen}
 use Rattle.wc_machine.specs.declared.seen.SeenLine.{SeenLine}
@@ -88,6 +88,29 @@ logic_of first next = option_map (λ loaded. first_logic (text_view loaded.sourc
 -- what was loaded of a program
 abbrev pub loaded_of : Option Program → Option LoadedText
 loaded_of program = option_map (λ p. p.loaded.now) program
+
+-- what a run begins with: the bytes of its programs' texts, and those that the writer of its output has taken, if they are known
+pub record Start : Type 0 where
+  pub first : Option (List ℕ)
+  pub next : Option (List ℕ)
+  pub taken : Option (List ℕ)
+
+-- the bytes of a program's text
+abbrev pub bytes_of : Option Program → Option (List ℕ)
+bytes_of program = option_map (λ p. p.text.now) program
+
+-- the start of a run with these programs
+abbrev pub start_of : Option Program → Option Program → Option (List ℕ) → Start
+start_of first next taken = record { first = bytes_of first; next = bytes_of next; taken = taken }
+
+-- the start of a run with a text of these bytes, and a next one or none
+abbrev pub start_with : List ℕ → Option (List ℕ) → Option (List ℕ) → Start
+start_with text next taken = record { first = Some text; next = next; taken = taken }
+
+-- whether the items of a scan were looked at, if one was done
+abbrev pub IsLookedAt : Option ScanSeen → Bool → Type 0
+IsLookedAt None looked = ⊤
+IsLookedAt (Some scan) looked = is_some scan.lines ≡ looked
 
 -- why an observer does not begin: out of memory, or it refuses to, because a name is unknown, and holds what it says of that
 abbrev pub RefusesToBegin : Bool → Type 0 → RunFault → Type 0

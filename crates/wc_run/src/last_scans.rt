@@ -53,8 +53,10 @@ fn keep_scan(recorder: &mut Recorder, scan: &Option<ScanSeen>)
 }
 
 impl<S: Store, W: ByteOut> Observer<S, W> for LastScans {
-    ghost use Rattle.std.specs.Prelude.{[]};
+    ghost use Rattle.std.specs.Prelude.{⊤, []};
     ghost use Rattle.wc_run.specs.Reports.{HoldsScans, last_plan, lines_so_far};
+
+    ghost settings = { λ _. tt };
 
     ghost plan = { λ scans. last_plan scans.number };
 
@@ -62,6 +64,8 @@ impl<S: Store, W: ByteOut> Observer<S, W> for LastScans {
 
     ghost has_seen = { λ scans plate logic past.
         HoldsScans scans.recorder scans.number (lines_so_far plate logic past) };
+
+    ghost has_ended = { λ _ _ _ _ _ _ _. ⊤ };
 
     fn begin(
         &mut self,

@@ -6,8 +6,8 @@ ghost use Rattle.wc_record.specs.Left.{HasLeft, last_ms, rows_read};
 ghost use Rattle.wc_record.specs.Reading.{records_of};
 ghost use Rattle.wc_record.specs.Reported.{Reads, current_record, fields_reported};
 ghost use Rattle.wc_record.specs.Views.{IsDataInRange, head_data_view, head_view};
-ghost use Rattle.wc_run.specs.Doing.{Does, RunsRows};
-ghost use Rattle.wc_run.specs.Observing.{said};
+ghost use Rattle.wc_run.specs.Doing.{Does, RunsRows, seen_writing};
+ghost use Rattle.wc_run.specs.Observing.{Start, said};
 ghost use Rattle.wc_model.specs.Say.LogFor.{log_for};
 ghost use Rattle.wc_model.specs.Say.ProgramReport.{Logic};
 ghost use Rattle.wc_run.specs.Runs.{IsFaultAt, ReportsRefused, ReportsRow, ReportsWrites};
@@ -36,11 +36,14 @@ fn run_row<S: Store, W: ByteOut, O: Observer<S, W>>(
     requires in_range { IsDataInRange (head_data_view bytes.now row.kind) }
     requires early { row.ms < 2 ^ 40 }
     requires in_order { IsNotAfter scale.old row.ms }
+    ensures settings { O.settings observer.new ≡ O.settings observer.old }
     ensures plan { O.plan observer.new ≡ O.plan observer.old }
-    ensures does { (plate : PlateData) (logic : Option Logic) (past : Past)
-        → Represents scale.old plate logic past → O.has_seen observer.old plate logic past
-        → Does O.has_seen (O.plan observer.old) plate logic past (head_view bytes.now row)
-        scale.new observer.new result
+    ensures does { (start : Start) (plate : PlateData) (logic : Option Logic) (past : Past)
+        → Represents scale.old plate logic past
+        → seen_writing O.has_seen O.has_written start (observer.old, W.bytes_taken writer.old)
+        plate logic past
+        → Does (seen_writing O.has_seen O.has_written start) (O.plan observer.old) plate logic past
+        (head_view bytes.now row) scale.new (observer.new, W.bytes_taken writer.new) result
         (said O.speaks (W.bytes_taken writer.old))
         (said O.speaks (W.bytes_taken writer.new)) }
     ensures place { IfErr result (IsFaultAt row.number) }
@@ -69,12 +72,16 @@ fn run_rows<S: Store, W: ByteOut, O: Observer<S, W>, R: ByteIn>(
 ) -> Result<u32, RunFault>
     requires unread { rows_read rows.old ≡ 0 }
     requires in_order { IsNotAfter scale.old (last_ms rows.old) }
+    ensures settings { O.settings observer.new ≡ O.settings observer.old }
     ensures plan { O.plan observer.new ≡ O.plan observer.old }
     ensures runs { (log : LogOf) → HasLeft R.bytes_left rows.old log
-        → (plate : PlateData) (logic : Option Logic)
-        → Represents scale.old plate logic [] → O.has_seen observer.old plate logic []
-        → RunsRows O.has_seen (O.plan observer.old) plate logic (log_for logic log)
-        observer.new result (said O.speaks (W.bytes_taken writer.old))
+        → (start : Start) (plate : PlateData) (logic : Option Logic)
+        → Represents scale.old plate logic []
+        → seen_writing O.has_seen O.has_written start (observer.old, W.bytes_taken writer.old)
+        plate logic []
+        → RunsRows (seen_writing O.has_seen O.has_written start) (O.plan observer.old) plate logic
+        (log_for logic log) (observer.new, W.bytes_taken writer.new) result
+        (said O.speaks (W.bytes_taken writer.old))
         (said O.speaks (W.bytes_taken writer.new)) }
     ensures reported { (records : List Record) → Reads R.bytes_left rows.old records
         → ReportsRow records (current_record rows.new) result }
@@ -101,13 +108,17 @@ pub(crate) fn run_log<S: Store, W: ByteOut, O: Observer<S, W>, R: ByteIn>(
     reported: &mut RefusedRow,
 ) -> Result<u32, RunFault>
     requires { IsNotAfter scale.old 0 }
+    ensures settings { O.settings observer.new ≡ O.settings observer.old }
     ensures plan { O.plan observer.new ≡ O.plan observer.old }
     ensures runs { IfSome (R.bytes_left reader.old)
-        (λ bytes. (plate : PlateData) (logic : Option Logic)
-        → Represents scale.old plate logic [] → O.has_seen observer.old plate logic []
-        → RunsRows O.has_seen (O.plan observer.old) plate logic
+        (λ bytes. (start : Start) (plate : PlateData) (logic : Option Logic)
+        → Represents scale.old plate logic []
+        → seen_writing O.has_seen O.has_written start (observer.old, W.bytes_taken writer.old)
+        plate logic []
+        → RunsRows (seen_writing O.has_seen O.has_written start) (O.plan observer.old) plate logic
         (log_for logic (log_of (records_of bytes)))
-        observer.new result (said O.speaks (W.bytes_taken writer.old))
+        (observer.new, W.bytes_taken writer.new) result
+        (said O.speaks (W.bytes_taken writer.old))
         (said O.speaks (W.bytes_taken writer.new))) }
     ensures reported { ReportsRefused (R.bytes_left reader.old)
         (fields_reported reported.new) result }

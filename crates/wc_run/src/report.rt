@@ -70,9 +70,13 @@ impl<S: Store, W: ByteOut> Observer<S, W> for Report {
     ghost use Rattle.std.specs.Prelude.{⊤};
     ghost use Rattle.wc_run.specs.Reports.{report_plan};
 
+    ghost settings = { λ _. tt };
+
     ghost plan = { λ report. report_plan };
 
     ghost has_seen = { λ report plate logic past. ⊤ };
+
+    ghost has_ended = { λ _ _ _ _ _ _ _. ⊤ };
 
     fn begin(
         &mut self,

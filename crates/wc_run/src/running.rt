@@ -4,10 +4,10 @@ ghost use Rattle.wc_model.specs.Instrument.Plates.{PlateData};
 ghost use Rattle.wc_record.specs.Left.{HasCause};
 ghost use Rattle.wc_record.specs.Reading.{records_of};
 ghost use Rattle.wc_record.specs.Reported.{fields_reported};
-ghost use Rattle.wc_run.specs.Doing.{IsClassified, WritesBy, is_cut_short, refused_in};
+ghost use Rattle.wc_run.specs.Doing.{EndsWhole, IsClassified, WritesBy, is_cut_short, refused_in, seen_writing};
 ghost use Rattle.wc_model.specs.Say.LogFor.{log_for};
 ghost use Rattle.wc_model.specs.Say.ProgramReport.{Logic};
-ghost use Rattle.wc_run.specs.Observing.{said};
+ghost use Rattle.wc_run.specs.Observing.{Start, said};
 ghost use Rattle.wc_run.specs.Runs.{HasNotFailed, ReportsRefused, ReportsWrites};
 ghost use Rattle.wc_run.specs.Representation.{IsNotAfter, Represents};
 
@@ -59,11 +59,20 @@ fn run_to_end<S: Store, W: ByteOut, O: Observer<S, W>, R: ByteIn>(
 ) -> Result<u32, RunFault>
     requires { IsNotAfter scale.old 0 }
     ensures writes { IfSome (R.bytes_left reader.old)
-        (λ bytes. (plate : PlateData) (logic : Option Logic)
-        → Represents scale.old plate logic [] → O.has_seen observer.old plate logic []
+        (λ bytes. (start : Start) (plate : PlateData) (logic : Option Logic)
+        → Represents scale.old plate logic []
+        → seen_writing O.has_seen O.has_written start (observer.old, W.bytes_taken writer.old)
+        plate logic []
         → WritesBy (O.plan observer.old) plate logic (log_for logic (log_of (records_of bytes)))
         result (said O.speaks (W.bytes_taken writer.old))
         (said O.speaks (W.bytes_taken writer.new))) }
+    ensures ended { IfSome (R.bytes_left reader.old)
+        (λ bytes. (start : Start) (plate : PlateData) (logic : Option Logic)
+        → Represents scale.old plate logic []
+        → seen_writing O.has_seen O.has_written start (observer.old, W.bytes_taken writer.old)
+        plate logic []
+        → EndsWhole (O.has_ended (O.settings observer.old)) start plate logic
+        (log_for logic (log_of (records_of bytes))) result (W.bytes_taken writer.new)) }
     ensures reported { ReportsRefused (R.bytes_left reader.old)
         (fields_reported reported.new) result }
     ensures failures { ReportsWrites result (W.failure_count writer.old)
@@ -129,11 +138,20 @@ pub fn run<S: Store, W: ByteOut, O: Observer<S, W>, R: ByteIn>(
 ) -> Result<u32, RunFault>
     requires first { IsNotAfter scale.old 0 }
     ensures writes { IfSome (R.bytes_left reader.old)
-        (λ bytes. (plate : PlateData) (logic : Option Logic)
-        → Represents scale.old plate logic [] → O.has_seen observer.old plate logic []
+        (λ bytes. (start : Start) (plate : PlateData) (logic : Option Logic)
+        → Represents scale.old plate logic []
+        → seen_writing O.has_seen O.has_written start (observer.old, W.bytes_taken writer.old)
+        plate logic []
         → WritesBy (O.plan observer.old) plate logic (log_for logic (log_of (records_of bytes)))
         result (said O.speaks (W.bytes_taken writer.old))
         (said O.speaks (W.bytes_taken writer.new))) }
+    ensures ended { IfSome (R.bytes_left reader.old)
+        (λ bytes. (start : Start) (plate : PlateData) (logic : Option Logic)
+        → Represents scale.old plate logic []
+        → seen_writing O.has_seen O.has_written start (observer.old, W.bytes_taken writer.old)
+        plate logic []
+        → EndsWhole (O.has_ended (O.settings observer.old)) start plate logic
+        (log_for logic (log_of (records_of bytes))) result (W.bytes_taken writer.new)) }
     ensures reported { ReportsRefused (R.bytes_left reader.old)
         (fields_reported reported.new) result }
     ensures read { IsErrOf result RunFault.Read

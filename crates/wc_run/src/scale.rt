@@ -1,11 +1,11 @@
-ghost use Rattle.std.specs.Prelude.{◌≡◌, ◌<◌, ◌^◌, ◌++◌, ℕ, [], ◌∷◌, None, Option, IfErr, IfOk, IfSome, IsOkUnless, OnOk, option_copied};
+ghost use Rattle.std.specs.Prelude.{◌≡◌, ◌<◌, ◌^◌, ◌++◌, ℕ, [], ◌∷◌, None, Option, IfErr, IfOk, IfSome, IsOkUnless, OnOk, option_copied, true};
 ghost use Rattle.wc_model.specs.Instrument.Plates.{PlateData};
 ghost use Rattle.wc_model.specs.Run.Rows.{Past, Counts, Bytes, Inputs, Scan, Change};
 ghost use Rattle.wc_record.specs.Views.{IsDataInRange, head_data_view, head_view};
 ghost use Rattle.wc_model.specs.Say.ProgramReport.{Logic};
 ghost use Rattle.wc_model.specs.Say.Report.{answer_line};
 ghost use Rattle.wc_run.specs.Logics.{IsAt, lines_of_row};
-ghost use Rattle.wc_run.specs.Observing.{AreItems, items_of, lines_of_scan};
+ghost use Rattle.wc_run.specs.Observing.{AreItems, IsLookedAt, items_of, lines_of_scan};
 ghost use Rattle.wc_run.specs.Runs.{IsFaultAt};
 ghost use Rattle.wc_run.specs.Representation.{IsNotAfter, Represents};
 ghost use Rattle.wc_run.specs.Taking.{Gives, GivesItems, RunsRow, StopsAtRow, TakesRow, row_at};
@@ -101,6 +101,7 @@ impl<'a, S: Store> Scale<'a, S> {
             → Represents self.old plate logic past
             → IfSome scan (λ done. AreItems plate logic past (head_view bytes.now row)
             (items_of done))) }
+        ensures looked { IfOk result (λ scan. IsLookedAt scan looks) }
         ensures runs { OnOk result (RunsRow self.old (head_view bytes.now row)) }
         ensures place { IfErr result (IsFaultAt row.number) }
         ensures stops { IfErr result
@@ -173,6 +174,7 @@ impl<'a, S: Store> Scale<'a, S> {
         ensures represents { TakesRow self.old self.new ms Scan }
         ensures lines { IfOk result (λ scan. Gives self.old ms Scan [] scan) }
         ensures items { IfOk result (λ scan. GivesItems self.old ms Scan scan) }
+        ensures looked { IfOk result (λ scan. IsLookedAt scan looks) }
         ensures in_order { IsNotAfter self.new ms }
         ensures memory { IsOkUnless result RunFault.Memory }
     {
@@ -197,6 +199,7 @@ impl<'a, S: Store> Scale<'a, S> {
         ensures represents { TakesRow self.old self.new ms Scan }
         ensures lines { IfOk result (λ scan. Gives self.old ms Scan [] scan) }
         ensures items { IfOk result (λ scan. GivesItems self.old ms Scan scan) }
+        ensures looked { IfOk result (λ scan. IsLookedAt scan true) }
         ensures in_order { IsNotAfter self.new ms }
         ensures memory { IsOkUnless result RunFault.Memory }
     {

@@ -1,10 +1,11 @@
-use Rattle.std.proofs.Common.{[], Err, Some, sym, subst}
+use Rattle.std.proofs.Common.{[], Err, None, Some, sym, subst}
 use Rattle.std.proofs.lemmas.Option.{IfSome_then}
 use Rattle.wc_controller.proofs.Allowing.{on_each}
 use Rattle.wc_controller.proofs.log_runs.run_last.Goals as goal
 use Rattle.wc_model.specs.Run.Log.{LogOf, log_of}
 use Rattle.wc_model.specs.Say.LogFor.{log_for}
 use Rattle.wc_record.specs.Reading.{records_of}
+use Rattle.wc_run.specs.Observing.{start_of}
 use Rattle.wc_run.proofs.LeftLines.{run_leaves}
 use Rattle.wc_run.proofs.Lines.{none_reported, writes_report}
 use Rattle.wc_run.specs.Doing.{IsClassified, WritesBy}
@@ -29,8 +30,8 @@ returns-in-Ok-new-clause-reports g c =
     let log : LogOf = log_for logic (log_of (records_of bytes)) in
     writes_report (Some c.args.last) c.args.plate.now logic log c.run.result old new
     (subst (λ number. WritesBy (last_plan number) c.args.plate.now logic log c.run.result old new) c.in-Ok.ensures.number
-    (says c.args.plate.now logic (c.in-Ok-new.ensures.represents logic represents)
-    (subst (λ number. HoldsScans c.in-Ok.scans.recorder number []) (sym c.in-Ok.ensures.number) c.in-Ok.ensures.holds))))
+    (says (start_of None None None) c.args.plate.now logic (c.in-Ok-new.ensures.represents logic represents)
+    (subst (λ number. HoldsScans c.in-Ok.scans.recorder number []) (sym c.in-Ok.ensures.number) c.in-Ok.ensures.holds, tt))))
 
 pub returns-in-Ok-new-clause-line : goal.returns-in-Ok-new-clause-line
 returns-in-Ok-new-clause-line g c = IfSome_then (g.R.ByteIn.bytes_left c.args.reader.now) (returns-in-Ok-new-clause-reports g c)

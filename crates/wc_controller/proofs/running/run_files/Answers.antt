@@ -1,6 +1,7 @@
 use Rattle.wc_controller.proofs.EndedRuns.{run_ended}
 use Rattle.wc_controller.proofs.Givings.{ends_said}
 use Rattle.wc_controller.proofs.RefusedNames.{stopped_at_names}
+use Rattle.wc_controller.proofs.WrittenRuns.{run_after}
 use Rattle.wc_controller.proofs.running.run_files.Goals as goal
 use Rattle.wc_controller.specs.InputStates.{observed_by, writer_of}
 use Rattle.wc_record.specs.Reported.{fields_reported}
@@ -24,3 +25,10 @@ returns-clause-refused g c = λ at.
     let taken = g.W.ByteOut.bytes_taken in
     c.run_inputs-answer.ensures.refused
     (stopped_at_names c.run_inputs-answer.result c.end.result (taken c.run_inputs-answer.new.writer) (taken c.end.new.writer) c.end.ensures.ends at)
+
+pub returns-clause-ended : goal.returns-clause-ended
+returns-clause-ended g c =
+    let o = g.O.Observer in
+    let taken = g.W.ByteOut.bytes_taken in
+    run_after (o.has_ended (o.settings c.args.observer.now)) c.args.inputs.now (taken c.args.writer.now) (taken c.run_inputs-answer.new.writer) (taken c.end.new.writer)
+    c.run_inputs-answer.result c.end.result c.end.ensures.ends c.run_inputs-answer.ensures.ended

@@ -1,6 +1,8 @@
 use Rattle.std.proofs.Common.{◌≡◌, List, ℕ, false, subst}
 use Rattle.std.specs.Prelude.{IfErr, IfSome, Option, Some, Err, is_some, option_map}
 use Rattle.wc_controller.proofs.RefusedNames.{alone_read, programs_read}
+use Rattle.wc_controller.proofs.Blaming.{one_input}
+use Rattle.wc_controller.proofs.WrittenRuns.{end_more, run_read, start_alone, start_read}
 use Rattle.wc_controller.proofs.RunSteps.{at_line, at_log, at_next, at_plate, at_program, at_text}
 use Rattle.wc_controller.proofs.running.run_inputs.Goals as goal
 use Rattle.wc_controller.specs.Blames.{IsNextUnloaded, IsUnloaded, RefusesLog, StopsFor}
@@ -8,7 +10,8 @@ use Rattle.wc_controller.specs.Endings.{ReportsMemory, WritesUpTo, raised}
 use Rattle.wc_controller.specs.Files.{AnswersPrinting}
 use Rattle.wc_controller.specs.InputRuns.{RunsUpTo}
 use Rattle.wc_controller.specs.InputStates.{InputStates, inputs_of, observed_by, optional_of, reader_of, writer_of}
-use Rattle.wc_controller.specs.TakenLogs.{AreReadOf, OfLogic, OfPrograms, log_alongside}
+use Rattle.wc_controller.specs.TakenLogs.{AreReadOf, OfLogic, OfPrograms, log_alongside, log_by}
+use Rattle.wc_controller.specs.WrittenRuns.{OfRun, OnEnd, says_of}
 use Rattle.wc_controller.specs.declared.input.Input.TheVariants as input
 use Rattle.wc_model.specs.Language.Loading.{IsLoaded}
 use Rattle.wc_model.specs.Language.Views.{text_view}
@@ -17,7 +20,7 @@ use Rattle.wc_model.specs.Say.Job.{AnswersNext}
 use Rattle.wc_model.specs.Say.ProgramReport.{Logic}
 use Rattle.wc_record.specs.Reading.{records_of}
 use Rattle.wc_record.specs.Reported.{fields_reported}
-use Rattle.wc_run.specs.Observing.{said_by}
+use Rattle.wc_run.specs.Observing.{Start, said_by, start_with}
 use Rattle.wc_run.specs.declared.fault.RunFault.TheVariants as fault
 
 pub returns-in-Err-clause-runs : goal.returns-in-Err-clause-runs
@@ -161,3 +164,55 @@ returns-clause-refused g c = λ at.
     c.in-Ok-read_optional-2.ensures.whole
     (subst (λ text. IsLoaded text first) c.deref.ensures.value c.in-Ok-load_input.ensures.loaded)
     (subst (λ (known : Option (List ℕ)). OfLogic first known holds) c.borrowed.ensures (c.run_loaded.ensures.refused at)))
+
+pub returns-in-Err-clause-ended : goal.returns-in-Err-clause-ended
+returns-in-Err-clause-ended g c = λ at. absurd (one_input input.Plate input.Log c.in-Err.stopped.input c.in-Err.ensures.input at)
+
+pub returns-in-Err-read_optional-clause-ended : goal.returns-in-Err-read_optional-clause-ended
+returns-in-Err-read_optional-clause-ended g c = λ at. absurd (one_input input.Program input.Log c.in-Err-read_optional.stopped.input c.in-Err-read_optional.ensures.input at)
+
+pub returns-in-Err-load_input-clause-ended : goal.returns-in-Err-load_input-clause-ended
+returns-in-Err-load_input-clause-ended g c = λ at. absurd (one_input input.Program input.Log c.in-Err-load_input.stopped.input c.in-Err-load_input.ensures.input at)
+
+pub returns-in-Err-read_optional-2-clause-ended : goal.returns-in-Err-read_optional-2-clause-ended
+returns-in-Err-read_optional-2-clause-ended g c = λ at. absurd (one_input input.Next input.Log c.in-Err-read_optional-2.stopped.input c.in-Err-read_optional-2.ensures.input at)
+
+pub returns-in-None-clause-ended : goal.returns-in-None-clause-ended
+returns-in-None-clause-ended g c =
+    let o = g.O.Observer in
+    let plate = reader_of g.P.ByteIn.bytes_left g.P.ByteIn.failure_count g.P.ByteIn.spent_count c.inputs.inside.plate in
+    let program = optional_of g.T.ByteIn.bytes_left g.T.ByteIn.failure_count g.T.ByteIn.spent_count c.inputs.inside.program in
+    let next = optional_of g.N.ByteIn.bytes_left g.N.ByteIn.failure_count g.N.ByteIn.spent_count c.inputs.inside.next in
+    let log = reader_of g.L.ByteIn.bytes_left g.L.ByteIn.failure_count g.L.ByteIn.spent_count c.inputs.inside.log in
+    let taken = g.W.ByteOut.bytes_taken in
+    let said = says_of (o.has_ended (o.settings c.args.observer.now)) (taken c.run_alone.new.writer) in
+    subst (λ (before : InputStates). OnEnd c.run_alone.result (OfRun before (taken c.args.writer.now) said)) c.inputs.view_is
+    (end_more c.run_alone.result _ _
+    (λ says. run_read (inputs_of plate program next log) (taken c.args.writer.now) c.in-Ok.plate said c.in-Ok.ensures.plate
+    (start_alone program next (taken c.args.writer.now) (λ start logic. IfSome log.bytes (λ bytes. said start c.in-Ok.plate logic (log_by logic bytes)))
+    (subst (λ (text : Option _). AreReadOf program (option_map (λ held. held.items) text)) c.in-None.is c.in-Ok-read_optional.ensures.whole) says))
+    c.run_alone.ensures.ended)
+
+pub returns-clause-ended : goal.returns-clause-ended
+returns-clause-ended g c =
+    let o = g.O.Observer in
+    let plate = reader_of g.P.ByteIn.bytes_left g.P.ByteIn.failure_count g.P.ByteIn.spent_count c.inputs.inside.plate in
+    let program = optional_of g.T.ByteIn.bytes_left g.T.ByteIn.failure_count g.T.ByteIn.spent_count c.inputs.inside.program in
+    let next = optional_of g.N.ByteIn.bytes_left g.N.ByteIn.failure_count g.N.ByteIn.spent_count c.inputs.inside.next in
+    let log = reader_of g.L.ByteIn.bytes_left g.L.ByteIn.failure_count g.L.ByteIn.spent_count c.inputs.inside.log in
+    let taken = g.W.ByteOut.bytes_taken in
+    let said = says_of (o.has_ended (o.settings c.args.observer.now)) (taken c.run_loaded.new.writer) in
+    let held = option_map (λ held. held.items) c.in-Ok-read_optional-2.other in
+    let text = c.in-Some.text.items in
+    let first = text_view c.in-Ok-load_input.loaded.source in
+    let of_log = λ (start : Start) (logic : Option Logic). IfSome log.bytes (λ bytes. said start c.in-Ok.plate logic (log_by logic bytes)) in
+    subst (λ (before : InputStates). OnEnd c.run_loaded.result (OfRun before (taken c.args.writer.now) said)) c.inputs.view_is
+    (end_more c.run_loaded.result _ _
+    (λ says. run_read (inputs_of plate program next log) (taken c.args.writer.now) c.in-Ok.plate said c.in-Ok.ensures.plate
+    (start_read program next text held (taken c.args.writer.now) first of_log
+    (subst (λ (text : Option _). AreReadOf program (option_map (λ held. held.items) text)) c.in-Some.is c.in-Ok-read_optional.ensures.whole)
+    c.in-Ok-read_optional-2.ensures.whole
+    (subst (λ text. IsLoaded text first) c.deref.ensures.value c.in-Ok-load_input.ensures.loaded)
+    (subst (λ (known : Option (List ℕ)). OfLogic first known (of_log (start_with text known (taken c.args.writer.now)))) c.borrowed.ensures
+    (subst (λ all. OfLogic first (option_map (λ text. text.now) c.borrowed.result) (of_log (start_with all (option_map (λ text. text.now) c.borrowed.result) (taken c.args.writer.now)))) c.deref.ensures.value says))))
+    c.run_loaded.ensures.ended)
