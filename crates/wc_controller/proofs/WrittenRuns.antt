@@ -1,12 +1,12 @@
 -- What is said of the bytes that were written of a run, from its log to its inputs.
-use Rattle.std.proofs.Common.{◌≡◌, ℕ, ◌≤◌, List, length, Option, Some, None, Result, Ok, Err, sym, subst, ◌∙◌}
+use Rattle.std.proofs.Common.{◌≡◌, ℕ, ◌≤◌, Bool, List, length, Option, Some, None, Result, Ok, Err, sym, subst, ◌∙◌}
 use Rattle.std.specs.Io.KnownBytes.{Appends, Keeps}
 use Rattle.std.proofs.KnownBytes.{Appends-kept}
 use Rattle.std.specs.Prelude.{IfSome}
 use Rattle.wc_controller.proofs.Allowing.{of_known, on_known}
 use Rattle.wc_controller.specs.Endings.{EndsAfter, EndsAfterFault, EndsRefused, begin_fault_input}
 use Rattle.wc_controller.specs.InputStates.{InputStates, Reader}
-use Rattle.wc_controller.specs.TakenLogs.{AreReadOf, IfKnown, IsNextLoadedOf, OfLogic}
+use Rattle.wc_controller.specs.TakenLogs.{AreReadOf, IfKnown, IsNextLoadedOf, OfLogic, log_by}
 use Rattle.wc_controller.specs.WrittenRuns.{EndsSaying, OfRun, OfStart, OnEnd, OnRefusal, says_of}
 use Rattle.wc_controller.specs.declared.ending.Ending.{Ending}
 use Rattle.wc_controller.specs.declared.ending.Ending.TheVariants as ended
@@ -71,7 +71,7 @@ pub start_read : (program next : Option Reader) (text : List ℕ) (known taken :
     → OfLogic first known (said (record { first = Some text; next = known; taken = taken })) → OfStart program next taken said
 start_read None next text known taken first said read other is h = absurd read
 start_read (Some program) next text known taken first said read other is h = on_text program.bytes read.1 where
-  abbrev OfText : List ℕ → Option (List ℕ) → Type 0
+  OfText : List ℕ → Option (List ℕ) → Type 0
   OfText all bytes = (one : Text) × IsLoaded all one × OfLogic one bytes (said (record { first = Some all; next = bytes; taken = taken }))
 
   on_next : (next : Option Reader) (known : Option (List ℕ)) → AreReadOf next known → OfLogic first known (said (record { first = Some text; next = known; taken = taken }))

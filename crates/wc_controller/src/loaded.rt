@@ -84,7 +84,7 @@ fn next_program<'l, 't>(
 ) -> Option<Program<'l, 't>>
     requires { IsNextLoadedOf (option_map (λ text. text.now) text) loaded.now }
     ensures loaded { loaded_of result ≡ loaded.now }
-    ensures text { bytes_of result ≡ option_map (λ text. text.now) text }
+    ensures text { bytes_of result ≡ option_map (λ text. text.now) text.entry }
 {
     match loaded {
         Some(loaded) => match text {

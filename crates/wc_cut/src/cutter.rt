@@ -55,14 +55,19 @@ impl Cutter {
 }
 
 impl<W: ByteOut> Observer<SlotStore, W> for Cutter {
+    ghost use Rattle.std.specs.Prelude.{⊤};
     ghost use Rattle.wc_cut.specs.Cuts.{cut_plan};
     ghost use Rattle.wc_cut.specs.KeptRows.{HasSeen, IsNew};
+
+    ghost settings = { λ _. tt };
 
     ghost plan = { λ cutter. cut_plan cutter.count };
 
     ghost is_new = { λ cutter. IsNew cutter };
 
     ghost has_seen = { λ cutter plate logic past. HasSeen cutter plate past };
+
+    ghost has_ended = { λ _ _ _ _ _ _ _. ⊤ };
 
     fn begin(
         &mut self,

@@ -168,9 +168,13 @@ impl<W: ByteOut> Observer<SlotStore, W> for Picture {
     ghost use Rattle.std.specs.Prelude.{⊤, false};
     ghost use Rattle.wc_run.specs.Reports.{silent_plan};
 
+    ghost settings = { λ _. tt };
+
     ghost plan = { λ picture. silent_plan };
 
     ghost has_seen = { λ picture plate logic past. ⊤ };
+
+    ghost has_ended = { λ _ _ _ _ _ _ _. ⊤ };
 
     ghost speaks = { false };
 

@@ -1,1 +1,3 @@
 pub mod Choosing
+pub mod Traces
+pub mod Tracers

@@ -1,5 +1,5 @@
 -- What `trace` writes of a run: of each scan that is chosen its items, in the format asked for. (The profile's own.)
-use Rattle.std.specs.Prelude.{◌≡◌, ◌⊎◌, ⊤, ℕ, zero, suc, ◌+◌, Bool, true, false, List, [], ◌∷◌, ◌++◌, filter, min, Option, Some, None}
+use Rattle.std.specs.Prelude.{◌≡◌, ◌⊎◌, ⊤, ℕ, ◌+◌, ◌-◌, ◌^◌, ◌==◌, Bool, true, false, List, [], ◌∷◌, ◌++◌, filter, min, Option, Some, None, if◌then◌else◌}
 use Rattle.std.specs.Io.KnownBytes.{Appends}
 use Rattle.wc_machine.specs.Machines.{MachineState, RepresentsText}
 use Rattle.wc_model.specs.Instrument.Plates.{PlateData}
@@ -26,15 +26,18 @@ pub record Tracing : Type 0 where
   pub chosen : Chosen
   pub format : TraceFormat
 
+abbrev pub tracing : Chosen → TraceFormat → Tracing
+tracing chosen format = record { chosen = chosen; format = format }
+
 -- one more, as far as 32 bits count
 abbrev pub counted_on : ℕ → ℕ
-counted_on n = min (n + 1) 4294967295
+counted_on n = min (n + 1) (2 ^ 32 - 1)
 
 -- the lines of scans that the report has of a row: one of a scan with a program, else none
 abbrev pub scans_of_row : PlateData → Option Logic → Past → LogRow → List ReportLine
 scans_of_row plate logic past row = filter is_scan_line (lines_of_row plate logic past row)
 
--- the number of scans, with one that a row has or with none
+-- the number of scans with that of a row, if it has one
 abbrev pub counted_with : List ReportLine → ℕ → ℕ
 counted_with [] n = n
 counted_with (line ∷ lines) n = counted_on n
@@ -72,14 +75,13 @@ abbrev pub IsScanIn : TraceFormat → Legend → MachineState → ShownScan → 
 IsScanIn format.Text legend machine scan text = rows.IsScanText legend machine scan text
 IsScanIn format.Json legend machine scan text = objects.IsScanObject legend machine scan text
 
--- what is shown of a scan: its number among those of the run, its time, whether the program was changed, the outputs that the
--- report has of it, and the items that it executes
+-- what is shown of a scan: its number among those of the run, whether the program was changed, the time and the outputs that the
+-- report's line has, and the items that it executes
 pub record IsShownScan (plate : PlateData) (logic : Option Logic) (past : Past) (row : LogRow) (number : ℕ) (line : ReportLine) (scan : ShownScan) : Type 0 where
   pub number_is : scan.number ≡ number
-  pub ms_is : scan.ms ≡ row.ms
-  pub changed_is : scan.is_changed ≡ is_changed past
+  pub changed_is : scan.is_changed ≡ is_changed (row ∷ past)
   pub steps : ℕ
-  pub line_is : line ≡ ScanLine row.ms steps scan.outputs
+  pub line_is : line ≡ ScanLine scan.ms steps scan.outputs
   pub items_are : AreItems plate logic past row (Some scan.lines.now)
 
 -- the text of a scan, by a legend of the program's text and a machine as the scan has left it
@@ -104,7 +106,7 @@ abbrev pub TracesScans : Tracing → Start → PlateData → Option Logic → Pa
 TracesScans t start plate logic past row [] before after text = (after ≡ before) × (text ≡ [])
 TracesScans t start plate logic past row (line ∷ lines) before after text =
     let number = counted_on (scans_so_far plate logic past) in
-    (IsChosen t.chosen number row.ms × (after ≡ counted_on before) × ShowsScan t plate logic past row number line (texts_after start past).running text)
+    (IsChosen t.chosen number row.ms × (after ≡ counted_on before) × ShowsScan t plate logic past row number line (texts_after start (row ∷ past)).running text)
     ⊎ ((IsChosen t.chosen number row.ms → ⊥) × (after ≡ before) × (text ≡ []))
 
 abbrev pub TracesRow : Tracing → Start → PlateData → Option Logic → Past → LogRow → ℕ → ℕ → List ℕ → Type 0
@@ -120,8 +122,7 @@ TracesRows t start plate logic (row ∷ past) shown text =
 -- after the last row: in columns only if no scan was chosen, as an object the number of scans and of those shown; nothing after a
 -- refused row
 abbrev pub IsEndOf : TraceFormat → ℕ → ℕ → List ℕ → Type 0
-IsEndOf format.Text scans zero text = text ≡ none_chosen scans
-IsEndOf format.Text scans (suc n) text = text ≡ []
+IsEndOf format.Text scans shown text = text ≡ (if shown == 0 then none_chosen scans else [])
 IsEndOf format.Json scans shown text = objects.IsEndObject scans shown text
 
 abbrev pub TracesEnd : TraceFormat → ℕ → ℕ → Option LogRefusal → List ℕ → Type 0

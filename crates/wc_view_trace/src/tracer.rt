@@ -1,9 +1,12 @@
-ghost use Rattle.std.specs.Prelude.{IsOkUnless};
+ghost use Rattle.std.specs.Prelude.{◌≡◌, IfOk, IsOkUnless, OnOk};
+ghost use Rattle.wc_run.specs.Observing.{items_of, row_of};
+ghost use Rattle.wc_view_trace.specs.Traces.{IsEndOf, counted_on};
+ghost use Rattle.wc_view_trace.specs.Tracers.{CountsAs, Follows, IsFresh, IsLegendFor, IsSame, PutsItems, PutsScan, ShowsAs, Turns};
 
 use crate::chosen::Chosen;
 use crate::trace_format::TraceFormat;
 use std::alloc::Global;
-use wc_machine::{Machine, SeenLine};
+use wc_machine::Machine;
 use wc_model::ByteOut;
 use wc_record::HeadKind;
 use wc_run::{Observer, Program, RowSeen, RunFault, Scale, ScanSeen, write_text};
@@ -27,7 +30,8 @@ pub(crate) struct Tracer {
 
 /// The legend of a program, if there is one.
 fn legend_of(alloc: Global, program: Option<Program<'_, '_>>) -> Result<Option<Legend>, RunFault>
-    ensures { IsOkUnless result RunFault.Memory }
+    ensures legend { IfOk result (λ legend. IsLegendFor legend program.entry) }
+    ensures memory { IsOkUnless result RunFault.Memory }
 {
     match program {
         Some(program) => Ok(Some(Legend::new(alloc, program.text, program.loaded)?)),
@@ -37,7 +41,11 @@ fn legend_of(alloc: Global, program: Option<Program<'_, '_>>) -> Result<Option<L
 
 impl Tracer {
     /// Before the first scan.
-    pub(crate) fn new(alloc: Global, chosen: Chosen, format: TraceFormat) -> Tracer {
+    pub(crate) fn new(alloc: Global, chosen: Chosen, format: TraceFormat) -> Tracer
+        ensures chosen { result.chosen ≡ chosen }
+        ensures format { result.format ≡ format }
+        ensures fresh { IsFresh result }
+    {
         Tracer {
             alloc,
             chosen,
@@ -51,19 +59,31 @@ impl Tracer {
         }
     }
 
-    /// The next program takes the place of the first.
-    fn change(&mut self) {
-        self.legend = self.next.take();
-        self.is_changed = true;
+    /// At a change of the program the legend of the next one takes the place of the first.
+    fn turn(&mut self, seen: &RowSeen<'_>)
+        ensures same { IsSame self.old self.new }
+        ensures counts { CountsAs self.old self.new }
+        ensures turns { Turns (row_of seen.now).brings self.old self.new }
+    {
+        if let HeadKind::Change = seen.row.kind {
+            self.legend = self.next.take();
+            self.is_changed = true;
+        }
     }
 
-    /// Writes a scan into the text.
+    /// Puts a scan into the text if there is a legend, and counts it as shown.
     fn put(
         &mut self,
         machine: &Machine<'_, SlotStore>,
         scan: &ShownScan<'_>,
     ) -> Result<(), RunFault>
-        ensures { IsOkUnless result RunFault.Memory }
+        ensures same { IsSame self.old self.new }
+        ensures legends { ShowsAs self.old self.new }
+        ensures scans { self.new.scans ≡ self.old.scans }
+        ensures shown { self.new.shown ≡ counted_on self.old.shown }
+        ensures puts { OnOk result (PutsScan self.old.format self.old.legend machine.now scan.now
+            self.old.text.items self.new.text.items) }
+        ensures memory { IsOkUnless result RunFault.Memory }
     {
         self.shown = self.shown.saturating_add(1);
         let Some(legend) = &self.legend else {
@@ -76,9 +96,14 @@ impl Tracer {
         Ok(())
     }
 
-    /// Counts a scan, and writes it into the text if it is chosen.
+    /// Counts a scan, and puts it into the text if its items were looked at.
     fn count(&mut self, machine: &Machine<'_, SlotStore>, scan: &ScanSeen) -> Result<(), RunFault>
-        ensures { IsOkUnless result RunFault.Memory }
+        ensures same { IsSame self.old self.new }
+        ensures legends { ShowsAs self.old self.new }
+        ensures scans { self.new.scans ≡ counted_on self.old.scans }
+        ensures puts { OnOk result (PutsItems self.old self.new machine.now scan.now
+            (items_of scan.now) self.old.text.items self.new.text.items) }
+        ensures memory { IsOkUnless result RunFault.Memory }
     {
         self.scans = self.scans.saturating_add(1);
         let Some(lines) = &scan.lines else {
@@ -96,19 +121,29 @@ impl Tracer {
 
     /// Makes the text of a row: that of its scan, if it is chosen.
     fn follow(&mut self, seen: &RowSeen<'_>, scale: &Scale<'_, SlotStore>) -> Result<(), RunFault>
-        ensures { IsOkUnless result RunFault.Memory }
+        ensures same { IsSame self.old self.new }
+        ensures legends { ShowsAs self.old self.new }
+        ensures follows { OnOk result (Follows self.old self.new scale.now.opened.machine
+            seen.now.scan self.new.text.items) }
+        ensures memory { IsOkUnless result RunFault.Memory }
     {
         self.text.clear();
-        match (&seen.scan, scale.machine()) {
-            (Some(scan), Some(machine)) => self.count(machine, scan),
-            _ => Ok(()),
+        let Some(scan) = &seen.scan else {
+            return Ok(());
+        };
+        match scale.machine() {
+            Some(machine) => self.count(machine, scan),
+            None => Ok(()),
         }
     }
 
-    /// Writes into the text what is said after the last row.
+    /// Makes the text of what is said after the last row.
     fn put_end(&mut self) -> Result<(), RunFault>
-        ensures { IsOkUnless result RunFault.Memory }
+        ensures puts { OnOk result (IsEndOf self.old.format self.old.scans self.old.shown
+            self.new.text.items) }
+        ensures memory { IsOkUnless result RunFault.Memory }
     {
+        self.text.clear();
         match self.format {
             TraceFormat::Json => put_end_object(
                 self.alloc,
@@ -126,12 +161,26 @@ impl Tracer {
 impl<W: ByteOut> Observer<SlotStore, W> for Tracer {
     ghost use Rattle.std.specs.Prelude.{⊤, false};
     ghost use Rattle.wc_run.specs.Reports.{silent_plan};
+    ghost use Rattle.wc_view_trace.specs.Traces.{HasTraced, Tracing};
+    ghost use Rattle.wc_view_trace.specs.Tracers.{IsFresh, IsTracing, Looks, tracing_of};
+
+    ghost Settings = { Tracing };
+
+    ghost settings = { tracing_of };
 
     ghost plan = { λ tracer. silent_plan };
 
     ghost speaks = { false };
 
+    ghost is_new = { IsFresh };
+
     ghost has_seen = { λ tracer plate logic past. ⊤ };
+
+    ghost looks = { Looks };
+
+    ghost has_written = { λ tracer. IsTracing (tracing_of tracer) tracer };
+
+    ghost has_ended = { HasTraced };
 
     fn begin(
         &mut self,
@@ -153,9 +202,7 @@ impl<W: ByteOut> Observer<SlotStore, W> for Tracer {
         scale: &Scale<'_, SlotStore>,
         writer: &mut W,
     ) -> Result<(), RunFault> {
-        if let HeadKind::Change = seen.row.kind {
-            self.change();
-        }
+        self.turn(seen);
         self.follow(seen, scale)?;
         write_text(&self.text, writer)
     }
@@ -164,7 +211,6 @@ impl<W: ByteOut> Observer<SlotStore, W> for Tracer {
         if refused.is_some() {
             return Ok(());
         }
-        self.text.clear();
         self.put_end()?;
         write_text(&self.text, writer)
     }

@@ -1,5 +1,7 @@
 ghost use Rattle.wc_controller.specs.InputRuns.{RunsUnsaid};
+ghost use Rattle.wc_controller.specs.WrittenRuns.{EndsSaying};
 ghost use Rattle.wc_record.specs.Reported.{fields_reported};
+ghost use Rattle.wc_view_trace.specs.Traces.{HasTraced, tracing};
 
 use crate::chosen::Chosen;
 use crate::trace_format::TraceFormat;
@@ -10,8 +12,8 @@ use wc_model::{ByteIn, ByteOut};
 
 /// Runs a log as `run_files` does, and in place of its report writes the items of the scans that are chosen, in the format asked
 /// for: rows for people, or a JSON object for each scan. If the run ends well and no scan was chosen, the text says so; the
-/// last object has the number of scans in any case. A refusal is reported as there, after the scans before it. No clause says what
-/// is written of a scan; a write fault and out of memory end the run, as they end that of a report.
+/// last object has the number of scans in any case. A refusal is reported as there, after the scans before it. A write fault and out
+/// of memory end the run, as they end that of a report, and nothing is said of what was written before them.
 pub fn trace_files<P: ByteIn, T: ByteIn, N: ByteIn, L: ByteIn, W: ByteOut>(
     alloc: Global,
     chosen: Chosen,
@@ -20,8 +22,11 @@ pub fn trace_files<P: ByteIn, T: ByteIn, N: ByteIn, L: ByteIn, W: ByteOut>(
     writer: &mut W,
     reported: &mut RefusedRow,
 ) -> Ending
-    ensures { RunsUnsaid inputs.old inputs.new (fields_reported reported.new) result
+    ensures runs { RunsUnsaid inputs.old inputs.new (fields_reported reported.new) result
         (W.failure_count writer.old) (W.failure_count writer.new) }
+    // If the log came to its end, or to a refused row, what is written is the trace of its rows.
+    ensures traces { EndsSaying (HasTraced (tracing chosen format)) inputs.old result
+        (W.bytes_taken writer.old) (W.bytes_taken writer.new) }
 {
     let mut tracer = Tracer::new(alloc, chosen, format);
     run_files(alloc, &mut tracer, inputs, writer, reported)

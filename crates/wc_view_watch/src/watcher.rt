@@ -275,10 +275,12 @@ impl<'n> Watcher<'n> {
 }
 
 impl<W: ByteOut> Observer<SlotStore, W> for Watcher<'_> {
-    ghost use Rattle.std.specs.Prelude.{[]};
+    ghost use Rattle.std.specs.Prelude.{⊤, []};
     ghost use Rattle.wc_view_watch.specs.Plans.{watch_plan};
     ghost use Rattle.wc_view_watch.specs.Unknown.{begins_with};
     ghost use Rattle.wc_view_watch.specs.Watching.{HasSeen, KeepsLast, HasRefused};
+
+    ghost settings = { λ _. tt };
 
     ghost plan = { λ watcher. watch_plan watcher.list.now watcher.number };
 
@@ -289,6 +291,8 @@ impl<W: ByteOut> Observer<SlotStore, W> for Watcher<'_> {
     ghost is_new = { λ watcher. KeepsLast watcher.last watcher.number [] };
 
     ghost has_seen = { λ watcher plate logic past. HasSeen watcher plate logic past };
+
+    ghost has_ended = { λ _ _ _ _ _ _ _. ⊤ };
 
     fn begin(
         &mut self,

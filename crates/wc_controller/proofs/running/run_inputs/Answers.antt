@@ -214,5 +214,5 @@ returns-clause-ended g c =
     c.in-Ok-read_optional-2.ensures.whole
     (subst (λ text. IsLoaded text first) c.deref.ensures.value c.in-Ok-load_input.ensures.loaded)
     (subst (λ (known : Option (List ℕ)). OfLogic first known (of_log (start_with text known (taken c.args.writer.now)))) c.borrowed.ensures
-    (subst (λ all. OfLogic first (option_map (λ text. text.now) c.borrowed.result) (of_log (start_with all (option_map (λ text. text.now) c.borrowed.result) (taken c.args.writer.now)))) c.deref.ensures.value says))))
+    (subst (λ all. OfLogic first (option_map (λ text. text.now) c.borrowed.result) (of_log (start_with all (option_map (λ text. text.now) c.borrowed.result) (taken c.args.writer.now)))) c.deref-2.ensures.value says))))
     c.run_loaded.ensures.ended)
