@@ -3,7 +3,7 @@ use Rattle.std.proofs.Common.{inl, inr, ◌≡◌, refl, ap, sym, subst, ◌∙�
 use Rattle.std.proofs.KnownBytes.{Appends-trans, Appends-nil}
 use Rattle.std.proofs.lemmas.List.Elements.{filter-append}
 use Rattle.std.specs.Io.KnownBytes.{Appends}
-use Rattle.std.specs.Prelude.{◌⊎◌, filter, is_some}
+use Rattle.std.specs.Prelude.{◌⊎◌, IfSome, filter, is_some, option_map}
 use Rattle.wc_cost.specs.LoadedTexts.{LoadedText}
 use Rattle.wc_machine.specs.Machines.{MachineState, RepresentsText}
 use Rattle.wc_machine.specs.declared.seen.SeenLine.{SeenLine}
@@ -39,6 +39,11 @@ use Rattle.wc_view_trace_rows.specs.declared.shown_scan.ShownScan.{ShownScan}
 -- it was asked for the same
 pub same_tracing : (old new : Tracer) → IsSame old new → tracing_of new ≡ tracing_of old
 same_tracing old new same = λ i. record { chosen = same.chosen i; format = same.format i }
+
+-- there is as much of what is made of something
+some_mapped : {A B : Type 0} (f : A → B) (one : Option A) → is_some (option_map f one) ≡ is_some one
+some_mapped f None = refl
+some_mapped f (Some a) = refl
 
 -- what was written of a text that was not cut short
 pub all_written : {X : Type 0} (text : List ℕ) (answer : Result X RunFault) (old new : Option (List ℕ)) → Writes text answer old new → OnOk answer (Appends old new text)
@@ -194,20 +199,17 @@ module _ (t : Tracing) (start : Start) (plate : PlateData) (first : Logic) (past
     steps = scan.record.steps;
     line_is = λ i. ScanLine (sym as_shown.ms i) scan.record.steps (sym as_shown.outputs i);
     items_are = subst (λ all. AreItems plate (Some first) past (row_of seen) all) (items ∙ ap (λ all. Some all) (sym as_shown.lines_are))
-    (subst (λ (one : Option ScanSeen). on_scan one) is shown.items);
-  } where
-    on_scan : Option ScanSeen → Type 0
-    on_scan None = Unit {0}
-    on_scan (Some one) = AreItems plate (Some first) past (row_of seen) (items_of one)
+    (subst (λ (seen_scan : Option ScanSeen). IfSome seen_scan (λ done. AreItems plate (Some first) past (row_of seen) (items_of done))) is shown.items);
+  }
 
-  shows : (old : Tracer) (legend : Option Legend) (bytes : Option (List ℕ)) (lines : List SeenLine) (one : ShownScan) (text : List ℕ) → t.format ≡ old.format
+  shows_of : (old : Tracer) (legend : Option Legend) (bytes : Option (List ℕ)) (lines : List SeenLine) (one : ShownScan) (text : List ℕ) → t.format ≡ old.format
       → FitsRunning legend bytes (Some after) → old.scans ≡ scans_so_far plate (Some first) past → old.is_changed ≡ is_changed (row_of seen ∷ past)
       → items_of scan ≡ Some lines → IsShownAs old scan lines one → PutsScan t.format legend machine one [] text
       → ShowsScan t plate (Some first) past (row_of seen) number (line_of_record scan.record) bytes text
-  shows old None None lines one text same fits counted changed items as_shown puts = put_none t.format machine one text puts
-  shows old None (Some bytes) lines one text same fits counted changed items as_shown puts = absurd fits
-  shows old (Some legend) None lines one text same fits counted changed items as_shown puts = absurd fits
-  shows old (Some legend) (Some bytes) lines one text same fits counted changed items as_shown puts = record {
+  shows_of old None None lines one text same fits counted changed items as_shown puts = put_none t.format machine one text puts
+  shows_of old None (Some bytes) lines one text same fits counted changed items as_shown puts = absurd fits
+  shows_of old (Some legend) None lines one text same fits counted changed items as_shown puts = absurd fits
+  shows_of old (Some legend) (Some bytes) lines one text same fits counted changed items as_shown puts = record {
     legend = legend;
     legend_is = fits;
     machine = machine;
@@ -223,17 +225,21 @@ module _ (t : Tracing) (start : Start) (plate : PlateData) (first : Logic) (past
       → PutsItems old new machine scan (items_of scan) [] text
       → TracesScans t start plate (Some first) past (row_of seen) (line_of_record scan.record ∷ []) old.shown new.shown text
   traces_scan old new looked text same fits counted changed looks is_looked puts = by (items_of scan) refl is_looked puts where
-    chosen_is : IsChosen old.chosen (counted_on old.scans) seen.row.ms ≡ IsChosen t.chosen number seen.row.ms
-    chosen_is = λ i. IsChosen (same i).chosen (counted_on (counted i)) seen.row.ms
+    chosen_by : IsChosen old.chosen (counted_on old.scans) seen.row.ms → IsChosen t.chosen number seen.row.ms
+    chosen_by is = subst (λ n. IsChosen t.chosen (counted_on n) seen.row.ms) counted (subst (λ (one : Tracing). IsChosen one.chosen (counted_on old.scans) seen.row.ms) same is)
+
+    chosen_of : IsChosen t.chosen number seen.row.ms → IsChosen old.chosen (counted_on old.scans) seen.row.ms
+    chosen_of is =
+        subst (λ (one : Tracing). IsChosen one.chosen (counted_on old.scans) seen.row.ms) (sym same) (subst (λ n. IsChosen t.chosen (counted_on n) seen.row.ms) (sym counted) is)
 
     by : (items : Option (List SeenLine)) → items_of scan ≡ items → is_some items ≡ looked → PutsItems old new machine scan items [] text
         → TracesScans t start plate (Some first) past (row_of seen) (line_of_record scan.record ∷ []) old.shown new.shown text
-    by None items at put = inr ((λ chosen. looks.1 (sym at) (subst (λ (P : Type 0). P) (sym chosen_is) chosen)), put.0, put.1)
+    by None items at put = inr ((λ chosen. looks.1 (sym at) (chosen_of chosen)), put.0, put.1)
     by (Some lines) items at put =
         inl (
-          subst (λ (P : Type 0). P) chosen_is (looks.0 (sym at)),
+          chosen_by (looks.0 (sym at)),
           put.0,
-          shows old old.legend (texts_after start (row_of seen ∷ past)).running lines put.1.0 text (ap (λ one. one.format) (sym same)) fits counted changed items put.1.1
+          shows_of old old.legend (texts_after start (row_of seen ∷ past)).running lines put.1.0 text (ap (λ one. one.format) (sym same)) fits counted changed items put.1.1
           (subst (λ one. PutsScan one old.legend machine put.1.0 [] text) (ap (λ one. one.format) same) put.1.2),
         )
 
@@ -261,8 +267,10 @@ traced_on old mid new start taken now plate logic past seen machine looked text 
       changed = turned old mid (texts_after start past) (row_of seen).brings (is_changed past) turns h.changed
 
       looks_mid : Looks mid seen.row.ms looked
-      looks_mid = subst (λ (one : Type 0). one) (λ i. ((looked ≡ true → IsChosen (sym same_mid.chosen i) (counted_on (sym scans i)) seen.row.ms)
-      × (looked ≡ false → IsChosen (sym same_mid.chosen i) (counted_on (sym scans i)) seen.row.ms → ⊥))) looks
+      looks_mid = (
+        λ at. subst (λ n. IsChosen mid.chosen (counted_on n) seen.row.ms) (sym scans) (subst (λ one. IsChosen one (counted_on old.scans) seen.row.ms) (sym same_mid.chosen) (looks.0 at)),
+        λ at is. looks.1 at (subst (λ one. IsChosen one (counted_on old.scans) seen.row.ms) same_mid.chosen (subst (λ n. IsChosen mid.chosen (counted_on n) seen.row.ms) scans is)),
+      )
 
       -- what the row adds to the counts and the text
       Adds : Type 0
@@ -293,13 +301,8 @@ traced_on old mid new start taken now plate logic past seen machine looked text 
         put.0 ∙ ap counted_on (scans ∙ h.counted) ∙ ap (λ lines. counted_with lines (scans_so_far plate logic past)) (sym (one_scan plate logic past seen shown scan is)),
         subst (λ lines. TracesScans t start plate logic past (row_of seen) lines old.shown new.shown text) (sym (one_scan plate logic past seen shown scan is))
         (subst (λ before. TracesScans t start plate logic past (row_of seen) (line_of_record scan.record ∷ []) before new.shown text) shown_is
-        (with_program scan one is logic refl run (scans ∙ h.counted) shown (looked_items scan at) put.1 fits.0)),
-      ) where
-        looked_items : (all : ScanSeen) → IsLookedAt (Some all) looked → is_some (items_of all) ≡ looked
-        looked_items all at = by all.lines at where
-          by : (lines : Option _) → is_some lines ≡ looked → is_some (Rattle.std.specs.Prelude.option_map (λ (items : _). items.items) lines) ≡ looked
-          by None at = at
-          by (Some lines) at = at
+        (with_program scan one is logic refl run (scans ∙ h.counted) shown (some_mapped (λ lines. lines.items) scan.lines ∙ at) put.1 fits.0)),
+      )
 
       adds : Adds
       adds = by seen.scan refl follows looked_at where
