@@ -1,7 +1,6 @@
 -- What is said of the bytes that were written of a run, from its log to its inputs.
 use Rattle.std.proofs.Common.{◌≡◌, ℕ, ◌≤◌, Bool, List, length, Option, Some, None, Result, Ok, Err, sym, subst, ◌∙◌}
-use Rattle.std.specs.Io.KnownBytes.{Appends, Keeps}
-use Rattle.std.proofs.KnownBytes.{Appends-kept}
+use Rattle.std.specs.Io.KnownBytes.{Appends}
 use Rattle.std.specs.Prelude.{IfSome}
 use Rattle.wc_controller.proofs.Allowing.{of_known, on_known}
 use Rattle.wc_controller.specs.Endings.{EndsAfter, EndsAfterFault, EndsRefused, begin_fault_input}
@@ -43,11 +42,6 @@ not_begun (Refused number place) begins held said h at = absurd (cc (at))
 not_begun Read begins held said h at = tt
 not_begun Write begins held said h at = tt
 not_begun Memory begins held said h at = tt
-
--- out of memory nothing is said
-pub no_memory : (why : RunFault) (said : Type 0) → why ≡ Memory → OnRefusal why said
-no_memory (Refused number place) said is = absurd (cc (is))
-no_memory why said is = tt
 
 -- more may be said
 pub end_more : {X : Type 0} (answer : Result X Stopped) (P Q : Type 0) → (P → Q) → OnEnd answer P → OnEnd answer Q

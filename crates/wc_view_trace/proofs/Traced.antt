@@ -1,10 +1,9 @@
 -- What a row adds to what was traced so far.
-use Rattle.std.proofs.Common.{inl, inr, ◌≡◌, refl, ap, sym, subst, ◌∙◌, ℕ, Bool, true, false, List, [], ◌∷◌, ◌++◌, Option, Some, None, Result, Ok, Err, OnOk, append-nil}
+use Rattle.std.proofs.Common.{inl, inr, ◌≡◌, refl, ap, sym, subst, ◌∙◌, ℕ, Bool, true, false, List, [], ◌∷◌, ◌++◌, Option, Some, None, Result, Ok, Err, OnOk}
 use Rattle.std.proofs.KnownBytes.{Appends-trans, Appends-nil}
 use Rattle.std.proofs.lemmas.List.Elements.{filter-append}
 use Rattle.std.specs.Io.KnownBytes.{Appends}
-use Rattle.std.specs.Prelude.{◌⊎◌, IfSome, filter, is_some, option_map}
-use Rattle.wc_cost.specs.LoadedTexts.{LoadedText}
+use Rattle.std.specs.Prelude.{IfSome, filter, is_some, option_map}
 use Rattle.wc_machine.specs.Machines.{MachineState, RepresentsText}
 use Rattle.wc_machine.specs.declared.seen.SeenLine.{SeenLine}
 use Rattle.wc_model.specs.Instrument.Plates.{PlateData}
@@ -17,7 +16,7 @@ use Rattle.wc_model.specs.Say.Report.{ReportLine, ScanLine, answer_line, is_scan
 use Rattle.wc_open_scale.specs.Representation.{IsRunning}
 use Rattle.wc_run.proofs.Lines.{answer_dropped}
 use Rattle.wc_run.specs.Doing.{Writes}
-use Rattle.wc_run.specs.Logics.{lines_of_row, logic_after, text_of_next}
+use Rattle.wc_run.specs.Logics.{logic_after}
 use Rattle.wc_run.specs.Observing.{AreItems, IsLookedAt, IsShown, Start, bytes_of, items_of, lines_of_scan, loaded_of, logic_of, onto, refusal_of, row_of, start_of}
 use Rattle.wc_run.specs.Outputs.{line_of_record}
 use Rattle.wc_run.specs.Representation.{Represents, program_of}
@@ -27,7 +26,7 @@ use Rattle.wc_run.specs.declared.row_seen.RowSeen.{RowSeen}
 use Rattle.wc_run.specs.declared.row_seen.ScanSeen.{ScanSeen}
 use Rattle.wc_run.specs.declared.scale.Scale.{Scale}
 use Rattle.wc_view_trace.specs.Choosing.{IsChosen}
-use Rattle.wc_view_trace.specs.Traces.{HasTraced, IsEndOf, IsScanIn, IsScanOf, IsShownScan, ShowsScan, Texts, TracesEnd, TracesRow, TracesRows, TracesScans, Tracing, counted_on, counted_with, is_changed, is_changed_with, scans_of_row, scans_so_far, texts_after, texts_with}
+use Rattle.wc_view_trace.specs.Traces.{HasTraced, IsEndOf, IsScanIn, IsShownScan, ShowsScan, Texts, TracesEnd, TracesRow, TracesScans, Tracing, counted_on, counted_with, is_changed, is_changed_with, scans_of_row, scans_so_far, texts_after, texts_with}
 use Rattle.wc_view_trace.specs.Tracers.{FitsNext, FitsRunning, Follows, IsFresh, IsLegendFor, IsSame, IsShownAs, IsTracing, Looks, PutsItems, PutsScan, ShowsAs, Turns, tracing_of}
 use Rattle.wc_view_trace.specs.declared.trace_format.TraceFormat.{TraceFormat}
 use Rattle.wc_view_trace.specs.declared.trace_format.TraceFormat.TheVariants as format
@@ -199,7 +198,7 @@ module _ (t : Tracing) (start : Start) (plate : PlateData) (first : Logic) (past
     steps = scan.record.steps;
     line_is = λ i. ScanLine (sym as_shown.ms i) scan.record.steps (sym as_shown.outputs i);
     items_are = subst (λ all. AreItems plate (Some first) past (row_of seen) all) (items ∙ ap (λ all. Some all) (sym as_shown.lines_are))
-    (subst (λ (seen_scan : Option ScanSeen). IfSome seen_scan (λ done. AreItems plate (Some first) past (row_of seen) (items_of done))) is shown.items);
+        (subst (λ (seen_scan : Option ScanSeen). IfSome seen_scan (λ done. AreItems plate (Some first) past (row_of seen) (items_of done))) is shown.items);
   }
 
   shows_of : (old : Tracer) (legend : Option Legend) (bytes : Option (List ℕ)) (lines : List SeenLine) (one : ShownScan) (text : List ℕ) → t.format ≡ old.format
@@ -240,7 +239,7 @@ module _ (t : Tracing) (start : Start) (plate : PlateData) (first : Logic) (past
           chosen_by (looks.0 (sym at)),
           put.0,
           shows_of old old.legend (texts_after start (row_of seen ∷ past)).running lines put.1.0 text (ap (λ one. one.format) (sym same)) fits counted changed items put.1.1
-          (subst (λ one. PutsScan one old.legend machine put.1.0 [] text) (ap (λ one. one.format) same) put.1.2),
+              (subst (λ one. PutsScan one old.legend machine put.1.0 [] text) (ap (λ one. one.format) same) put.1.2),
         )
 
 -- the machine of a scale runs the logic after the rows
@@ -300,8 +299,8 @@ traced_on old mid new start taken now plate logic past seen machine looked text 
       with_scan scan is (Some one) run at put = (
         put.0 ∙ ap counted_on (scans ∙ h.counted) ∙ ap (λ lines. counted_with lines (scans_so_far plate logic past)) (sym (one_scan plate logic past seen shown scan is)),
         subst (λ lines. TracesScans t start plate logic past (row_of seen) lines old.shown new.shown text) (sym (one_scan plate logic past seen shown scan is))
-        (subst (λ before. TracesScans t start plate logic past (row_of seen) (line_of_record scan.record ∷ []) before new.shown text) shown_is
-        (with_program scan one is logic refl run (scans ∙ h.counted) shown (some_mapped (λ lines. lines.items) scan.lines ∙ at) put.1 fits.0)),
+            (subst (λ before. TracesScans t start plate logic past (row_of seen) (line_of_record scan.record ∷ []) before new.shown text) shown_is
+            (with_program scan one is logic refl run (scans ∙ h.counted) shown (some_mapped (λ lines. lines.items) scan.lines ∙ at) put.1 fits.0)),
       )
 
       adds : Adds

@@ -79,7 +79,7 @@ PutsItems old new machine seen None before after = (new.shown ≡ old.shown) × 
 PutsItems old new machine seen (Some lines) before after =
     (new.shown ≡ counted_on old.shown) × ((scan : ShownScan) × IsShownAs old seen lines scan × PutsScan old.format old.legend machine scan before after)
 
--- what it has put of a row with a scan or with none, beside a machine or none
+-- what it has put of a row with a scan or with none, by a machine or by none
 abbrev pub Follows : Tracer → Tracer → Option MachineState → Option ScanSeen → List ℕ → Type 0
 Follows old new machine None text = CountsAs old new × (text ≡ [])
 Follows old new None (Some seen) text = ⊤

@@ -2,7 +2,7 @@ use Rattle.std.proofs.Common.{◌∙◌, None, sym}
 use Rattle.wc_controller.proofs.Allowing.{on_each, on_known}
 use Rattle.wc_controller.proofs.Givings.{answered_so, not_started}
 use Rattle.wc_controller.proofs.RefusedNames.{refused_at_names}
-use Rattle.wc_controller.proofs.WrittenRuns.{no_memory, not_begun}
+use Rattle.wc_controller.proofs.WrittenRuns.{not_begun}
 use Rattle.wc_controller.proofs.loaded.run_alone.Goals as goal
 use Rattle.wc_controller.specs.Endings.{raised}
 use Rattle.wc_controller.specs.InputStates.{observed_by}

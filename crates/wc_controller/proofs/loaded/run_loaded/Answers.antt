@@ -4,7 +4,7 @@ use Rattle.wc_controller.proofs.Allowing.{on_each, on_known}
 use Rattle.wc_controller.proofs.Blaming.{taken_alongside}
 use Rattle.wc_controller.proofs.Givings.{answered_so, next_loaded, next_unloaded, not_started}
 use Rattle.wc_controller.proofs.RefusedNames.{next_refused}
-use Rattle.wc_controller.proofs.WrittenRuns.{end_more, next_logic, no_memory, not_begun}
+use Rattle.wc_controller.proofs.WrittenRuns.{end_more, next_logic, not_begun}
 use Rattle.wc_controller.proofs.loaded.run_loaded.Goals as goal
 use Rattle.wc_controller.proofs.Blaming.{one_input}
 use Rattle.wc_controller.specs.TakenLogs.{log_by}
