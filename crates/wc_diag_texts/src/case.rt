@@ -100,7 +100,7 @@ pub enum Case {
     ListBelow,
     /// The inputs of a call without parentheses around them.
     BareInputs,
-    /// A `)` behind an operand of its line.
+    /// A `)` on the line of its opening.
     ClosingOperand,
     OpenProgram,
     OpenBlock,

@@ -19,7 +19,7 @@ pub enum Values<'a> {
     NearEnd(&'a str, u32),
     /// A word and a number, of which another tool makes an address.
     ForeignAddress(&'a str, &'a str),
-    /// The hint for STL lines, around which no unit is.
+    /// The hint for lines of STL outside a unit.
     Framed(&'a str),
     /// An instance that is called without parentheses, and its input.
     BareInput(&'a str, &'a str),
