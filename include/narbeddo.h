@@ -69,6 +69,7 @@ typedef struct narbeddo_scale {
  * A tool can check that storage is large enough and aligned, and that a scale has been written to; it cannot check what is in it. */
 /*@ predicate narbeddo_is_storage{L}(narbeddo_scale *scale) = \valid{L}(scale) && \offset{L}(scale) % 8 == 0;
     predicate narbeddo_is_scale{L}(narbeddo_scale *scale) = narbeddo_is_storage{L}(scale) && \initialized{L}(&scale->words[0]);
+    predicate narbeddo_is_readable{L}(narbeddo_scale *scale) = \valid_read{L}(scale) && \offset{L}(scale) % 8 == 0 && \initialized{L}(&scale->words[0]);
     predicate narbeddo_is_text{L}(uint8_t *text, integer length) = text != \null && \valid_read{L}(text + (0 .. length - 1)); */
 
 /* The result for a text: the status; if it is NARBEDDO_REFUSED, the number of the rule that is broken and the line (0 of a plate). */
@@ -217,20 +218,20 @@ uint32_t narbeddo_inputs(narbeddo_scale *scale, uint16_t inputs);
 narbeddo_scanned narbeddo_scan(narbeddo_scale *scale, uint64_t moment);
 
 /* The reading of the indicator. */
-/*@ requires narbeddo_is_scale(scale);
+/*@ requires narbeddo_is_readable(scale);
     assigns \result \from *scale;
     ensures ShowsNothing: \result.status == NARBEDDO_DONE || \result.status == NARBEDDO_CLOSED && \result.flags == 0;
     ensures ReportsReading: \result.flags <= 63;
     ensures ReportsReading: (\result.flags & NARBEDDO_VALID) == 0 ==> (\forall integer i; 0 <= i < 3 ==> \result.weights[i] == 0); */
-narbeddo_reading narbeddo_read(narbeddo_scale *scale);
+narbeddo_reading narbeddo_read(const narbeddo_scale *scale);
 
 /* What is engraved on the scale. */
-/*@ requires narbeddo_is_scale(scale);
+/*@ requires narbeddo_is_readable(scale);
     assigns \result \from *scale;
     ensures ReportsEngraved: \result.status == NARBEDDO_DONE && 1 <= \result.e <= 50 && 500 * \result.e <= \result.max <= 10000 * \result.e
         || \result.status == NARBEDDO_CLOSED && \result.e == 0 && \result.max == 0;
     ensures ReportsEngraved: 0 <= \result.decimals <= 3; */
-narbeddo_engraved narbeddo_plate(narbeddo_scale *scale);
+narbeddo_engraved narbeddo_plate(const narbeddo_scale *scale);
 
 /* The value of a variable of the program. */
 typedef struct narbeddo_variable {
@@ -245,13 +246,13 @@ typedef struct narbeddo_variable {
 
 /* The value that a variable of the program has after the last scan, for an online view: a name like "fill", "dose.timer.ET" through instances
  * of blocks, or "%QX0.3", in upper or lower case. The internal state of a standard block has no name. Nothing changes. */
-/*@ requires narbeddo_is_scale(scale) && narbeddo_is_text(name, length) && \separated(scale, name + (0 .. length - 1));
+/*@ requires narbeddo_is_readable(scale) && narbeddo_is_text(name, length) && \separated(scale, name + (0 .. length - 1));
     assigns \result \from *scale, name[0 .. length - 1];
     ensures RefusesValue: \result.status == NARBEDDO_DONE || \result.status == NARBEDDO_NO_MEMORY || \result.status == NARBEDDO_CLOSED
         || \result.status == NARBEDDO_NO_PROGRAM || \result.status == NARBEDDO_NO_VARIABLE;
     ensures RefusesValue: \result.status != NARBEDDO_DONE ==> \result.kind == 0 && \result.number == 0;
     ensures ReportsValue: \result.status == NARBEDDO_DONE ==> NARBEDDO_BOOL <= \result.kind <= NARBEDDO_TIME; */
-narbeddo_variable narbeddo_value(narbeddo_scale *scale, const uint8_t *name, size_t length);
+narbeddo_variable narbeddo_value(const narbeddo_scale *scale, const uint8_t *name, size_t length);
 
 /* What brings a new scale of the same plate to the state of this one, except for its program. Give that scale, in this order, and drop its answers:
  *
@@ -276,13 +277,13 @@ typedef struct narbeddo_state {
 } narbeddo_state;
 
 /* The state of the scale, as above. */
-/*@ requires narbeddo_is_scale(scale);
+/*@ requires narbeddo_is_readable(scale);
     assigns \result \from *scale;
     ensures HoldsNothing: \result.status == NARBEDDO_DONE
         || \result.status == NARBEDDO_CLOSED && \result.window == 0 && \result.count == 0 && \result.length == 0;
     ensures ReportsPrelude: \result.window <= 16 && \result.count <= \result.window && \result.length <= 3;
     ensures ReportsPrelude: \result.length != 0 ==> \result.request[0] == 10; */
-narbeddo_state narbeddo_prelude(narbeddo_scale *scale);
+narbeddo_state narbeddo_prelude(const narbeddo_scale *scale);
 
 /* Your program defines these three functions over its allocator (examples/embedded/memory.c has them over malloc). The library calls them in
  * the calls that the list at the top of this file names and in narbeddo_close. A block is aligned to `align`, which is 16 at most; when one

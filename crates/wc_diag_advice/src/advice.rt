@@ -1,19 +1,20 @@
+use crate::fields::{input_advice, number_advice, point_advice};
 use crate::members::member_advice;
-use crate::near::{advice_for, label_advice, operator_advice, type_advice, unit_advice};
+use crate::near::{advice_for, has_word, label_advice, operator_advice, type_advice, unit_advice};
 use std::alloc::{AllocError, Global};
 use wc_built_in::variable_at;
 use wc_diag_mistakes::{
     block_of, excerpt, first_word, following, is_near, line_of, prefix, word_before, words_at,
 };
-use wc_diag_stops::RefusalSpan;
-use wc_diag_texts::{Case, Values, text_with};
+use wc_diag_stops::{Brought, RefusalSpan};
+use wc_diag_texts::{Case, Values, empty_path_advice, hint_of, text_with};
 use wc_model::is_word;
 
 /// Text that is longer than a name is not printed in an advice.
 const LONGEST_NAME: usize = 32;
 
 /// Bytes as words, if they are no more than a name has.
-fn short_words(text: &[u8]) -> &str {
+pub(crate) fn short_words(text: &[u8]) -> &str {
     if text.len() > LONGEST_NAME {
         return "";
     }
@@ -41,6 +42,33 @@ fn setting_advice(alloc: Global, text: &[u8], span: &RefusalSpan) -> Result<Stri
         return Ok(String::new(alloc));
     }
     text_with(alloc, Values::Setting(input, instance))
+}
+
+/// What to write for lines of STL: around them a unit too, if none starts above.
+fn frame_advice(
+    alloc: Global,
+    text: &[u8],
+    number: u16,
+    span: &RefusalSpan,
+    mistake: Case,
+) -> Result<String, AllocError> {
+    let above = prefix(text, span.start);
+    match hint_of(number, mistake) {
+        Some(hint) if !has_word(above, b"PROGRAM") && !has_word(above, b"FUNCTION_BLOCK") => {
+            text_with(alloc, Values::Framed(hint))
+        }
+        _ => Ok(String::new(alloc)),
+    }
+}
+
+/// What to write if one path alone is known to a label, and brings nothing.
+fn path_advice(alloc: Global, span: &RefusalSpan) -> Result<String, AllocError> {
+    match span.paths {
+        Some(paths) if paths.other.is_none() && matches!(paths.first.brought, Brought::Nothing) => {
+            empty_path_advice(alloc, paths.first.line)
+        }
+        _ => Ok(String::new(alloc)),
+    }
 }
 
 /// What to write for a word that may be a label without its colon, or a misspelled operator.
@@ -108,7 +136,7 @@ fn bit_advice(alloc: Global, address: &[u8]) -> Result<String, AllocError> {
 fn field_advice(alloc: Global, text: &[u8], span: &RefusalSpan) -> Result<String, AllocError> {
     let block = block_of(text, span);
     if block.is_empty() {
-        return Ok(String::new(alloc));
+        return point_advice(alloc, text, span);
     }
     let word = offending_at(text, span);
     let instance = first_word(word);
@@ -156,6 +184,10 @@ fn advice_of_token(
         (201, Case::ConditionSpelling) => exchanged_advice(alloc, word),
         (201, Case::InputOperator) => setting_advice(alloc, text, span),
         (201, Case::OpenSection) => section_advice(alloc, text, span),
+        (201, Case::BareInputs) => input_advice(alloc, text, span),
+        (201, Case::NoAddress) => number_advice(alloc, text, span),
+        (101, Case::StatementAssign) | (105, Case::StatementAddress) | (201, Case::StatementList) =>
+            { frame_advice(alloc, text, number, span, mistake) }
         (302, Case::Plain) => type_advice(alloc, text, word, span.start),
         (304, Case::NoSuchBit) => bit_advice(alloc, word),
         _ => Ok(String::new(alloc)),
@@ -172,6 +204,7 @@ pub fn advice_at(
 ) -> Result<String, AllocError> {
     let word = offending_at(text, span);
     match (number, mistake) {
+        (403, Case::AtLabel) => path_advice(alloc, span),
         (401, Case::Plain) => advice_for(alloc, text, word, span.start),
         (401, Case::Field) => field_advice(alloc, text, span),
         (406, Case::Plain) => label_advice(alloc, text, word, span.start),

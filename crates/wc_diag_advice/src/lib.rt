@@ -3,6 +3,7 @@
 #![tactic(auto)]
 
 mod advice;
+mod fields;
 mod members;
 mod near;
 

@@ -127,7 +127,7 @@ fn near_on_line<'a>(line: &'a [u8], name: &[u8]) -> &'a [u8] {
 
 /// The name that the unit around a place declares and that is spelled almost as this one. The lines are passed
 /// upwards from the place, so that a text of many units costs no more than the last of them.
-fn near_name<'a>(text: &'a [u8], name: &[u8], place: usize) -> &'a [u8] {
+pub(crate) fn near_name<'a>(text: &'a [u8], name: &[u8], place: usize) -> &'a [u8] {
     let mut in_section = false;
     for line in prefix(text, place).rsplit(|byte| *byte == b'\n') {
         let line = line.trim_ascii();
@@ -162,7 +162,7 @@ pub(crate) fn advice_for(
 }
 
 /// Whether a word is in a text, in letters of either case.
-fn has_word(text: &[u8], word: &[u8]) -> bool {
+pub(crate) fn has_word(text: &[u8], word: &[u8]) -> bool {
     text.split(|byte| !(byte.is_ascii_alphanumeric() || *byte == b'_'))
         .any(|other| other.eq_ignore_ascii_case(word))
 }

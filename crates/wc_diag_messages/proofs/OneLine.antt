@@ -12,7 +12,7 @@ use Rattle.wc_diag_spans.specs.declared.refusal.Refusal.{Refusal}
 use Rattle.wc_diag_messages.specs.Explanations.{QuotesAndSays, left_out_text, line_text, quoted_text}
 use Rattle.wc_diag_messages.specs.Formats.{HasNoControls, after_colon, position_text, short_text}
 use Rattle.wc_diag_messages.specs.Locations.{column_text, counted_name, counted_text, heading, number_text, place_text, row_text, section_text}
-use Rattle.wc_diag_messages.specs.Plain.{IsShown, acts, escaped_byte, escaped_text, hex_digit, is_calm, is_control, passes, shown_text, with_spaces}
+use Rattle.wc_diag_messages.specs.Plain.{IsShown, acts, column_of, escaped_byte, escaped_text, hex_digit, is_calm, is_control, passes, shown_text, with_spaces}
 use Rattle.wc_diag_messages.specs.Warned.{named_text, text_span_text, warning_line, warning_number}
 
 -- of two texts joined
@@ -137,9 +137,9 @@ colon_above : (words : List ℕ) → HasNoControls words → HasNoControls (afte
 colon_above [] h = tt
 colon_above (byte ∷ rest) h = joined (shown_text (codes ":")) (byte ∷ rest) (bytes_shown (codes ":")) h
 
-column_above : (text_span : Option TextSpan) → HasNoControls (column_text text_span)
-column_above None = tt
-column_above (Some text_span) = joined (shown_text (codes ":")) (number_text (text_span.start + 1)) (bytes_shown (codes ":")) (bytes_shown (decimal (text_span.start + 1)))
+column_above : (shown : List ℕ) (text_span : Option TextSpan) → HasNoControls (column_text shown text_span)
+column_above shown None = tt
+column_above shown (Some text_span) = joined (shown_text (codes ":")) (number_text (column_of shown text_span.start)) (bytes_shown (codes ":")) (bytes_shown (decimal (column_of shown text_span.start)))
 
 line_above : (line : ℕ) → HasNoControls (line_text line)
 line_above line =
@@ -147,22 +147,22 @@ line_above line =
     (joined (shown_text (codes ":")) (number_text line) (bytes_shown (codes ":")) (bytes_shown (decimal line)))
 
 -- where it is
-position_above : (refusal : Refusal) (line : ℕ) (text_span : Option TextSpan) → HasNoControls (position_text refusal line text_span)
-position_above refusal line text_span =
+position_above : (refusal : Refusal) (line : ℕ) (shown : List ℕ) (text_span : Option TextSpan) → HasNoControls (position_text refusal line shown text_span)
+position_above refusal line shown text_span =
     let place = place_text refusal.in_job refusal.part refusal.place in
-    either (line == 0) (after_colon place) (line_text line ++ column_text text_span) (colon_above place (place_above refusal.in_job refusal.part refusal.place))
-    (joined (line_text line) (column_text text_span) (line_above line) (column_above text_span))
+    either (line == 0) (after_colon place) (line_text line ++ column_text shown text_span) (colon_above place (place_above refusal.in_job refusal.part refusal.place))
+    (joined (line_text line) (column_text shown text_span) (line_above line) (column_above shown text_span))
 
 -- a refusal on one line
-pub short_above : (refusal : Refusal) (line : ℕ) (text_span : Option TextSpan) (reported : List ℕ) → HasNoControls reported
-    → HasNoControls (short_text refusal.name.now (position_text refusal line text_span) refusal.number reported)
-short_above refusal line text_span reported h =
+pub short_above : (refusal : Refusal) (line : ℕ) (shown : List ℕ) (text_span : Option TextSpan) (reported : List ℕ) → HasNoControls reported
+    → HasNoControls (short_text refusal.name.now (position_text refusal line shown text_span) refusal.number reported)
+short_above refusal line shown text_span reported h =
     let name = shown_text refusal.name.now in
-    let position = position_text refusal line text_span in
+    let position = position_text refusal line shown text_span in
     let opening = shown_text (codes ": error[") in
     let number = number_text refusal.number in
     let closing = shown_text (codes "]: ") in
-    let a = joined name position (bytes_shown refusal.name.now) (position_above refusal line text_span) in
+    let a = joined name position (bytes_shown refusal.name.now) (position_above refusal line shown text_span) in
     let b = joined (name ++ position) opening a (bytes_shown (codes ": error[")) in
     let c = joined (name ++ position ++ opening) number b (bytes_shown (decimal refusal.number)) in
     let d = joined (name ++ position ++ opening ++ number) closing c (bytes_shown (codes "]: ")) in
@@ -186,13 +186,13 @@ pub warned_above : (name said reported : List ℕ) → reported ≡ named_text n
 warned_above name said reported e = subst HasNoControls (sym e) (joined (named_text name) (shown_text said) (named_above name) (bytes_shown said))
 
 -- a warning on one line
-pub warning_line_above : (file : List ℕ) (line : ℕ) (text_span : Option TextSpan) (number : ℕ) (reported : List ℕ) → HasNoControls reported → HasNoControls (warning_line file (text_span_text line text_span) number reported)
-warning_line_above file line text_span number reported h =
+pub warning_line_above : (file : List ℕ) (line : ℕ) (shown : List ℕ) (text_span : Option TextSpan) (number : ℕ) (reported : List ℕ) → HasNoControls reported → HasNoControls (warning_line file (text_span_text line shown text_span) number reported)
+warning_line_above file line shown text_span number reported h =
     let name = shown_text file in
-    let position = text_span_text line text_span in
+    let position = text_span_text line shown text_span in
     let opening = shown_text (codes ": warning[") in
     let closing = shown_text (codes "]: ") in
-    let a = joined name position (bytes_shown file) (joined (line_text line) (column_text text_span) (line_above line) (column_above text_span)) in
+    let a = joined name position (bytes_shown file) (joined (line_text line) (column_text shown text_span) (line_above line) (column_above shown text_span)) in
     let b = joined (name ++ position) opening a (bytes_shown (codes ": warning[")) in
     let c = joined (name ++ position ++ opening) (warning_number number) b (number_above number) in
     let d = joined (name ++ position ++ opening ++ warning_number number) closing c (bytes_shown (codes "]: ")) in

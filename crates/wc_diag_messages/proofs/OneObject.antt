@@ -85,10 +85,10 @@ number_if_any_clean name value = either_clean (value == 0) [] (number_member nam
 position_clean : (refusal : Refusal) (line : ℕ) (diagnostic : Diagnostic) → AreClean (position_members refusal line diagnostic)
 position_clean refusal line diagnostic =
     let a = number_if_any (codes "line") line in
-    let b = number_if_any (codes "column") (first_column diagnostic.text_span) in
+    let b = number_if_any (codes "column") (first_column diagnostic.shown.items diagnostic.text_span) in
     let c = number_if_any (codes "endColumn") (column_after diagnostic.text_span diagnostic.shown.items) in
     let place = place_text refusal.in_job refusal.part refusal.place in
-    let first = both_clean a b (number_if_any_clean (codes "line") line) (number_if_any_clean (codes "column") (first_column diagnostic.text_span)) in
+    let first = both_clean a b (number_if_any_clean (codes "line") line) (number_if_any_clean (codes "column") (first_column diagnostic.shown.items diagnostic.text_span)) in
     let second = both_clean (a ++ b) c first (number_if_any_clean (codes "endColumn") (column_after diagnostic.text_span diagnostic.shown.items)) in
     both_clean (a ++ b ++ c) (text_if_any (codes "place") place) second (text_if_any_clean (codes "place") place)
 
@@ -134,9 +134,9 @@ object_above refusal name line diagnostic reported advice tokens e =
 text_span_clean : (line : ℕ) (diagnostic : Diagnostic) → AreClean (text_span_members line diagnostic)
 text_span_clean line diagnostic =
     let a = number_if_any (codes "line") line in
-    let b = number_if_any (codes "column") (first_column diagnostic.text_span) in
+    let b = number_if_any (codes "column") (first_column diagnostic.shown.items diagnostic.text_span) in
     let c = number_if_any (codes "endColumn") (column_after diagnostic.text_span diagnostic.shown.items) in
-    let first = both_clean a b (number_if_any_clean (codes "line") line) (number_if_any_clean (codes "column") (first_column diagnostic.text_span)) in
+    let first = both_clean a b (number_if_any_clean (codes "line") line) (number_if_any_clean (codes "column") (first_column diagnostic.shown.items diagnostic.text_span)) in
     both_clean (a ++ b) c first (number_if_any_clean (codes "endColumn") (column_after diagnostic.text_span diagnostic.shown.items))
 
 warned_clean : (number : ℕ) (reported advice : List ℕ) → AreClean (warning_members number reported advice)

@@ -1,16 +1,9 @@
 -- The line of a text that is referred to, as a message shows it, with marks under the offending slice.
 -- The profile's own.
-use Rattle.std.specs.Prelude.{ℕ, ◌-◌, max, nat_lt, Bool, not, count_by, List, [], ◌∷◌, ◌++◌, Option, Some, None, codes, drop, length, replicate, take, if◌then◌else◌}
+use Rattle.std.specs.Prelude.{ℕ, ◌-◌, max, nat_lt, Bool, List, [], ◌∷◌, ◌++◌, Option, Some, None, codes, drop, length, replicate, take, if◌then◌else◌}
 use Rattle.wc_diag_spans.specs.declared.diagnostic.TextSpan.{TextSpan}
 use Rattle.wc_diag_messages.specs.Locations.{margin_text, number_text}
-use Rattle.wc_diag_messages.specs.Plain.{escaped_text, is_within, passes, shown_text, with_spaces, words_after}
-
--- the number of characters of a UTF-8 text: of its bytes that begin one
-abbrev pub is_further : ℕ → Bool
-is_further byte = is_within 128 191 byte
-
-abbrev pub characters : List ℕ → ℕ
-characters bytes = count_by (λ byte. not (is_further byte)) bytes
+use Rattle.wc_diag_messages.specs.Plain.{characters, escaped_text, passes, shown_text, with_spaces, words_after}
 
 -- the number of columns that bytes of a line take on screen, if it is shown as it is, or with escapes
 abbrev pub columns : Bool → List ℕ → ℕ

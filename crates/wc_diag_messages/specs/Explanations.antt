@@ -94,5 +94,5 @@ pub record Explains (refusal : Refusal) (bytes : List ℕ) : Type 0 where
   pub advice_is : IsShown advice
   pub all :
       bytes ≡ headline refusal.number reported
-      ++ place_line (margin_text line) refusal.name.now line (alongside_text refusal diagnostic.text_span)
+      ++ place_line (margin_text line) refusal.name.now line (alongside_text refusal diagnostic.shown.items diagnostic.text_span)
       ++ excerpt_text line diagnostic.shown.items diagnostic.text_span words ++ help_line refusal.number advice

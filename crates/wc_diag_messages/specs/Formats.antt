@@ -12,7 +12,7 @@ use Rattle.wc_diag_spans.specs.declared.diagnostic.TextSpan.{TextSpan}
 use Rattle.wc_diag_spans.specs.declared.refusal.Refusal.{Refusal}
 use Rattle.wc_diag_messages.specs.Explanations.{Explains, Knows, line_text, named_line}
 use Rattle.wc_diag_messages.specs.Locations.{column_text, number_text, place_text}
-use Rattle.wc_diag_messages.specs.Plain.{IsShown, is_plain, shown_text, words_after}
+use Rattle.wc_diag_messages.specs.Plain.{IsShown, column_of, is_plain, shown_text, words_after}
 use Rattle.wc_diag_texts.specs.declared.format.Format.{Format}
 use Rattle.wc_diag_texts.specs.declared.format.Format.TheVariants.{Long, Short, Json}
 
@@ -32,10 +32,10 @@ abbrev pub after_colon : List ℕ → List ℕ
 after_colon words = words_after (shown_text (codes ":")) words
 
 -- the line and the column, if the line is known; else the place by which the refusal is counted
-abbrev pub position_text : Refusal → ℕ → Option TextSpan → List ℕ
-position_text refusal line text_span =
+abbrev pub position_text : Refusal → ℕ → List ℕ → Option TextSpan → List ℕ
+position_text refusal line shown text_span =
     if line == 0 then after_colon (place_text refusal.in_job refusal.part refusal.place)
-    else line_text line ++ column_text text_span
+    else line_text line ++ column_text shown text_span
 
 -- what is named, where, the number and what is wrong
 abbrev pub short_text : List ℕ → List ℕ → ℕ → List ℕ → List ℕ
@@ -51,7 +51,7 @@ pub record ReportsShortly (refusal : Refusal) (bytes : List ℕ) : Type 0 where
   pub line : ℕ
   pub line_is : line ≡ named_line refusal diagnostic.line
   pub all :
-      bytes ≡ short_text refusal.name.now (position_text refusal line diagnostic.text_span) refusal.number reported
+      bytes ≡ short_text refusal.name.now (position_text refusal line diagnostic.shown.items diagnostic.text_span) refusal.number reported
       ++ (10 ∷ [])
   pub one : IsOneLine bytes
 
@@ -78,19 +78,19 @@ abbrev pub number_if_any : List ℕ → ℕ → List Token
 number_if_any name value = if value == 0 then [] else number_member name value
 
 -- the column of the offending slice, counted from 1; 0 if there is none
-abbrev pub first_column : Option TextSpan → ℕ
-first_column None = 0
-first_column (Some text_span) = text_span.start + 1
+abbrev pub first_column : List ℕ → Option TextSpan → ℕ
+first_column line None = 0
+first_column line (Some text_span) = column_of line text_span.start
 
 -- the column after it on that line; 0 if there is none
 abbrev pub column_after : Option TextSpan → List ℕ → ℕ
 column_after None line = 0
-column_after (Some text_span) line = min (text_span.start + text_span.length) (length line) + 1
+column_after (Some text_span) line = column_of line (min (text_span.start + text_span.length) (length line))
 
 -- where it is
 abbrev pub position_members : Refusal → ℕ → Diagnostic → List Token
 position_members refusal line diagnostic =
-    number_if_any (codes "line") line ++ number_if_any (codes "column") (first_column diagnostic.text_span)
+    number_if_any (codes "line") line ++ number_if_any (codes "column") (first_column diagnostic.shown.items diagnostic.text_span)
     ++ number_if_any (codes "endColumn") (column_after diagnostic.text_span diagnostic.shown.items)
     ++ text_if_any (codes "place") (place_text refusal.in_job refusal.part refusal.place)
 

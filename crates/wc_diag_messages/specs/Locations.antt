@@ -1,11 +1,11 @@
 -- Where a refusal is, as a message says it next to the line that is named. The profile's own.
-use Rattle.std.specs.Prelude.{ℕ, ◌+◌, ◌==◌, Bool, List, [], ◌∷◌, ◌++◌, Option, Some, None, length, replicate, codes, if◌then◌else◌}
+use Rattle.std.specs.Prelude.{ℕ, ◌==◌, Bool, List, [], ◌∷◌, ◌++◌, Option, Some, None, length, replicate, codes, if◌then◌else◌}
 use Rattle.std.specs.Fmt.{decimal}
 use Rattle.wc_diag_spans.specs.declared.diagnostic.TextSpan.{TextSpan}
 use Rattle.wc_diag_spans.specs.declared.refusal.Part.{Part}
 use Rattle.wc_diag_spans.specs.declared.refusal.Part.TheVariants.{Job, Plate, Program, Next, Log}
 use Rattle.wc_diag_spans.specs.declared.refusal.Refusal.{Refusal}
-use Rattle.wc_diag_messages.specs.Plain.{shown_text}
+use Rattle.wc_diag_messages.specs.Plain.{column_of, shown_text}
 
 -- a number as it is written
 abbrev pub number_text : ℕ → List ℕ
@@ -16,9 +16,9 @@ abbrev pub margin_text : ℕ → List ℕ
 margin_text line = replicate (length (number_text line)) 32
 
 -- the column of the offending slice, counted from 1; nothing if none is known
-abbrev pub column_text : Option TextSpan → List ℕ
-column_text None = []
-column_text (Some text_span) = shown_text (codes ":") ++ number_text (text_span.start + 1)
+abbrev pub column_text : List ℕ → Option TextSpan → List ℕ
+column_text line None = []
+column_text line (Some text_span) = shown_text (codes ":") ++ number_text (column_of line text_span.start)
 
 -- the line with which a section of a job begins
 abbrev pub heading : Part → List ℕ
@@ -64,6 +64,6 @@ in_brackets [] = []
 in_brackets (byte ∷ rest) = shown_text (codes " (") ++ (byte ∷ rest) ++ shown_text (codes ")")
 
 -- what follows the line: the column, and the place that is counted
-abbrev pub alongside_text : Refusal → Option TextSpan → List ℕ
-alongside_text refusal text_span =
-    column_text text_span ++ in_brackets (place_text refusal.in_job refusal.part refusal.place)
+abbrev pub alongside_text : Refusal → List ℕ → Option TextSpan → List ℕ
+alongside_text refusal line text_span =
+    column_text line text_span ++ in_brackets (place_text refusal.in_job refusal.part refusal.place)

@@ -1,5 +1,5 @@
 -- What a message may hold: characters that a terminal only shows. (The profile's own; the characters are those of Unicode in UTF-8.)
-use Rattle.std.specs.Prelude.{◌≡◌, ℕ, ◌+◌, ◌/◌, ◌%◌, Bool, true, not, ◌==◌, ◌||◌, ◌&&◌, nat_le, nat_lt, if◌then◌else◌, List, [], ◌∷◌, ◌++◌, map, slice_index}
+use Rattle.std.specs.Prelude.{◌≡◌, ℕ, ◌+◌, ◌/◌, ◌%◌, Bool, true, not, ◌==◌, ◌||◌, ◌&&◌, nat_le, nat_lt, if◌then◌else◌, List, [], ◌∷◌, ◌++◌, count_by, map, slice_index, take}
 use Rattle.std.specs.List.{flat_map}
 use Rattle.std.specs.Str.{is_utf8}
 
@@ -62,6 +62,17 @@ shown_text bytes = if passes (with_spaces bytes) then with_spaces bytes else esc
 -- these are texts as they are shown, one after another on one line
 abbrev pub IsShown : List ℕ → Type 0
 IsShown bytes = (texts : List (List ℕ)) × (bytes ≡ flat_map shown_text texts)
+
+-- the number of characters of a UTF-8 text: of its bytes that begin one
+abbrev pub is_further : ℕ → Bool
+is_further byte = is_within 128 191 byte
+
+abbrev pub characters : List ℕ → ℕ
+characters bytes = count_by (λ byte. not (is_further byte)) bytes
+
+-- the column of a place of a line, counted from 1: in characters, if the line is UTF-8, else in bytes
+abbrev pub column_of : List ℕ → ℕ → ℕ
+column_of line place = (if is_utf8 line then characters (take place line) else place) + 1
 
 -- words after a mark; nothing if there are none
 abbrev pub words_after : List ℕ → List ℕ → List ℕ

@@ -63,13 +63,13 @@ pub record ExplainsWarning (file text : List ℕ) (warning : Warning) (bytes : L
   pub knows : KnowsWarning text warning parts
   pub all :
       bytes ≡ warning_headline warning.number parts.reported.bytes.items
-      ++ place_line (margin_text warning.line) file warning.line (column_text parts.diagnostic.text_span)
+      ++ place_line (margin_text warning.line) file warning.line (column_text parts.diagnostic.shown.items parts.diagnostic.text_span)
       ++ excerpt_text warning.line parts.diagnostic.shown.items parts.diagnostic.text_span []
       ++ warning_help warning.number parts.advice.bytes.items
 
 -- the line and the column
-abbrev pub text_span_text : ℕ → Option TextSpan → List ℕ
-text_span_text line text_span = line_text line ++ column_text text_span
+abbrev pub text_span_text : ℕ → List ℕ → Option TextSpan → List ℕ
+text_span_text line shown text_span = line_text line ++ column_text shown text_span
 
 -- the file, where, the number and what is suspicious
 abbrev pub warning_line : List ℕ → List ℕ → ℕ → List ℕ → List ℕ
@@ -82,14 +82,14 @@ pub record WarnsShortly (file text : List ℕ) (warning : Warning) (bytes : List
   pub parts : WarningParts
   pub knows : KnowsWarning text warning parts
   pub all :
-      bytes ≡ warning_line file (text_span_text warning.line parts.diagnostic.text_span) warning.number
+      bytes ≡ warning_line file (text_span_text warning.line parts.diagnostic.shown.items parts.diagnostic.text_span) warning.number
       parts.reported.bytes.items ++ (10 ∷ [])
   pub one : IsOneLine bytes
 
 -- where it is
 abbrev pub text_span_members : ℕ → Diagnostic → List Token
 text_span_members line diagnostic =
-    number_if_any (codes "line") line ++ number_if_any (codes "column") (first_column diagnostic.text_span)
+    number_if_any (codes "line") line ++ number_if_any (codes "column") (first_column diagnostic.shown.items diagnostic.text_span)
     ++ number_if_any (codes "endColumn") (column_after diagnostic.text_span diagnostic.shown.items)
 
 -- what is suspicious, and what to write instead

@@ -1,9 +1,9 @@
 ghost use Rattle.std.specs.Prelude.{◌≡◌, ◌-◌, ◌++◌, IfOk, OnOk, drop, take};
-ghost use Rattle.wc_diag_messages.specs.Excerpts.{bar_line, characters, columns, excerpt_text, first_shown, marked_text, marks, quoted_line, shown_part, text_span_start};
+ghost use Rattle.wc_diag_messages.specs.Excerpts.{bar_line, columns, excerpt_text, first_shown, marked_text, marks, quoted_line, shown_part, text_span_start};
 
 use crate::message::Message;
 use crate::placing::margin;
-use crate::plain::{passes, with_spaces};
+use crate::plain::{characters, passes, with_spaces};
 use std::alloc::{AllocError, Global};
 use wc_diag_spans::{Diagnostic, TextSpan};
 
@@ -45,15 +45,6 @@ fn shown_part(line: &[u8], text_span: Option<TextSpan>) -> &[u8]
     ensures { result.now ≡ shown_part line.now text_span }
 {
     excerpt(line, first_shown(line, text_span_start(text_span)), WIDEST)
-}
-
-/// The number of characters of a UTF-8 text.
-fn characters(text: &[u8]) -> usize
-    ensures { result ≡ characters text.now }
-{
-    text.iter()
-        .filter(|byte| !matches!(byte, 0x80..=0xBF))
-        .count()
 }
 
 /// The number of columns that bytes of a line take, if it is shown as it is, or with escapes.

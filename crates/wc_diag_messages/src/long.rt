@@ -54,7 +54,8 @@ fn write_place(
     ensures { OnOk result (message.new.bytes.items
         ≡ message.old.bytes.items
         ++ place_line (margin_text parts.now.line) refusal.now.name.now parts.now.line
-        (alongside_text refusal.now parts.now.diagnostic.text_span)) }
+        (alongside_text refusal.now parts.now.diagnostic.shown.items
+        parts.now.diagnostic.text_span)) }
 {
     let margin = margin(alloc, parts.line)?;
     let alongside = alongside(alloc, refusal, &parts.diagnostic)?;

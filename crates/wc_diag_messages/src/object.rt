@@ -7,6 +7,7 @@ ghost use Rattle.wc_diag_messages.specs.Known.{IsKnown};
 use crate::message::{Message, shown};
 use crate::parts::Parts;
 use crate::placing::place_words;
+use crate::plain::column_of;
 use json::Writer;
 use std::alloc::{AllocError, Global};
 use wc_diag_spans::{Diagnostic, Refusal};
@@ -63,10 +64,11 @@ pub(crate) fn write_number_if_any(
 pub(crate) fn first_column(diagnostic: &Diagnostic) -> usize
     requires { IfSome diagnostic.now.text_span
         (λ text_span. text_span.start ≤ length diagnostic.now.shown.items) }
-    ensures { result ≡ first_column diagnostic.now.text_span }
+    ensures { result
+        ≡ first_column diagnostic.now.shown.items diagnostic.now.text_span }
 {
     match diagnostic.text_span {
-        Some(text_span) => text_span.start + 1,
+        Some(text_span) => column_of(&diagnostic.shown, text_span.start),
         None => 0,
     }
 }
@@ -78,7 +80,7 @@ pub(crate) fn column_after(diagnostic: &Diagnostic) -> usize
     match diagnostic.text_span {
         Some(text_span) => {
             let end = text_span.start.saturating_add(text_span.length);
-            end.min(diagnostic.shown.len()) + 1
+            column_of(&diagnostic.shown, end.min(diagnostic.shown.len()))
         }
         None => 0,
     }

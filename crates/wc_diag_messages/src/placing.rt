@@ -3,6 +3,7 @@ ghost use Rattle.wc_diag_messages.specs.Explanations.{is_program, line_text, lin
 ghost use Rattle.wc_diag_messages.specs.Locations.{alongside_text, column_text, counted_name, counted_text, heading, in_brackets, margin_text, place_text, row_text, section_text};
 
 use crate::message::Message;
+use crate::plain::column_of;
 use std::alloc::{AllocError, Global};
 use wc_diag_spans::{Diagnostic, Part, Refusal, TextSpan};
 
@@ -61,12 +62,13 @@ pub(crate) fn write_column(message: &mut Message, diagnostic: &Diagnostic) -> Re
     requires { IfSome diagnostic.now.text_span
         (λ text_span. text_span.start ≤ length diagnostic.now.shown.items) }
     ensures { OnOk result (message.new.bytes.items
-        ≡ message.old.bytes.items ++ column_text diagnostic.now.text_span) }
+        ≡ message.old.bytes.items
+        ++ column_text diagnostic.now.shown.items diagnostic.now.text_span) }
 {
     match diagnostic.text_span {
         Some(text_span) => {
             message.say(":")?;
-            message.count(text_span.start + 1)
+            message.count(column_of(&diagnostic.shown, text_span.start))
         }
         None => Ok(()),
     }
@@ -169,7 +171,7 @@ pub(crate) fn alongside(
     requires { IfSome diagnostic.now.text_span
         (λ text_span. text_span.start ≤ length diagnostic.now.shown.items) }
     ensures { IfOk result (λ message. message.bytes.items
-        ≡ alongside_text refusal.now diagnostic.now.text_span) }
+        ≡ alongside_text refusal.now diagnostic.now.shown.items diagnostic.now.text_span) }
 {
     let counted = place_words(alloc, refusal)?;
     let mut message = Message::new(alloc);

@@ -1,8 +1,31 @@
-ghost use Rattle.std.specs.Prelude.{◌≡◌, IfOk, false};
+ghost use Rattle.std.specs.Prelude.{◌≡◌, ◌≤◌, IfOk, false, length};
 ghost use Rattle.std.specs.Str.{is_utf8};
-ghost use Rattle.wc_diag_messages.specs.Plain.{acts, is_calm, is_control, passes, spaced, with_spaces};
+ghost use Rattle.wc_diag_messages.specs.Plain.{acts, characters, column_of, is_calm, is_control, passes, spaced, with_spaces};
 
 use std::alloc::{AllocError, Global};
+
+/// The number of characters of a UTF-8 text.
+pub(crate) fn characters(text: &[u8]) -> usize
+    ensures count { result ≡ characters text.now }
+    ensures within { result ≤ length text.now }
+{
+    text.iter()
+        .filter(|byte| !matches!(byte, 0x80..=0xBF))
+        .count()
+}
+
+/// The column of a place of a line, counted from 1.
+pub(crate) fn column_of(line: &[u8], place: usize) -> usize
+    requires { place ≤ length line.now }
+    ensures { result ≡ column_of line.now place }
+{
+    if is_text(line) {
+        let (before, _) = line.split_at(place);
+        characters(before) + 1
+    } else {
+        place + 1
+    }
+}
 
 /// Whether a byte is a control character of ASCII.
 fn is_control(byte: u8) -> bool

@@ -19,7 +19,8 @@ fn write_position(
         (λ text_span. text_span.start ≤ length parts.now.diagnostic.shown.items) }
     ensures { OnOk result (message.new.bytes.items
         ≡ message.old.bytes.items
-        ++ position_text refusal.now parts.now.line parts.now.diagnostic.text_span) }
+        ++ position_text refusal.now parts.now.line parts.now.diagnostic.shown.items
+        parts.now.diagnostic.text_span) }
 {
     if parts.line == 0 {
         let place = place_words(alloc, refusal)?;

@@ -46,7 +46,8 @@ fn write_place(
         (λ text_span. text_span.start ≤ length diagnostic.now.shown.items) }
     ensures { OnOk result (message.new.bytes.items
         ≡ message.old.bytes.items
-        ++ place_line (margin_text line) file.now line (column_text diagnostic.now.text_span)) }
+        ++ place_line (margin_text line) file.now line
+        (column_text diagnostic.now.shown.items diagnostic.now.text_span)) }
 {
     let margin = margin(alloc, line)?;
     let mut column = Message::new(alloc);
@@ -123,7 +124,7 @@ fn write_text_span(
     requires { IfSome diagnostic.now.text_span
         (λ text_span. text_span.start ≤ length diagnostic.now.shown.items) }
     ensures { OnOk result (message.new.bytes.items
-        ≡ message.old.bytes.items ++ text_span_text line diagnostic.now.text_span) }
+        ≡ message.old.bytes.items ++ text_span_text line diagnostic.now.shown.items diagnostic.now.text_span) }
 {
     write_line(message, line)?;
     write_column(message, diagnostic)

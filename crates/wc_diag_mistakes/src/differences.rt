@@ -47,7 +47,10 @@ fn unlike<'a>(
     before: ResultKind,
 ) -> Option<Difference<'a>> {
     let operator = operator_at(text, span);
-    let is_multiplied = family_of(operator.as_bytes()) == Family::Multiply;
+    let is_multiplied = matches!(
+        family_of(operator.as_bytes()),
+        Family::Multiply | Family::Divide
+    );
     if is_multiplied && before.kind == Kind::Time && kind == Kind::Dint {
         return Some(Difference::Takes(operator, "a DINT", "TIME", before.line));
     }

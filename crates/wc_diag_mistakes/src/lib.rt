@@ -8,10 +8,12 @@ mod excerpts;
 mod mistakes;
 mod slices;
 mod types;
+mod unreached;
 mod words;
 
 pub use differences::{block_of, difference_said, names_operator, words_at};
 pub use excerpts::{BYTE_ORDER_MARK, case_of_excerpt};
 pub use mistakes::{mistake_at, names_type};
 pub use slices::{excerpt, following, line_of, prefix};
+pub use unreached::{block_line, follows_leaving, is_unreached};
 pub use words::{first_word, is_near, word_before};

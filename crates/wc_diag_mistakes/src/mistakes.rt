@@ -1,26 +1,28 @@
 use crate::durations::is_long_duration;
-use crate::slices::{excerpt, following, prefix};
+use crate::slices::{excerpt, following, line_of, prefix};
 use crate::types::{is_conditional, type_hint};
+use crate::unreached::{block_line, is_unreached};
 use crate::words::{first_word, is_near, word_before};
 use wc_built_in::{Keyword, elementary_type, keyword_named, standard_block};
 use wc_diag_stops::RefusalSpan;
 use wc_diag_texts::{Case, Expected};
-use wc_model::{UnitKind, is_word};
+use wc_model::{Kind, UnitKind, is_word};
 
 /// Words of a conditional statement of Structured Text.
 const CONDITIONAL: [&[u8]; 4] = [b"if", b"elsif", b"else", b"end_if"];
 
-/// Other words of Structured Text that begin a line.
-const STRUCTURED: [&[u8]; 8] = [
+/// Words of its loops.
+const LOOPS: [&[u8]; 6] = [
     b"for",
     b"end_for",
     b"while",
     b"end_while",
     b"repeat",
     b"until",
-    b"case",
-    b"end_case",
 ];
+
+/// Words of its choice by a value.
+const CHOICES: [&[u8]; 2] = [b"case", b"end_case"];
 
 /// Operators of STL (AWL) that are written otherwise here.
 const STATEMENT_LIST: [&[u8]; 14] = [
@@ -45,10 +47,10 @@ const CONFIGURATION: [&[u8]; 6] = [
 const OWN_TYPES: [&[u8]; 4] = [b"type", b"end_type", b"struct", b"end_struct"];
 
 /// Standard functions.
-const FUNCTIONS: [&[u8]; 25] = [
+const FUNCTIONS: [&[u8]; 24] = [
     b"abs", b"sqrt", b"expt", b"exp", b"ln", b"log", b"sin", b"cos", b"tan", b"asin", b"acos",
     b"atan", b"shl", b"shr", b"rol", b"ror", b"len", b"left", b"right", b"mid", b"concat",
-    b"insert", b"find", b"trunc", b"neg",
+    b"insert", b"find", b"trunc",
 ];
 
 /// Words of STL in which other tools begin a file.
@@ -117,17 +119,36 @@ fn mistaken_equals(before: &[u8]) -> Case {
     }
 }
 
-/// Whether a line begins as a statement of Structured Text.
-fn is_statement(line: &[u8]) -> bool {
-    let word = first_word(line);
-    is_among(&CONDITIONAL, word) || is_among(&STRUCTURED, word)
+/// The statement of Structured Text that a word begins, if it is one.
+fn mistaken_statement(word: &[u8]) -> Option<Case> {
+    if is_among(&CONDITIONAL, word) {
+        Some(Case::IfStatement)
+    } else if is_among(&LOOPS, word) {
+        Some(Case::Loop)
+    } else if is_among(&CHOICES, word) {
+        Some(Case::CaseStatement)
+    } else {
+        None
+    }
+}
+
+/// A comparison as Structured Text writes it, by what is before it on its line; nothing if no condition begins the line.
+fn mistaken_comparison(before: &[u8], byte: u8) -> Option<Case> {
+    match mistaken_statement(first_word(before))? {
+        Case::Loop => Some(Case::Loop),
+        _ if byte == b'=' => Some(Case::IfEqual),
+        _ => Some(Case::IfStatement),
+    }
 }
 
 /// A mistake of a byte that is not allowed; `rest` begins with it, and what is on its line comes before.
 fn mistaken_byte(before: &[u8], rest: &[u8], case: Case) -> Case {
     match case {
-        Case::Byte(b'=' | b'<' | b'>') if is_statement(before) => Case::IfStatement,
-        Case::Byte(b'=') => mistaken_equals(before),
+        Case::Byte(byte @ (b'=' | b'<' | b'>')) => match mistaken_comparison(before, byte) {
+            Some(mistake) => mistake,
+            None if byte == b'=' => mistaken_equals(before),
+            None => case,
+        },
         Case::Byte(b'[' | b']') => Case::Bracket,
         Case::Byte(b'\'' | b'"') => Case::Quote,
         Case::Byte(b'{' | b'}') => Case::Brace,
@@ -140,27 +161,45 @@ fn mistaken_byte(before: &[u8], rest: &[u8], case: Case) -> Case {
 
 /// A standard function; nothing if a word is not one.
 fn mistaken_function(word: &[u8]) -> Option<Case> {
-    let words: [&[u8]; 3] = [b"limit", b"max", b"min"];
     let choices: [&[u8]; 2] = [b"sel", b"mux"];
-    if is_among(&words, word) {
+    if is_word(b"limit", word) {
         Some(Case::Limit)
+    } else if is_word(b"max", word) {
+        Some(Case::Greatest)
+    } else if is_word(b"min", word) {
+        Some(Case::Least)
+    } else if is_word(b"neg", word) {
+        Some(Case::Negative)
     } else if is_among(&choices, word) {
         Some(Case::Select)
     } else if is_word(b"move", word) {
         Some(Case::Move)
     } else if is_among(&FUNCTIONS, word) {
         Some(Case::StandardFunction)
-    } else if is_conversion(word) {
-        Some(Case::Conversion)
     } else {
-        None
+        mistaken_conversion(word)
     }
 }
 
-/// Whether a word is one of a type, `_TO_` and a type.
-fn is_conversion(word: &[u8]) -> bool {
+/// Whether a word has a part, in letters of either case.
+fn has_part(word: &[u8], part: &[u8]) -> bool {
     word.windows(4)
-        .any(|bytes| bytes.eq_ignore_ascii_case(b"_to_"))
+        .any(|bytes| bytes.eq_ignore_ascii_case(part))
+}
+
+/// A word of a type, `_TO_` and a type, if it is one; between numbers nothing is to convert.
+fn mistaken_conversion(word: &[u8]) -> Option<Case> {
+    if !has_part(word, b"_to_") {
+        return None;
+    }
+    let others: [&[u8]; 7] = [
+        b"time", b"bool", b"date", b"ring", b"char", b"bcd_", b"_bcd",
+    ];
+    if others.iter().any(|other| has_part(word, other)) {
+        Some(Case::Conversion)
+    } else {
+        Some(Case::NumberConversion)
+    }
 }
 
 /// A word of the standard that this language leaves out.
@@ -210,11 +249,10 @@ fn mistaken_operator(word: &[u8], rest: &[u8]) -> Case {
     match next.first() {
         Some(b':' | b'.') => Case::Assignment,
         _ if is_among(&EXCHANGED, word) => Case::ConditionSpelling,
-        _ if is_among(&CONDITIONAL, word) => Case::IfStatement,
-        _ if is_among(&STRUCTURED, word) => Case::StructuredText,
-        _ => match mistaken_word(word, next) {
-            Case::NoOperator if is_label(rest) => Case::LabelWithoutColon,
-            mistake => mistake,
+        _ => match (mistaken_statement(word), mistaken_word(word, next)) {
+            (Some(statement), _) => statement,
+            (None, Case::NoOperator) if is_label(rest) => Case::LabelWithoutColon,
+            (None, mistake) => mistake,
         },
     }
 }
@@ -329,9 +367,11 @@ fn mistaken_in_list(token: &[u8], rest: &[u8], expected: Expected) -> Option<Cas
         (Expected::LineEnd | Expected::PointOrLineEnd | Expected::OperandOrLineEnd, Some(b')')) => {
             Some(Case::Closing)
         }
-        (Expected::FormalOrClosing | Expected::Formal | Expected::AssignOrArrow, _)
-        | (Expected::OpeningOrLineEnd, Some(b'A'..=b'Z' | b'a'..=b'z' | b'%')) => Some(
+        (Expected::FormalOrClosing | Expected::Formal | Expected::AssignOrArrow, _) => Some(
             Case::UnnamedInput,
+        ),
+        (Expected::OpeningOrLineEnd, Some(b'A'..=b'Z' | b'a'..=b'z' | b'%')) => Some(
+            Case::BareInputs,
         ),
         (Expected::CommaPointOrClosing | Expected::CommaOrClosing, Some(_)) => {
             Some(mistaken_after_value(rest))
@@ -419,8 +459,25 @@ fn is_decimal_comma(text: &[u8], start: usize, token: &[u8]) -> bool {
         && is_digit(following(text, start).get(1))
 }
 
+/// A `)` on the line of its opening, or on another.
+fn mistaken_closing(before: &[u8]) -> Case {
+    if before.contains(&b'(') {
+        Case::ClosingOperand
+    } else {
+        Case::Closing
+    }
+}
+
 /// A mistake that an unexpected token shows by where it is, and else by itself.
 fn mistaken_at(text: &[u8], span: RefusalSpan, token: &[u8]) -> Case {
+    match mistaken_by_place(text, span, token) {
+        Case::Closing => mistaken_closing(line_before(text, span.start)),
+        mistake => mistake,
+    }
+}
+
+/// Likewise, wherever the opening of a parenthesis is.
+fn mistaken_by_place(text: &[u8], span: RefusalSpan, token: &[u8]) -> Case {
     let before = word_before(text, span.start);
     match (mistaken_before(before, span.expected), span.expected) {
         (Some(mistake), _) => mistake,
@@ -469,6 +526,14 @@ fn mistaken_number(before: &[u8], token: &[u8], case: Case) -> Case {
     }
 }
 
+/// A unit that is not closed.
+fn mistaken_end(word: &[u8]) -> Case {
+    match keyword_named(word) {
+        Some(Keyword::UnitStart(UnitKind::Program)) => Case::OpenProgram,
+        _ => Case::OpenBlock,
+    }
+}
+
 /// A unit after the program.
 fn mistaken_program(text: &[u8], token: &[u8], case: Case) -> Case {
     match keyword_named(token) {
@@ -492,6 +557,27 @@ fn mistaken_type(word: &[u8]) -> Case {
         Case::DownCounter
     } else {
         Case::Plain
+    }
+}
+
+/// An initial value of another type than that before it.
+fn mistaken_value(text: &[u8], start: usize) -> Case {
+    let before = prefix(text, start).trim_ascii_end();
+    match elementary_type(word_before(before, before.len().saturating_sub(2))) {
+        Some(Kind::Bool) => Case::InitialBool,
+        Some(Kind::Dint) => Case::InitialNumber,
+        Some(Kind::Time) => Case::InitialTime,
+        None if before.ends_with(b":=") => Case::InitialInstance,
+        None => Case::Plain,
+    }
+}
+
+/// A function block that is not declared above: `first` is the line on which the text declares one of that name, if that is sure.
+fn mistaken_block(text: &[u8], name: &[u8], start: usize) -> Case {
+    match block_line(text, name) {
+        Some(line) if line > line_of(text, start) => Case::BlockBelow,
+        Some(_) => Case::BlockInItself,
+        None => Case::Plain,
     }
 }
 
@@ -557,6 +643,7 @@ fn mistake_in_reading(text: &[u8], number: u16, span: RefusalSpan, case: Case) -
         (201, Expected::CommaPointOrClosing | Expected::CommaOrClosing)
             if keyword_named(token).is_some() && begins_line(text, span.start) => { Case::OpenList }
         (201, _) => mistaken_at(text, span, token),
+        (202, _) => mistaken_end(token),
         (203, _) => mistaken_program(text, token, case),
         _ => case,
     }
@@ -567,12 +654,18 @@ fn mistake_in_rules(text: &[u8], number: u16, span: RefusalSpan, case: Case) -> 
     let token = excerpt(text, span.start, span.length);
     match number {
         302 => mistaken_type(token),
+        303 => mistaken_value(text, span.start),
+        308 => mistaken_block(text, token, span.start),
         304 => mistaken_address(token),
         402 => type_hint(text, token, span),
         403 if is_conditional(token) => Case::NoCondition,
         403 if prefix(text, span.start).trim_ascii_end().last() == Some(&b':') => Case::AtLabel,
+        403 if is_unreached(text, line_of(text, span.start)) => Case::Unreached,
         404 => mistaken_target(token),
         406 if span.first != 0 => Case::LabelAbove,
+        408
+            if matches!(token.first(), Some(b'A'..=b'Z' | b'a'..=b'z' | b'_' | b'%'))
+                && !matches!(span.case, Case::Deferred) => Case::VariableDivisor,
         _ => case,
     }
 }

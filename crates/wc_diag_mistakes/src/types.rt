@@ -24,8 +24,10 @@ pub(crate) enum Family {
     Equal,
     /// ADD, SUB.
     Add,
-    /// MUL, DIV, MOD.
+    /// MUL.
     Multiply,
+    /// DIV and MOD.
+    Divide,
     /// NOT, and instructions with a condition.
     Condition,
     /// Any other.
@@ -38,7 +40,8 @@ fn family_applied(operator: Operator) -> Family {
         Operator::Gt | Operator::Ge | Operator::Le | Operator::Lt => Family::Order,
         Operator::Eq | Operator::Ne => Family::Equal,
         Operator::Add | Operator::Sub => Family::Add,
-        Operator::Mul | Operator::Div | Operator::Mod => Family::Multiply,
+        Operator::Mul => Family::Multiply,
+        Operator::Div | Operator::Mod => Family::Divide,
         _ => Family::Logic,
     }
 }
@@ -93,7 +96,7 @@ pub(crate) fn taken_by(family: Family) -> &'static str {
         Family::Negate | Family::StoreNegated | Family::Set | Family::Logic | Family::Condition =>
             "a BOOL",
         Family::Order | Family::Add => "a DINT or a TIME",
-        Family::Multiply => "a DINT",
+        Family::Multiply | Family::Divide => "a DINT",
         Family::Store | Family::Equal | Family::Other => "",
     }
 }
@@ -107,7 +110,7 @@ fn untaken_hint(family: Family, kind: Kind) -> Case {
         (Family::Set, _) => Case::SetValue,
         (Family::Order, _) => Case::OrderedBool,
         (_, Kind::Bool) => Case::CountedBool,
-        (Family::Multiply, _) => Case::MultipliedTime,
+        (Family::Multiply | Family::Divide, _) => Case::MultipliedByTime,
         (_, Kind::Dint) => Case::NumberBefore,
         (_, Kind::Time) => Case::TimeBefore,
     }
@@ -132,10 +135,11 @@ fn unlike_hint(family: Family, kind: Kind, before: Kind) -> Case {
         (Family::Equal, Kind::Bool) => Case::EqualBool,
         (Family::Order | Family::Equal, Kind::Dint) => Case::NumberWithTime,
         (Family::Order | Family::Equal, Kind::Time) => Case::TimeWithNumber,
-        (Family::Add | Family::Multiply, Kind::Bool) => Case::CountedBool,
+        (Family::Add | Family::Multiply | Family::Divide, Kind::Bool) => Case::CountedBool,
         (Family::Add, Kind::Dint) => Case::AddedNumber,
         (Family::Add, Kind::Time) => Case::AddedTime,
         (Family::Multiply, Kind::Time) => Case::MultipliedTime,
+        (Family::Divide, Kind::Time) => Case::DividedTime,
         (_, Kind::Time) => Case::ComparedTime,
         (_, Kind::Dint) => Case::ComparedNumber,
         (_, Kind::Bool) => Case::StoredBool,
@@ -148,6 +152,7 @@ fn result_hint(family: Family, before: Kind) -> Case {
         (Family::Order, _) => Case::OrderedBool,
         (_, Kind::Bool) => Case::CountedBool,
         (Family::Multiply, _) => Case::MultipliedTime,
+        (Family::Divide, _) => Case::DividedTime,
         (_, Kind::Dint) => Case::ComparedNumber,
         (_, Kind::Time) => Case::ComparedTime,
     }

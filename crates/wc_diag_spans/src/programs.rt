@@ -12,12 +12,13 @@ use std::alloc::{AllocError, Global};
 use wc_built_in::{Keyword, keyword_named};
 use wc_diag_advice::advice_at;
 use wc_diag_mistakes::{
-    BYTE_ORDER_MARK, case_of_excerpt, difference_said, excerpt, following, mistake_at,
-    names_operator, names_type, prefix, word_before, words_at,
+    BYTE_ORDER_MARK, block_line, case_of_excerpt, difference_said, excerpt, following,
+    follows_leaving, is_unreached, line_of, mistake_at, names_operator, names_type, prefix,
+    word_before, words_at,
 };
 use wc_diag_places::{read_by_places, text_span_in};
 use wc_diag_stops::{Brought, LabelPaths, PathToLabel, RefusalSpan, stop_of};
-use wc_diag_texts::{Case, Expected, Values, sentence_of, text_with};
+use wc_diag_texts::{Case, Expected, Paths, Values, paths_text, sentence_of, text_with};
 use wc_model::{Fault, Kind, is_word};
 
 /// In which way a word does not begin a line, if only a colon could follow it.
@@ -56,8 +57,15 @@ fn case_at(number: u16, text: &[u8], span: RefusalSpan) -> Case {
 /// The case of which the sentence speaks: some mistakes have a sentence of their own.
 fn case_said(case: Case, mistake: Case) -> Case {
     match mistake {
-        Case::Limit | Case::Select | Case::Move | Case::StandardFunction | Case::Conversion =>
-            Case::StandardFunction,
+        Case::Limit
+        | Case::Greatest
+        | Case::Least
+        | Case::Select
+        | Case::Move
+        | Case::Negative
+        | Case::StandardFunction
+        | Case::Conversion
+        | Case::NumberConversion => Case::StandardFunction,
         Case::Configuration | Case::OwnType => Case::Configuration,
         Case::StatementAssign
         | Case::AtLabel
@@ -67,16 +75,45 @@ fn case_said(case: Case, mistake: Case) -> Case {
         | Case::TypedNumber
         | Case::TypedTruth
         | Case::LongDuration
-        | Case::SpacedDuration => mistake,
+        | Case::SpacedDuration
+        | Case::Constant
+        | Case::Retain
+        | Case::Unreached
+        | Case::InitialBool
+        | Case::InitialNumber
+        | Case::InitialTime
+        | Case::InitialInstance
+        | Case::BlockInItself => mistake,
         _ => case,
     }
+}
+
+/// What could be at a slice, if that is what is wrong: not after a word that is left out, nor a point after a NOT.
+fn expected_at(expected: Expected, mistake: Case) -> Expected {
+    match mistake {
+        Case::Constant | Case::Retain => Expected::Nothing,
+        Case::NegatedOperand => Expected::LineEnd,
+        _ => expected,
+    }
+}
+
+/// The number of bytes with which the character at a place of a text begins, if the text goes on with one above ASCII.
+fn character_length(text: &[u8]) -> usize {
+    for length in 2..5 {
+        if str::from_utf8(prefix(text, length)).is_ok() {
+            return length;
+        }
+    }
+    1
 }
 
 /// The number of bytes of a slice that are quoted: none if its sentence is given alone.
 fn quoted_length(text: &[u8], number: u16, case: Case, span: &RefusalSpan) -> usize {
     match (number, case) {
         (101, Case::ByteOrderMark) => BYTE_ORDER_MARK.len(),
-        (201, Case::LineEnd) | (202..=208, _) | (403, Case::AtLabel) => 0,
+        (101, Case::Byte(128..)) => character_length(following(text, span.start)),
+        (201, Case::LineEnd | Case::Constant | Case::Retain) | (202..=208, _) => 0,
+        (403, Case::AtLabel | Case::Unreached | Case::Plain) => 0,
         _ if span.below.is_some() || sentence_of(number, case).is_none() => 0,
         (402, _) if names_operator(text, span) => 0,
         _ => span.length,
@@ -118,33 +155,70 @@ fn block_of_input(word: &[u8]) -> &'static str {
 }
 
 /// What a path brings to a label, in words; empty if that is not sure.
-fn words_brought(path: PathToLabel) -> &'static str {
-    match path.brought {
-        Brought::Kind(Kind::Bool) => "a BOOL",
-        Brought::Kind(Kind::Dint) => "a DINT",
-        Brought::Kind(Kind::Time) => "a TIME",
-        Brought::Nothing => "no value",
-        Brought::Unsure => "",
+fn words_brought(text: &[u8], path: PathToLabel) -> &'static str {
+    match (path.brought, is_unreached(text, path.line)) {
+        (Brought::Kind(Kind::Bool), false) => "a BOOL",
+        (Brought::Kind(Kind::Dint), false) => "a DINT",
+        (Brought::Kind(Kind::Time), false) => "a TIME",
+        (Brought::Nothing, false) => "no value",
+        (Brought::Kind(Kind::Bool), true) => "a BOOL, but is never reached",
+        (Brought::Kind(Kind::Dint), true) => "a DINT, but is never reached",
+        (Brought::Kind(Kind::Time), true) => "a TIME, but is never reached",
+        (Brought::Nothing, true) => "no value and is never reached",
+        (Brought::Unsure, _) => "",
     }
 }
 
-/// Which paths to a label bring what; empty if that is not sure.
-fn label_text(alloc: Global, paths: Option<LabelPaths>) -> Result<String, AllocError> {
+/// What is said of the paths to a label on a line; nothing if that is not sure.
+fn paths_said<'a>(
+    text: &[u8],
+    label: &'a str,
+    line: u32,
+    paths: Option<LabelPaths>,
+) -> Option<Paths<'a>> {
     let Some(paths) = paths else {
-        return Ok(String::new(alloc));
+        return if follows_leaving(text, line) {
+            Some(Paths::None(label))
+        } else {
+            None
+        };
     };
-    let (first, brought) = (paths.first.line, words_brought(paths.first));
+    let (first, brought) = (paths.first.line, words_brought(text, paths.first));
     match paths.other {
         Some(other) => {
-            let different = words_brought(other);
-            text_with(
-                alloc,
-                Values::TwoPaths(first, brought, other.line, different),
-            )
+            Some(Paths::Two(
+                label,
+                first,
+                brought,
+                other.line,
+                words_brought(text, other),
+            ))
         }
-        None if matches!(paths.first.brought, Brought::Nothing) => {
-            text_with(alloc, Values::EmptyPath(first))
-        }
+        None if matches!(paths.first.brought, Brought::Nothing) => Some(Paths::Empty(label, first)),
+        None => Some(Paths::Unsure(label, line)),
+    }
+}
+
+/// Which paths to the label before a place bring what; empty if that is not sure.
+fn label_text(
+    alloc: Global,
+    text: &[u8],
+    place: usize,
+    paths: Option<LabelPaths>,
+) -> Result<String, AllocError> {
+    let above = prefix(text, place).trim_ascii_end();
+    let colon = above.len().saturating_sub(1);
+    let label = str::from_utf8(word_before(text, colon)).unwrap_or("");
+    match paths_said(text, label, line_of(text, colon), paths) {
+        Some(said) if !label.is_empty() => paths_text(alloc, said),
+        _ => Ok(String::new(alloc)),
+    }
+}
+
+/// Where a function block is declared that the text has below; empty if that is not sure.
+fn block_text(alloc: Global, text: &[u8], name: &[u8]) -> Result<String, AllocError> {
+    match block_line(text, name) {
+        Some(line) => text_with(alloc, Values::BlockBelow(line)),
         None => Ok(String::new(alloc)),
     }
 }
@@ -161,7 +235,8 @@ fn said_there(
     let word = excerpt(text, span.start, span.length);
     match mistake {
         Case::LabelAbove => text_with(alloc, Values::LabelLine(span.first)),
-        Case::AtLabel => label_text(alloc, span.paths),
+        Case::AtLabel => label_text(alloc, text, span.start, span.paths),
+        Case::BlockBelow => block_text(alloc, text, word),
         Case::InputOperator => text_with(alloc, Values::InputOf(block_of_input(word))),
         Case::StatementAddress => text_with(
             alloc,
@@ -238,9 +313,9 @@ fn point_to_excerpt(
     ensures quoted { OnOk result (IsAt text.now span.start diagnostic.new.subject.items) }
 {
     diagnostic.point(column_at(text, span.start), span.length);
-    diagnostic.expected = span.expected;
     let case = case_at(number, following(text, span.start), span);
     let mistake = mistake_at(text, number, span, case);
+    diagnostic.expected = expected_at(span.expected, mistake);
     let case = case_said(case, mistake);
     let length = quoted_length(text, number, case, &span);
     let said = said_of(alloc, text, number, &span, case, mistake)?;

@@ -165,9 +165,9 @@ fn body_entry(number: u16) -> Option<&'static Entry>
         402 "verify": "the types do not match"
             at "the line of the instruction, or of the )", "PROGRAM P / LDN 1 / END_PROGRAM" => 2,
             help "a comparison gives a BOOL, such as GE 500; ST takes a variable of the type of the current result";
-        403 "verify": "there is no current result"
+        403 "verify": "there is no current result, or its type differs by the path"
             at "the line of the instruction", "PROGRAM P / NOT / END_PROGRAM" => 2,
-            help "begin with LD: no line that leads here has loaded a value";
+            help "load a value with LD first: every path that leads here has to bring one, and all of them one type";
         404 "verify": "this may not be written"
             at "the line of the instruction", "PROGRAM P / ST 1 / END_PROGRAM" => 2,
             help "only variables, outputs, and inputs of instances can be written";

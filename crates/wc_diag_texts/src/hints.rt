@@ -11,8 +11,8 @@ pub fn hint_of(number: u16, case: Case) -> Option<&'static str>
 {
     match number {
         101..=106 => token_hint(number, case),
-        201 | 203 => reading_hint(number, case),
-        302..=304 => declaration_hint(number, case),
+        201..=203 => reading_hint(number, case),
+        302..=308 => declaration_hint(number, case),
         401..=409 => match case {
             Case::NotOfBlock(block) => Some(members_hint(block)),
             _ if number == 402 => kind_hint(number, case),
@@ -31,13 +31,15 @@ fn token_hint(number: u16, case: Case) -> Option<&'static str> {
         101, Case::LineComment => "a comment is (* .. *)";
         101, Case::NotAscii => "names have the letters A to Z and a to z, digits and underscores; comments may have any";
         101, Case::Bracket => "this language has no arrays: declare one variable for each element, such as a0, a1";
-        101, Case::Quote => "this language has no strings";
-        101, Case::Brace => "this language has no pragmas; a comment is (* .. *)";
+        101, Case::Quote => "this language has no strings: use a DINT with a number for each text, such as 1";
+        101, Case::Brace => "delete it: this language has no pragmas; a comment is (* .. *)";
         101, Case::Byte(b'=') => "to store write ST, to compare EQ, NE, GT, GE, LT or LE; a call and a declaration have `:=`";
         101, Case::EqualInitial => "an initial value is written with `:=`, such as a : DINT := 5;";
         101, Case::EqualInput => "an input is passed with `:=`, such as IN := a";
-        101, Case::StatementAssign => "this looks like Siemens STL (AWL): `=` is ST; U is LD on the first line, then AND; O is OR";
+        101, Case::StatementAssign => "this looks like Siemens STL (AWL): `=` is ST; U or O is LD at the start and after each `=`, else AND or OR";
         101, Case::IfStatement => "this looks like Structured Text: for IF w >= 1000 write LD w, GE 1000, JMPCN skip; `skip:` is the END_IF";
+        101, Case::IfEqual => "this looks like Structured Text: for IF a = 5 write LD a, EQ 5, JMPCN skip; `skip:` is the END_IF";
+        101, Case::Loop => "this looks like Structured Text: there are no loops; do one turn in each scan, with a DINT that counts";
         101, Case::Byte(b'>') => "to compare write GT or GE";
         101, Case::Byte(b'<') => "to compare write LT, LE or NE";
         101, Case::Byte(b'*') => "to multiply write MUL; a comment is (* .. *)";
@@ -47,12 +49,12 @@ fn token_hint(number: u16, case: Case) -> Option<&'static str> {
         105, Case::WithBase => "the largest is 16#7FFFFFFF: write -2147483648 for 16#80000000, -1 for 16#FFFFFFFF";
         105, Case::TypedNumber => "write the number without its type, such as 5";
         105, Case::TypedTruth => "a BOOL is TRUE, FALSE, BOOL#0 or BOOL#1";
-        105, Case::StatementAddress => "this looks like Siemens STL (AWL): E 0.0 is %IX0.0, U is LD or AND, `=` is ST";
+        105, Case::StatementAddress => "this looks like Siemens STL (AWL): E 0.0 is %IX0.0, A 4.0 an output such as %QX0.0; U is LD at the start and after each `=`, else AND (UN: LDN, ANDN); `=` is ST";
         105, Case::NoDuration => "a duration begins with T#, such as T#500ms";
-        105, Case::WithPoint => "weights are whole numbers of the last decimal: at 3 decimals 1.5 kg is 1500";
+        105, Case::WithPoint => "a weight is counted in its last decimal: with 3 decimals 1.5 kg is 1500";
         106, Case::DecimalComma => "write a decimal point instead of the comma, such as T#1.5s";
         106, Case::MissingUnit => "a duration has a unit after its number, such as T#1s or T#500ms";
-        106, Case::LongDuration => "durations are T#-24d20h31m23s648ms to T#24d20h31m23s647ms";
+        106, Case::LongDuration => "durations are T#-24d20h31m23s648ms to T#24d20h31m23s647ms; for longer ones count the pulses of a TON of T#1d with a CTU";
         106, Case::SpacedDuration => "write the number right after T#, without a space, such as T#5s";
     }
 }
@@ -68,6 +70,7 @@ fn reading_hint(number: u16, case: Case) -> Option<&'static str> {
         201, Case::AfterProgram => "nothing is allowed after the END_PROGRAM of the program";
         201, Case::NoAddress => "an address begins with `%`, such as %IX0.0; a DINT has no bits: declare a BOOL for each";
         201, Case::Closing => "the `)` needs a line of its own";
+        201, Case::ClosingOperand => "the `)` needs a line of its own; for one operand write no parenthesis, such as AND a";
         201, Case::NoVariable => "an input takes a variable, an address, a field or a literal: compute and store the value before the call";
         201, Case::Semicolon => "an instruction ends with its line, without a semicolon";
         201, Case::SecondOperator => "each operator has a line of its own: AND( a, then OR b, then `)`";
@@ -75,37 +78,44 @@ fn reading_hint(number: u16, case: Case) -> Option<&'static str> {
         201, Case::ConditionSpelling => "C comes before N: JMPCN, CALCN, RETCN";
         201, Case::InputOperator => "set an input in CAL, such as CAL c(CU := a): a store alone does not call the block";
         201, Case::InstanceCall => "a call begins with CAL, such as CAL t(IN := a, PT := T#1s)";
-        201, Case::StructuredText => "this looks like Structured Text: there are no loops (the program runs in every scan); for CASE use EQ and JMPCN";
+        201, Case::Loop => "this looks like Structured Text: there are no loops; write the lines once for each turn, or do one turn in each scan with a DINT that counts";
+        201, Case::CaseStatement => "this looks like Structured Text: for each value write LD mode, EQ 1, JMPCN next; `next:` begins the next value";
         201, Case::IfStatement => "this looks like Structured Text: for IF a write LD a, JMPCN skip; `skip:` is the END_IF";
-        201, Case::StatementList => "this looks like Siemens STL (AWL): U or A is LD on the first line, then AND; O is OR, `=` is ST";
+        201, Case::StatementList => "this looks like Siemens STL (AWL): U, A or O is LD at the start and after each `=`, else AND or OR (UN: LDN, ANDN); `=` is ST";
         201, Case::Assignment => "to assign write LD and the value, and on the next line ST and the variable";
-        201, Case::SectionQualifier => "write VAR without a qualifier";
-        201, Case::Constant => "CONSTANT is not supported: write only VAR, or write the number where it is used";
-        201, Case::Retain => "RETAIN is not supported: a variable keeps its value between scans, not over a power failure";
+        201, Case::Constant => "write only VAR, or write the number at each place that uses it";
+        201, Case::Retain => "write only VAR: a variable keeps its value from scan to scan, and none keeps it over a power failure";
         201, Case::Declaration => "a declaration is `name : TYPE;`, such as a : BOOL;";
         201, Case::DeclarationAbove => "the declaration above has no `;` at its end";
         201, Case::MissingType => "a declaration names a type, such as d, e : DINT;";
-        201, Case::DecimalComma => "numbers are integers, without a decimal comma: at 3 decimals write 1.5 kg as 1500";
+        201, Case::DecimalComma => "numbers are integers, without a decimal comma: with 3 decimals write 1.5 kg as 1500";
         201, Case::Configuration => "leave out CONFIGURATION, RESOURCE and TASK: the one PROGRAM runs in every scan";
-        201, Case::OwnType => "the types are BOOL, DINT and TIME: for an enumeration use a DINT with 0, 1, 2, for a structure one variable for each part";
+        201, Case::OwnType => "delete TYPE .. END_TYPE: values are BOOL, DINT or TIME; for an enumeration use a DINT with 0, 1, 2, for a structure one variable for each part";
         201, Case::Conversion => "there are no conversions: a number is a DINT, a duration is a TIME";
+        201, Case::NumberConversion => "leave this line out: every number is a DINT, so there are no conversions";
+        201, Case::Negative => "the negative of a number is LD 0, and on the next line SUB and the number";
         201, Case::NoUnit => "begin with PROGRAM and a name; then come VAR .. END_VAR, the instructions and END_PROGRAM";
         201, Case::DownCounter => "there is no CTD: count down with SUB 1 at each edge of an R_TRIG";
-        201, Case::Limit => "compare with GT or LT, and jump with JMPCN over the lines that set the limit";
+        201, Case::Limit => "store the value; then LD it, GT the limit, and JMPCN over the LD and ST of the limit; with LT for the lower one";
+        201, Case::Greatest => "store the first; then LD it, LT the second, and JMPCN over the LD and ST of the second";
+        201, Case::Least => "store the first; then LD it, GT the second, and JMPCN over the LD and ST of the second";
         201, Case::Select => "store the first value; then load the condition, and JMPCN over the LD and ST of the second";
         201, Case::Move => "LD loads the value, ST on the next line names where it goes";
         201, Case::GlobalVariable => "declare the variable in VAR of the PROGRAM, and pass it to blocks as an input or output";
-        201, Case::SharedVariable => "declare a VAR_INPUT and a VAR_OUTPUT, and name the variable at both in the CAL";
+        201, Case::SharedVariable => "declare a VAR_INPUT and a VAR_OUTPUT, and name the variable at both in the CAL; an input cannot be written: copy it to the output first";
         201, Case::OpenVariable => "declare the variable in VAR, and store to it before you load it";
         201, Case::StandardFunction => "compute it with ADD, SUB, MUL, DIV, MOD and comparisons, or in a FUNCTION_BLOCK";
         201, Case::OpenSection => "close the section of declarations with END_VAR before the first instruction";
         201, Case::MissingComma => "separate the parameters with commas, such as CAL t(IN := a, PT := T#1s)";
-        201, Case::AtAddress => "use the address itself, such as LD %IX0.0; or copy inputs to variables on the first lines, outputs on the last";
-        201, Case::UnnamedInput => "name each input of the block in parentheses, such as CAL t(IN := a, PT := T#1s) for a TON";
+        201, Case::AtAddress => "leave out AT and use the address itself (LD %IX0.0, ST %QX0.0); or copy inputs to variables on the first lines, and variables to outputs on the last";
+        201, Case::UnnamedInput => "name each input of the block, such as CAL e(CLK := a) of an R_TRIG, CAL t(IN := a, PT := T#1s) of a TON";
+        201, Case::BareInputs => "put the inputs of the call in parentheses, such as CAL e(CLK := a)";
         201, Case::OutsideSection => "declarations go between VAR and END_VAR, before the first instruction";
         201, Case::OpenList => "close the list of the call above with `)`";
         201, Case::ListBelow => "write the `(` on the line of its CAL, such as CAL t(IN := TRUE)";
         201, Case::LeftOut => "write a FUNCTION_BLOCK with a VAR_OUTPUT for the result, and call an instance with CAL";
+        202, Case::OpenProgram => "close the unit with END_PROGRAM";
+        202, Case::OpenBlock => "close the unit with END_FUNCTION_BLOCK";
         203, Case::SecondProgram => "make one of them a FUNCTION_BLOCK above the PROGRAM, and call an instance with CAL";
         203, Case::EmptyText => "a file has function blocks, if any, and then one PROGRAM .. END_PROGRAM";
     }
@@ -120,9 +130,15 @@ fn declaration_hint(number: u16, case: Case) -> Option<&'static str> {
         302, Case::TextType => "the types are BOOL, DINT and TIME: there are no strings, dates, arrays and structures";
         302, Case::FallingEdge => "for a falling edge call R_TRIG with the negated input: LDN a, then ST b, then CAL e(CLK := b)";
         302, Case::DownCounter => "count up with CTU, or down by SUB 1 at each edge of an R_TRIG";
+        303, Case::InitialBool => "a BOOL takes TRUE, FALSE, 0 or 1";
+        303, Case::InitialNumber => "a DINT takes an integer, such as 500";
+        303, Case::InitialTime => "a TIME takes a duration, such as T#500ms";
+        303, Case::InitialInstance => "an instance takes no initial value: pass its inputs in CAL";
         304, Case::Marker => "there are no %M addresses: declare a variable in VAR";
         304, Case::NoSuchWord => "there are no 16-bit words: use %ID0 (gross), %ID1 (net), %ID2 (tare) or %QD0 to %QD3";
         304, Case::NoSuchBit => "bits are %IX0.0 to %IX0.15, %IX1.0 to %IX1.5 and %QX0.0 to %QX0.15";
+        308, Case::BlockBelow => "move the block above the unit that uses it";
+        308, Case::BlockInItself => "a block cannot contain itself: declare another block above, and use that";
     }
 }
 
@@ -133,14 +149,17 @@ fn excerpt_hint(number: u16, case: Case) -> Option<&'static str> {
         401, Case::Field => "before the dot comes an instance that VAR declares, after it an output, such as t.Q; there are no global variables";
         401, Case::Watched => "name a variable, or a field after its instance, such as `t.ET`, with commas and no spaces between";
         401, Case::BlockType => "declare an instance in VAR, `t : TON;`, and call that: CAL t(..)";
-        403, Case::AtLabel => "load a value with LD on the line of this label, or bring the same type on every path to it";
+        403, Case::Plain => "begin with LD: no line that leads here has loaded a value";
+        403, Case::AtLabel => "write an LD between the label and this instruction, or bring the same type on every path to the label";
+        403, Case::Unreached => "delete the line, or give it a label to which a line above jumps";
         403, Case::NoCondition => "load the condition with LD first, or use CAL, JMP or RET without the C";
         404, Case::InputAddress => "inputs are only read: store to an output, such as %QX0.0, or to a variable";
         404, Case::LiteralTarget => "ST takes a variable or an output: LD loads the value, ST names where it goes";
         404, Case::OutputTarget => "the block sets its own outputs: store to an input, or to a variable of your own";
         404, _ => "an input is set by the caller: copy it to a variable in VAR, and change the copy";
         405, _ => "store the value in a variable of your own, pass that to the input, and read the variable";
-        406, Case::LabelAbove => "jumps only go forward: the program runs again in the next scan, so a loop is not needed";
+        406, Case::LabelAbove => "jumps only go forward: do one turn in each scan, or write the lines several times";
+        408, Case::VariableDivisor => "there is no division by a variable: divide by a literal other than 0, such as DIV 10; to compare a quotient, MUL the other side instead";
         408, Case::Deferred => "DIV and MOD take an integer literal, such as DIV 10; DIV( and MOD( do not exist";
         409, Case::InputArrow => "an input is passed with :=, such as IN := a";
         409, Case::OutputAssigned => "an output is read with =>, such as Q => a";
@@ -170,11 +189,11 @@ fn kind_hint(number: u16, case: Case) -> Option<&'static str> {
         402, Case::Unpassed(Kind::Time, Kind::Dint) => "write an integer, such as 500, or pass a DINT";
         402, Case::Unpassed(_, Kind::Bool) => "compare before the call, store the BOOL in a variable, and pass that variable";
         402, Case::Unpassed(Kind::Bool, _) => "pass a number to a DINT, a duration to a TIME";
-        402, Case::TruthLiteral => "the literals of a BOOL are TRUE and FALSE: write TRUE for 1, FALSE for 0";
+        402, Case::TruthLiteral => "here 0 and 1 are DINTs: write FALSE for 0, TRUE for 1";
         402, Case::StoredNumberToBool => "store it to a DINT, such as %QD0, or compare it first, such as GE 500, to get a BOOL";
         402, Case::StoredTimeToBool => "store it to a TIME, or compare it first, such as GE T#500ms, to get a BOOL";
         402, Case::StoredBool => "store a BOOL to a BOOL variable or to an output bit, such as ST %QX0.0";
-        402, Case::StoredTimeToNumber => "a TIME cannot be converted to a number: store it to a TIME variable";
+        402, Case::StoredTimeToNumber => "a TIME cannot be converted: store it to a TIME variable; for a number of seconds ADD 1 to a DINT at each pulse of a TON of T#1s";
         402, Case::StoredNumberToTime => "a number cannot be converted to a TIME: load a duration, such as LD T#500ms, or store to a DINT";
         402, Case::ComparedNumber => "compare the number first, such as GE 500: a comparison gives a BOOL";
         402, Case::ComparedTime => "compare the time first, such as GE T#500ms: a comparison gives a BOOL";
@@ -182,16 +201,18 @@ fn kind_hint(number: u16, case: Case) -> Option<&'static str> {
         402, Case::TimeBefore => "compare the time before: LD t.ET, GE T#1s, and then AND with the BOOL";
         402, Case::NegatedNumber => "load the number with LD; its negative is LD 0, then SUB and the number";
         402, Case::NegatedTime => "load the time with LD; its negative is LD T#0s, then SUB and the time";
-        402, Case::SetValue => "declare it as BOOL, or store a value on a condition by a JMPCN over LD and ST";
-        402, Case::StoredNegated => "store it with ST; the negative of a number is LD 0, then SUB and the number";
+        402, Case::SetValue => "declare it as BOOL, or store a value on a condition with a JMPCN over LD and ST";
+        402, Case::StoredNegated => "STN stores a negated BOOL to a BOOL, such as STN %QX0.0; for the negative of a number LD 0, SUB the number, and ST";
         402, Case::CountedBool => "a BOOL cannot be converted to a number: use it with JMPCN, to jump over LD n, ADD 1, ST n";
-        402, Case::OrderedBool => "BOOLs have no GT, GE, LE and LT: load a number first, or combine BOOLs with AND, OR or XOR";
+        402, Case::OrderedBool => "BOOLs have no GT, GE, LE or LT: load a number first, or combine BOOLs with AND, OR or XOR";
         402, Case::EqualBool => "compare a BOOL with TRUE or FALSE; to compare a number or a time, load it first";
         402, Case::NumberWithTime => "compare a DINT with a number, such as GE 500";
         402, Case::TimeWithNumber => "compare a TIME with a duration, such as GE T#500ms";
         402, Case::AddedNumber => "add a number to a DINT, such as ADD 5; a TIME cannot be converted to a number";
-        402, Case::AddedTime => "add a duration to a TIME, such as ADD T#500ms; it cannot be converted to a number";
-        402, Case::MultipliedTime => "a TIME cannot be multiplied, divided or converted: write the product as a duration, such as T#15s, or ADD the time several times";
+        402, Case::AddedTime => "add a duration to a TIME, such as ADD T#500ms";
+        402, Case::MultipliedTime => "a TIME cannot be multiplied: write the product as a duration, such as T#15s, or ADD the time several times";
+        402, Case::MultipliedByTime => "a TIME cannot be multiplied: load the product, such as LD T#5s, and store it to a TIME variable; for milliseconds as a number use DINTs only, such as MUL 1000";
+        402, Case::DividedTime => "a TIME cannot be divided: compare it, such as GE T#15s; for a number of seconds ADD 1 to a DINT at each pulse of a TON of T#1s";
         402, Case::NumberInParenthesis => "compare the number before the `)`, such as GE 500: a comparison gives a BOOL";
         402, Case::TimeInParenthesis => "compare the time before the `)`, such as GE T#500ms: a comparison gives a BOOL";
         402, Case::Closing => "end the lines in the parenthesis with the type of the result before it";

@@ -1,5 +1,5 @@
 //! The sentences of the refusals: what is said of each by its number (`entry_of`), by the case in which its rule is broken
-//! (`sentence_of`, `hint_of`), of what could be there (`words_of`) and with values (`text_with`); and the formats of a message.
+//! (`sentence_of`, `hint_of`), of what could be there (`words_of`) and with values (`text_with`, `paths_text`); and the formats of a message.
 #![tactic(auto)]
 
 mod case;
@@ -8,6 +8,7 @@ mod differences;
 mod expected;
 mod format;
 mod hints;
+mod paths;
 mod sentences;
 mod values;
 
@@ -17,5 +18,6 @@ pub use differences::{Difference, difference_text};
 pub use expected::{Expected, words_of};
 pub use format::Format;
 pub use hints::hint_of;
+pub use paths::{Paths, empty_path_advice, paths_text};
 pub use sentences::sentence_of;
 pub use values::{Values, text_with};

@@ -68,6 +68,8 @@ fn reading_sentence(number: u16, case: Case) -> Option<&'static str> {
         201, Case::LineEnd => "the line cannot end here";
         201, Case::StandardFunction => "is a standard function, and functions are not supported";
         201, Case::Configuration => "is not supported";
+        201, Case::Constant => "`CONSTANT` is not supported";
+        201, Case::Retain => "`RETAIN` is not supported";
         201, _ => "is unexpected here";
         203, Case::SecondProgram => "there is a second PROGRAM";
         203, Case::EmptyText => "the file is empty";
@@ -85,12 +87,17 @@ fn declaration_sentence(number: u16, case: Case) -> Option<&'static str> {
         number, case;
         301, _ => "is declared twice";
         302, _ => "is not a type of this language";
+        303, Case::InitialBool => "is not an initial value of a BOOL";
+        303, Case::InitialNumber => "is not an initial value of a DINT";
+        303, Case::InitialTime => "is not an initial value of a TIME";
+        303, Case::InitialInstance => "is an initial value, and an instance has none";
         303, _ => "is not an initial value of this type";
         304, _ => "is not an address of this machine";
         305, _ => "cannot be used in a function block";
         306, Case::Variable => "is one variable more than the 256 that a unit may have";
         306, _ => "makes a frame of more than 4096 places";
         307, _ => "is a reserved word";
+        308, Case::BlockInItself => "is this function block itself";
         308, _ => "is a function block that is declared below, or this one itself";
     }
 }
@@ -101,6 +108,8 @@ fn excerpt_sentence(number: u16, case: Case) -> Option<&'static str> {
         number, case;
         401, Case::Field => "is not an input or output of a declared instance";
         403, Case::AtLabel => "the current result is undefined: the paths to this label bring different types, or no value";
+        403, Case::Unreached => "there is no current result, since this line is never reached";
+        403, Case::Plain => "there is no current result";
         403, Case::NoCondition => "needs a BOOL, and there is no current result";
         401, Case::BlockType => "is the name of a type, not of an instance";
         401, Case::Watched => "is not a variable of the program";

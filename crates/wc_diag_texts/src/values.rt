@@ -19,10 +19,20 @@ pub enum Values<'a> {
     NearEnd(&'a str, u32),
     /// A word and a number, of which another tool makes an address.
     ForeignAddress(&'a str, &'a str),
-    /// The line of a path to a label and what it brings, and likewise for another.
-    TwoPaths(u32, &'a str, u32, &'a str),
-    /// The line of a path that brings nothing to a label.
-    EmptyPath(u32),
+    /// The hint for lines of STL outside a unit.
+    Framed(&'a str),
+    /// An instance that is called without parentheses, and its input.
+    BareInput(&'a str, &'a str),
+    /// An instance that is not declared, and the block of which it may be.
+    NewInstance(&'a str, &'a str),
+    /// A name before a point that is not declared, and the name after it.
+    NoGlobal(&'a str, &'a str),
+    /// A variable before a point, and its type.
+    NoFields(&'a str, &'a str),
+    /// A bit, the variable before its point, and the power of two that divides it.
+    Bit(u32, &'a str, u32),
+    /// The line on which a function block is declared.
+    BlockBelow(u32),
     /// A word that may be a label.
     LabelColon(&'a str),
     /// The block whose input is used as an operator.
@@ -62,15 +72,36 @@ pub fn text_with(alloc: Global, values: Values<'_>) -> Result<String, AllocError
         Values::ForeignAddress(word, number) => {
             format!(in alloc; "is not a number, and `{word} {number}` is not an address")
         }
-        Values::TwoPaths(first, brought, other, different) => {
+        Values::Framed(hint) => {
             format!(in alloc;
-                "the current result is undefined: line {first} brings {brought} to this label, line {other} brings {different}"
+                "{hint}; write all between PROGRAM P (in place of ORGANIZATION_BLOCK and BEGIN) and END_PROGRAM"
             )
         }
-        Values::EmptyPath(line) => {
+        Values::BareInput(instance, input) => {
             format!(in alloc;
-                "the current result is undefined: line {line} brings no value to this label"
+                "put the inputs of the call in parentheses: CAL {instance}({input} := a)"
             )
+        }
+        Values::NewInstance(name, block) => {
+            format!(in alloc; "declare the instance in VAR, such as {name} : {block};")
+        }
+        Values::NoGlobal(name, field) => {
+            format!(in alloc;
+                "there are no global variables: declare {field} in VAR, and write {field} without `{name}.`"
+            )
+        }
+        Values::NoFields(name, kind) => {
+            format!(in alloc;
+                "`{name}` is a {kind}, and has no fields: only an instance has, such as t.Q of t : TON;"
+            )
+        }
+        Values::Bit(bit, name, power) => {
+            format!(in alloc;
+                "a DINT has no bits: for bit {bit} of a number that is not negative write LD {name}, DIV {power}, MOD 2, EQ 1"
+            )
+        }
+        Values::BlockBelow(line) => {
+            format!(in alloc; "is a function block that is declared below, on line {line}")
         }
         Values::LabelColon(word) => {
             format!(in alloc; "a label ends with a colon: write `{word}:`")

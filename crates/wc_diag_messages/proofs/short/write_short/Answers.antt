@@ -17,8 +17,8 @@ returns c =
       line_is = known.line_is;
       all = all;
       one = record {
-        line = short_text refusal.name.now (position_text refusal parts.line parts.diagnostic.text_span) refusal.number parts.reported.bytes.items;
+        line = short_text refusal.name.now (position_text refusal parts.line parts.diagnostic.shown.items parts.diagnostic.text_span) refusal.number parts.reported.bytes.items;
         ends = all;
-        controls = short_above refusal parts.line parts.diagnostic.text_span parts.reported.bytes.items (reported_above parts.diagnostic.subject.items parts.reported.bytes.items known.knows.says);
+        controls = short_above refusal parts.line parts.diagnostic.shown.items parts.diagnostic.text_span parts.reported.bytes.items (reported_above parts.diagnostic.subject.items parts.reported.bytes.items known.knows.says);
       };
     }

@@ -15,8 +15,8 @@ returns c =
       knows = knows;
       all = all;
       one = record {
-        line = warning_line file (text_span_text warning.line parts.diagnostic.text_span) warning.number reported;
+        line = warning_line file (text_span_text warning.line parts.diagnostic.shown.items parts.diagnostic.text_span) warning.number reported;
         ends = all;
-        controls = warning_line_above file warning.line parts.diagnostic.text_span warning.number reported (warned_above warning.name.now knows.said reported knows.reported_is);
+        controls = warning_line_above file warning.line parts.diagnostic.shown.items parts.diagnostic.text_span warning.number reported (warned_above warning.name.now knows.said reported knows.reported_is);
       };
     }

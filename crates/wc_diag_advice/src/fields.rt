@@ -1,0 +1,134 @@
+use crate::advice::short_words;
+use crate::near::near_name;
+use std::alloc::{AllocError, Global};
+use wc_built_in::variable_at;
+use wc_diag_mistakes::{excerpt, first_word, following, prefix, word_before, words_at};
+use wc_diag_stops::RefusalSpan;
+use wc_diag_texts::{Values, text_with};
+use wc_model::is_word;
+
+/// The greatest bit of a number that is not negative.
+const GREATEST_BIT: u32 = 30;
+
+/// The block that an instance may be of, if one of its fields has that name; empty if no standard block has it.
+fn block_with(field: &[u8]) -> &'static str {
+    let timer: [&[u8]; 4] = [b"q", b"et", b"in", b"pt"];
+    let counter: [&[u8]; 3] = [b"cv", b"cu", b"pv"];
+    if timer.iter().any(|name| is_word(name, field)) {
+        "TON"
+    } else if counter.iter().any(|name| is_word(name, field)) {
+        "CTU"
+    } else if is_word(b"clk", field) {
+        "R_TRIG"
+    } else if is_word(b"q1", field) || is_word(b"s1", field) {
+        "SR"
+    } else {
+        ""
+    }
+}
+
+/// What to write for a name before a point that the unit does not declare, and the name after it.
+fn undeclared_advice(
+    alloc: Global,
+    text: &[u8],
+    place: usize,
+    name: &str,
+    field: &str,
+) -> Result<String, AllocError> {
+    let near = str::from_utf8(near_name(text, name.as_bytes(), place)).unwrap_or("");
+    let block = block_with(field.as_bytes());
+    if !near.is_empty() {
+        let full = format!(in alloc; "{near}.{field}")?;
+        return text_with(alloc, Values::Near(&full));
+    }
+    if block.is_empty() {
+        return text_with(alloc, Values::NoGlobal(name, field));
+    }
+    text_with(alloc, Values::NewInstance(name, block))
+}
+
+/// What to write for a name before a point that is not of an instance.
+pub(crate) fn point_advice(
+    alloc: Global,
+    text: &[u8],
+    span: &RefusalSpan,
+) -> Result<String, AllocError> {
+    let word = match span.below {
+        Some(below) => words_at(text, Some(below)).as_bytes(),
+        None => excerpt(text, span.start, span.length),
+    };
+    let name = first_word(word);
+    let after = following(word, name.len().saturating_add(1)).trim_ascii();
+    let (name, field) = (short_words(name), short_words(after));
+    let kind = words_at(text, span.block);
+    if name.is_empty() || field.is_empty() {
+        return Ok(String::new(alloc));
+    }
+    if !kind.is_empty() {
+        return text_with(alloc, Values::NoFields(name, kind));
+    }
+    undeclared_advice(alloc, text, span.start, name, field)
+}
+
+/// What to write for the inputs of a call without parentheses.
+pub(crate) fn input_advice(
+    alloc: Global,
+    text: &[u8],
+    span: &RefusalSpan,
+) -> Result<String, AllocError> {
+    let input = short_words(excerpt(text, span.start, span.length));
+    let instance = short_words(word_before(text, span.start));
+    let rest = following(text, span.start.saturating_add(span.length));
+    if !rest.trim_ascii_start().starts_with(b":=") || input.is_empty() || instance.is_empty() {
+        return Ok(String::new(alloc));
+    }
+    text_with(alloc, Values::BareInput(instance, input))
+}
+
+/// The number of a bit, if some digits are one.
+fn bit_of(digits: &[u8]) -> Option<u32> {
+    let mut bit = 0_u32;
+    for digit in digits {
+        if !digit.is_ascii_digit() {
+            return None;
+        }
+        bit = bit
+            .saturating_mul(10)
+            .saturating_add(u32::from(*digit - b'0'));
+    }
+    if digits.is_empty() || bit > GREATEST_BIT {
+        return None;
+    }
+    Some(bit)
+}
+
+/// What to write for a bit of a number, whose name comes before the point.
+fn bit_of_number_advice(alloc: Global, name: &str, bit: u32) -> Result<String, AllocError> {
+    let mut power = 1_u32;
+    for _doubled in 0..bit.min(GREATEST_BIT) {
+        power = power.saturating_mul(2);
+    }
+    text_with(alloc, Values::Bit(bit, name, power))
+}
+
+/// What to write for a number after a point: an address without its `%`, or a bit of a number.
+pub(crate) fn number_advice(
+    alloc: Global,
+    text: &[u8],
+    span: &RefusalSpan,
+) -> Result<String, AllocError> {
+    let digits = excerpt(text, span.start, span.length);
+    let above = prefix(text, span.start).trim_ascii_end();
+    let name = short_words(word_before(text, above.len().saturating_sub(1)));
+    if name.is_empty() {
+        return Ok(String::new(alloc));
+    }
+    let address = format!(in alloc; "%{name}.{}", short_words(digits))?;
+    if variable_at(address.as_bytes()).is_some() {
+        return text_with(alloc, Values::Near(&address));
+    }
+    match bit_of(digits) {
+        Some(bit) => bit_of_number_advice(alloc, name, bit),
+        None => Ok(String::new(alloc)),
+    }
+}
