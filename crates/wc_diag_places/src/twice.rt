@@ -1,3 +1,7 @@
+ghost use Rattle.std.specs.Prelude.{◌≡◌};
+ghost use Rattle.wc_diag_places.specs.LaterTextSpans.{unit_number};
+ghost use Rattle.wc_model.specs.Language.Views.{text_view};
+
 use wc_diag_texts::Case;
 use wc_model::{Line, MOST_VARIABLES, Source, Unit, Word};
 
@@ -10,15 +14,15 @@ fn place_before(word: &Word<'_>, name: &[u8], place: u32) -> Option<u32> {
 }
 
 /// The number of the unit that a place is in.
-pub(crate) fn unit_at(source: &Source<'_>, place: u32) -> usize {
-    let mut count = 0_usize;
-    for unit in &source.units {
-        if unit.line > place {
-            return count.saturating_sub(1);
-        }
-        count = count.saturating_add(1);
-    }
-    count.saturating_sub(1)
+pub(crate) fn unit_at(source: &Source<'_>, place: u32) -> usize
+    ensures { result ≡ unit_number (text_view source.now) place }
+{
+    let begun = source
+        .units
+        .iter()
+        .take_while(|unit| unit.line <= place)
+        .count();
+    begun.saturating_sub(1)
 }
 
 /// The number of these names up to a place.
