@@ -1,9 +1,9 @@
-ghost use Rattle.std.specs.Prelude.{◌≡◌, ◌||◌, ◌&&◌, ◌++◌, ℕ, [], ◌∷◌, List, IfOk, None, Option, Some, length, not, option_map};
+ghost use Rattle.std.specs.Prelude.{◌≡◌, ◌||◌, ◌&&◌, ◌++◌, ℕ, [], ◌∷◌, List, IfOk, None, Option, Some, not, option_map, true};
 ghost use Rattle.std.specs.List.{list_any};
 ghost use Rattle.wc_diag_places.specs.Arguments.{IsFirstBrokenOf, broken_at};
 ghost use Rattle.wc_diag_places.specs.Excerpts.{list_end};
 ghost use Rattle.wc_diag_places.specs.Lists.{AreListed, IsListedAs, item_at};
-ghost use Rattle.wc_model.specs.Language.BodyRules.{actual_checks, is_of};
+ghost use Rattle.wc_model.specs.Language.BodyRules.{actual_checks, is_bit_literal, is_of};
 ghost use Rattle.wc_model.specs.Language.Checks.{Check, Position, asks, first_broken};
 ghost use Rattle.wc_model.specs.Language.Declarations.{Member, VariableType, members_of, same_name};
 ghost use Rattle.wc_model.specs.Language.Kinds.{elementary_kind, is_kind};
@@ -56,6 +56,15 @@ fn is_of_kind(kind: Kind, found: Option<Kind>) -> bool
     }
 }
 
+/// Whether an input of a kind takes what is of that kind, if of any.
+fn suits_input(kind: Kind, operand: &Operand<'_>, found: Option<Kind>) -> bool
+    ensures { result
+        ≡ (is_of (is_kind kind) found
+        || (is_kind Kind.Bool kind && is_bit_literal (term_view operand.now))) }
+{
+    is_of_kind(kind, found) || is_kind(Kind::Bool, kind) && is_bit_literal(operand)
+}
+
 /// What goes into an input of a kind.
 fn rule_of_input(kind: Kind, operand: &Operand<'_>, entity: Entity) -> Option<u16>
     ensures { (scope : Scope) (m : Member) (line : ℕ) (rest : List Check)
@@ -65,9 +74,8 @@ fn rule_of_input(kind: Kind, operand: &Operand<'_>, entity: Entity) -> Option<u1
         (actual_checks scope line Direction.Into (Some m) (term_view operand.now) ++ rest)
         ≡ first_at result line (first_broken rest) }
 {
-    let fits = is_of_kind(kind, entity.kind)
-        || is_kind(Kind::Bool, kind) && is_bit_literal(operand);
-    first_rule(true, entity.readable, 405, fits)
+    let suits = suits_input(kind, operand, entity.kind);
+    first_rule(true, entity.readable, 405, suits)
 }
 
 /// Where an output of a kind goes.
@@ -79,6 +87,17 @@ fn rule_of_output(kind: Kind, entity: Entity) -> Option<u16>
         ≡ first_at result line (first_broken rest) }
 {
     first_rule(true, entity.writable, 404, is_of_kind(kind, entity.kind))
+}
+
+/// What is passed names nothing.
+fn rule_of_nothing() -> Option<u16>
+    ensures { (scope : Scope) (direction : Direction) (m : Member) (term : Term) (line : ℕ)
+        (rest : List Check)
+        → None ≡ option_map (numbered_entity scope) (entity_of scope term)
+        → first_broken (actual_checks scope line direction (Some m) term ++ rest)
+        ≡ first_at result line (first_broken rest) }
+{
+    Some(401)
 }
 
 /// The first rule that the value of an input or output of a kind breaks.
@@ -99,7 +118,7 @@ fn rule_of_value(
             Direction::Into => rule_of_input(kind, operand, entity),
             Direction::OutOf => rule_of_output(kind, entity),
         },
-        None => Some(401),
+        None => rule_of_nothing(),
     }
 }
 
@@ -112,12 +131,13 @@ fn broken_rule<'a>(
     item: Item,
     is_new: bool,
 ) -> Option<u16>
-    ensures { (scope : Scope) (type : VariableType) (line : ℕ) (position : Position Assignment)
+    ensures rule { (scope : Scope) (type : VariableType) (line : ℕ) (position : Position Assignment)
         → IsScope tables.now unit scope
         → numbered_type scope.before type ≡ Some declared
         → IsListedAs tokens.now item position.item
         → not (list_any (λ a. same_name a.formal position.item.formal) position.before) ≡ is_new
         → broken_at scope line (members_of scope.before type) position ≡ first_at result line None }
+    ensures new { result ≡ None → is_new ≡ true }
 {
     let Some(formal) = tables.formal(declared, item.direction, text_at(tokens, item.name)) else {
         return Some(409);
@@ -152,7 +172,7 @@ fn first_broken_among<'a>(
         → found ≡ Some (record { item = item_at tokens.now k; number = number })) }
 {
     let mut item = item_after(tokens, 2);
-    for _item in 0..end {
+    for _number in 0..end {
         if item.name >= end {
             return Ok(None);
         }

@@ -1,4 +1,5 @@
 ghost use Rattle.std.specs.Prelude.{◌≡◌, ◌≤◌, ◌+◌, length, min};
+ghost use Rattle.std.specs.List.{position_or_len};
 ghost use Rattle.std.specs.Option.{option_copied};
 ghost use Rattle.wc_diag_places.specs.Lists.{direction_of, is_mark_shape, item_after, mark_after, text_at, value_end};
 
@@ -26,6 +27,14 @@ fn is_mark(token: &Token<'_>) -> bool
     }
 }
 
+/// The number of tokens that end a line before one that does not.
+fn line_ends(tokens: &[Token<'_>]) -> usize
+    ensures count { result ≡ position_or_len (λ token. is_mark_shape token.shape) tokens.now }
+    ensures within { result ≤ length tokens.now }
+{
+    tokens.iter().take_while(|token| !is_mark(token)).count()
+}
+
 /// The first index after one whose token ends no line.
 fn mark_after(tokens: &[Token<'_>], index: usize) -> usize
     ensures mark { result ≡ mark_after tokens.now index }
@@ -34,7 +43,7 @@ fn mark_after(tokens: &[Token<'_>], index: usize) -> usize
 {
     let from = index.saturating_add(1).min(tokens.len());
     let (_, rest) = tokens.split_at(from);
-    from + rest.iter().take_while(|token| !is_mark(token)).count()
+    from + line_ends(rest)
 }
 
 /// What the sign of an item says.
