@@ -1,13 +1,14 @@
 -- Which one of a call's list breaks a rule first.
-use Rattle.std.proofs.Common.{◌≡◌, ℕ, zero, suc, ◌+◌, ◌<◌, ◌≤◌, Bool, true, false, not, List, [], ◌∷◌, ◌++◌, length, Option, Some, None, append-nil, add-one, refl, sym, ap, subst, ◌∙◌, arith, ◌⊎◌, inl, inr}
+use Rattle.std.proofs.Common.{◌≡◌, ℕ, suc, ◌+◌, ◌<◌, ◌≤◌, Bool, true, false, not, List, [], ◌∷◌, ◌++◌, Option, Some, None, Result, Ok, Err, append-nil, add-one, refl, sym, ap, subst, ◌∙◌, arith, ◌⊎◌, inl, inr}
 use Rattle.std.specs.List.{list_any}
-use Rattle.std.specs.Prelude.{◌||◌, ◌&&◌, if◌then◌else◌, is_some, min, slice_get}
+use Rattle.std.specs.Prelude.{IfOk, ◌||◌, ◌&&◌, if◌then◌else◌, is_some, slice_get}
 use Rattle.std.proofs.lemmas.Bool.{cases_order}
 use Rattle.std.proofs.lemmas.List.Sums.{prefix_len-le-length}
 use Rattle.wc_diag_places.proofs.Positions.{earlier_there, first_before, item_far, item_there, previous_of}
-use Rattle.wc_diag_places.specs.Arguments.{IsFirstBrokenOf, broken_at}
-use Rattle.wc_diag_places.specs.Excerpts.{is_closing_shape, list_end}
+use Rattle.wc_diag_places.specs.Arguments.{IsArgument, IsArgumentAt, IsFirstBrokenOf, argument_count, argument_from, broken_at, means_name}
+use Rattle.wc_diag_places.specs.Excerpts.{begins_item, is_closing_shape, list_end, tokens_at}
 use Rattle.wc_diag_places.specs.Lists.{AreListed, IsListedAs, item_after, item_at, text_at}
+use Rattle.wc_diag_places.specs.declared.arguments.Broken.{Broken}
 use Rattle.wc_diag_places.specs.declared.lists.Item.{Item}
 use Rattle.wc_lexer.specs.declared.shape.Token.{Token}
 use Rattle.wc_model.specs.Language.BodyRules.{actual_checks, formal_named, is_bit_literal, is_of, suits_input}
@@ -103,7 +104,7 @@ module _ (tables : Tables) (unit : ℕ) (declared : DeclaredType) (tokens : List
           let after = previous_of [] arguments n position at in
           let one = listed_here arguments after.previous listed after.there in
           let all : more ≡ names ++ after.previous.item.formal ∷ [] =
-              kept ∙ ap (λ b. if b then names ++ name_of (text_at tokens item.name) ∷ [] else names) (fresh is_none) ∙ ap (λ name. names ++ name ∷ []) (sym one.formal) in
+          kept ∙ ap (λ b. if b then names ++ name_of (text_at tokens item.name) ∷ [] else names) (fresh is_none) ∙ ap (λ name. names ++ name ∷ []) (sym one.formal) in
           subst (λ list. HoldsNames list position.before) (sym all)
           (subst (λ (before : List Assignment). HoldsNames (names ++ after.previous.item.formal ∷ []) before) (sym after.before_is)
           (one_more names after.previous.before after.previous.item (so_far.held arguments after.previous listed after.there)));
@@ -164,3 +165,39 @@ all_looked_at tables unit declared tokens names item n so_far all scope type lin
     past_end tables unit declared tokens names item n so_far scope type line k number arguments
     (let far = item_far tokens n in let within = prefix_len-le-length (λ (token : Token). not (is_closing_shape token.shape)) tokens in
     let here = ap (λ (one : Item). one.name) so_far.here in omega (arith, all, far, within, here)) is num listed first
+
+-- what is found is one of a number
+abbrev item_or : Item → Option Broken → Item
+item_or other None = other
+item_or other (Some broken) = broken.item
+
+abbrev number_or : ℕ → Option Broken → ℕ
+number_or other None = other
+number_or other (Some broken) = broken.number
+
+pub same_broken : (found : Option Broken) (broken : Broken) (item : Item) (number : ℕ) → found ≡ Some broken → found ≡ Some (record { item = item; number = number })
+    → (broken.item ≡ item) × (broken.number ≡ number)
+same_broken found broken item number here there = (ap (item_or item) (sym here ∙ there), ap (number_or number) (sym here ∙ there))
+
+-- the tokens that a refusal means of one of a list are in the list
+argument_there : (tokens : List Token) (number : ℕ) (item : Item) (a : Assignment) → IsListedAs tokens item a
+    → (argument_from number item + argument_count number item ≤ list_end tokens) × (begins_item tokens (argument_from number item) ≡ true)
+argument_there tokens number item a listed = by (means_name number)
+  where
+    by : (name : Bool) → ((if name then item.name else item.value) + (if name then 1 else item.count) ≤ list_end tokens) × (begins_item tokens (if name then item.name else item.value) ≡ true)
+    by true = (listed.name_within, listed.name_begins)
+    by false = (listed.value_within, listed.value_begins)
+
+pub argument_excerpt : (scope : Scope) (number : ℕ) (tokens excerpt : List Token) (from count : ℕ) → IsArgumentAt scope number tokens from count
+    → (from + count ≤ list_end tokens → begins_item tokens from ≡ true → excerpt ≡ tokens_at tokens from count) → IsArgument scope number tokens excerpt
+argument_excerpt scope number tokens excerpt from count at there = λ type line k arguments typed instance listed first.
+    let here = at type line k arguments typed instance listed first in
+    let one = listed k first.position.item (item_there [] arguments k first.position first.there) in
+    let inside = argument_there tokens number (item_at tokens k) first.position.item one in
+    there (subst (λ n. n ≤ list_end tokens) (λ i. sym here.0 i + sym here.1 i) inside.0) (subst (λ n. begins_item tokens n ≡ true) (sym here.0) inside.1)
+    ∙ (λ i. tokens_at tokens (here.0 i) (here.1 i))
+
+-- what follows of what is given, if something is
+pub if_ok : {X E : Type 0} (r : Result X E) (P Q : X → Type 0) → ((x : X) → P x → Q x) → IfOk r P → IfOk r Q
+if_ok (Ok x) P Q f p = f x p
+if_ok (Err e) P Q f p = tt

@@ -33,7 +33,10 @@ pub(crate) struct InCall {
 }
 
 /// One token of a call.
-fn at_index(from: usize, case: Case) -> InCall {
+fn at_index(from: usize, case: Case) -> InCall
+    ensures from { result.from ≡ from }
+    ensures one { result.count ≡ 1 }
+{
     InCall {
         from,
         count: 1,
@@ -144,6 +147,16 @@ fn offending_argument<'a>(
     }
 }
 
+/// A refusal that no argument explains: of what is before the list.
+fn no_argument(number: u16) -> InCall {
+    let case = if number == 403 {
+        Case::Plain
+    } else {
+        Case::Result
+    };
+    at_index(0, case)
+}
+
 /// What a refusal of that number means in the list of a call of an instance; else the operator.
 fn offending_in_list<'a>(
     alloc: Global,
@@ -162,17 +175,13 @@ fn offending_in_list<'a>(
         → (call.from ≡ argument_from number (item_at tokens.now k))
         × (call.count ≡ argument_count number (item_at tokens.now k))) }
 {
-    if let Some(broken) = first_broken_argument(alloc, tables, unit, declared, tokens)? {
-        if broken.number == number {
-            return Ok(offending_argument(tables, unit, declared, tokens, broken));
-        }
-    }
-    let case = if number == 403 {
-        Case::Plain
-    } else {
-        Case::Result
+    let Some(broken) = first_broken_argument(alloc, tables, unit, declared, tokens)? else {
+        return Ok(no_argument(number));
     };
-    Ok(at_index(0, case))
+    if broken.number != number {
+        return Ok(no_argument(number));
+    }
+    Ok(offending_argument(tables, unit, declared, tokens, broken))
 }
 
 /// What a refusal of that number means in a call with a list.

@@ -18,8 +18,8 @@ pub returns-in-Some : goal.returns-in-Some
 returns-in-Some c = λ scope type line k number arguments is num listed first.
     let l = c.loop-number in
     let one =
-        found_first c.args.tables.now c.args.unit c.args.declared c.args.tokens.now l.names l.item l._number l.invariant c.in_ok-is_new.is_new c.in-Some.number
-        (c.in_ok-is_new.ensures.new ∙ ap (λ text. not (is_among l.names (name_of text))) c.text_at.ensures) c.in-Some.ensures.rule scope type line k number arguments is num listed first in
+    found_first c.args.tables.now c.args.unit c.args.declared c.args.tokens.now l.names l.item l._number l.invariant c.in_ok-is_new.is_new c.in-Some.number
+    (c.in_ok-is_new.ensures.new ∙ ap (λ text. not (is_among l.names (name_of text))) c.text_at.ensures) c.in-Some.ensures.rule scope type line k number arguments is num listed first in
     (λ i. Some (record { item = one.1 i; number = one.0 i }))
 
 pub loop-number-preserved : goal.loop-number-preserved

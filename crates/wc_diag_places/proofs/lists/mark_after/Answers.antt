@@ -1,4 +1,4 @@
-use Rattle.std.proofs.Common.{rules, ◌≡◌, ◌+◌, ◌∙◌, length, min, ap, arith}
+use Rattle.std.proofs.Common.{arith}
 use Rattle.std.proofs.lemmas.Grind.{common_steps}
 use Rattle.wc_diag_places.proofs.lists.mark_after.Goals as goal
 use Rattle.wc_diag_places.specs.Lists.{mark_after}
