@@ -90,7 +90,7 @@ impl Picture {
 
     /// Counts the steps of a scan.
     fn count(&mut self, steps: u32)
-        ensures { let running = self.new.running in
+        ensures same { let running = self.new.running in
             self.new ≡ record self.old { running = running } }
         ensures runs { is_some self.new.running ≡ is_some self.old.running }
     {
@@ -104,7 +104,7 @@ impl Picture {
 
     /// The next program takes the place of the first.
     fn change(&mut self)
-        ensures { let running = self.new.running in let before = self.new.before in
+        ensures same { let running = self.new.running in let before = self.new.before in
             self.new ≡ record self.old { running = running; before = before } }
         ensures runs { is_some self.new.running ≡ is_some self.old.running }
     {
@@ -119,7 +119,7 @@ impl Picture {
 
     /// Counts the steps of a row's scan, for the program that then runs.
     fn turn(&mut self, seen: &RowSeen<'_>)
-        ensures { let running = self.new.running in let before = self.new.before in
+        ensures same { let running = self.new.running in let before = self.new.before in
             self.new ≡ record self.old { running = running; before = before } }
         ensures runs { is_some self.new.running ≡ is_some self.old.running }
     {
