@@ -1,4 +1,4 @@
-use Rattle.std.proofs.Common.{◌≡◌, ◌∙◌, ◌∷◌, ◌++◌, ℕ, Option, suc, length, ap, arith, subst, sym}
+use Rattle.std.proofs.Common.{◌≡◌, ◌∙◌, ◌∷◌, ◌++◌, Option, suc, length, ap, arith, subst, sym}
 use Rattle.std.specs.Prelude.{◌-◌, ◌^◌, is_some, min}
 use Rattle.wc_indicator.specs.Kept.{IndicatorState, RepresentsHistory}
 use Rattle.wc_model.specs.Run.ProcessImage.{inputs_with}
