@@ -179,7 +179,7 @@ pub same_broken : (found : Option Broken) (broken : Broken) (item : Item) (numbe
     → (broken.item ≡ item) × (broken.number ≡ number)
 same_broken found broken item number here there = (ap (item_or item) (sym here ∙ there), ap (number_or number) (sym here ∙ there))
 
--- the tokens that a refusal means of one of a list are in the list
+-- the tokens of one of a list to which a refusal refers are in the list
 argument_there : (tokens : List Token) (number : ℕ) (item : Item) (a : Assignment) → IsListedAs tokens item a
     → (argument_from number item + argument_count number item ≤ list_end tokens) × (begins_item tokens (argument_from number item) ≡ true)
 argument_there tokens number item a listed = by (means_name number)

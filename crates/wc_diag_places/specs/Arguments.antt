@@ -1,4 +1,4 @@
--- Which one of a call's list breaks a rule first, and its tokens that a refusal means. (The profile's own.)
+-- Which one of a call's list breaks a rule first, and the tokens of it to which a refusal refers. (The profile's own.)
 use Rattle.std.specs.Prelude.{◌≡◌, ◌<◌, ◌==◌, ◌||◌, ℕ, Bool, true, List, Option, Some, None, slice_get, if◌then◌else◌}
 use Rattle.wc_diag_places.specs.Excerpts.{tokens_at}
 use Rattle.wc_diag_places.specs.Lists.{AreListed, item_at, text_at}
@@ -23,7 +23,7 @@ pub record IsFirstBrokenOf (scope : Scope) (line : ℕ) (members : List Member) 
   pub none_before : (j : ℕ) (earlier : Position Assignment) → j < k → slice_get (positions_of arguments) j ≡ Some earlier
       → broken_at scope line members earlier ≡ None
 
--- of 409 and 410 the name is meant, else the value
+-- 409 and 410 refer to the name, the others to the value
 abbrev pub means_name : ℕ → Bool
 means_name number = (number == 409) || (number == 410)
 
@@ -33,7 +33,7 @@ argument_from number item = if means_name number then item.name else item.value
 abbrev pub argument_count : ℕ → Item → ℕ
 argument_count number item = if means_name number then 1 else item.count
 
--- some tokens from an index on are those that a refusal of that number means: of the first that breaks a rule in the list of a
+-- some tokens from an index on are those to which a refusal of that number refers: of the first that breaks a rule in the list of a
 -- call of an instance in this scope
 abbrev pub IsArgumentAt : Scope → ℕ → List Token → (from count : ℕ) → Type 0
 IsArgumentAt scope number tokens from count =

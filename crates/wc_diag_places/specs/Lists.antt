@@ -1,5 +1,5 @@
 -- The list of a call by its tokens: inputs and outputs, each with a name, a sign and a value, and a comma or `)` after it. A
--- line may end after each of these. (The profile's own form of the list of IEC 61131-3:2003, 3.2.3.)
+-- line may end after each of these. (The profile's own.)
 use Rattle.std.specs.Prelude.{◌≡◌, ◌≤◌, ◌+◌, ◌-◌, ℕ, zero, suc, Bool, true, false, min, nat_lt, List, [], drop, length, Option, Some, None, slice_get, if◌then◌else◌}
 use Rattle.std.specs.List.{position_or_len}
 use Rattle.std.specs.Option.{option_map_or}

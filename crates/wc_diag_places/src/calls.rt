@@ -157,7 +157,7 @@ fn no_argument(number: u16) -> InCall {
     at_index(0, case)
 }
 
-/// What a refusal of that number means in the list of a call of an instance; else the operator.
+/// The offending slice in the list of a call of an instance; else the operator.
 fn offending_in_list<'a>(
     alloc: Global,
     tables: &Tables<'a>,
@@ -184,7 +184,7 @@ fn offending_in_list<'a>(
     Ok(offending_argument(tables, unit, declared, tokens, broken))
 }
 
-/// What a refusal of that number means in a call with a list.
+/// The offending slice in a call with a list.
 pub(crate) fn offending_in_call<'a>(
     alloc: Global,
     tables: &Tables<'a>,

@@ -1,4 +1,4 @@
-ghost use Rattle.std.specs.Prelude.{◌≡◌, ◌∷◌, List, ℕ, OnOk, Option, is_some};
+ghost use Rattle.std.specs.Prelude.{◌≡◌, ◌∷◌, OnOk, Option, is_some};
 ghost use Rattle.wc_model.specs.Instrument.Plates.{PlateData};
 ghost use Rattle.wc_model.specs.Run.Rows.{Past, line_bytes};
 ghost use Rattle.wc_model.specs.Say.ProgramReport.{Logic};
