@@ -1,1 +1,4 @@
 pub mod Placing
+mod Positions
+mod Breaking
+mod Units

@@ -1,19 +1,27 @@
 -- Where the passes after reading refuse a text, and the offending slice of it. (The profile's own.)
-use Rattle.std.specs.Prelude.{◌≡◌, ℕ, List, Some, None, slice_get, ◌⊎◌}
+use Rattle.std.specs.Prelude.{◌≡◌, ◌-◌, ℕ, nat_lt, true, List, Some, None, slice_get, ◌⊎◌}
+use Rattle.std.specs.List.{position_or_len}
 use Rattle.wc_lexer.specs.declared.shape.Token.{Token}
 use Rattle.wc_model.specs.Language.Checks.{Refusal}
 use Rattle.wc_model.specs.Language.Faults.{IsCostFault, body_fault, declaration_fault}
-use Rattle.wc_model.specs.Language.Tree.{Text}
+use Rattle.wc_model.specs.Language.Scopes.{Scope}
+use Rattle.wc_model.specs.Language.Tree.{ProgramUnit, Text}
 use Rattle.wc_model.specs.Language.Views.{text_view}
 use Rattle.wc_model.specs.declared.fault.Fault.{Fault}
 use Rattle.wc_model.specs.declared.fault.Fault.TheVariants.{Memory, Refused}
-use Rattle.wc_diag_places.specs.Excerpts.{IsExcerptOf, length_of_excerpt, line_at, on_line, operator_of, start_of_excerpt, tokens_from}
+use Rattle.wc_names.specs.Numbered.{IsUnit}
+use Rattle.wc_diag_places.specs.Arguments.{IsArgument}
+use Rattle.wc_diag_places.specs.Excerpts.{IsExcerptOf, is_listed, length_of_excerpt, line_at, on_line, operator_of, start_of_excerpt, tokens_from}
 use Rattle.wc_diag_stops.specs.ReadingTextSpans.{AreReadByPlaces}
 use Rattle.wc_diag_places.specs.declared.spanned_source.SpannedSource.{SpannedSource}
 
 -- the refusal of that number, asked at that place
 abbrev pub refusal_at : ℕ → ℕ → Refusal
 refusal_at number place = record { number = number; line = place }
+
+-- the number of the unit that a place is in: of those that begin up to it the last
+abbrev pub unit_number : Text → ℕ → ℕ
+unit_number text place = position_or_len (λ (unit : ProgramUnit). nat_lt place unit.line) text - 1
 
 -- no pass after reading refuses a text
 pub record IsAccepted (text : Text) : Type 0 where
@@ -36,11 +44,13 @@ pub record IsOneToken (text : Text) (number place : ℕ) (tokens excerpt : List 
   pub fault : IsTokenFault text number place
   pub excerpt_is : excerpt ≡ operator_of tokens
 
--- A refusal with the offending slice of the instruction, or of the label or `)`, whose place is given as its line.
+-- A refusal with the offending slice of the instruction, or of the label or `)`, whose place is given as its line. If it has a
+-- list, the slice is that of the very argument that breaks the rule.
 pub record IsInInstruction (text : Text) (number place : ℕ) (tokens excerpt : List Token) : Type 0 where
   pub fault : IsBodyFault text number place
   pub offending : List Token
   pub means : IsExcerptOf number tokens offending
+  pub argument : (scope : Scope) → IsUnit text (unit_number text place) scope → is_listed tokens ≡ true → IsArgument scope number tokens offending
   pub excerpt_is : excerpt ≡ on_line tokens offending
 
 -- The first fault of the passes after reading, with its slice: the tree of the text has the place of each token for its line,

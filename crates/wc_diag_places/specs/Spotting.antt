@@ -1,11 +1,13 @@
 -- What is said of a refusal on the way to its span.
-use Rattle.std.specs.Prelude.{◌≡◌, ℕ, List, slice_get, ◌⊎◌}
+use Rattle.std.specs.Prelude.{◌≡◌, ℕ, true, List, slice_get, ◌⊎◌}
 use Rattle.wc_lexer.specs.declared.shape.Token.{Token}
+use Rattle.wc_model.specs.Language.Scopes.{Scope}
 use Rattle.wc_model.specs.Language.Tree.{Text}
 use Rattle.wc_model.specs.declared.fault.Fault.{Fault}
 use Rattle.wc_model.specs.declared.fault.Fault.TheVariants.{Memory, Refused}
 use Rattle.wc_diag_places.specs.LaterTextSpans.{IsBodyFault, IsTokenFault}
-use Rattle.wc_diag_places.specs.Excerpts.{IsExcerptOf, length_of_excerpt, line_at, on_line, start_of_excerpt}
+use Rattle.wc_diag_places.specs.Arguments.{IsArgument}
+use Rattle.wc_diag_places.specs.Excerpts.{IsExcerptOf, is_listed, length_of_excerpt, line_at, on_line, start_of_excerpt}
 use Rattle.wc_diag_stops.specs.declared.span.RefusalSpan.{RefusalSpan}
 
 -- a fault of pass 3 or of the costs
@@ -24,12 +26,13 @@ pub record PointsTo (number : ℕ) (tokens excerpt : List Token) (text_span : Re
   pub start_is : text_span.start ≡ start_of_excerpt excerpt
   pub length_is : text_span.length ≡ length_of_excerpt excerpt
 
--- a refusal with a slice of the instruction that begins with these tokens
-pub record IsOffendingThere (number : ℕ) (tokens : List Token) (text_span : RefusalSpan) : Type 0 where
+-- a refusal with a slice of the instruction that begins with these tokens, in a scope that is known by this
+pub record IsOffendingThere (known : Scope → Type 0) (number : ℕ) (tokens : List Token) (text_span : RefusalSpan) : Type 0 where
   pub offending : List Token
   pub means : IsExcerptOf number tokens offending
+  pub argument : (scope : Scope) → known scope → is_listed tokens ≡ true → IsArgument scope number tokens offending
   pub points : PointsTo number tokens (on_line tokens offending) text_span
 
 -- or out of memory
-abbrev pub PointsToOffending : ℕ → List Token → RefusalSpan → Type 0
-PointsToOffending number tokens text_span = (text_span.fault ≡ Memory) ⊎ IsOffendingThere number tokens text_span
+abbrev pub PointsToOffending : (Scope → Type 0) → ℕ → List Token → RefusalSpan → Type 0
+PointsToOffending known number tokens text_span = (text_span.fault ≡ Memory) ⊎ IsOffendingThere known number tokens text_span

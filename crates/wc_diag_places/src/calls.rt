@@ -1,13 +1,22 @@
-ghost use Rattle.std.specs.Prelude.{◌≡◌, ◌⊎◌};
-ghost use Rattle.wc_diag_places.specs.Excerpts.{IsOfCall, begins_item, operator_of};
+ghost use Rattle.std.specs.Prelude.{◌≡◌, ◌⊎◌, ◌≤◌, ◌+◌, ℕ, true, List, IfOk, Some};
+ghost use Rattle.wc_diag_places.specs.Arguments.{IsArgumentAt, IsFirstBrokenOf, argument_count, argument_from};
+ghost use Rattle.wc_diag_places.specs.Excerpts.{IsOfCall, begins_item, list_end, operator_of, tokens_at};
+ghost use Rattle.wc_diag_places.specs.Lists.{AreListed, item_at};
+ghost use Rattle.wc_model.specs.Language.Declarations.{VariableType, members_of};
+ghost use Rattle.wc_model.specs.Language.Scopes.{Scope};
+ghost use Rattle.wc_model.specs.Language.Tree.{Assignment};
+ghost use Rattle.wc_names.specs.Numbered.{numbered_type};
+ghost use Rattle.wc_verify.specs.Seeing.{IsScope};
 
+use crate::arguments::{Broken, first_broken_argument};
 use crate::excerpts::{case_of_operand, line_at, list_end, operator_of, tokens_at};
-use crate::kinds::{entity_in, is_bit, is_instance};
+use crate::kinds::{entity_in, is_bit};
+use crate::lists::{item_after, text_at};
 use std::alloc::Global;
 use wc_diag_texts::Case;
 use wc_lexer::{Shape, Token};
 use wc_model::{Direction, Fault, Kind};
-use wc_names::{DeclaredType, Entity, Formal, Names, Tables};
+use wc_names::{DeclaredType, Tables};
 
 /// The offending tokens of a call, and in which way its rule is broken.
 #[derive(Clone, Copy)]
@@ -23,18 +32,11 @@ pub(crate) struct InCall {
     pub(crate) first: u32,
 }
 
-/// One of a call's list: where its name and its value are, and the comma or `)` after it.
-#[derive(Clone, Copy)]
-struct Item {
-    name: usize,
-    value: usize,
-    count: usize,
-    direction: Direction,
-    end: usize,
-}
-
 /// One token of a call.
-fn at_index(from: usize, case: Case) -> InCall {
+fn at_index(from: usize, case: Case) -> InCall
+    ensures from { result.from ≡ from }
+    ensures one { result.count ≡ 1 }
+{
     InCall {
         from,
         count: 1,
@@ -45,90 +47,12 @@ fn at_index(from: usize, case: Case) -> InCall {
     }
 }
 
-/// The first index after one whose token ends no line.
-fn mark_after(tokens: &[Token<'_>], index: usize) -> usize {
-    for next in index.saturating_add(1)..tokens.len() {
-        if tokens[next].shape != Shape::LineEnd {
-            return next;
-        }
-    }
-    tokens.len()
-}
-
-/// Whether the token at an index is of a shape.
-fn is_at(tokens: &[Token<'_>], index: usize, shape: Shape) -> bool {
-    matches!(tokens.get(index), Some(token) if token.shape == shape)
-}
-
-/// One of a call's list, after the `(` or the comma at an index.
-fn item_after(tokens: &[Token<'_>], index: usize) -> Item {
-    let name = mark_after(tokens, index);
-    let sign = mark_after(tokens, name);
-    let value = mark_after(tokens, sign);
-    let point = mark_after(tokens, value);
-    let last = if is_at(tokens, point, Shape::Point) {
-        mark_after(tokens, point)
-    } else {
-        value
-    };
-    Item {
-        name,
-        value,
-        count: last.saturating_sub(value).saturating_add(1),
-        direction: if is_at(tokens, sign, Shape::Arrow) {
-            Direction::OutOf
-        } else {
-            Direction::Into
-        },
-        end: mark_after(tokens, last),
-    }
-}
-
-/// The text of the token at an index.
-fn text_at<'a>(tokens: &[Token<'a>], index: usize) -> &'a [u8] {
-    match tokens.get(index) {
-        Some(token) => token.text,
-        None => b"",
-    }
-}
-
 /// What does not fit if a value of some kind is passed to or from one of another; a bit is passed to a BOOL.
 fn unfit_value(kind: Option<Kind>, formal: Kind, is_bit: bool) -> Option<Case> {
     match kind {
         None => Some(Case::Instance),
         Some(kind) if kind == formal || is_bit && formal == Kind::Bool => None,
         Some(kind) => Some(Case::Unpassed(kind, formal)),
-    }
-}
-
-/// In which way what a call's list passes there, or reads, is one that the rule of that number does not allow; nothing if it is.
-fn case_of_entity(
-    number: u16,
-    entity: Entity,
-    formal: Option<Formal>,
-    into: bool,
-    is_bit: bool,
-) -> Option<Case> {
-    match number {
-        402 => unfit_value(entity.kind, formal?.kind, into && is_bit),
-        404 if !into && !entity.writable => Some(Case::Plain),
-        405 if into && !entity.readable => Some(Case::Plain),
-        _ => None,
-    }
-}
-
-/// Likewise for a value, which may name nothing.
-fn case_of_value(
-    number: u16,
-    excerpt: &[Token<'_>],
-    entity: Option<Entity>,
-    formal: Option<Formal>,
-    into: bool,
-) -> Option<Case> {
-    match entity {
-        None if number == 401 => Some(case_of_operand(excerpt)),
-        None => None,
-        Some(entity) => case_of_entity(number, entity, formal, into, is_bit(excerpt)),
     }
 }
 
@@ -152,60 +76,6 @@ fn unknown_formal(
     }
 }
 
-/// The offending slice in one of a call's list that breaks the rule, if it does.
-fn offending_in_item<'a>(
-    tables: &Tables<'a>,
-    unit: usize,
-    declared: DeclaredType,
-    tokens: &[Token<'a>],
-    number: u16,
-    item: Item,
-) -> Option<InCall> {
-    let name = text_at(tokens, item.name);
-    let formal = tables.formal(declared, item.direction, name);
-    let into = item.direction == Direction::Into;
-    if number == 409 && formal.is_none() {
-        return Some(InCall {
-            is_passed: into,
-            ..at_index(
-                item.name,
-                unknown_formal(tables, declared, item.direction, name),
-            )
-        });
-    }
-    let excerpt = tokens_at(tokens, item.value, item.count);
-    let entity = entity_in(tables, unit, excerpt);
-    let case = case_of_value(number, excerpt, entity, formal, into)?;
-    Some(InCall {
-        count: item.count,
-        name: item.name,
-        is_passed: into,
-        ..at_index(item.value, case)
-    })
-}
-
-/// The offending slice in a call whose list, which ends there, breaks the rule; else the operator.
-fn offending_in_list<'a>(
-    tables: &Tables<'a>,
-    unit: usize,
-    declared: DeclaredType,
-    tokens: &[Token<'a>],
-    number: u16,
-    end: usize,
-) -> InCall {
-    let mut item = item_after(tokens, 2);
-    for _item in 0..end {
-        if item.name >= end {
-            return at_index(0, Case::Result);
-        }
-        if let Some(found) = offending_in_item(tables, unit, declared, tokens, number, item) {
-            return found;
-        }
-        item = item_after(tokens, item.end);
-    }
-    at_index(0, Case::Result)
-}
-
 /// The line of the first name of a list that is this one.
 fn first_line_of(tokens: &[Token<'_>], name: &[u8], end: usize) -> u32 {
     let mut item = item_after(tokens, 2);
@@ -218,50 +88,119 @@ fn first_line_of(tokens: &[Token<'_>], name: &[u8], end: usize) -> u32 {
     0
 }
 
-/// The first name of a list that is among these names or is in it before, with the line of the one before it.
-fn among_names<'a>(
-    names: &mut Names<'a>,
+/// In which way the value of one of a call's list breaks the rule of that number.
+fn case_of_value<'a>(
+    tables: &Tables<'a>,
+    unit: usize,
+    declared: DeclaredType,
     tokens: &[Token<'a>],
-    end: usize,
-) -> Result<InCall, Fault> {
-    let mut item = item_after(tokens, 2);
-    for _item in 0..end {
-        let name = text_at(tokens, item.name);
-        if !names.add(name)? {
-            return Ok(InCall {
-                first: first_line_of(tokens, name, end),
-                ..at_index(item.name, Case::Plain)
-            });
+    broken: Broken,
+) -> Case {
+    let item = broken.item;
+    let excerpt = tokens_at(tokens, item.value, item.count);
+    let formal = tables.formal(declared, item.direction, text_at(tokens, item.name));
+    match (broken.number, entity_in(tables, unit, excerpt), formal) {
+        (401, _, _) => case_of_operand(excerpt),
+        (402, Some(entity), Some(formal)) => {
+            let takes_bit = item.direction == Direction::Into && is_bit(excerpt);
+            unfit_value(entity.kind, formal.kind, takes_bit).unwrap_or(Case::Result)
         }
-        item = item_after(tokens, item.end);
+        _ => Case::Plain,
     }
-    Ok(at_index(0, Case::Plain))
 }
 
-/// The first name of a list that is in it before.
-fn named_twice(alloc: Global, tokens: &[Token<'_>], end: usize) -> Result<InCall, Fault> {
-    let mut names = Names::new(alloc);
-    among_names(&mut names, tokens, end)
+/// What a refusal refers to in one of a call's list: of 409 and 410 its name, else its value.
+fn offending_argument<'a>(
+    tables: &Tables<'a>,
+    unit: usize,
+    declared: DeclaredType,
+    tokens: &[Token<'a>],
+    broken: Broken,
+) -> InCall
+    ensures from { result.from ≡ argument_from broken.number broken.item }
+    ensures count { result.count ≡ argument_count broken.number broken.item }
+{
+    let item = broken.item;
+    let name = text_at(tokens, item.name);
+    let is_passed = item.direction == Direction::Into;
+    match broken.number {
+        409 => InCall {
+            is_passed,
+            ..at_index(
+                item.name,
+                unknown_formal(tables, declared, item.direction, name),
+            )
+        },
+        410 => InCall {
+            first: first_line_of(tokens, name, list_end(tokens)),
+            ..at_index(item.name, Case::Plain)
+        },
+        _ => InCall {
+            count: item.count,
+            name: item.name,
+            is_passed,
+            ..at_index(
+                item.value,
+                case_of_value(tables, unit, declared, tokens, broken),
+            )
+        },
+    }
 }
 
-/// What a refusal of that number means in a call with a list.
+/// A refusal that no argument explains: of what is before the list.
+fn no_argument(number: u16) -> InCall {
+    let case = if number == 403 {
+        Case::Plain
+    } else {
+        Case::Result
+    };
+    at_index(0, case)
+}
+
+/// The offending slice in the list of a call of an instance; else the operator.
+fn offending_in_list<'a>(
+    alloc: Global,
+    tables: &Tables<'a>,
+    unit: usize,
+    declared: DeclaredType,
+    tokens: &[Token<'a>],
+    number: u16,
+) -> Result<InCall, Fault>
+    ensures { IfOk result (λ call. (scope : Scope) (type : VariableType) (line k : ℕ)
+        (arguments : List Assignment)
+        → IsScope tables.now unit scope
+        → numbered_type scope.before type ≡ Some declared
+        → AreListed tokens.now arguments
+        → IsFirstBrokenOf scope line (members_of scope.before type) arguments number k
+        → (call.from ≡ argument_from number (item_at tokens.now k))
+        × (call.count ≡ argument_count number (item_at tokens.now k))) }
+{
+    let Some(broken) = first_broken_argument(alloc, tables, unit, declared, tokens)? else {
+        return Ok(no_argument(number));
+    };
+    if broken.number != number {
+        return Ok(no_argument(number));
+    }
+    Ok(offending_argument(tables, unit, declared, tokens, broken))
+}
+
+/// The offending slice in a call with a list.
 pub(crate) fn offending_in_call<'a>(
     alloc: Global,
     tables: &Tables<'a>,
     unit: usize,
     tokens: &[Token<'a>],
     number: u16,
-) -> Result<InCall, Fault> {
-    let name = text_at(tokens, 1);
-    let end = list_end(tokens);
-    match tables.variable(unit, name) {
-        None if number == 401 => Ok(at_index(1, Case::Plain)),
-        _ if number == 402 && !is_instance(tables, unit, name) => Ok(at_index(1, Case::NoInstance)),
-        _ if number == 410 => named_twice(alloc, tokens, end),
-        Some(found) if number != 403 => {
-            Ok(offending_in_list(tables, unit, found.declared, tokens, number, end))
-        }
-        _ => Ok(at_index(0, Case::Plain)),
+) -> Result<InCall, Fault>
+    ensures { IfOk result (λ call. (scope : Scope) → IsScope tables.now unit scope
+        → IsArgumentAt scope number tokens.now call.from call.count) }
+{
+    match tables.variable(unit, text_at(tokens, 1)) {
+        Some(found) => match found.declared {
+            DeclaredType::Elementary(_) => Ok(at_index(1, Case::NoInstance)),
+            _ => offending_in_list(alloc, tables, unit, found.declared, tokens, number),
+        },
+        None => Ok(at_index(usize::from(number == 401), Case::Plain)),
     }
 }
 
@@ -283,7 +222,10 @@ fn begins_item(tokens: &[Token<'_>], index: usize) -> bool
 
 /// The offending tokens, where they are in the call; else the operator.
 pub(crate) fn excerpt_of_call<'a, 't>(tokens: &'t [Token<'a>], call: InCall) -> &'t [Token<'a>]
-    ensures { (result.now ≡ operator_of tokens.now) ⊎ IsOfCall tokens.now result.now }
+    ensures some { (result.now ≡ operator_of tokens.now) ⊎ IsOfCall tokens.now result.now }
+    ensures there { call.from + call.count ≤ list_end tokens.now
+        → begins_item tokens.now call.from ≡ true
+        → result.now ≡ tokens_at tokens.now call.from call.count }
 {
     let end = list_end(tokens);
     if call.from > end || call.count > end - call.from || !begins_item(tokens, call.from) {

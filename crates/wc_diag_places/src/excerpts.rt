@@ -14,7 +14,7 @@ fn is_opening(token: Option<&Token<'_>>) -> bool
 }
 
 /// A token is a point.
-fn is_point(token: Option<&Token<'_>>) -> bool
+pub(crate) fn is_point(token: Option<&Token<'_>>) -> bool
     ensures { result ≡ is_point (option_copied token.entry) }
 {
     matches!(token, Some(token) if matches!(token.shape, Shape::Point))

@@ -1,3 +1,7 @@
+ghost use Rattle.std.specs.Prelude.{◌≡◌, option_map};
+ghost use Rattle.wc_diag_places.specs.Lists.{operand_in};
+ghost use Rattle.wc_model.specs.Language.Views.{term_view};
+
 use crate::excerpts::{is_closing, opens};
 use wc_diag_texts::Case;
 use wc_lexer::{Shape, Token};
@@ -8,13 +12,19 @@ use wc_text_lines::{Operating, Operation, operation_of};
 use wc_text_short_lines::operand_of;
 
 /// The operand that some tokens are: one alone, or a name with a field.
-pub(crate) fn operand_in<'a>(excerpt: &[Token<'a>]) -> Option<Operand<'a>> {
+pub(crate) fn operand_in<'a>(excerpt: &[Token<'a>]) -> Option<Operand<'a>>
+    ensures { option_map term_view result ≡ operand_in excerpt.now }
+{
     match (excerpt.first(), excerpt.last()) {
-        (Some(first), Some(last)) if excerpt.len() > 1 => Some(Operand::Field {
-            instance: first.text,
-            field: last.text,
-        }),
-        (Some(only), _) => operand_of(*only),
+        (Some(first), Some(last)) => {
+            if excerpt.len() > 1 {
+                return Some(Operand::Field {
+                    instance: first.text,
+                    field: last.text,
+                });
+            }
+            operand_of(*first)
+        }
         _ => None,
     }
 }

@@ -2,10 +2,12 @@
 //! is the pass itself once more, over places for lines.
 #![tactic(auto)]
 
+mod arguments;
 mod calls;
 mod excerpts;
 mod instances;
 mod kinds;
+mod lists;
 mod paths;
 mod result_kind;
 mod spanned_source;

@@ -1,8 +1,12 @@
-ghost use Rattle.std.specs.Prelude.{◌≡◌, None, IfOk, IfNone, IfSome};
+ghost use Rattle.std.specs.Prelude.{◌≡◌, true, None, IfOk, IfNone, IfSome};
 ghost use Rattle.wc_model.specs.Language.Faults.{declaration_fault};
 ghost use Rattle.wc_names.specs.RepresentsText.{AreTables};
-ghost use Rattle.wc_diag_places.specs.LaterTextSpans.{IsAccepted, OfRead, RefusesLater};
-ghost use Rattle.wc_diag_places.specs.Excerpts.{IsOperatorOrOperand, IsExcerptOf, IsPlainExcerpt, on_line, operator_of, excerpt_by_number, tokens_from};
+ghost use Rattle.wc_diag_places.specs.Arguments.{IsArgument};
+ghost use Rattle.wc_diag_places.specs.LaterTextSpans.{IsAccepted, OfRead, RefusesLater, unit_number};
+ghost use Rattle.wc_model.specs.Language.Scopes.{Scope};
+ghost use Rattle.wc_model.specs.Language.Views.{text_view};
+ghost use Rattle.wc_verify.specs.Seeing.{IsScope};
+ghost use Rattle.wc_diag_places.specs.Excerpts.{IsOperatorOrOperand, IsExcerptOf, IsPlainExcerpt, is_listed, on_line, operator_of, excerpt_by_number, tokens_from};
 ghost use Rattle.wc_diag_places.specs.Spotting.{IsInBody, IsNamed, PointsTo, PointsToOffending};
 
 use crate::calls::{excerpt_of_call, offending_in_call};
@@ -157,7 +161,9 @@ fn found_in<'a, 't>(
     tokens: &'t [Token<'a>],
     number: u16,
 ) -> Result<Found<'a, 't>, Fault>
-    ensures { IfOk result (λ found. IsExcerptOf number tokens.now found.excerpt.now) }
+    ensures excerpt { IfOk result (λ found. IsExcerptOf number tokens.now found.excerpt.now) }
+    ensures argument { IfOk result (λ found. (scope : Scope) → IsScope tables.now unit scope
+        → is_listed tokens.now ≡ true → IsArgument scope number tokens.now found.excerpt.now) }
 {
     if !is_listed(tokens) {
         return Ok(found_plain(tables, unit, tokens, number));
@@ -253,7 +259,9 @@ fn text_span_of_instruction<'a>(
     number: u16,
     place: u32,
 ) -> RefusalSpan
-    ensures { PointsToOffending number (tokens_from spanned_source.now.tokens.items place) result }
+    ensures { let unit = unit_number (text_view spanned_source.now.source) place in
+        PointsToOffending (IsScope tables.now unit) number
+        (tokens_from spanned_source.now.tokens.items place) result }
 {
     let tokens = tokens_from(&spanned_source.tokens, place);
     let unit = unit_at(&spanned_source.source, place);
@@ -299,7 +307,8 @@ fn text_span_of_body<'a>(
     tables: &Tables<'a>,
     fault: Fault,
 ) -> RefusalSpan
-    ensures { OfRead spanned_source.now (λ bytes text. IsInBody text fault
+    ensures { OfRead spanned_source.now (λ bytes text. AreTables tables.now text
+        → IsInBody text fault
         → RefusesLater bytes result.fault result.start result.length) }
 {
     match fault {

@@ -1,3 +1,8 @@
+ghost use Rattle.std.specs.Prelude.{◌≡◌, nat_lt};
+ghost use Rattle.std.specs.List.{position_or_len};
+ghost use Rattle.wc_diag_places.specs.LaterTextSpans.{unit_number};
+ghost use Rattle.wc_model.specs.Language.Views.{text_view};
+
 use wc_diag_texts::Case;
 use wc_model::{Line, MOST_VARIABLES, Source, Unit, Word};
 
@@ -9,16 +14,18 @@ fn place_before(word: &Word<'_>, name: &[u8], place: u32) -> Option<u32> {
     None
 }
 
+/// The number of units that begin up to a place.
+fn units_until(units: &[Unit<'_>], place: u32) -> usize
+    ensures { result ≡ position_or_len (λ unit. nat_lt place unit.line) units.now }
+{
+    units.iter().take_while(|unit| unit.line <= place).count()
+}
+
 /// The number of the unit that a place is in.
-pub(crate) fn unit_at(source: &Source<'_>, place: u32) -> usize {
-    let mut count = 0_usize;
-    for unit in &source.units {
-        if unit.line > place {
-            return count.saturating_sub(1);
-        }
-        count = count.saturating_add(1);
-    }
-    count.saturating_sub(1)
+pub(crate) fn unit_at(source: &Source<'_>, place: u32) -> usize
+    ensures { result ≡ unit_number (text_view source.now) place }
+{
+    units_until(&source.units, place).saturating_sub(1)
 }
 
 /// The number of these names up to a place.

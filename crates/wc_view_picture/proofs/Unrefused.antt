@@ -5,7 +5,6 @@ use Rattle.wc_controller.specs.Endings.{EndsAfter, EndsAfterFault, ReportsFailur
 use Rattle.wc_controller.specs.Files.{Observed}
 use Rattle.wc_controller.specs.InputRuns.{RunsAs, RunsUpTo}
 use Rattle.wc_controller.specs.InputStates.{InputStates, Writer}
-use Rattle.wc_controller.specs.declared.ending.Ending.TheVariants as ended
 use Rattle.wc_controller.specs.declared.input.Input.{Input}
 use Rattle.wc_controller.specs.declared.input.Stopped.{Stopped}
 use Rattle.wc_model.specs.Run.Log.{Record}

@@ -2,6 +2,7 @@
 #![tactic(auto)]
 
 mod picture;
+mod rows;
 mod showing;
 
 pub use showing::show_files;

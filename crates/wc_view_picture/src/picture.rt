@@ -1,3 +1,13 @@
+ghost use Rattle.std.specs.Prelude.{◌≡◌, ◌∷◌, OnOk, Option, is_some};
+ghost use Rattle.wc_model.specs.Instrument.Plates.{PlateData};
+ghost use Rattle.wc_model.specs.Run.Rows.{Past, line_bytes};
+ghost use Rattle.wc_model.specs.Say.ProgramReport.{Logic};
+ghost use Rattle.wc_run.specs.Observing.{IsShown, row_of};
+ghost use Rattle.wc_run.specs.Representation.{Represents};
+ghost use Rattle.wc_sma.specs.Representation.{HasRead};
+ghost use Rattle.wc_view_picture.specs.Seen.{HasHappened, HasSeen, IsNew};
+
+use crate::rows::{change_of, inputs_after, keep, outputs_after, scan_of};
 use std::alloc::{AllocError, Global};
 use wc_cost::Loaded;
 use wc_model::{ByteOut, Outputs};
@@ -17,8 +27,6 @@ pub(crate) struct Picture {
     plate: Option<Plate>,
     inputs: u16,
     outputs: Outputs,
-    /// The steps of the last scan; none if no program does any.
-    steps: Option<u32>,
     /// The steps of the program that runs; none if none does.
     running: Option<ScanSteps>,
     /// The steps of the one whose place it took.
@@ -40,7 +48,9 @@ fn program_bound(loaded: &Loaded<'_>) -> u32 {
 
 impl Picture {
     /// Before the first row. It takes no memory.
-    pub(crate) fn new(alloc: Global) -> Picture {
+    pub(crate) fn new(alloc: Global) -> Picture
+        ensures { IsNew result }
+    {
         Picture {
             alloc,
             line: None,
@@ -50,7 +60,6 @@ impl Picture {
                 bits: 0,
                 words: [0; 4],
             },
-            steps: None,
             running: None,
             before: None,
             next_bound: 0,
@@ -60,48 +69,86 @@ impl Picture {
     }
 
     /// What happened at a row.
-    fn events(&mut self, seen: &RowSeen<'_>) -> Events {
-        let mut events = Events::none();
+    fn events(&mut self, seen: &RowSeen<'_>) -> Events
+        ensures happened { (plate : PlateData) (logic : Option Logic) (past : Past)
+            → IsShown seen.now plate logic past
+            → HasRead self.old.tracker.requests (line_bytes past)
+            → is_some self.old.running ≡ is_some logic
+            → HasHappened plate logic past (row_of seen.now) (row_of seen.now).brings result }
+        ensures read { (past : Past) → HasRead self.old.tracker.requests (line_bytes past)
+            → HasRead self.new.tracker.requests (line_bytes (row_of seen.now ∷ past)) }
+        ensures same { let tracker = self.new.tracker in
+            self.new ≡ record self.old { tracker = tracker } }
+    {
         match seen.row.kind {
-            HeadKind::Bytes => {
-                return self.tracker.follow(seen.row.ms, seen.bytes, seen.answer);
-            }
-            HeadKind::Inputs(inputs) => self.inputs = inputs,
-            HeadKind::Scan => {
-                if let Some(steps) = self.steps {
-                    events.scan(steps);
-                }
-            }
-            HeadKind::Change => {
-                if self.running.is_some() {
-                    events.changes = 1;
-                }
-            }
-            HeadKind::Counts(_) => {}
+            HeadKind::Bytes => self.tracker.follow(seen.row.ms, seen.bytes, seen.answer),
+            HeadKind::Scan => scan_of(&seen.scan),
+            HeadKind::Change => change_of(self.running.is_some()),
+            HeadKind::Counts(_) | HeadKind::Inputs(_) => Events::none(),
         }
-        events
-    }
-
-    /// Keeps a row.
-    fn keep(&mut self, ms: u64, row: Column) -> Result<(), AllocError> {
-        if self.line.is_none() {
-            self.line = Some(TimeLine::new(self.alloc)?);
-        }
-        if let Some(line) = &mut self.line {
-            line.take(ms, row);
-        }
-        Ok(())
     }
 
     /// Counts the steps of a scan.
-    fn count(&mut self, steps: u32) {
-        self.steps = Some(steps);
+    fn count(&mut self, steps: u32)
+        ensures same { let running = self.new.running in
+            self.new ≡ record self.old { running = running } }
+        ensures runs { is_some self.new.running ≡ is_some self.old.running }
+    {
         if let Some(ScanSteps { most, bound }) = self.running {
             self.running = Some(ScanSteps {
                 most: most.max(steps),
                 bound,
             });
         }
+    }
+
+    /// The next program takes the place of the first.
+    fn change(&mut self)
+        ensures same { let running = self.new.running in let before = self.new.before in
+            self.new ≡ record self.old { running = running; before = before } }
+        ensures runs { is_some self.new.running ≡ is_some self.old.running }
+    {
+        if self.running.is_some() {
+            self.before = self.running;
+            self.running = Some(ScanSteps {
+                most: 0,
+                bound: self.next_bound,
+            });
+        }
+    }
+
+    /// Counts the steps of a row's scan, for the program that then runs.
+    fn turn(&mut self, seen: &RowSeen<'_>)
+        ensures same { let running = self.new.running in let before = self.new.before in
+            self.new ≡ record self.old { running = running; before = before } }
+        ensures runs { is_some self.new.running ≡ is_some self.old.running }
+    {
+        if let HeadKind::Change = seen.row.kind {
+            self.change();
+        }
+        if let Some(scan) = &seen.scan {
+            self.count(scan.record.steps);
+        }
+    }
+
+    /// Keeps what a row brought.
+    fn follow(&mut self, seen: &RowSeen<'_>, scale: &Scale<'_, SlotStore>) -> Result<(), AllocError>
+        ensures seen { OnOk result ((plate : PlateData) (logic : Option Logic) (past : Past)
+            → IsShown seen.now plate logic past
+            → Represents scale.now plate logic (row_of seen.now ∷ past)
+            → HasSeen self.old plate logic past
+            → HasSeen self.new plate logic (row_of seen.now ∷ past)) }
+    {
+        let indicator = scale.indicator();
+        let events = self.events(seen);
+        self.turn(seen);
+        self.inputs = inputs_after(seen.row.kind, self.inputs);
+        self.outputs = outputs_after(&seen.scan, self.outputs);
+        self.rows = self.rows.saturating_add(1);
+        self.plate = Some(*indicator.plate());
+        let state = State::at(indicator, self.inputs, &self.outputs);
+        let row = Column { state, events };
+        keep(self.alloc, &mut self.line, seen.row.ms, row)
     }
 
     /// The steps of the programs that ran.
@@ -119,40 +166,6 @@ impl Picture {
         }
     }
 
-    /// The next program takes the place of the first.
-    fn change(&mut self) {
-        if self.running.is_some() {
-            self.before = self.running;
-            self.running = Some(ScanSteps {
-                most: 0,
-                bound: self.next_bound,
-            });
-        }
-    }
-
-    /// Keeps what a row brought.
-    fn follow(
-        &mut self,
-        seen: &RowSeen<'_>,
-        scale: &Scale<'_, SlotStore>,
-    ) -> Result<(), AllocError> {
-        if let HeadKind::Change = seen.row.kind {
-            self.change();
-        }
-        if let Some(scan) = &seen.scan {
-            self.outputs = scan.record.outputs;
-            self.count(scan.record.steps);
-        }
-        self.rows = self.rows.saturating_add(1);
-        let indicator = scale.indicator();
-        if self.plate.is_none() {
-            self.plate = Some(*indicator.plate());
-        }
-        let events = self.events(seen);
-        let state = State::at(indicator, self.inputs, &self.outputs);
-        self.keep(seen.row.ms, Column { state, events })
-    }
-
     /// The text of the picture, with the number and the row of a refusal.
     fn draw(&self, refusal: Option<(u16, u32)>) -> Result<String, AllocError> {
         let (columns, start, width) = match &self.line {
@@ -165,14 +178,17 @@ impl Picture {
 }
 
 impl<W: ByteOut> Observer<SlotStore, W> for Picture {
-    ghost use Rattle.std.specs.Prelude.{⊤, false};
+    ghost use Rattle.std.specs.Prelude.{false};
     ghost use Rattle.wc_run.specs.Reports.{silent_plan};
+    ghost use Rattle.wc_view_picture.specs.Seen.{HasSeen, IsNew};
 
     ghost settings = { λ _. tt };
 
     ghost plan = { λ picture. silent_plan };
 
-    ghost has_seen = { λ picture plate logic past. ⊤ };
+    ghost is_new = { λ picture. IsNew picture };
+
+    ghost has_seen = { λ picture plate logic past. HasSeen picture plate logic past };
 
     ghost has_ended = { λ _ _ _ _ _ _ _. ⊤ };
 

@@ -1,8 +1,8 @@
 use Rattle.std.proofs.Common.{arith, inr, sym, ◌∙◌}
 use Rattle.wc_diag_places.proofs.calls.excerpt_of_call.Goals as goal
 
-pub returns : goal.returns
-returns c =
+pub returns-clause-some : goal.returns-clause-some
+returns-clause-some c =
     inr (record {
       from = c.args.call.from;
       count = c.args.call.count;

@@ -1,4 +1,8 @@
-use Rattle.std.proofs.Common.{inr}
+use Rattle.std.proofs.Common.{◌≡◌, true, List, inr, subst, sym}
+use Rattle.wc_diag_places.specs.Arguments.{IsArgument}
+use Rattle.wc_diag_places.specs.Excerpts.{is_listed}
+use Rattle.wc_lexer.specs.declared.shape.Token.{Token}
+use Rattle.wc_verify.specs.Seeing.{IsScope}
 use Rattle.wc_diag_places.proofs.text_spans.text_span_of_instruction.Goals as goal
 
 pub returns : goal.returns
@@ -7,7 +11,10 @@ returns c =
     let at = c.text_span_of_found.ensures in
     inr (record {
       offending = c.in-Ok.found.excerpt.now;
-      means = rw tokens at c.in-Ok.ensures;
+      means = rw tokens at c.in-Ok.ensures.excerpt;
+      argument = λ scope known listed.
+          subst (λ (list : List Token). is_listed list ≡ true → IsArgument scope c.args.number list c.in-Ok.found.excerpt.now) tokens
+          (c.in-Ok.ensures.argument scope (subst (λ unit. IsScope c.args.tables.now unit scope) (sym c.unit_at-unit.ensures) known)) listed;
       points =
           record {
             fault_is = rw tokens at at.fault_is;

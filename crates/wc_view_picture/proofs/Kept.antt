@@ -1,0 +1,68 @@
+-- What a picture has seen after one more row.
+use Rattle.std.proofs.Common.{◌≡◌, ℕ, List, [], ◌∷◌, ◌++◌, Option, Result, Ok, Err, length, refl, sym, ap, subst, ◌∙◌}
+use Rattle.std.specs.Prelude.{OnOk, is_some}
+use Rattle.wc_indicator.specs.Kept.{IndicatorState, RepresentsHistory}
+use Rattle.wc_model.specs.Instrument.Plates.{PlateData}
+use Rattle.wc_model.specs.Instrument.WeighingHistories.{History}
+use Rattle.wc_model.specs.Run.ProcessImage.{inputs_of, inputs_with}
+use Rattle.wc_model.specs.Run.Rows.{Past, history_of, line_bytes}
+use Rattle.wc_model.specs.Say.ProgramReport.{Logic}
+use Rattle.wc_model.specs.Say.Report.{answer_line}
+use Rattle.wc_model.specs.declared.image.Outputs.{Outputs}
+use Rattle.wc_record.specs.Views.{head_data_view}
+use Rattle.wc_run.specs.Observing.{IsShown, lines_of_scan, row_of}
+use Rattle.wc_run.specs.declared.row_seen.RowSeen.{RowSeen}
+use Rattle.wc_sma.specs.Representation.{HasRead}
+use Rattle.wc_view_columns.specs.Happened.{counted}
+use Rattle.wc_view_columns.specs.Held.{Held, IsStateOf, held_at}
+use Rattle.wc_view_columns.specs.Rows.{AreFrom, Row}
+use Rattle.wc_view_columns.specs.TimeLines.{row_at}
+use Rattle.wc_view_columns.specs.declared.columns.Column.{Column}
+use Rattle.wc_view_picture.specs.Seen.{HasHappened, HasSeen, IsTimeOf, outputs_after, outputs_with}
+use Rattle.wc_view_picture.specs.declared.picture.Picture.{Picture}
+
+-- rows without the last one
+pub without_last : (ms : ℕ) (rows : List Row) (row : Row) → AreFrom ms (rows ++ row ∷ []) → AreFrom ms rows
+without_last ms [] row from = tt
+without_last ms (r ∷ rows) row from = (from.0, without_last r.ms rows row from.1)
+
+-- what follows of what holds if nothing fails
+pub on_ok : {X E P Q : Type 0} (r : Result X E) → (P → Q) → OnOk r P → OnOk r Q
+on_ok (Ok x) f p = f p
+on_ok (Err e) f p = tt
+
+-- what one more row does to a picture
+pub record KeepsRow (old new : Picture) (seen : RowSeen) (plate : PlateData) (logic : Option Logic) (past : Past) (indicator : IndicatorState) (column : Column) : Type 0 where
+  pub inputs : (bytes : List ℕ) → new.inputs ≡ inputs_with (head_data_view bytes seen.row.kind) old.inputs
+  pub outputs : (ms : ℕ) (answer : List ℕ) → new.outputs ≡ outputs_with (answer_line ms answer ++ lines_of_scan seen.scan) old.outputs
+  pub requests : HasRead new.tracker.requests (line_bytes (row_of seen ∷ past))
+  pub running : is_some new.running ≡ is_some old.running
+  pub count : new.rows ≡ counted (length (row_of seen ∷ past))
+  pub state : (p : PlateData) (history : History) → RepresentsHistory indicator p history → IsStateOf (held_at p history new.inputs new.outputs ∷ []) column.state
+  pub happened : HasHappened plate logic past (row_of seen) (row_of seen).brings column.events
+  pub line : (rows : List Row) (held : Held) → IsTimeOf rows old.line → IsStateOf (held ∷ []) column.state → IsTimeOf (rows ++ row_at seen.row.ms held column ∷ []) new.line
+
+pub row_seen : (old new : Picture) (seen : RowSeen) (plate : PlateData) (logic : Option Logic) (past : Past) (indicator : IndicatorState) (column : Column) → IsShown seen plate logic past
+    → RepresentsHistory indicator plate (history_of (row_of seen ∷ past)) → HasSeen old plate logic past → KeepsRow old new seen plate logic past indicator column
+    → HasSeen new plate logic (row_of seen ∷ past)
+row_seen old new seen plate logic past indicator column shown represents before keeps =
+    let history : History = history_of (row_of seen ∷ past) in
+    let inputs : new.inputs ≡ inputs_of (row_of seen ∷ past) = keeps.inputs seen.bytes.now ∙ ap (inputs_with (row_of seen).brings) before.inputs in
+    let outputs : new.outputs ≡ outputs_after plate logic (row_of seen ∷ past) =
+    keeps.outputs seen.row.ms seen.answer.now ∙ (λ i. outputs_with (sym shown.lines i) (before.outputs i)) in
+    let held : Held = held_at plate history (inputs_of (row_of seen ∷ past)) (outputs_after plate logic (row_of seen ∷ past)) in
+    let state : IsStateOf (held ∷ []) column.state =
+    subst (λ (o : Outputs). IsStateOf (held_at plate history (inputs_of (row_of seen ∷ past)) o ∷ []) column.state) outputs
+    (subst (λ (n : ℕ). IsStateOf (held_at plate history n new.outputs ∷ []) column.state) inputs (keeps.state plate history represents)) in
+    record {
+      inputs = inputs;
+      outputs = outputs;
+      requests = keeps.requests;
+      running = keeps.running ∙ before.running;
+      count = keeps.count;
+      line = (
+        before.line.0 ++ row_at seen.row.ms held column ∷ [],
+        (before.line.0, (row_at seen.row.ms held column, refl, before.line.1, record { ms = refl; held = refl; events = keeps.happened })),
+        keeps.line before.line.0 held before.line.2 state,
+      );
+    }

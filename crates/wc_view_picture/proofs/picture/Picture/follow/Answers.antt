@@ -1,0 +1,44 @@
+use Rattle.std.proofs.Common.{◌≡◌, ◌∙◌, ◌∷◌, ◌++◌, Option, suc, length, ap, arith, subst, sym}
+use Rattle.std.specs.Prelude.{◌-◌, ◌^◌, is_some, min}
+use Rattle.wc_indicator.specs.Kept.{IndicatorState, RepresentsHistory}
+use Rattle.wc_model.specs.Run.ProcessImage.{inputs_with}
+use Rattle.wc_model.specs.Run.Rows.{history_of, line_bytes}
+use Rattle.wc_model.specs.Say.Report.{answer_line}
+use Rattle.wc_record.specs.Views.{head_data_view}
+use Rattle.wc_run.specs.Observing.{lines_of_scan, row_of}
+use Rattle.wc_sma.specs.Representation.{HasRead}
+use Rattle.wc_sma.specs.declared.requests.RequestReader.{RequestReader}
+use Rattle.wc_view_columns.specs.declared.line.TimeLine.{TimeLine}
+use Rattle.wc_view_picture.proofs.Kept.{on_ok, row_seen}
+use Rattle.wc_view_picture.proofs.picture.Picture.follow.Goals as goal
+use Rattle.wc_view_picture.specs.Seen.{IsTimeOf, outputs_with}
+use Rattle.wc_view_picture.specs.declared.picture.Picture.{Picture}
+
+pub returns : goal.returns
+returns c = record {
+  seen =
+      on_ok c.keep.result
+      (λ kept plate logic past shown represents before.
+      let old = c.args.self.now in
+      let seen = c.args.seen.now in
+      let turned = c.turn.new.self in
+      let same_inputs : turned.inputs ≡ old.inputs = ap (λ (p : Picture). p.inputs) c.turn.ensures.same ∙ ap (λ (p : Picture). p.inputs) c.events-events.ensures.same in
+      let same_outputs : turned.outputs ≡ old.outputs = ap (λ (p : Picture). p.outputs) c.turn.ensures.same ∙ ap (λ (p : Picture). p.outputs) c.events-events.ensures.same in
+      let same_rows : turned.rows ≡ old.rows = ap (λ (p : Picture). p.rows) c.turn.ensures.same ∙ ap (λ (p : Picture). p.rows) c.events-events.ensures.same in
+      let same_line : turned.line ≡ old.line = ap (λ (p : Picture). p.line) c.turn.ensures.same ∙ ap (λ (p : Picture). p.line) c.events-events.ensures.same in
+      let same_requests : turned.tracker.requests ≡ c.events-events.new.self.tracker.requests = ap (λ (p : Picture). p.tracker.requests) c.turn.ensures.same in
+      let count : c.saturating_add-self.result ≡ min (suc (length past)) (2 ^ 32 - 1) = omega (arith, c.saturating_add-self.ensures, before.count, same_rows) in
+      row_seen old _ seen plate logic past c.indicator-indicator.result.now (record { state = c.at-state.result; events = c.events-events.result }) shown
+      (subst (λ (indicator : IndicatorState). RepresentsHistory indicator plate (history_of (row_of seen ∷ past))) (sym c.indicator-indicator.ensures) represents.opened.indicator) before
+      (record {
+        inputs = λ bytes. c.inputs_after-self.ensures bytes ∙ ap (inputs_with (head_data_view bytes seen.row.kind)) same_inputs;
+        outputs = λ ms answer. c.outputs_after-self.ensures ms answer ∙ ap (outputs_with (answer_line ms answer ++ lines_of_scan seen.scan)) same_outputs;
+        requests = subst (λ (reader : RequestReader). HasRead reader (line_bytes (row_of seen ∷ past))) (sym same_requests) (c.events-events.ensures.read past before.requests);
+        running = c.turn.ensures.runs ∙ ap (λ (p : Picture). is_some p.running) c.events-events.ensures.same;
+        count = count;
+        state = c.at-state.ensures;
+        happened = c.events-events.ensures.happened plate logic past shown before.requests before.running;
+        line = λ rows held time is. kept rows held (subst (λ (line : Option TimeLine). IsTimeOf rows line) (sym same_line) time) is;
+      }))
+      c.keep.ensures;
+}

@@ -1,0 +1,90 @@
+-- What a picture has seen of a run: its rows, in the columns of their time. (The profile's own.)
+use Rattle.std.specs.Prelude.{◌≡◌, ℕ, pos, List, [], ◌∷◌, ◌++◌, Option, Some, None, is_some, length}
+use Rattle.wc_model.specs.Instrument.Plates.{PlateData}
+use Rattle.wc_model.specs.Instrument.Requests.{requests_in}
+use Rattle.wc_model.specs.Run.ProcessImage.{inputs_of}
+use Rattle.wc_model.specs.Run.Rows.{RowData, Counts, Bytes, Inputs, Scan, Change, LogRow, Past, answer_of_row, history_of, line_bytes}
+use Rattle.wc_model.specs.Say.ProgramReport.{Logic}
+use Rattle.wc_model.specs.Say.Report.{ReportLine, AnswerLine, ScanLine}
+use Rattle.wc_model.specs.declared.image.Outputs.{Outputs}
+use Rattle.wc_run.specs.Logics.{lines_of_row}
+use Rattle.wc_sma.specs.Representation.{HasRead}
+use Rattle.wc_view_columns.specs.Followed.{HasFollowed}
+use Rattle.wc_view_columns.specs.Happened.{counted}
+use Rattle.wc_view_columns.specs.Held.{held_at}
+use Rattle.wc_view_columns.specs.Rows.{AreFrom, Row, nothing}
+use Rattle.wc_view_columns.specs.TimeLines.{IsTimeLineOf}
+use Rattle.wc_view_columns.specs.declared.events.Events.{Events}
+use Rattle.wc_view_columns.specs.declared.line.TimeLine.{TimeLine}
+use Rattle.wc_view_picture.specs.declared.picture.Picture.{Picture}
+
+-- outputs none of which is set
+abbrev pub no_outputs : Outputs
+no_outputs = record { bits = 0; words = pos 0 ∷ pos 0 ∷ pos 0 ∷ pos 0 ∷ [] }
+
+-- the outputs of the scan in some lines of the report, and those before them if there is none
+abbrev pub outputs_with : List ReportLine → Outputs → Outputs
+outputs_with [] outputs = outputs
+outputs_with (ScanLine ms steps new ∷ lines) outputs = outputs_with lines new
+outputs_with (AnswerLine ms bytes ∷ lines) outputs = outputs_with lines outputs
+
+-- the outputs of the last scan so far; before the first one none is set
+abbrev pub outputs_after : PlateData → Option Logic → Past → Outputs
+outputs_after plate logic [] = no_outputs
+outputs_after plate logic (row ∷ past) = outputs_with (lines_of_row plate logic past row) (outputs_after plate logic past)
+
+-- the scan in some lines, with its steps; nothing if there is none
+abbrev pub scan_in : List ReportLine → Events
+scan_in [] = nothing
+scan_in (ScanLine ms steps outputs ∷ lines) = record nothing { scans = 1; steps = steps }
+scan_in (AnswerLine ms bytes ∷ lines) = scan_in lines
+
+-- a change of the program, if one runs
+abbrev pub change_of : Option Logic → Events
+change_of None = nothing
+change_of (Some logic) = record nothing { changes = 1 }
+
+-- What happened at a row that brings this, after those so far: of bytes the requests that they complete, each with the answer
+-- that the line gave.
+abbrev pub HasHappened : PlateData → Option Logic → Past → LogRow → RowData → Events → Type 0
+HasHappened plate logic past row (Counts counts) events = events ≡ nothing
+HasHappened plate logic past row (Bytes bytes) events =
+    (at : ℕ) × HasFollowed row.ms (requests_in (line_bytes past) bytes) (answer_of_row plate past row) at events
+HasHappened plate logic past row (Inputs inputs) events = events ≡ nothing
+HasHappened plate logic past row Scan events = events ≡ scan_in (lines_of_row plate logic past row)
+HasHappened plate logic past row Change events = events ≡ change_of logic
+
+-- a row of the picture is that of the log, after those so far: at its time, with what then holds and what happened at it
+pub record IsRowOf (plate : PlateData) (logic : Option Logic) (past : Past) (row : LogRow) (shown : Row) : Type 0 where
+  pub ms : shown.ms ≡ row.ms
+  pub held : shown.held ≡ held_at plate (history_of (row ∷ past)) (inputs_of (row ∷ past)) (outputs_after plate logic (row ∷ past))
+  pub events : HasHappened plate logic past row row.brings shown.events
+
+-- the rows of the picture are those of the log so far, in the order of the log
+abbrev pub AreRowsOf : PlateData → Option Logic → Past → List Row → Type 0
+AreRowsOf plate logic [] rows = rows ≡ []
+AreRowsOf plate logic (row ∷ past) rows =
+    (before : List Row) × ((shown : Row) × (rows ≡ before ++ (shown ∷ [])) × AreRowsOf plate logic past before × IsRowOf plate logic past row shown)
+
+-- The columns are those of the rows, whose times never go back in a log; there are none before the first row.
+abbrev pub IsTimeOf : List Row → Option TimeLine → Type 0
+IsTimeOf rows None = rows ≡ []
+IsTimeOf rows (Some line) = AreFrom 0 rows → IsTimeLineOf rows line
+
+-- no row has been seen, and no program
+pub record IsNew (picture : Picture) : Type 0 where
+  pub inputs : picture.inputs ≡ 0
+  pub outputs : picture.outputs ≡ no_outputs
+  pub requests : HasRead picture.tracker.requests []
+  pub running : picture.running ≡ None
+  pub rows : picture.rows ≡ 0
+  pub line : picture.line ≡ None
+
+-- What a picture has seen of the rows so far: what they leave, how many there are, and the columns of their time.
+pub record HasSeen (picture : Picture) (plate : PlateData) (logic : Option Logic) (past : Past) : Type 0 where
+  pub inputs : picture.inputs ≡ inputs_of past
+  pub outputs : picture.outputs ≡ outputs_after plate logic past
+  pub requests : HasRead picture.tracker.requests (line_bytes past)
+  pub running : is_some picture.running ≡ is_some logic
+  pub count : picture.rows ≡ counted (length past)
+  pub line : (rows : List Row) × AreRowsOf plate logic past rows × IsTimeOf rows picture.line

@@ -1,0 +1,82 @@
+ghost use Rattle.std.specs.Prelude.{◌≡◌, ◌∷◌, ◌++◌, [], ℕ, List, OnOk, Option, is_some};
+ghost use Rattle.wc_model.specs.Run.ProcessImage.{inputs_with};
+ghost use Rattle.wc_model.specs.Say.ProgramReport.{Logic};
+ghost use Rattle.wc_model.specs.Say.Report.{answer_line};
+ghost use Rattle.wc_record.specs.Views.{head_data_view};
+ghost use Rattle.wc_run.specs.Observing.{lines_of_scan};
+ghost use Rattle.wc_view_columns.specs.Held.{Held, IsStateOf};
+ghost use Rattle.wc_view_columns.specs.Rows.{Row};
+ghost use Rattle.wc_view_columns.specs.TimeLines.{row_at};
+ghost use Rattle.wc_view_picture.specs.Seen.{IsTimeOf, change_of, outputs_with, scan_in};
+
+use std::alloc::{AllocError, Global};
+use wc_model::Outputs;
+use wc_record::HeadKind;
+use wc_run::ScanSeen;
+use wc_view_columns::{Column, Events, TimeLine};
+
+/// The inputs after a row of this kind.
+pub(crate) fn inputs_after(kind: HeadKind, inputs: u16) -> u16
+    ensures { (bytes : List ℕ) → result ≡ inputs_with (head_data_view bytes kind) inputs }
+{
+    match kind {
+        HeadKind::Inputs(new) => new,
+        HeadKind::Counts(_) | HeadKind::Bytes | HeadKind::Scan | HeadKind::Change => inputs,
+    }
+}
+
+/// The outputs after a row: those of its scan, if it has one.
+pub(crate) fn outputs_after(scan: &Option<ScanSeen>, outputs: Outputs) -> Outputs
+    ensures { (ms : ℕ) (answer : List ℕ) → result
+        ≡ outputs_with (answer_line ms answer ++ lines_of_scan scan.now) outputs }
+{
+    match scan {
+        Some(scan) => scan.record.outputs,
+        None => outputs,
+    }
+}
+
+/// The scan of a row, if it has one.
+pub(crate) fn scan_of(scan: &Option<ScanSeen>) -> Events
+    ensures { (ms : ℕ) (answer : List ℕ) → result
+        ≡ scan_in (answer_line ms answer ++ lines_of_scan scan.now) }
+{
+    let mut events = Events::none();
+    if let Some(scan) = scan {
+        events.scan(scan.record.steps);
+    }
+    events
+}
+
+/// A change of the program, if one runs.
+pub(crate) fn change_of(runs: bool) -> Events
+    ensures { (logic : Option Logic) → runs ≡ is_some logic → result ≡ change_of logic }
+{
+    let mut events = Events::none();
+    if runs {
+        events.changes = 1;
+    }
+    events
+}
+
+/// Keeps a row in the columns; they are allocated at the first one.
+pub(crate) fn keep(
+    alloc: Global,
+    line: &mut Option<TimeLine>,
+    ms: u64,
+    row: Column,
+) -> Result<(), AllocError>
+    ensures { OnOk result ((rows : List Row) (held : Held) → IsTimeOf rows line.old
+        → IsStateOf (held ∷ []) row.state
+        → IsTimeOf (rows ++ (row_at ms held row ∷ [])) line.new) }
+{
+    match line {
+        Some(line) => line.take(ms, row),
+        None => {
+            let mut first = TimeLine::new(alloc)?;
+            first.take(ms, row);
+            *line = Some(first);
+        }
+    }
+    Ok(())
+}
