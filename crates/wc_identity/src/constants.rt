@@ -7,7 +7,7 @@ macro_rules! with_constants {
             "0.1.0",
             "rattle-kit-13 logic dac8208d650f15bf",
             "1177ae17014caf8e427f4a8dde1f7a313153b343733dd3b4fb6765f5d55be068",
-            "3baecf3bfa2bcb22ec388fb295f8f15e0abd08ddf76ff2e97f922ffd40fd60f7"
+            "1ea548158d5a39e67c61125117a652cab2d00327ca47b4b63e1ed934608eaab7"
         )
     };
 }
