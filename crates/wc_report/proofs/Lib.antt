@@ -1,3 +1,4 @@
+mod HexSteps
 mod Lengths
 mod Placed
 mod ScanText

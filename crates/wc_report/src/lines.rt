@@ -64,7 +64,10 @@ pub fn put_answer_line(text: &mut Vec<u8>, ms: u64, bytes: &[u8]) -> Result<(), 
     let start = head_backward(ms, &mut buffer);
     put_bytes(text, &buffer[start..])?;
     put_hex(text, bytes)?;
-    put_bytes(text, b"\n")
+    match text.push(b'\n') {
+        Ok(()) => Ok(()),
+        Err(_) => Err(Fault::Memory),
+    }
 }
 
 /// A size that is enough for the start of each line of an answer: its letter, two spaces and 20 digits.

@@ -37,7 +37,7 @@ pub(crate) fn last_text(alloc: Global, recorder: &Recorder) -> Result<Vec<u8>, R
     Ok(lines)
 }
 
-/// Writes a text.
+/// Writes a text. Most rows say nothing, and then the writer is not asked.
 #[inline(always)]
 pub fn write_text<W: ByteOut>(text: &[u8], writer: &mut W) -> Result<(), RunFault>
     ensures writes { Writes text.now result (W.bytes_taken writer.old) (W.bytes_taken writer.new) }
@@ -45,6 +45,9 @@ pub fn write_text<W: ByteOut>(text: &[u8], writer: &mut W) -> Result<(), RunFaul
     ensures failures { ReportsWrites result (W.failure_count writer.old)
         (W.failure_count writer.new) }
 {
+    if text.is_empty() {
+        return Ok(());
+    }
     write_whole(writer, text)?;
     Ok(())
 }

@@ -1,8 +1,8 @@
-ghost use Rattle.std.specs.Prelude.{◌≡◌, option_map};
+ghost use Rattle.std.specs.Prelude.{◌≡◌, IfSome, Some, option_map};
 ghost use Rattle.wc_laws_grammar.specs.Words as words;
 ghost use Rattle.wc_model.specs.Language.Names.{name_of};
 ghost use Rattle.wc_text_lines.specs.Meanings.{operation_for};
-ghost use Rattle.wc_text_lines.specs.Words.{operation_view, symbol_view};
+ghost use Rattle.wc_text_lines.specs.Words.{operating_view, operation_view, symbol_view};
 
 use wc_built_in::{Keyword, keyword_named};
 use wc_lexer::{Shape, Token};
@@ -51,13 +51,39 @@ fn operation_for(keyword: Keyword) -> Option<Operation>
     Some(operation)
 }
 
-/// The operator that the word is.
-pub fn operation_named(text: &[u8]) -> Option<Operation>
+/// The operator that a reserved word is, whichever it is.
+fn any_operation(text: &[u8]) -> Option<Operation>
     ensures { option_map operation_view result ≡ words.found words.operations (name_of text.now) }
 {
     match keyword_named(text) {
         Some(keyword) => operation_for(keyword),
         None => None,
+    }
+}
+
+/// The operator that the word is if it is one of the most frequent, in capitals. These are found without the list of words.
+fn frequent_operation(text: &[u8]) -> Option<Operating>
+    ensures { IfSome result (λ operating. words.found words.operations (name_of text.now)
+        ≡ Some (words.Operates (operating_view operating))) }
+{
+    match text {
+        b"LD" => Some(Operating::Loads(false)),
+        b"ST" => Some(Operating::Stores(Storing::Result)),
+        b"AND" => Some(Operating::Applies(Operator::And)),
+        b"OR" => Some(Operating::Applies(Operator::Or)),
+        b"ADD" => Some(Operating::Applies(Operator::Add)),
+        b"GT" => Some(Operating::Applies(Operator::Gt)),
+        _ => None,
+    }
+}
+
+/// The operator that the word is.
+pub fn operation_named(text: &[u8]) -> Option<Operation>
+    ensures { option_map operation_view result ≡ words.found words.operations (name_of text.now) }
+{
+    match frequent_operation(text) {
+        Some(operating) => Some(Operation::Operates(operating)),
+        None => any_operation(text),
     }
 }
 
