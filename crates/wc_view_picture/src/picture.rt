@@ -178,7 +178,7 @@ impl Picture {
 }
 
 impl<W: ByteOut> Observer<SlotStore, W> for Picture {
-    ghost use Rattle.std.specs.Prelude.{false};
+    ghost use Rattle.std.specs.Prelude.{⊤, false};
     ghost use Rattle.wc_run.specs.Reports.{silent_plan};
     ghost use Rattle.wc_view_picture.specs.Seen.{HasSeen, IsNew};
 
