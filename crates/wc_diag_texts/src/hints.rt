@@ -36,7 +36,7 @@ fn token_hint(number: u16, case: Case) -> Option<&'static str> {
         101, Case::Byte(b'=') => "to store write ST, to compare EQ, NE, GT, GE, LT or LE; a call and a declaration have `:=`";
         101, Case::EqualInitial => "an initial value is written with `:=`, such as a : DINT := 5;";
         101, Case::EqualInput => "an input is passed with `:=`, such as IN := a";
-        101, Case::StatementAssign => "this looks like Siemens STL (AWL): `=` is ST; U or O is LD at the start and after each `=`, else AND or OR";
+        101, Case::StatementAssign => "this looks like Siemens STL (AWL): `=` is ST; U or O is LD at the start and after each `=`, S or R, else AND or OR";
         101, Case::IfStatement => "this looks like Structured Text: for IF w >= 1000 write LD w, GE 1000, JMPCN skip; `skip:` is the END_IF";
         101, Case::IfEqual => "this looks like Structured Text: for IF a = 5 write LD a, EQ 5, JMPCN skip; `skip:` is the END_IF";
         101, Case::Loop => "this looks like Structured Text: there are no loops; do one turn in each scan, with a DINT that counts";
@@ -49,12 +49,12 @@ fn token_hint(number: u16, case: Case) -> Option<&'static str> {
         105, Case::WithBase => "the largest is 16#7FFFFFFF: write -2147483648 for 16#80000000, -1 for 16#FFFFFFFF";
         105, Case::TypedNumber => "write the number without its type, such as 5";
         105, Case::TypedTruth => "a BOOL is TRUE, FALSE, BOOL#0 or BOOL#1";
-        105, Case::StatementAddress => "this looks like Siemens STL (AWL): E 0.0 is %IX0.0, A 4.0 an output such as %QX0.0; U is LD at the start and after each `=`, else AND (UN: LDN, ANDN); `=` is ST";
+        105, Case::StatementAddress => "this looks like Siemens STL (AWL): E 0.0 is %IX0.0, A 4.0 an output such as %QX0.0; U is LD at the start and after each `=`, S or R, else AND (UN: LDN, ANDN); `=` is ST";
         105, Case::NoDuration => "a duration begins with T#, such as T#500ms";
         105, Case::WithPoint => "a weight is counted in its last decimal: with 3 decimals 1.5 kg is 1500";
         106, Case::DecimalComma => "write a decimal point instead of the comma, such as T#1.5s";
         106, Case::MissingUnit => "a duration has a unit after its number, such as T#1s or T#500ms";
-        106, Case::LongDuration => "durations are T#-24d20h31m23s648ms to T#24d20h31m23s647ms; for longer ones count the pulses of a TON of T#1d with a CTU";
+        106, Case::LongDuration => "durations are T#-24d20h31m23s648ms to T#24d20h31m23s647ms; for longer ones count with a CTU the ends of a TON of T#1d that is started again";
         106, Case::SpacedDuration => "write the number right after T#, without a space, such as T#5s";
     }
 }
@@ -68,7 +68,7 @@ fn reading_hint(number: u16, case: Case) -> Option<&'static str> {
         201, Case::NoOperator => "operators: LD ST AND OR XOR (with N: LDN) S R NOT ADD SUB MUL DIV MOD GT GE EQ NE LE LT JMP CAL RET";
         201, Case::LabelWithoutColon => "a label ends with a colon, such as skip:";
         201, Case::AfterProgram => "nothing is allowed after the END_PROGRAM of the program";
-        201, Case::NoAddress => "an address begins with `%`, such as %IX0.0; a DINT has no bits: declare a BOOL for each";
+        201, Case::NoAddress => "an address begins with `%`, such as %IX0.0; a DINT has no bits: compare the number, such as LT 0 for its sign";
         201, Case::Closing => "the `)` needs a line of its own";
         201, Case::ClosingOperand => "the `)` needs a line of its own; for one operand write no parenthesis, such as AND a";
         201, Case::NoVariable => "an input takes a variable, an address, a field or a literal: compute and store the value before the call";
@@ -79,9 +79,9 @@ fn reading_hint(number: u16, case: Case) -> Option<&'static str> {
         201, Case::InputOperator => "set an input in CAL, such as CAL c(CU := a): a store alone does not call the block";
         201, Case::InstanceCall => "a call begins with CAL, such as CAL t(IN := a, PT := T#1s)";
         201, Case::Loop => "this looks like Structured Text: there are no loops; write the lines once for each turn, or do one turn in each scan with a DINT that counts";
-        201, Case::CaseStatement => "this looks like Structured Text: for each value write LD mode, EQ 1, JMPCN next; `next:` begins the next value";
+        201, Case::CaseStatement => "this looks like Structured Text: for each value write LD mode, EQ 1, JMPCN next1; `next1:` begins the next value";
         201, Case::IfStatement => "this looks like Structured Text: for IF a write LD a, JMPCN skip; `skip:` is the END_IF";
-        201, Case::StatementList => "this looks like Siemens STL (AWL): U, A or O is LD at the start and after each `=`, else AND or OR (UN: LDN, ANDN); `=` is ST";
+        201, Case::StatementList => "this looks like Siemens STL (AWL): U, A or O is LD at the start and after each `=`, S or R, else AND or OR (UN: LDN, ANDN); `=` is ST";
         201, Case::Assignment => "to assign write LD and the value, and on the next line ST and the variable";
         201, Case::Constant => "write only VAR, or write the number at each place that uses it";
         201, Case::Retain => "write only VAR: a variable keeps its value from scan to scan, and none keeps it over a power failure";
@@ -91,7 +91,7 @@ fn reading_hint(number: u16, case: Case) -> Option<&'static str> {
         201, Case::DecimalComma => "numbers are integers, without a decimal comma: with 3 decimals write 1.5 kg as 1500";
         201, Case::Configuration => "leave out CONFIGURATION, RESOURCE and TASK: the one PROGRAM runs in every scan";
         201, Case::OwnType => "delete TYPE .. END_TYPE: values are BOOL, DINT or TIME; for an enumeration use a DINT with 0, 1, 2, for a structure one variable for each part";
-        201, Case::Conversion => "there are no conversions: a number is a DINT, a duration is a TIME";
+        201, Case::Conversion => "there are no conversions: compare a TIME with a TIME, such as GE T#15s; for a number of seconds ADD 1 to a DINT at each end of a TON of T#1s that is started again";
         201, Case::NumberConversion => "leave this line out: every number is a DINT, so there are no conversions";
         201, Case::Negative => "the negative of a number is LD 0, and on the next line SUB and the number";
         201, Case::NoUnit => "begin with PROGRAM and a name; then come VAR .. END_VAR, the instructions and END_PROGRAM";
@@ -151,7 +151,7 @@ fn excerpt_hint(number: u16, case: Case) -> Option<&'static str> {
         401, Case::BlockType => "declare an instance in VAR, `t : TON;`, and call that: CAL t(..)";
         403, Case::Plain => "begin with LD: no line that leads here has loaded a value";
         403, Case::AtLabel => "write an LD between the label and this instruction, or bring the same type on every path to the label";
-        403, Case::Unreached => "delete the line, or give it a label to which a line above jumps";
+        403, Case::Unreached => "make the JMP or RET above conditional (JMPC, JMPCN, RETC), give this line a label to which a line above jumps, or delete it";
         403, Case::NoCondition => "load the condition with LD first, or use CAL, JMP or RET without the C";
         404, Case::InputAddress => "inputs are only read: store to an output, such as %QX0.0, or to a variable";
         404, Case::LiteralTarget => "ST takes a variable or an output: LD loads the value, ST names where it goes";
@@ -193,7 +193,7 @@ fn kind_hint(number: u16, case: Case) -> Option<&'static str> {
         402, Case::StoredNumberToBool => "store it to a DINT, such as %QD0, or compare it first, such as GE 500, to get a BOOL";
         402, Case::StoredTimeToBool => "store it to a TIME, or compare it first, such as GE T#500ms, to get a BOOL";
         402, Case::StoredBool => "store a BOOL to a BOOL variable or to an output bit, such as ST %QX0.0";
-        402, Case::StoredTimeToNumber => "a TIME cannot be converted: store it to a TIME variable; for a number of seconds ADD 1 to a DINT at each pulse of a TON of T#1s";
+        402, Case::StoredTimeToNumber => "a TIME cannot be converted: store it to a TIME variable; for a number of seconds ADD 1 to a DINT at each end of a TON of T#1s that is started again";
         402, Case::StoredNumberToTime => "a number cannot be converted to a TIME: load a duration, such as LD T#500ms, or store to a DINT";
         402, Case::ComparedNumber => "compare the number first, such as GE 500: a comparison gives a BOOL";
         402, Case::ComparedTime => "compare the time first, such as GE T#500ms: a comparison gives a BOOL";
@@ -212,7 +212,7 @@ fn kind_hint(number: u16, case: Case) -> Option<&'static str> {
         402, Case::AddedTime => "add a duration to a TIME, such as ADD T#500ms";
         402, Case::MultipliedTime => "a TIME cannot be multiplied: write the product as a duration, such as T#15s, or ADD the time several times";
         402, Case::MultipliedByTime => "a TIME cannot be multiplied: load the product, such as LD T#5s, and store it to a TIME variable; for milliseconds as a number use DINTs only, such as MUL 1000";
-        402, Case::DividedTime => "a TIME cannot be divided: compare it, such as GE T#15s; for a number of seconds ADD 1 to a DINT at each pulse of a TON of T#1s";
+        402, Case::DividedTime => "a TIME cannot be divided: compare it, such as GE T#15s; for a number of seconds ADD 1 to a DINT at each end of a TON of T#1s that is started again";
         402, Case::NumberInParenthesis => "compare the number before the `)`, such as GE 500: a comparison gives a BOOL";
         402, Case::TimeInParenthesis => "compare the time before the `)`, such as GE T#500ms: a comparison gives a BOOL";
         402, Case::Closing => "end the lines in the parenthesis with the type of the result before it";

@@ -32,7 +32,9 @@ pub fn paths_text(alloc: Global, paths: Paths<'_>) -> Result<String, AllocError>
             )
         }
         Paths::None(label) => {
-            format!(in alloc; "there is no current result: no line leads to `{label}`")
+            format!(in alloc;
+                "there is no current result: neither a jump nor the line above leads to `{label}`"
+            )
         }
     }
 }
