@@ -312,17 +312,12 @@ pub fn read_tokens<'a>(
     read_on(alloc, &mut reading, tokens, last_line)
 }
 
-/// The number of line feeds the text has. The loop has no branch inside, so that the compiler can count those of many bytes at
-/// once.
+/// The number of line feeds the text has.
 fn line_feeds(text: &[u8]) -> usize
     ensures counted { result ≡ count_by (λ byte. byte == 10) text.now }
     ensures within { result ≤ length text.now }
 {
-    let mut feeds = 0;
-    for index in 0..text.len() {
-        feeds += usize::from(text[index] == b'\n');
-    }
-    feeds
+    text.iter().filter(|byte| **byte == b'\n').count()
 }
 
 /// The number of the text's last line.
