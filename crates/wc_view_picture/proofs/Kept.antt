@@ -1,15 +1,16 @@
 -- What a picture has seen after one more row.
 use Rattle.std.proofs.Common.{◌≡◌, ℕ, List, [], ◌∷◌, ◌++◌, Option, Result, Ok, Err, length, refl, sym, ap, subst, ◌∙◌}
-use Rattle.std.specs.Prelude.{OnOk, is_some}
+use Rattle.std.specs.Prelude.{Some, None, OnOk, is_some, option_map}
 use Rattle.wc_indicator.specs.Kept.{IndicatorState, RepresentsHistory}
 use Rattle.wc_model.specs.Instrument.Plates.{PlateData}
 use Rattle.wc_model.specs.Instrument.WeighingHistories.{History}
 use Rattle.wc_model.specs.Run.ProcessImage.{inputs_of, inputs_with}
 use Rattle.wc_model.specs.Run.Rows.{Past, history_of, line_bytes}
 use Rattle.wc_model.specs.Say.ProgramReport.{Logic}
-use Rattle.wc_model.specs.Say.Report.{answer_line}
+use Rattle.wc_model.specs.Say.Report.{ReportLine, answer_line}
 use Rattle.wc_model.specs.declared.image.Outputs.{Outputs}
 use Rattle.wc_record.specs.Views.{head_data_view}
+use Rattle.wc_run.specs.Logics.{lines_of_row}
 use Rattle.wc_run.specs.Observing.{IsShown, lines_of_scan, row_of}
 use Rattle.wc_run.specs.declared.row_seen.RowSeen.{RowSeen}
 use Rattle.wc_sma.specs.Representation.{HasRead}
@@ -18,7 +19,8 @@ use Rattle.wc_view_columns.specs.Held.{Held, IsStateOf, held_at}
 use Rattle.wc_view_columns.specs.Rows.{AreFrom, Row}
 use Rattle.wc_view_columns.specs.TimeLines.{row_at}
 use Rattle.wc_view_columns.specs.declared.columns.Column.{Column}
-use Rattle.wc_view_picture.specs.Seen.{HasHappened, HasSeen, IsTimeOf, outputs_after, outputs_with}
+use Rattle.wc_view_drawing.specs.declared.steps.ScanSteps.{ScanSteps}
+use Rattle.wc_view_picture.specs.Seen.{HasHappened, HasSeen, IsTimeOf, most_after, most_at, most_of, most_with, outputs_after, outputs_with, replaced_at}
 use Rattle.wc_view_picture.specs.declared.picture.Picture.{Picture}
 
 -- rows without the last one
@@ -31,12 +33,26 @@ pub on_ok : {X E P Q : Type 0} (r : Result X E) → (P → Q) → OnOk r P → O
 on_ok (Ok x) f p = f p
 on_ok (Err e) f p = tt
 
+-- a program that runs goes on running, with other steps
+mapped_twice : (f g : ℕ → ℕ) (most : ℕ) (logic : Option Logic) → option_map f (option_map g (option_map (λ (running : Logic). most) logic)) ≡ option_map (λ (running : Logic). f (g most)) logic
+mapped_twice f g most None = refl
+mapped_twice f g most (Some logic) = refl
+
+-- a picture has steps exactly if a program runs
+pub runs : (steps : Option ScanSteps) (most : ℕ) (logic : Option Logic) → most_of steps ≡ option_map (λ (running : Logic). most) logic → is_some steps ≡ is_some logic
+runs None most None e = refl
+runs None most (Some logic) e = absurd (cc (e))
+runs (Some steps) most None e = absurd (cc (e))
+runs (Some steps) most (Some logic) e = refl
+
 -- what one more row does to a picture
 pub record KeepsRow (old new : Picture) (seen : RowSeen) (plate : PlateData) (logic : Option Logic) (past : Past) (indicator : IndicatorState) (column : Column) : Type 0 where
   pub inputs : (bytes : List ℕ) → new.inputs ≡ inputs_with (head_data_view bytes seen.row.kind) old.inputs
   pub outputs : (ms : ℕ) (answer : List ℕ) → new.outputs ≡ outputs_with (answer_line ms answer ++ lines_of_scan seen.scan) old.outputs
   pub requests : HasRead new.tracker.requests (line_bytes (row_of seen ∷ past))
-  pub running : is_some new.running ≡ is_some old.running
+  pub running : (ms : ℕ) (answer : List ℕ) → most_of new.running
+      ≡ option_map (most_with (answer_line ms answer ++ lines_of_scan seen.scan)) (option_map (most_at (row_of seen).brings) (most_of old.running))
+  pub before : most_of new.before ≡ replaced_at (row_of seen).brings (most_of old.running) (most_of old.before)
   pub count : new.rows ≡ counted (length (row_of seen ∷ past))
   pub state : (p : PlateData) (history : History) → RepresentsHistory indicator p history → IsStateOf (held_at p history new.inputs new.outputs ∷ []) column.state
   pub happened : HasHappened plate logic past (row_of seen) (row_of seen).brings column.events
@@ -58,7 +74,10 @@ row_seen old new seen plate logic past indicator column shown represents before 
       inputs = inputs;
       outputs = outputs;
       requests = keeps.requests;
-      running = keeps.running ∙ before.running;
+      running = keeps.running seen.row.ms seen.answer.now ∙ ap (λ (lines : List ReportLine). option_map (most_with lines) (option_map (most_at (row_of seen).brings) (most_of old.running))) (sym shown.lines)
+          ∙ ap (λ (most : Option ℕ). option_map (most_with (lines_of_row plate logic past (row_of seen))) (option_map (most_at (row_of seen).brings) most)) before.running
+          ∙ mapped_twice (most_with (lines_of_row plate logic past (row_of seen))) (most_at (row_of seen).brings) (most_after plate logic past) logic;
+      before = keeps.before ∙ (λ i. replaced_at (row_of seen).brings (before.running i) (before.before i));
       count = keeps.count;
       line = (
         before.line.0 ++ row_at seen.row.ms held column ∷ [],

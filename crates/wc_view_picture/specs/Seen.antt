@@ -1,5 +1,5 @@
 -- What a picture has seen of a run: its rows, in the columns of their time. (The profile's own.)
-use Rattle.std.specs.Prelude.{◌≡◌, ℕ, pos, List, [], ◌∷◌, ◌++◌, Option, Some, None, is_some, length}
+use Rattle.std.specs.Prelude.{◌≡◌, ℕ, pos, List, [], ◌∷◌, ◌++◌, Option, Some, None, length, max, option_map}
 use Rattle.wc_model.specs.Instrument.Plates.{PlateData}
 use Rattle.wc_model.specs.Instrument.Requests.{requests_in}
 use Rattle.wc_model.specs.Run.ProcessImage.{inputs_of}
@@ -16,6 +16,7 @@ use Rattle.wc_view_columns.specs.Rows.{AreFrom, Row, nothing}
 use Rattle.wc_view_columns.specs.TimeLines.{IsTimeLineOf}
 use Rattle.wc_view_columns.specs.declared.events.Events.{Events}
 use Rattle.wc_view_columns.specs.declared.line.TimeLine.{TimeLine}
+use Rattle.wc_view_drawing.specs.declared.steps.ScanSteps.{ScanSteps}
 use Rattle.wc_view_picture.specs.declared.picture.Picture.{Picture}
 
 -- outputs none of which is set
@@ -43,6 +44,44 @@ scan_in (AnswerLine ms bytes ∷ lines) = scan_in lines
 abbrev pub change_of : Option Logic → Events
 change_of None = nothing
 change_of (Some logic) = record nothing { changes = 1 }
+
+-- the most steps of a scan, with those of the scan in some lines
+abbrev pub most_with : List ReportLine → ℕ → ℕ
+most_with [] most = most
+most_with (ScanLine ms steps outputs ∷ lines) most = most_with lines (max most steps)
+most_with (AnswerLine ms bytes ∷ lines) most = most_with lines most
+
+-- the most steps of a scan of the program that runs at a row that brings this: none has run yet after a change
+abbrev pub most_at : RowData → ℕ → ℕ
+most_at (Counts counts) most = most
+most_at (Bytes bytes) most = most
+most_at (Inputs inputs) most = most
+most_at Scan most = most
+most_at Change most = 0
+
+-- the most steps of a scan of the program that runs after the rows so far
+abbrev pub most_after : PlateData → Option Logic → Past → ℕ
+most_after plate logic [] = 0
+most_after plate logic (row ∷ past) = most_with (lines_of_row plate logic past row) (most_at row.brings (most_after plate logic past))
+
+-- the most steps that are kept of a program, if there is one
+abbrev pub most_of : Option ScanSteps → Option ℕ
+most_of steps = option_map (λ steps. steps.most) steps
+
+-- the most steps of the program whose place another one takes at a row that brings this, if one runs; else those before
+abbrev pub replaced_at : RowData → Option ℕ → Option ℕ → Option ℕ
+replaced_at (Counts counts) running before = before
+replaced_at (Bytes bytes) running before = before
+replaced_at (Inputs inputs) running before = before
+replaced_at Scan running before = before
+replaced_at Change None before = before
+replaced_at Change (Some most) before = Some most
+
+-- the most steps of the program that the running one has replaced, if there is one
+abbrev pub replaced_after : PlateData → Option Logic → Past → Option ℕ
+replaced_after plate logic [] = None
+replaced_after plate logic (row ∷ past) =
+    replaced_at row.brings (option_map (λ running. most_after plate logic past) logic) (replaced_after plate logic past)
 
 -- What happened at a row that brings this, after those so far: of bytes the requests that they complete, each with the answer
 -- that the line gave.
@@ -77,6 +116,7 @@ pub record IsNew (picture : Picture) : Type 0 where
   pub outputs : picture.outputs ≡ no_outputs
   pub requests : HasRead picture.tracker.requests []
   pub running : picture.running ≡ None
+  pub before : picture.before ≡ None
   pub rows : picture.rows ≡ 0
   pub line : picture.line ≡ None
 
@@ -85,6 +125,7 @@ pub record HasSeen (picture : Picture) (plate : PlateData) (logic : Option Logic
   pub inputs : picture.inputs ≡ inputs_of past
   pub outputs : picture.outputs ≡ outputs_after plate logic past
   pub requests : HasRead picture.tracker.requests (line_bytes past)
-  pub running : is_some picture.running ≡ is_some logic
+  pub running : most_of picture.running ≡ option_map (λ running. most_after plate logic past) logic
+  pub before : most_of picture.before ≡ replaced_after plate logic past
   pub count : picture.rows ≡ counted (length past)
   pub line : (rows : List Row) × AreRowsOf plate logic past rows × IsTimeOf rows picture.line

@@ -1,13 +1,15 @@
-ghost use Rattle.std.specs.Prelude.{◌≡◌, ◌∷◌, OnOk, Option, is_some};
+ghost use Rattle.std.specs.Prelude.{◌≡◌, ◌∷◌, ◌++◌, ℕ, List, OnOk, Option, is_some, option_map};
 ghost use Rattle.wc_model.specs.Instrument.Plates.{PlateData};
 ghost use Rattle.wc_model.specs.Run.Rows.{Past, line_bytes};
 ghost use Rattle.wc_model.specs.Say.ProgramReport.{Logic};
-ghost use Rattle.wc_run.specs.Observing.{IsShown, row_of};
+ghost use Rattle.wc_model.specs.Say.Report.{answer_line};
+ghost use Rattle.wc_record.specs.Views.{head_data_view};
+ghost use Rattle.wc_run.specs.Observing.{IsShown, lines_of_scan, row_of};
 ghost use Rattle.wc_run.specs.Representation.{Represents};
 ghost use Rattle.wc_sma.specs.Representation.{HasRead};
-ghost use Rattle.wc_view_picture.specs.Seen.{HasHappened, HasSeen, IsNew};
+ghost use Rattle.wc_view_picture.specs.Seen.{HasHappened, HasSeen, IsNew, most_at, most_of, most_with, replaced_at};
 
-use crate::rows::{change_of, inputs_after, keep, outputs_after, scan_of};
+use crate::rows::{change_of, inputs_after, keep, outputs_after, scan_of, steps_after};
 use std::alloc::{AllocError, Global};
 use wc_cost::Loaded;
 use wc_model::{ByteOut, Outputs};
@@ -27,11 +29,11 @@ pub(crate) struct Picture {
     plate: Option<Plate>,
     inputs: u16,
     outputs: Outputs,
-    /// The steps of the program that runs; none if none does.
+    /// The steps of the program that runs, if there is one.
     running: Option<ScanSteps>,
-    /// The steps of the one whose place it took.
+    /// The steps of the one that it replaced.
     before: Option<ScanSteps>,
-    /// The bound of the one that may take its place.
+    /// The bound of the one that may replace it.
     next_bound: u32,
     tracker: Tracker,
     rows: u32,
@@ -88,32 +90,26 @@ impl Picture {
         }
     }
 
-    /// Counts the steps of a scan.
-    fn count(&mut self, steps: u32)
-        ensures same { let running = self.new.running in
-            self.new ≡ record self.old { running = running } }
-        ensures runs { is_some self.new.running ≡ is_some self.old.running }
-    {
-        if let Some(ScanSteps { most, bound }) = self.running {
-            self.running = Some(ScanSteps {
-                most: most.max(steps),
-                bound,
-            });
-        }
-    }
-
-    /// The next program takes the place of the first.
-    fn change(&mut self)
+    /// At a change of the program the next one takes the place of the first.
+    fn change(&mut self, kind: HeadKind)
         ensures same { let running = self.new.running in let before = self.new.before in
             self.new ≡ record self.old { running = running; before = before } }
-        ensures runs { is_some self.new.running ≡ is_some self.old.running }
+        ensures runs { (bytes : List ℕ) → most_of self.new.running
+            ≡ option_map (most_at (head_data_view bytes kind)) (most_of self.old.running) }
+        ensures replaced { (bytes : List ℕ) → most_of self.new.before ≡ replaced_at
+            (head_data_view bytes kind) (most_of self.old.running) (most_of self.old.before) }
     {
-        if self.running.is_some() {
-            self.before = self.running;
-            self.running = Some(ScanSteps {
-                most: 0,
-                bound: self.next_bound,
-            });
+        match kind {
+            HeadKind::Change => {
+                if self.running.is_some() {
+                    self.before = self.running;
+                    self.running = Some(ScanSteps {
+                        most: 0,
+                        bound: self.next_bound,
+                    });
+                }
+            }
+            HeadKind::Counts(_) | HeadKind::Bytes | HeadKind::Inputs(_) | HeadKind::Scan => {}
         }
     }
 
@@ -121,14 +117,14 @@ impl Picture {
     fn turn(&mut self, seen: &RowSeen<'_>)
         ensures same { let running = self.new.running in let before = self.new.before in
             self.new ≡ record self.old { running = running; before = before } }
-        ensures runs { is_some self.new.running ≡ is_some self.old.running }
+        ensures runs { (ms : ℕ) (answer : List ℕ) → most_of self.new.running
+            ≡ option_map (most_with (answer_line ms answer ++ lines_of_scan seen.now.scan))
+            (option_map (most_at (row_of seen.now).brings) (most_of self.old.running)) }
+        ensures replaced { most_of self.new.before ≡ replaced_at (row_of seen.now).brings
+            (most_of self.old.running) (most_of self.old.before) }
     {
-        if let HeadKind::Change = seen.row.kind {
-            self.change();
-        }
-        if let Some(scan) = &seen.scan {
-            self.count(scan.record.steps);
-        }
+        self.change(seen.row.kind);
+        self.running = steps_after(&seen.scan, self.running);
     }
 
     /// Keeps what a row brought.

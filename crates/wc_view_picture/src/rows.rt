@@ -1,4 +1,4 @@
-ghost use Rattle.std.specs.Prelude.{◌≡◌, ◌∷◌, ◌++◌, [], ℕ, List, OnOk, Option, is_some};
+ghost use Rattle.std.specs.Prelude.{◌≡◌, ◌∷◌, ◌++◌, [], ℕ, List, OnOk, Option, is_some, option_map};
 ghost use Rattle.wc_model.specs.Run.ProcessImage.{inputs_with};
 ghost use Rattle.wc_model.specs.Say.ProgramReport.{Logic};
 ghost use Rattle.wc_model.specs.Say.Report.{answer_line};
@@ -7,13 +7,14 @@ ghost use Rattle.wc_run.specs.Observing.{lines_of_scan};
 ghost use Rattle.wc_view_columns.specs.Held.{Held, IsStateOf};
 ghost use Rattle.wc_view_columns.specs.Rows.{Row};
 ghost use Rattle.wc_view_columns.specs.TimeLines.{row_at};
-ghost use Rattle.wc_view_picture.specs.Seen.{IsTimeOf, change_of, outputs_with, scan_in};
+ghost use Rattle.wc_view_picture.specs.Seen.{IsTimeOf, change_of, most_of, most_with, outputs_with, scan_in};
 
 use std::alloc::{AllocError, Global};
 use wc_model::Outputs;
 use wc_record::HeadKind;
 use wc_run::ScanSeen;
 use wc_view_columns::{Column, Events, TimeLine};
+use wc_view_drawing::ScanSteps;
 
 /// The inputs after a row of this kind.
 pub(crate) fn inputs_after(kind: HeadKind, inputs: u16) -> u16
@@ -33,6 +34,24 @@ pub(crate) fn outputs_after(scan: &Option<ScanSeen>, outputs: Outputs) -> Output
     match scan {
         Some(scan) => scan.record.outputs,
         None => outputs,
+    }
+}
+
+/// The steps of the program that runs after a row: those of the row's scan too, if it has one.
+pub(crate) fn steps_after(scan: &Option<ScanSeen>, running: Option<ScanSteps>) -> Option<ScanSteps>
+    ensures { (ms : ℕ) (answer : List ℕ) → most_of result
+        ≡ option_map (most_with (answer_line ms answer ++ lines_of_scan scan.now))
+        (most_of running) }
+{
+    let Some(scan) = scan else {
+        return running;
+    };
+    match running {
+        Some(ScanSteps { most, bound }) => Some(ScanSteps {
+            most: most.max(scan.record.steps),
+            bound,
+        }),
+        None => None,
     }
 }
 

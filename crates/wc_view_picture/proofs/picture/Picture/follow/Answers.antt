@@ -1,5 +1,5 @@
 use Rattle.std.proofs.Common.{◌≡◌, ◌∙◌, ◌∷◌, ◌++◌, Option, suc, length, ap, arith, subst, sym}
-use Rattle.std.specs.Prelude.{◌-◌, ◌^◌, is_some, min}
+use Rattle.std.specs.Prelude.{◌-◌, ◌^◌, min, option_map}
 use Rattle.wc_indicator.specs.Kept.{IndicatorState, RepresentsHistory}
 use Rattle.wc_model.specs.Run.ProcessImage.{inputs_with}
 use Rattle.wc_model.specs.Run.Rows.{history_of, line_bytes}
@@ -9,9 +9,9 @@ use Rattle.wc_run.specs.Observing.{lines_of_scan, row_of}
 use Rattle.wc_sma.specs.Representation.{HasRead}
 use Rattle.wc_sma.specs.declared.requests.RequestReader.{RequestReader}
 use Rattle.wc_view_columns.specs.declared.line.TimeLine.{TimeLine}
-use Rattle.wc_view_picture.proofs.Kept.{on_ok, row_seen}
+use Rattle.wc_view_picture.proofs.Kept.{on_ok, row_seen, runs}
 use Rattle.wc_view_picture.proofs.picture.Picture.follow.Goals as goal
-use Rattle.wc_view_picture.specs.Seen.{IsTimeOf, outputs_with}
+use Rattle.wc_view_picture.specs.Seen.{IsTimeOf, most_after, most_at, most_of, most_with, outputs_with, replaced_at}
 use Rattle.wc_view_picture.specs.declared.picture.Picture.{Picture}
 
 pub returns : goal.returns
@@ -34,10 +34,12 @@ returns c = record {
         inputs = λ bytes. c.inputs_after-self.ensures bytes ∙ ap (inputs_with (head_data_view bytes seen.row.kind)) same_inputs;
         outputs = λ ms answer. c.outputs_after-self.ensures ms answer ∙ ap (outputs_with (answer_line ms answer ++ lines_of_scan seen.scan)) same_outputs;
         requests = subst (λ (reader : RequestReader). HasRead reader (line_bytes (row_of seen ∷ past))) (sym same_requests) (c.events-events.ensures.read past before.requests);
-        running = c.turn.ensures.runs ∙ ap (λ (p : Picture). is_some p.running) c.events-events.ensures.same;
+        running = λ ms answer. c.turn.ensures.runs ms answer
+            ∙ ap (λ (p : Picture). option_map (most_with (answer_line ms answer ++ lines_of_scan seen.scan)) (option_map (most_at (row_of seen).brings) (most_of p.running))) c.events-events.ensures.same;
+        before = c.turn.ensures.replaced ∙ ap (λ (p : Picture). replaced_at (row_of seen).brings (most_of p.running) (most_of p.before)) c.events-events.ensures.same;
         count = count;
         state = c.at-state.ensures;
-        happened = c.events-events.ensures.happened plate logic past shown before.requests before.running;
+        happened = c.events-events.ensures.happened plate logic past shown before.requests (runs old.running (most_after plate logic past) logic before.running);
         line = λ rows held time is. kept rows held (subst (λ (line : Option TimeLine). IsTimeOf rows line) (sym same_line) time) is;
       }))
       c.keep.ensures;
