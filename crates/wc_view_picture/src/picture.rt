@@ -174,7 +174,7 @@ impl Picture {
 }
 
 impl<W: ByteOut> Observer<SlotStore, W> for Picture {
-    ghost use Rattle.std.specs.Prelude.{⊤, false};
+    ghost use Rattle.std.specs.Prelude.{◌≡◌, ⊤, false};
     ghost use Rattle.wc_run.specs.Reports.{silent_plan};
     ghost use Rattle.wc_view_picture.specs.Seen.{HasSeen, IsNew};
 
@@ -185,6 +185,8 @@ impl<W: ByteOut> Observer<SlotStore, W> for Picture {
     ghost is_new = { λ picture. IsNew picture };
 
     ghost has_seen = { λ picture plate logic past. HasSeen picture plate logic past };
+
+    ghost looks = { λ picture ms looked. looked ≡ false };
 
     ghost has_ended = { λ _ _ _ _ _ _ _. ⊤ };
 

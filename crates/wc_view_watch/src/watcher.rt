@@ -275,7 +275,7 @@ impl<'n> Watcher<'n> {
 }
 
 impl<W: ByteOut> Observer<SlotStore, W> for Watcher<'_> {
-    ghost use Rattle.std.specs.Prelude.{⊤, []};
+    ghost use Rattle.std.specs.Prelude.{◌≡◌, ⊤, [], false};
     ghost use Rattle.wc_view_watch.specs.Plans.{watch_plan};
     ghost use Rattle.wc_view_watch.specs.Unknown.{begins_with};
     ghost use Rattle.wc_view_watch.specs.Watching.{HasSeen, KeepsLast, HasRefused};
@@ -291,6 +291,8 @@ impl<W: ByteOut> Observer<SlotStore, W> for Watcher<'_> {
     ghost is_new = { λ watcher. KeepsLast watcher.last watcher.number [] };
 
     ghost has_seen = { λ watcher plate logic past. HasSeen watcher plate logic past };
+
+    ghost looks = { λ watcher ms looked. looked ≡ false };
 
     ghost has_ended = { λ _ _ _ _ _ _ _. ⊤ };
 
