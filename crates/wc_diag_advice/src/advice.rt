@@ -4,7 +4,8 @@ use crate::near::{advice_for, has_word, label_advice, operator_advice, type_advi
 use std::alloc::{AllocError, Global};
 use wc_built_in::variable_at;
 use wc_diag_mistakes::{
-    block_of, excerpt, first_word, following, is_near, line_of, prefix, word_before, words_at,
+    block_of, excerpt, first_word, following, follows_leaving, is_near, line_of, prefix,
+    word_before, words_at,
 };
 use wc_diag_stops::{Brought, RefusalSpan};
 use wc_diag_texts::{Case, Values, empty_path_advice, hint_of, text_with};
@@ -61,9 +62,20 @@ fn frame_advice(
     }
 }
 
-/// What to write if one path alone is known to a label, and brings nothing.
-fn path_advice(alloc: Global, span: &RefusalSpan) -> Result<String, AllocError> {
+/// What to write at a label before a place; empty if something may lead to it.
+fn unreached_label_advice(alloc: Global, text: &[u8], place: usize) -> Result<String, AllocError> {
+    let colon = prefix(text, place).trim_ascii_end().len().saturating_sub(1);
+    let label = short_words(word_before(text, colon));
+    if label.is_empty() || !follows_leaving(text, line_of(text, colon)) {
+        return Ok(String::new(alloc));
+    }
+    text_with(alloc, Values::UnreachedLabel(label))
+}
+
+/// What to write if no path is known to a label, or one alone, which brings nothing.
+fn path_advice(alloc: Global, text: &[u8], span: &RefusalSpan) -> Result<String, AllocError> {
     match span.paths {
+        None => unreached_label_advice(alloc, text, span.start),
         Some(paths) if paths.other.is_none() && matches!(paths.first.brought, Brought::Nothing) => {
             empty_path_advice(alloc, paths.first.line)
         }
@@ -204,7 +216,7 @@ pub fn advice_at(
 ) -> Result<String, AllocError> {
     let word = offending_at(text, span);
     match (number, mistake) {
-        (403, Case::AtLabel) => path_advice(alloc, span),
+        (403, Case::AtLabel) => path_advice(alloc, text, span),
         (401, Case::Plain) => advice_for(alloc, text, word, span.start),
         (401, Case::Field) => field_advice(alloc, text, span),
         (406, Case::Plain) => label_advice(alloc, text, word, span.start),

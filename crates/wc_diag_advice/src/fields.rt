@@ -35,7 +35,7 @@ fn undeclared_advice(
     name: &str,
     field: &str,
 ) -> Result<String, AllocError> {
-    let near = str::from_utf8(near_name(text, name.as_bytes(), place)).unwrap_or("");
+    let near = str::from_utf8(near_name(text, name.as_bytes(), place, true)).unwrap_or("");
     let block = block_with(field.as_bytes());
     if !near.is_empty() {
         let full = format!(in alloc; "{near}.{field}")?;

@@ -1,6 +1,6 @@
 use memchr::memchr;
 use std::alloc::{AllocError, Global};
-use wc_built_in::{Keyword, keyword_named};
+use wc_built_in::{Keyword, elementary_type, keyword_named};
 use wc_diag_mistakes::{first_word, following, is_near, prefix};
 use wc_diag_texts::{Values, text_with};
 
@@ -100,11 +100,16 @@ pub(crate) fn ends_section(line: &[u8]) -> bool {
     following(line, line.len().saturating_sub(7)).eq_ignore_ascii_case(b"END_VAR")
 }
 
-/// The name among those before a type that is spelled almost as this one; empty if none is.
-fn near_in_declaration<'a>(declaration: &'a [u8], name: &[u8]) -> &'a [u8] {
+/// The name among those before a type that is spelled almost as this one; empty if none is, or if it has to have fields and the type
+/// has none.
+fn near_in_declaration<'a>(declaration: &'a [u8], name: &[u8], has_fields: bool) -> &'a [u8] {
     let Some(colon) = memchr(b':', declaration) else {
         return b"";
     };
+    let kind = first_word(following(declaration, colon.saturating_add(1)));
+    if has_fields && elementary_type(kind).is_some() {
+        return b"";
+    }
     for declared in prefix(declaration, colon).split(|byte| *byte == b',') {
         let declared = declared.trim_ascii();
         if is_near(declared, name) {
@@ -115,9 +120,9 @@ fn near_in_declaration<'a>(declaration: &'a [u8], name: &[u8]) -> &'a [u8] {
 }
 
 /// Likewise among the declarations of a line.
-fn near_on_line<'a>(line: &'a [u8], name: &[u8]) -> &'a [u8] {
+fn near_on_line<'a>(line: &'a [u8], name: &[u8], has_fields: bool) -> &'a [u8] {
     for declaration in line.split(|byte| *byte == b';') {
-        let near = near_in_declaration(declaration, name);
+        let near = near_in_declaration(declaration, name, has_fields);
         if !near.is_empty() {
             return near;
         }
@@ -126,8 +131,14 @@ fn near_on_line<'a>(line: &'a [u8], name: &[u8]) -> &'a [u8] {
 }
 
 /// The name that the unit around a place declares and that is spelled almost as this one. The lines are passed
-/// upwards from the place, so that a text of many units costs no more than the last of them.
-pub(crate) fn near_name<'a>(text: &'a [u8], name: &[u8], place: usize) -> &'a [u8] {
+/// upwards from the place, so that a text of many units costs no more than the last of them. If it has to have fields, only an instance
+/// counts.
+pub(crate) fn near_name<'a>(
+    text: &'a [u8],
+    name: &[u8],
+    place: usize,
+    has_fields: bool,
+) -> &'a [u8] {
     let mut in_section = false;
     for line in prefix(text, place).rsplit(|byte| *byte == b'\n') {
         let line = line.trim_ascii();
@@ -137,7 +148,7 @@ pub(crate) fn near_name<'a>(text: &'a [u8], name: &[u8], place: usize) -> &'a [u
         }
         in_section |= ends_section(line);
         if in_section {
-            let near = near_on_line(names, name);
+            let near = near_on_line(names, name, has_fields);
             if !near.is_empty() {
                 return near;
             }
@@ -154,7 +165,7 @@ pub(crate) fn advice_for(
     name: &[u8],
     place: usize,
 ) -> Result<String, AllocError> {
-    let near = str::from_utf8(near_name(text, name, place)).unwrap_or("");
+    let near = str::from_utf8(near_name(text, name, place, false)).unwrap_or("");
     if near.is_empty() {
         return Ok(String::new(alloc));
     }
@@ -174,11 +185,12 @@ pub fn watched_advice(alloc: Global, program: &[u8], name: &[u8]) -> Result<Stri
     if has_word(program, word) {
         return Ok(String::new(alloc));
     }
-    let near = str::from_utf8(near_name(program, word, program.len())).unwrap_or("");
+    let (_, rest) = name.split_at(word.len().min(name.len()));
+    let near = near_name(program, word, program.len(), !rest.is_empty());
+    let near = str::from_utf8(near).unwrap_or("");
     if near.is_empty() {
         return Ok(String::new(alloc));
     }
-    let (_, rest) = name.split_at(word.len().min(name.len()));
     let full = format!(in alloc; "{near}{}", str::from_utf8(rest).unwrap_or(""))?;
     text_with(alloc, Values::Near(&full))
 }

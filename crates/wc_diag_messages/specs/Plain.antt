@@ -1,7 +1,8 @@
 -- What a message may hold: characters that a terminal only shows. (The profile's own; the characters are those of Unicode in UTF-8.)
-use Rattle.std.specs.Prelude.{◌≡◌, ℕ, ◌+◌, ◌/◌, ◌%◌, Bool, true, not, ◌==◌, ◌||◌, ◌&&◌, nat_le, nat_lt, if◌then◌else◌, List, [], ◌∷◌, ◌++◌, count_by, map, slice_index, take}
+use Rattle.std.specs.Prelude.{◌≡◌, ℕ, ◌+◌, ◌/◌, ◌%◌, Bool, true, not, ◌==◌, ◌||◌, ◌&&◌, nat_le, nat_lt, if◌then◌else◌, List, [], ◌∷◌, ◌++◌, count_by, map, take}
 use Rattle.std.specs.List.{flat_map}
 use Rattle.std.specs.Str.{is_utf8}
+use Rattle.wc_view_trace_rows.specs.Shown.{acting_length}
 
 -- a control character of ASCII
 abbrev pub is_control : ℕ → Bool
@@ -14,17 +15,9 @@ is_plain byte = byte == 10 || not (is_control byte)
 abbrev pub is_within : ℕ → ℕ → ℕ → Bool
 is_within first last byte = nat_le first byte && nat_le byte last
 
--- these bytes begin a character on which a terminal or an editor acts, or which is not seen: a control character, U+0080 to U+009F;
--- an end of a line or of a paragraph, U+2028 and U+2029; one that turns the direction of writing, U+200E, U+200F, U+202A to U+202E,
--- U+2066 to U+2069; one without a width, U+200B to U+200D and U+FEFF
-abbrev pub acts_by : ℕ → ℕ → ℕ → Bool
-acts_by first second third =
-    first == 194 && is_within 128 159 second
-    || first == 226 && (second == 128 && (is_within 139 143 third || is_within 168 174 third) || second == 129 && is_within 166 169 third)
-    || first == 239 && second == 187 && third == 191
-
+-- these bytes begin a character above ASCII on which a terminal or an editor acts, or which is not seen
 abbrev pub acts : List ℕ → Bool
-acts bytes = acts_by (slice_index bytes 0) (slice_index bytes 1) (slice_index bytes 2)
+acts bytes = nat_lt 0 (acting_length bytes)
 
 -- no character of a text acts so, and none is a control character of ASCII
 abbrev pub is_calm : List ℕ → Bool

@@ -3,6 +3,7 @@ ghost use Rattle.std.specs.Str.{is_utf8};
 ghost use Rattle.wc_diag_messages.specs.Plain.{acts, characters, column_of, is_calm, is_control, passes, spaced, with_spaces};
 
 use std::alloc::{AllocError, Global};
+use wc_view_trace_rows::hidden_length;
 
 /// The number of characters of a UTF-8 text.
 pub(crate) fn characters(text: &[u8]) -> usize
@@ -39,13 +40,7 @@ fn is_control(byte: u8) -> bool
 fn acts(text: &[u8]) -> bool
     ensures { result ≡ acts text.now }
 {
-    match text {
-        [0xC2, 0x80..=0x9F, ..] => true,
-        [0xE2, 0x80, 0x8B..=0x8F | 0xA8..=0xAE, ..] => true,
-        [0xE2, 0x81, 0xA6..=0xA9, ..] => true,
-        [0xEF, 0xBB, 0xBF, ..] => true,
-        _ => false,
-    }
+    hidden_length(text) > 0
 }
 
 /// Whether no character of a UTF-8 text is a control character, or acts so.

@@ -74,3 +74,29 @@ pub(crate) fn is_long_duration(token: &[u8]) -> bool {
     }
     total > most
 }
+
+/// The milliseconds of the first unit of a duration, and what comes after it; 0 if none of the language is there.
+fn first_unit(text: &[u8]) -> (u64, &[u8]) {
+    let letters = following(text, length_until(text, true));
+    let unit = prefix(letters, length_until(letters, false));
+    (milliseconds_of(unit), following(letters, unit.len()))
+}
+
+/// Whether the units of a duration are all of the language, and one is not smaller than that before it.
+pub(crate) fn has_unit_order_broken(token: &[u8]) -> bool {
+    let mut rest = after_prefix(token);
+    let (mut before, mut is_broken) = (u64::MAX, false);
+    for _ in 0..token.len() {
+        if rest.is_empty() {
+            return is_broken;
+        }
+        let (unit, after) = first_unit(rest);
+        if unit == 0 {
+            return false;
+        }
+        is_broken |= unit >= before;
+        before = unit;
+        rest = after;
+    }
+    is_broken
+}

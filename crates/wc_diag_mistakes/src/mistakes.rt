@@ -1,4 +1,4 @@
-use crate::durations::is_long_duration;
+use crate::durations::{has_unit_order_broken, is_long_duration};
 use crate::slices::{excerpt, following, line_of, prefix};
 use crate::types::{is_conditional, type_hint};
 use crate::unreached::{block_line, is_unreached};
@@ -501,7 +501,9 @@ fn mistaken_duration(token: &[u8], rest: &[u8], case: Case) -> Case {
     match token.last() {
         Some(b'0'..=b'9' | b'.' | b'_') => Case::MissingUnit,
         Some(b'#') => Case::SpacedDuration,
+        _ if is_long_duration(token) && token.contains(&b'-') => Case::NegativeDuration,
         _ if is_long_duration(token) => Case::LongDuration,
+        _ if has_unit_order_broken(token) => Case::UnitOrder,
         _ => case,
     }
 }

@@ -75,6 +75,8 @@ fn case_said(case: Case, mistake: Case) -> Case {
         | Case::TypedNumber
         | Case::TypedTruth
         | Case::LongDuration
+        | Case::NegativeDuration
+        | Case::UnitOrder
         | Case::SpacedDuration
         | Case::Constant
         | Case::Retain

@@ -136,6 +136,10 @@ pub enum Case {
     VariableDivisor,
     LabelWithoutColon,
     LongDuration,
+    /// A duration below the least.
+    NegativeDuration,
+    /// A duration whose units are not from days to milliseconds, each once.
+    UnitOrder,
     TypedNumber,
     TypedTruth,
     SpacedDuration,

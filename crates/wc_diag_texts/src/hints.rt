@@ -54,7 +54,9 @@ fn token_hint(number: u16, case: Case) -> Option<&'static str> {
         105, Case::WithPoint => "a weight is counted in its last decimal: with 3 decimals 1.5 kg is 1500";
         106, Case::DecimalComma => "write a decimal point instead of the comma, such as T#1.5s";
         106, Case::MissingUnit => "a duration has a unit after its number, such as T#1s or T#500ms";
-        106, Case::LongDuration => "durations are T#-24d20h31m23s648ms to T#24d20h31m23s647ms; for longer ones count with a CTU the ends of a TON of T#1d that is started again";
+        106, Case::UnitOrder => "each unit is smaller than that before it: write days, hours, minutes, seconds, milliseconds in this order, such as T#3h5s";
+        106, Case::NegativeDuration => "durations are T#-24d20h31m23s648ms to T#24d20h31m23s647ms";
+        106, Case::LongDuration => "durations are T#-24d20h31m23s648ms to T#24d20h31m23s647ms; for longer ones give a TON of T#1d as IN the input AND NOT its own Q; count its Q with a CTU (PV the days), whose R is TRUE while the input is FALSE";
         106, Case::SpacedDuration => "write the number right after T#, without a space, such as T#5s";
     }
 }
@@ -79,7 +81,7 @@ fn reading_hint(number: u16, case: Case) -> Option<&'static str> {
         201, Case::InputOperator => "set an input in CAL, such as CAL c(CU := a): a store alone does not call the block";
         201, Case::InstanceCall => "a call begins with CAL, such as CAL t(IN := a, PT := T#1s)";
         201, Case::Loop => "this looks like Structured Text: there are no loops; write the lines once for each turn, or do one turn in each scan with a DINT that counts";
-        201, Case::CaseStatement => "this looks like Structured Text: for each value write LD mode, EQ 1, JMPCN next1; `next1:` begins the next value";
+        201, Case::CaseStatement => "this looks like Structured Text: for each value write LD mode, EQ 1, JMPCN next1, its lines, JMP done; `next1:` begins the next value or ELSE; `done:` replaces END_CASE";
         201, Case::IfStatement => "this looks like Structured Text: for IF a write LD a, JMPCN skip; `skip:` is the END_IF";
         201, Case::StatementList => "this looks like Siemens STL (AWL): U, A or O is LD at the start and after each `=`, S or R, else AND or OR (UN: LDN, ANDN); `=` is ST";
         201, Case::Assignment => "to assign write LD and the value, and on the next line ST and the variable";
@@ -91,7 +93,7 @@ fn reading_hint(number: u16, case: Case) -> Option<&'static str> {
         201, Case::DecimalComma => "numbers are integers, without a decimal comma: with 3 decimals write 1.5 kg as 1500";
         201, Case::Configuration => "leave out CONFIGURATION, RESOURCE and TASK: the one PROGRAM runs in every scan";
         201, Case::OwnType => "delete TYPE .. END_TYPE: values are BOOL, DINT or TIME; for an enumeration use a DINT with 0, 1, 2, for a structure one variable for each part";
-        201, Case::Conversion => "there are no conversions: compare a TIME with a TIME, such as GE T#15s; for a number of seconds ADD 1 to a DINT at each end of a TON of T#1s that is started again";
+        201, Case::Conversion => "there are no conversions: compare a TIME with a TIME, such as GE T#15s; for a number of seconds, give a TON of T#1s as IN the start signal AND NOT its own Q; when its Q is TRUE, ADD 1 to a DINT; while the start signal is FALSE, set that DINT to 0; each count takes two scans more than 1 s";
         201, Case::NumberConversion => "leave this line out: every number is a DINT, so there are no conversions";
         201, Case::Negative => "the negative of a number is LD 0, and on the next line SUB and the number";
         201, Case::NoUnit => "begin with PROGRAM and a name; then come VAR .. END_VAR, the instructions and END_PROGRAM";
@@ -193,7 +195,7 @@ fn kind_hint(number: u16, case: Case) -> Option<&'static str> {
         402, Case::StoredNumberToBool => "store it to a DINT, such as %QD0, or compare it first, such as GE 500, to get a BOOL";
         402, Case::StoredTimeToBool => "store it to a TIME, or compare it first, such as GE T#500ms, to get a BOOL";
         402, Case::StoredBool => "store a BOOL to a BOOL variable or to an output bit, such as ST %QX0.0";
-        402, Case::StoredTimeToNumber => "a TIME cannot be converted: store it to a TIME variable; for a number of seconds ADD 1 to a DINT at each end of a TON of T#1s that is started again";
+        402, Case::StoredTimeToNumber => "a TIME cannot be converted: store it to a TIME variable; for a number of seconds, give a TON of T#1s as IN the start signal AND NOT its own Q; when its Q is TRUE, ADD 1 to a DINT; while the start signal is FALSE, set that DINT to 0; each count takes two scans more than 1 s";
         402, Case::StoredNumberToTime => "a number cannot be converted to a TIME: load a duration, such as LD T#500ms, or store to a DINT";
         402, Case::ComparedNumber => "compare the number first, such as GE 500: a comparison gives a BOOL";
         402, Case::ComparedTime => "compare the time first, such as GE T#500ms: a comparison gives a BOOL";
@@ -212,7 +214,7 @@ fn kind_hint(number: u16, case: Case) -> Option<&'static str> {
         402, Case::AddedTime => "add a duration to a TIME, such as ADD T#500ms";
         402, Case::MultipliedTime => "a TIME cannot be multiplied: write the product as a duration, such as T#15s, or ADD the time several times";
         402, Case::MultipliedByTime => "a TIME cannot be multiplied: load the product, such as LD T#5s, and store it to a TIME variable; for milliseconds as a number use DINTs only, such as MUL 1000";
-        402, Case::DividedTime => "a TIME cannot be divided: compare it, such as GE T#15s; for a number of seconds ADD 1 to a DINT at each end of a TON of T#1s that is started again";
+        402, Case::DividedTime => "a TIME cannot be divided: compare it, such as GE T#15s; for a number of seconds, give a TON of T#1s as IN the start signal AND NOT its own Q; when its Q is TRUE, ADD 1 to a DINT; while the start signal is FALSE, set that DINT to 0; each count takes two scans more than 1 s";
         402, Case::NumberInParenthesis => "compare the number before the `)`, such as GE 500: a comparison gives a BOOL";
         402, Case::TimeInParenthesis => "compare the time before the `)`, such as GE T#500ms: a comparison gives a BOOL";
         402, Case::Closing => "end the lines in the parenthesis with the type of the result before it";

@@ -51,7 +51,8 @@ fn token_sentence(number: u16, case: Case) -> Option<&'static str> {
         105, Case::TypedNumber | Case::TypedTruth => "is not a literal of this language";
         105, Case::OutOfRange => "is out of range";
         105, _ => "is not a number";
-        106, Case::LongDuration => "is a duration out of range";
+        106, Case::UnitOrder => "has its units in a wrong order";
+        106, Case::LongDuration | Case::NegativeDuration => "is a duration out of range";
         106, Case::SpacedDuration => "is a duration without a number";
         106, _ => "is not a valid duration, or is out of range";
     }

@@ -41,6 +41,8 @@ pub enum Values<'a> {
     Setting(&'a str, &'a str),
     /// A label that is missing.
     NewLabel(&'a str),
+    /// A label to which nothing leads, after a jump or a return.
+    UnreachedLabel(&'a str),
     /// A block with its inputs and its outputs, in words.
     Members(&'a str, &'a str, &'a str),
     /// A key of a plate that is missing, if another is unknown.
@@ -114,6 +116,11 @@ pub fn text_with(alloc: Global, values: Values<'_>) -> Result<String, AllocError
         }
         Values::NewLabel(label) => {
             format!(in alloc; "write `{label}:` at the start of a line below this jump")
+        }
+        Values::UnreachedLabel(label) => {
+            format!(in alloc;
+                "make the JMP or RET above conditional (JMPC, JMPCN, RETC), jump to `{label}` from a line above, or delete this line"
+            )
         }
         Values::Members(block, inputs, outputs) => {
             format!(in alloc; "{block} has {inputs} and {outputs}")

@@ -26,5 +26,6 @@ pub use notes::Note;
 pub use outputs::{BlockOutput, number_in, outputs_of};
 pub use rows::{is_argument, put_scan};
 pub use safe::shown_lines_are_safe;
+pub use shown::hidden_length;
 pub use shown_scan::ShownScan;
 pub use steps::put_none_chosen;

@@ -18,15 +18,16 @@ fn printable(byte: u8, is_utf8: bool) -> u8
     }
 }
 
-/// The number of bytes of the character at the start of a UTF-8 text if a terminal would act on it: a
-/// control character above ASCII, or one that turns the direction of writing; else 0.
-fn hidden_length(text: &[u8]) -> usize
+/// The number of bytes of the character at the start of a UTF-8 text if a terminal or an editor would act on it, or it is not seen: a
+/// control character above ASCII, an end of a line, one that turns the direction of writing, or one without a width; else 0.
+pub fn hidden_length(text: &[u8]) -> usize
     ensures { result ≡ acting_length text.now }
 {
     match text {
         [0xC2, 0x80..=0x9F, ..] => 2,
-        [0xE2, 0x80, 0x8E | 0x8F | 0xAA..=0xAE, ..] => 3,
+        [0xE2, 0x80, 0x8B..=0x8F | 0xA8..=0xAE, ..] => 3,
         [0xE2, 0x81, 0xA6..=0xA9, ..] => 3,
+        [0xEF, 0xBB, 0xBF, ..] => 3,
         _ => 0,
     }
 }

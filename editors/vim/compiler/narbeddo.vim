@@ -4,4 +4,5 @@ if exists("current_compiler")
 endif
 let current_compiler = "narbeddo"
 CompilerSet makeprg=narbeddo\ check\ --message\ short\ %:S
+" A column counts characters. %c counts bytes: after a character above ASCII on its line, the cursor is some bytes before the place.
 CompilerSet errorformat=%f:%l:%c:\ %trror[%n]:\ %m,%f:%l:%c:\ %tarning[W%n]:\ %m,%f:%l:\ %trror[%n]:\ %m,%f:\ %trror[%n]:\ %m,%-G%.%#
