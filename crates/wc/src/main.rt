@@ -21,10 +21,9 @@ use commands::{
 };
 use explaining::explain;
 use files::RunPaths;
-use output::{Gathered, shared_output};
+use output::shared_output;
 use reporting::{report_write_fault, without_memory};
 use session::Session;
-use std::cell::RefCell;
 use std::fs::File;
 use std::io::Write;
 use std::process::ExitCode;
@@ -237,36 +236,29 @@ fn execute(session: Session<'_>, words: &[String], row: &mut RefusedRow, wanted:
     }
 }
 
-/// Does what these arguments ask for, or says what is wrong with them: the exit status.
-fn answer(rt: &HostRuntime, words: &[String], gathered: &RefCell<Gathered>) -> u8 {
-    match read_words(rt.alloc(), words) {
-        Ok(request) => {
-            let format = request.format;
-            let session = Session {
-                rt,
-                format,
-                gathered,
-            };
-            execute(
-                session,
-                words,
-                &mut RefusedRow::new(rt.alloc()),
-                request.wanted,
-            )
-        }
-        Err(error) => show(rt, &error, words),
-    }
-}
-
-/// The exit status is 0 if all succeeded, 1 if something was refused, 2 if the arguments are wrong, 3 if a device
-/// failed, 4 if out of memory.
+/// Does what the arguments ask for, or says what is wrong with them. The exit status is 0 if all succeeded, 1 if something was
+/// refused, 2 if the arguments are wrong, 3 if a device failed, 4 if out of memory.
 fn main(rt: HostRuntime) -> ExitCode {
     let words = match words_given(&rt) {
         Ok(words) => words,
         Err(error) => return ExitCode::from(end_without_words(&rt, &error)),
     };
-    match shared_output(&rt) {
-        Ok(gathered) => ExitCode::from(answer(&rt, words.as_slice(), &gathered)),
-        Err(_) => ExitCode::from(without_memory(&rt)),
-    }
+    let gathered = match shared_output(&rt) {
+        Ok(gathered) => gathered,
+        Err(_) => return ExitCode::from(without_memory(&rt)),
+    };
+    let status = match read_words(rt.alloc(), words.as_slice()) {
+        Ok(request) => execute(
+            Session {
+                rt: &rt,
+                format: request.format,
+                gathered: &gathered,
+            },
+            words.as_slice(),
+            &mut RefusedRow::new(rt.alloc()),
+            request.wanted,
+        ),
+        Err(error) => show(&rt, &error, words.as_slice()),
+    };
+    ExitCode::from(status)
 }

@@ -3,7 +3,7 @@ use Rattle.std.proofs.Common.{◌≡◌, ℕ, ◌≤◌, Bool, List, length, Opt
 use Rattle.std.specs.Io.KnownBytes.{Appends}
 use Rattle.std.specs.Prelude.{IfSome}
 use Rattle.wc_controller.proofs.Allowing.{of_known, on_known}
-use Rattle.wc_controller.specs.Endings.{EndsAfter, EndsAfterFault, EndsRefused, begin_fault_input}
+use Rattle.wc_controller.specs.Endings.{EndsAfter, EndsAfterFault, EndsRefused, begin_fault_input, fault_raised, raised}
 use Rattle.wc_controller.specs.InputStates.{InputStates, Reader}
 use Rattle.wc_controller.specs.TakenLogs.{AreReadOf, IfKnown, IsNextLoadedOf, OfLogic, log_by}
 use Rattle.wc_controller.specs.WrittenRuns.{EndsSaying, OfRun, OfStart, OnEnd, OnRefusal, says_of}
@@ -35,6 +35,18 @@ pub log_ended : (said : Ended) (start : Start) (plate : PlateData) (logic : Opti
     → OnRefusal fault (IfSome known (λ bytes. says_of said taken start plate logic (log_of bytes)))
 log_ended said start plate logic log_of (Refused number place) known taken h = h
 log_ended said start plate logic log_of fault known taken h = tt
+
+-- a run that ended as its log did
+pub run_ended : (said : Ended) (start : Start) (plate : PlateData) (logic : Option Logic) (log_of : List ℕ → LogOf) (answer : Result ℕ RunFault) (stop : Result (Unit {0}) Stopped)
+    (known : Option (List ℕ)) (taken : Option (List ℕ)) → raised stop ≡ fault_raised answer → IfSome known (λ bytes. EndsWhole said start plate logic (log_of bytes) answer taken)
+    → OnEnd stop (IfSome known (λ bytes. says_of said taken start plate logic (log_of bytes)))
+run_ended said start plate logic log_of (Ok count) (Ok done) known taken e h = h
+run_ended said start plate logic log_of (Ok count) (Err stopped) known taken e h = absurd (cc (e))
+run_ended said start plate logic log_of (Err fault) (Ok done) known taken e h = absurd (cc (e))
+run_ended said start plate logic log_of (Err fault) (Err stopped) known taken e h = λ at.
+    let same : fault ≡ stopped.fault = cc (e) in
+    subst (λ raised. OnRefusal raised (IfSome known (λ bytes. says_of said taken start plate logic (log_of bytes)))) same
+    (log_ended said start plate logic log_of fault known taken h)
 
 -- an observer that does not begin stops at the names, or out of memory
 pub not_begun : (why : RunFault) (begins : Bool) (held said : Type 0) → RefusesToBegin begins held why → begin_fault_input why ≡ input.Log → OnRefusal why said

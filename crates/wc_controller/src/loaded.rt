@@ -1,22 +1,23 @@
-ghost use Rattle.std.specs.Prelude.{◌≡◌, [], ℕ, List, true, false, Some, None, Option, IfErr, IfOk, IfSome, IsOkUnless, OnOk, is_some, option_map};
+ghost use Rattle.std.specs.Prelude.{◌≡◌, [], ℕ, List, true, false, Some, None, Option, IfErr, IfOk, IfSome, IsOkUnless, OnOk, IsErrOf, is_some, option_map};
 ghost use Rattle.wc_controller.specs.Blames.{IsNextUnloaded, IsUnloaded, RefusesLog, StopsFor};
-ghost use Rattle.wc_controller.specs.Endings.{HasNotFailedAt, IsReadFaultAt, StopsAt, ReportsMemory, ReportsWriteFaults, WritesUpTo, begin_fault_input, raised};
-ghost use Rattle.wc_controller.specs.Files.{AnswersPrinting, IsLineAnswer, answer_written};
+ghost use Rattle.wc_controller.specs.Endings.{HasNotFailedAt, IsReadFaultAt, StopsAt, ReportsMemory, ReportsWriteFaults, WritesUpTo, begin_fault_input, fault_raised, raised};
+ghost use Rattle.wc_controller.specs.Files.{AnswersPrinting, IsLineAnswer};
 ghost use Rattle.wc_controller.specs.InputStates.{observed_by, reader_of};
 ghost use Rattle.wc_controller.specs.WrittenRuns.{OnEnd, says_of};
 ghost use Rattle.wc_controller.specs.TakenLogs.{IsLater, IsNextLoadedOf, OfLogic, log_alone, log_alongside, log_by};
 ghost use Rattle.wc_model.specs.Instrument.Plates.{PlateData};
 ghost use Rattle.wc_model.specs.Language.Loading.{IsLoaded};
 ghost use Rattle.wc_model.specs.Language.Views.{text_view};
-ghost use Rattle.wc_model.specs.Run.Log.{log_of};
+ghost use Rattle.wc_model.specs.Run.Log.{Record, log_of};
 ghost use Rattle.wc_model.specs.Say.Job.{AnswersNext};
 ghost use Rattle.wc_model.specs.Say.ProgramReport.{Logic, first_logic};
 ghost use Rattle.wc_record.specs.Left.{HasCause};
 ghost use Rattle.wc_record.specs.Reported.{fields_reported};
 ghost use Rattle.wc_record.specs.Reading.{records_of};
 ghost use Rattle.wc_run.specs.Logics.{text_of_next};
-ghost use Rattle.wc_run.specs.Doing.{seen_writing};
-ghost use Rattle.wc_run.specs.Observing.{RefusesToBegin, Start, bytes_of, loaded_of, logic_of, said, start_of, start_with, text_in_all};
+ghost use Rattle.wc_run.specs.Doing.{WritesBy};
+ghost use Rattle.wc_run.specs.Runs.{HasNotFailed, ReportsRefused, ReportsWrites};
+ghost use Rattle.wc_run.specs.Observing.{Plan, RefusesToBegin, bytes_of, loaded_of, logic_of, said, start_of, start_with};
 ghost use Rattle.wc_run.specs.Representation.{IsNotAfter, Represents};
 
 use crate::input::{Input, Stopped};
@@ -154,51 +155,23 @@ fn scale_of<'a>(
     Scale::new(alloc, plate, Some(machine), next)
 }
 
-/// Runs a log on a scale to which no row has come.
-fn run_scale<W: ByteOut, O: Observer<SlotStore, W>, L: ByteIn>(
-    alloc: Global,
-    observer: &mut O,
-    scale: &mut Scale<'_, SlotStore>,
-    log: &mut L,
-    writer: &mut W,
-    reported: &mut RefusedRow,
-) -> Result<(), Stopped>
-    requires first { IsNotAfter scale.old 0 }
-    ensures writes { (start : Start) (plate : PlateData) (logic : Option Logic)
-        → Represents scale.old plate logic []
-        → seen_writing O.has_seen O.has_written start (observer.old, W.bytes_taken writer.old)
-        plate logic []
-        → IfSome (L.bytes_left log.old) (λ bytes.
-        WritesUpTo (λ one. one ≡ answer_written (text_in_all (O.plan observer.old)) plate logic
-        (log_of (records_of bytes)))
-        (raised result) (said O.speaks (W.bytes_taken writer.old))
-        (said O.speaks (W.bytes_taken writer.new))) }
+/// How a run ends whose log was run with this answer.
+fn stopped_at_log(answer: Result<u32, RunFault>) -> Result<(), Stopped>
     ensures input { IfErr result (λ stopped. stopped.input ≡ Input.Log) }
-    ensures ended { (start : Start) (plate : PlateData) (logic : Option Logic)
-        → Represents scale.old plate logic []
-        → seen_writing O.has_seen O.has_written start (observer.old, W.bytes_taken writer.old)
-        plate logic []
-        → OnEnd result (IfSome (L.bytes_left log.old)
-        (λ bytes. says_of (O.has_ended (O.settings observer.old)) (W.bytes_taken writer.new)
-        start plate logic (log_by logic bytes))) }
-    ensures blames { (start : Start) (plate : PlateData) (logic : Option Logic)
-        → Represents scale.old plate logic []
-        → seen_writing O.has_seen O.has_written start (observer.old, W.bytes_taken writer.old)
-        plate logic []
-        → StopsFor Input.Log (RefusesLog (log_by logic) (fields_reported reported.new))
-        (L.bytes_left log.old) result }
-    ensures read { IsReadFaultAt Input.Log result
-        → HasCause (L.failure_count log.old) (L.failure_count log.new)
-        (L.spent_count log.old) (L.spent_count log.new) }
-    ensures memory { raised result ≡ Some RunFault.Memory
-        → ¬ HasCause (L.failure_count log.old) (L.failure_count log.new)
-        (L.spent_count log.old) (L.spent_count log.new) }
-    ensures reader { HasNotFailedAt Input.Log result (L.failure_count log.old)
-        (L.failure_count log.new) }
-    ensures failures { ReportsWriteFaults (raised result) (W.failure_count writer.old)
-        (W.failure_count writer.new) }
+    ensures fault { raised result ≡ fault_raised answer }
+    ensures blames { (plan : Plan) (plate : PlateData) (logic : Option Logic) (fields : Record)
+        (known before after : Option (List ℕ))
+        → IfSome known (λ bytes. WritesBy plan plate logic (log_by logic bytes) answer before after)
+        → ReportsRefused known fields answer
+        → StopsFor Input.Log (RefusesLog (log_by logic) fields) known result }
+    ensures read { IsReadFaultAt Input.Log result → IsErrOf answer RunFault.Read }
+    ensures memory { raised result ≡ Some RunFault.Memory → IsErrOf answer RunFault.Memory }
+    ensures reader { (before after : ℕ) → HasNotFailed answer before after
+        → HasNotFailedAt Input.Log result before after }
+    ensures failures { (before after : ℕ) → ReportsWrites answer before after
+        → ReportsWriteFaults (raised result) before after }
 {
-    match run(alloc, observer, scale, log, writer, reported) {
+    match answer {
         Ok(_) => Ok(()),
         Err(fault) => Err(Stopped {
             input: Input::Log,
@@ -249,7 +222,7 @@ pub(crate) fn run_alone<W: ByteOut, O: Observer<SlotStore, W>, L: ByteIn>(
         return Err(stopped);
     }
     match Scale::new(alloc, plate, None, None) {
-        Ok(mut scale) => run_scale(alloc, observer, &mut scale, log, writer, reported),
+        Ok(mut scale) => stopped_at_log(run(alloc, observer, &mut scale, log, writer, reported)),
         Err(fault) => Err(Stopped {
             input: Input::Log,
             fault,
@@ -329,7 +302,7 @@ pub(crate) fn run_loaded<W: ByteOut, O: Observer<SlotStore, W>, L: ByteIn>(
         return Err(stopped);
     }
     match scale_of(alloc, &plate, loaded, next) {
-        Ok(mut scale) => run_scale(alloc, observer, &mut scale, log, writer, reported),
+        Ok(mut scale) => stopped_at_log(run(alloc, observer, &mut scale, log, writer, reported)),
         Err(fault) => Err(Stopped {
             input: Input::Log,
             fault,

@@ -7,7 +7,7 @@ macro_rules! with_constants {
             "0.1.0",
             "rattle-kit-13 logic dac8208d650f15bf",
             "1177ae17014caf8e427f4a8dde1f7a313153b343733dd3b4fb6765f5d55be068",
-            "f6f4ecf29a4a408e9b82667cb057b2c1d994bd574f2359adaf1e9e708605a1fd"
+            "c56b20e468b2a2144e4b959ba718d94a30053b04fb7421cccddd3fb674ddb707"
         )
     };
 }

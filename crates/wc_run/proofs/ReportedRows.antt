@@ -1,10 +1,9 @@
 -- The refused row that is reported, while a log is run.
 use Rattle.std.proofs.Common.{◌≡◌, ◌≤◌, ◌∙◌, ℕ, List, [], ◌∷◌, Option, Some, None, arith, inl, inr, sym}
-use Rattle.std.specs.Prelude.{IfSome}
 use Rattle.wc_model.specs.Run.Log.{Record}
 use Rattle.wc_record.proofs.LogSteps.{reads_still, record_read}
 use Rattle.wc_record.specs.Left.{ended, rows_read}
-use Rattle.wc_record.specs.Reported.{IsAmong, Reads, current_record, record_at, records_read}
+use Rattle.wc_record.specs.Reported.{IsAmong, Reads, current_record, record_at}
 use Rattle.wc_record.specs.declared.log.LogEnd.TheVariants.{Raised}
 use Rattle.wc_record.specs.declared.log.Rows.{Rows}
 use Rattle.wc_record.specs.declared.row_kind.LogFault.{LogFault}
@@ -45,7 +44,6 @@ reported_still records fields Memory classified (inr e) says = rw e tt
 reported_still records fields raised classified e says = rw e says
 
 -- if nothing is refused, nothing is reported
-pub none_reported : (known : Option (List ℕ)) (fields : Record) (raised : RunFault) → IsNoRefusal raised → IfSome known (λ bytes. ReportsFault (records_read bytes) fields raised)
-none_reported None fields raised h = tt
-none_reported (Some bytes) fields (Refused number place) h = absurd h
-none_reported (Some bytes) fields raised h = tt
+pub none_of_rows : (records : List Record) (fields : Record) (raised : RunFault) → IsNoRefusal raised → ReportsFault records fields raised
+none_of_rows records fields (Refused number place) h = absurd h
+none_of_rows records fields raised h = tt

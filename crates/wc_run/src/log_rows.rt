@@ -1,16 +1,15 @@
-ghost use Rattle.std.specs.Prelude.{◌≡◌, ◌<◌, ◌^◌, List, [], Option, IfErr, IfSome, OnOk};
-ghost use Rattle.wc_model.specs.Run.Log.{LogOf, Record, log_of};
+ghost use Rattle.std.specs.Prelude.{◌≡◌, ◌<◌, ◌^◌, List, [], Option, IfErr, OnOk};
+ghost use Rattle.wc_model.specs.Run.Log.{LogOf, Record};
 ghost use Rattle.wc_model.specs.Instrument.Plates.{PlateData};
 ghost use Rattle.wc_model.specs.Run.Rows.{Past};
 ghost use Rattle.wc_record.specs.Left.{HasLeft, last_ms, rows_read};
-ghost use Rattle.wc_record.specs.Reading.{records_of};
-ghost use Rattle.wc_record.specs.Reported.{Reads, current_record, fields_reported};
+ghost use Rattle.wc_record.specs.Reported.{Reads, current_record};
 ghost use Rattle.wc_record.specs.Views.{IsDataInRange, head_data_view, head_view};
 ghost use Rattle.wc_run.specs.Doing.{Does, RunsRows, seen_writing};
 ghost use Rattle.wc_run.specs.Observing.{Start, said};
 ghost use Rattle.wc_model.specs.Say.LogFor.{log_for};
 ghost use Rattle.wc_model.specs.Say.ProgramReport.{Logic};
-ghost use Rattle.wc_run.specs.Runs.{IsFaultAt, ReportsRefused, ReportsRow, ReportsWrites};
+ghost use Rattle.wc_run.specs.Runs.{IsFaultAt, ReportsRow, ReportsWrites};
 ghost use Rattle.wc_run.specs.Representation.{IsNotAfter, Represents};
 
 use crate::answers::Answers;
@@ -18,9 +17,8 @@ use crate::fault::RunFault;
 use crate::observer::Observer;
 use crate::row_seen::RowSeen;
 use crate::scale::Scale;
-use std::alloc::Global;
 use wc_model::{ByteIn, ByteOut};
-use wc_record::{RefusedRow, RowHead, Rows};
+use wc_record::{RowHead, Rows};
 use wc_store::Store;
 
 /// Does a row, with the bytes that are borrowed with it, and shows it to the observer.
@@ -63,7 +61,7 @@ fn run_row<S: Store, W: ByteOut, O: Observer<S, W>>(
 }
 
 /// Runs the rows that are left, and returns their number.
-fn run_rows<S: Store, W: ByteOut, O: Observer<S, W>, R: ByteIn>(
+pub(crate) fn run_rows<S: Store, W: ByteOut, O: Observer<S, W>, R: ByteIn>(
     observer: &mut O,
     scale: &mut Scale<'_, S>,
     answers: &mut Answers,
@@ -96,39 +94,4 @@ fn run_rows<S: Store, W: ByteOut, O: Observer<S, W>, R: ByteIn>(
         run_row(observer, scale, answers, row, rows.bytes(), writer)?;
         count += 1;
     }
-}
-
-/// Runs the log that the reader has to give, and reports its refused row, if it has one.
-pub(crate) fn run_log<S: Store, W: ByteOut, O: Observer<S, W>, R: ByteIn>(
-    alloc: Global,
-    observer: &mut O,
-    scale: &mut Scale<'_, S>,
-    reader: &mut R,
-    writer: &mut W,
-    reported: &mut RefusedRow,
-) -> Result<u32, RunFault>
-    requires { IsNotAfter scale.old 0 }
-    ensures settings { O.settings observer.new ≡ O.settings observer.old }
-    ensures plan { O.plan observer.new ≡ O.plan observer.old }
-    ensures runs { IfSome (R.bytes_left reader.old)
-        (λ bytes. (start : Start) (plate : PlateData) (logic : Option Logic)
-        → Represents scale.old plate logic []
-        → seen_writing O.has_seen O.has_written start (observer.old, W.bytes_taken writer.old)
-        plate logic []
-        → RunsRows (seen_writing O.has_seen O.has_written start) (O.plan observer.old) plate logic
-        (log_for logic (log_of (records_of bytes)))
-        (observer.new, W.bytes_taken writer.new) result
-        (said O.speaks (W.bytes_taken writer.old))
-        (said O.speaks (W.bytes_taken writer.new))) }
-    ensures reported { ReportsRefused (R.bytes_left reader.old)
-        (fields_reported reported.new) result }
-    ensures failures { ReportsWrites result (W.failure_count writer.old)
-        (W.failure_count writer.new) }
-{
-    let mut answers = Answers::new(alloc);
-    let mut rows = Rows::new(alloc, reader);
-    let answer = run_rows(observer, scale, &mut answers, &mut rows, writer);
-    rows.report(alloc, reported);
-    drop(rows);
-    answer
 }

@@ -1,23 +1,24 @@
-ghost use Rattle.std.specs.Prelude.{◌≡◌, [], Option, IfSome, IsErrOf};
-ghost use Rattle.wc_model.specs.Run.Log.{log_of};
+ghost use Rattle.std.specs.Prelude.{◌≡◌, ◌≤◌, ℕ, false, List, [], Option, IfSome, IsErrOf};
+ghost use Rattle.wc_model.specs.Run.Log.{LogOf, Record, log_of};
 ghost use Rattle.wc_model.specs.Instrument.Plates.{PlateData};
 ghost use Rattle.wc_record.specs.Left.{HasCause};
 ghost use Rattle.wc_record.specs.Reading.{records_of};
 ghost use Rattle.wc_record.specs.Reported.{fields_reported};
-ghost use Rattle.wc_run.specs.Doing.{EndsWhole, IsClassified, WritesBy, is_cut_short, refused_in, seen_writing};
+ghost use Rattle.wc_run.specs.Doing.{EndsWhole, IsClassified, RunsRows, WritesBy, is_cut_short, refused_in, seen_writing};
 ghost use Rattle.wc_model.specs.Say.LogFor.{log_for};
 ghost use Rattle.wc_model.specs.Say.ProgramReport.{Logic};
-ghost use Rattle.wc_run.specs.Observing.{Start, said};
-ghost use Rattle.wc_run.specs.Runs.{HasNotFailed, ReportsRefused, ReportsWrites};
+ghost use Rattle.wc_run.specs.Observing.{Plan, Start, said};
+ghost use Rattle.wc_run.specs.Runs.{HasNotFailed, ReportsRefused, ReportsRow, ReportsWrites};
 ghost use Rattle.wc_run.specs.Representation.{IsNotAfter, Represents};
 
+use crate::answers::Answers;
 use crate::fault::RunFault;
-use crate::log_rows::run_log;
+use crate::log_rows::run_rows;
 use crate::observer::Observer;
 use crate::scale::Scale;
 use std::alloc::Global;
 use wc_model::{ByteIn, ByteOut};
-use wc_record::{RefusedRow, is_exhausted};
+use wc_record::{RefusedRow, Rows, is_exhausted};
 use wc_store::Store;
 
 /// Whether a device failed or memory was refused before a log came to its end or to a refused row.
@@ -46,46 +47,39 @@ fn refused_in(answer: &Result<u32, RunFault>) -> Option<(u16, u32)>
     }
 }
 
-/// Runs a log, and after its rows informs the observer that they are over, unless a device failed
-/// or memory was refused. If its reader failed, that is reported, also if every row was read all
-/// the same: the library that reads records does not promise to report each failure.
-fn run_to_end<S: Store, W: ByteOut, O: Observer<S, W>, R: ByteIn>(
-    alloc: Global,
+/// Informs the observer that the rows are over, unless a device failed or memory was refused. If the
+/// log's reader failed, that is reported, also if every row was read all the same: the library that
+/// reads records does not promise to report each failure.
+fn end_rows<S: Store, W: ByteOut, O: Observer<S, W>>(
     observer: &mut O,
-    scale: &mut Scale<'_, S>,
-    reader: &mut R,
+    answer: Result<u32, RunFault>,
+    has_failed: bool,
     writer: &mut W,
-    reported: &mut RefusedRow,
 ) -> Result<u32, RunFault>
-    requires { IsNotAfter scale.old 0 }
-    ensures writes { IfSome (R.bytes_left reader.old)
-        (λ bytes. (start : Start) (plate : PlateData) (logic : Option Logic)
-        → Represents scale.old plate logic []
-        → seen_writing O.has_seen O.has_written start (observer.old, W.bytes_taken writer.old)
-        plate logic []
-        → WritesBy (O.plan observer.old) plate logic (log_for logic (log_of (records_of bytes)))
-        result (said O.speaks (W.bytes_taken writer.old))
-        (said O.speaks (W.bytes_taken writer.new))) }
-    ensures ended { IfSome (R.bytes_left reader.old)
-        (λ bytes. (start : Start) (plate : PlateData) (logic : Option Logic)
-        → Represents scale.old plate logic []
-        → seen_writing O.has_seen O.has_written start (observer.old, W.bytes_taken writer.old)
-        plate logic []
-        → EndsWhole (O.has_ended (O.settings observer.old)) start plate logic
-        (log_for logic (log_of (records_of bytes))) result (W.bytes_taken writer.new)) }
-    ensures reported { ReportsRefused (R.bytes_left reader.old)
-        (fields_reported reported.new) result }
-    ensures failures { ReportsWrites result (W.failure_count writer.old)
-        (W.failure_count writer.new) }
-    ensures reader { HasNotFailed result (R.failure_count reader.old)
-        (R.failure_count reader.new) }
+    ensures writes { (start : Start) (plan : Plan) (plate : PlateData) (logic : Option Logic)
+        (log : LogOf) (taken : Option (List ℕ)) → O.plan observer.old ≡ plan
+        → RunsRows (seen_writing O.has_seen O.has_written start) plan plate logic log
+        (observer.old, W.bytes_taken writer.old) answer taken
+        (said O.speaks (W.bytes_taken writer.old))
+        → WritesBy plan plate logic log result taken (said O.speaks (W.bytes_taken writer.new)) }
+    ensures ended { (start : Start) (plan : Plan) (plate : PlateData) (logic : Option Logic)
+        (log : LogOf) (taken : Option (List ℕ))
+        → RunsRows (seen_writing O.has_seen O.has_written start) plan plate logic log
+        (observer.old, W.bytes_taken writer.old) answer taken
+        (said O.speaks (W.bytes_taken writer.old))
+        → EndsWhole (O.has_ended (O.settings observer.old)) start plate logic log result
+        (W.bytes_taken writer.new) }
+    ensures reported { (records : List Record) (fields : Record)
+        → ReportsRow records fields answer → ReportsRow records fields result }
+    ensures failures { (count : ℕ) → ReportsWrites answer count (W.failure_count writer.old)
+        → ReportsWrites result count (W.failure_count writer.new) }
+    ensures reader { (before after : ℕ) → (has_failed ≡ false → after ≤ before)
+        → HasNotFailed result before after }
 {
-    let before = reader.failures();
-    let answer = run_log(alloc, observer, scale, reader, writer, reported);
     if is_cut_short(&answer) {
         return answer;
     }
-    if reader.failures() > before {
+    if has_failed {
         return Err(RunFault::Read);
     }
     observer.end(refused_in(&answer), writer)?;
@@ -170,7 +164,13 @@ pub fn run<S: Store, W: ByteOut, O: Observer<S, W>, R: ByteIn>(
 {
     let failures = reader.failures();
     let spent = reader.spent();
-    match run_to_end(alloc, observer, scale, reader, writer, reported) {
+    let mut answers = Answers::new(alloc);
+    let mut rows = Rows::new(alloc, reader);
+    let answer = run_rows(observer, scale, &mut answers, &mut rows, writer);
+    rows.report(alloc, reported);
+    drop(rows);
+    let has_failed = reader.failures() > failures;
+    match end_rows(observer, answer, has_failed, writer) {
         Ok(count) => Ok(count),
         Err(fault) => Err(classified(fault, reader, failures, spent)),
     }

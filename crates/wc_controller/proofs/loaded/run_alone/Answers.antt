@@ -1,14 +1,18 @@
-use Rattle.std.proofs.Common.{◌∙◌, None, sym}
+use Rattle.std.proofs.Common.{◌≡◌, ◌∙◌, None, subst, sym}
 use Rattle.wc_controller.proofs.Allowing.{on_each, on_known}
-use Rattle.wc_controller.proofs.Givings.{answered_so, not_started}
+use Rattle.wc_controller.proofs.Givings.{answered_so, not_started, written_by}
 use Rattle.wc_controller.proofs.RefusedNames.{refused_at_names}
-use Rattle.wc_controller.proofs.WrittenRuns.{not_begun}
+use Rattle.wc_controller.proofs.WrittenRuns.{not_begun, run_ended}
 use Rattle.wc_controller.proofs.loaded.run_alone.Goals as goal
-use Rattle.wc_controller.specs.Endings.{raised}
+use Rattle.wc_controller.specs.Endings.{WritesUpTo, of_no_cause, raised}
+use Rattle.wc_controller.specs.Files.{answer_written}
 use Rattle.wc_controller.specs.InputStates.{observed_by}
+use Rattle.wc_controller.specs.TakenLogs.{log_by}
 use Rattle.wc_model.specs.Run.Log.{log_of}
 use Rattle.wc_record.specs.Reading.{records_of}
-use Rattle.wc_run.specs.Observing.{said_by, start_of}
+use Rattle.wc_record.specs.Reported.{fields_reported}
+use Rattle.wc_run.specs.Doing.{EndsWhole, WritesBy}
+use Rattle.wc_run.specs.Observing.{said_by, start_of, text_in_all}
 
 pub returns-in-Err-clause-writes : goal.returns-in-Err-clause-writes
 returns-in-Err-clause-writes g c =
@@ -21,17 +25,42 @@ returns-in-Err-clause-writes g c =
 pub returns-in-Ok-clause-writes : goal.returns-in-Ok-clause-writes
 returns-in-Ok-clause-writes g c =
     let o = g.O.Observer in
+    let plan = o.plan c.args.observer.now in
+    let old = said_by o.speaks g.W.ByteOut.bytes_taken c.args.writer.now in
+    let new = said_by o.speaks g.W.ByteOut.bytes_taken c.run.new.writer in
     on_known (g.L.ByteIn.bytes_left c.args.log.now) _ _
-    (λ bytes reported. answered_so (observed_by o.plan o.begins c.args.observer.now) c.args.plate.now None (log_of (records_of bytes)) (raised c.run_scale.result)
-    (said_by o.speaks g.W.ByteOut.bytes_taken c.args.writer.now) (said_by o.speaks g.W.ByteOut.bytes_taken c.run_scale.new.writer)
-    c.in_default.ensures.begins (rw c.begin.ensures.plan at reported))
-    (c.run_scale.ensures.writes (start_of None None (g.W.ByteOut.bytes_taken c.args.writer.now)) c.args.plate.now None (c.in-Ok.ensures.represents None tt)
-    (c.in_default.ensures.seen c.args.plate.now, c.in_default.ensures.written c.args.plate.now (g.W.ByteOut.bytes_taken c.args.writer.now)))
+    (λ bytes reported. answered_so (observed_by o.plan o.begins c.args.observer.now) c.args.plate.now None (log_of (records_of bytes)) (raised c.stopped_at_log.result) old new
+    c.in_default.ensures.begins
+    (subst (λ why. WritesUpTo (λ one. one ≡ answer_written (text_in_all plan) c.args.plate.now None (log_of (records_of bytes))) why old new) (sym c.stopped_at_log.ensures.fault)
+    (written_by plan c.args.plate.now None (log_by None bytes) old new c.run.result
+    (subst (λ plan. WritesBy plan c.args.plate.now None (log_by None bytes) c.run.result old new) c.begin.ensures.plan
+    (reported (start_of None None (g.W.ByteOut.bytes_taken c.args.writer.now)) c.args.plate.now None (c.in-Ok.ensures.represents None tt)
+    (c.in_default.ensures.seen c.args.plate.now, c.in_default.ensures.written c.args.plate.now (g.W.ByteOut.bytes_taken c.args.writer.now)))))))
+    c.run.ensures.writes
 
 pub returns-in-Ok-clause-blames : goal.returns-in-Ok-clause-blames
 returns-in-Ok-clause-blames g c =
-    c.run_scale.ensures.blames (start_of None None (g.W.ByteOut.bytes_taken c.args.writer.now)) c.args.plate.now None (c.in-Ok.ensures.represents None tt)
-    (c.in_default.ensures.seen c.args.plate.now, c.in_default.ensures.written c.args.plate.now (g.W.ByteOut.bytes_taken c.args.writer.now))
+    let o = g.O.Observer in
+    let taken = said_by o.speaks g.W.ByteOut.bytes_taken in
+    c.stopped_at_log.ensures.blames (o.plan c.begin.new.observer) c.args.plate.now None (fields_reported c.run.new.reported) (g.L.ByteIn.bytes_left c.args.log.now)
+    (taken c.args.writer.now) (taken c.run.new.writer)
+    (on_known (g.L.ByteIn.bytes_left c.args.log.now) _ _
+    (λ bytes reported. reported (start_of None None (g.W.ByteOut.bytes_taken c.args.writer.now)) c.args.plate.now None (c.in-Ok.ensures.represents None tt)
+    (c.in_default.ensures.seen c.args.plate.now, c.in_default.ensures.written c.args.plate.now (g.W.ByteOut.bytes_taken c.args.writer.now)))
+    c.run.ensures.writes)
+    c.run.ensures.reported
+
+pub returns-in-Ok-clause-read : goal.returns-in-Ok-clause-read
+returns-in-Ok-clause-read g c = λ at. c.run.ensures.read (c.stopped_at_log.ensures.read at)
+
+pub returns-in-Ok-clause-memory : goal.returns-in-Ok-clause-memory
+returns-in-Ok-clause-memory g c = λ e. of_no_cause (c.run.ensures.memory (c.stopped_at_log.ensures.memory e))
+
+pub returns-in-Ok-clause-reader : goal.returns-in-Ok-clause-reader
+returns-in-Ok-clause-reader g c = c.stopped_at_log.ensures.reader _ _ c.run.ensures.reader
+
+pub returns-in-Ok-clause-failures : goal.returns-in-Ok-clause-failures
+returns-in-Ok-clause-failures g c = c.stopped_at_log.ensures.failures _ _ c.run.ensures.failures
 
 pub returns-in-Err-clause-refused : goal.returns-in-Err-clause-refused
 returns-in-Err-clause-refused g c = λ at.
@@ -45,6 +74,12 @@ returns-in-Err-clause-ended g c = λ at.
 
 pub returns-in-Ok-clause-ended : goal.returns-in-Ok-clause-ended
 returns-in-Ok-clause-ended g c =
-    let taken = g.W.ByteOut.bytes_taken c.args.writer.now in
-    rw c.begin.ensures.settings at (c.run_scale.ensures.ended (start_of None None taken) c.args.plate.now None (c.in-Ok.ensures.represents None tt)
-    (c.in_default.ensures.seen c.args.plate.now, c.in_default.ensures.written c.args.plate.now taken))
+    let o = g.O.Observer in
+    let known = g.L.ByteIn.bytes_left c.args.log.now in
+    let taken = g.W.ByteOut.bytes_taken c.run.new.writer in
+    run_ended (o.has_ended (o.settings c.args.observer.now)) (start_of None None (g.W.ByteOut.bytes_taken c.args.writer.now)) c.args.plate.now None (log_by None) c.run.result c.stopped_at_log.result known taken c.stopped_at_log.ensures.fault
+    (on_known known _ _
+    (λ bytes says. subst (λ settings. EndsWhole (o.has_ended settings) (start_of None None (g.W.ByteOut.bytes_taken c.args.writer.now)) c.args.plate.now None (log_by None bytes) c.run.result taken) c.begin.ensures.settings
+    (says (start_of None None (g.W.ByteOut.bytes_taken c.args.writer.now)) c.args.plate.now None (c.in-Ok.ensures.represents None tt)
+    (c.in_default.ensures.seen c.args.plate.now, c.in_default.ensures.written c.args.plate.now (g.W.ByteOut.bytes_taken c.args.writer.now))))
+    c.run.ensures.ended)

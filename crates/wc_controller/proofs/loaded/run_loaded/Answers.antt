@@ -2,16 +2,16 @@ use Rattle.std.proofs.Common.{◌≡◌, ◌∙◌, [], Some, subst, sym, true}
 use Rattle.std.specs.Prelude.{IfSome, option_map}
 use Rattle.wc_controller.proofs.Allowing.{on_each, on_known}
 use Rattle.wc_controller.proofs.Blaming.{taken_alongside}
-use Rattle.wc_controller.proofs.Givings.{answered_so, next_loaded, next_unloaded, not_started}
+use Rattle.wc_controller.proofs.Givings.{answered_so, next_loaded, next_unloaded, not_started, written_by}
 use Rattle.wc_controller.proofs.RefusedNames.{next_refused}
-use Rattle.wc_controller.proofs.WrittenRuns.{end_more, next_logic, not_begun}
+use Rattle.wc_controller.proofs.WrittenRuns.{end_more, next_logic, not_begun, run_ended}
 use Rattle.wc_controller.proofs.loaded.run_loaded.Goals as goal
 use Rattle.wc_controller.proofs.Blaming.{one_input}
 use Rattle.wc_controller.specs.TakenLogs.{log_by}
 use Rattle.wc_controller.specs.WrittenRuns.{says_of}
 use Rattle.wc_controller.specs.Blames.{RefusesLog, StopsFor}
-use Rattle.wc_controller.specs.Endings.{raised, of_no_cause}
-use Rattle.wc_controller.specs.Files.{AnswersPrinting}
+use Rattle.wc_controller.specs.Endings.{WritesUpTo, raised, of_no_cause}
+use Rattle.wc_controller.specs.Files.{AnswersPrinting, answer_written}
 use Rattle.wc_controller.specs.InputStates.{observed_by}
 use Rattle.wc_controller.specs.declared.input.Input.TheVariants as input
 use Rattle.wc_model.specs.Language.Views.{text_view}
@@ -20,7 +20,8 @@ use Rattle.wc_model.specs.Say.ProgramReport.{first_logic}
 use Rattle.wc_record.specs.Reading.{records_of}
 use Rattle.wc_record.specs.Reported.{fields_reported}
 use Rattle.wc_run.specs.Logics.{text_of_next}
-use Rattle.wc_run.specs.Observing.{RefusesToBegin, bytes_of, logic_of, said_by, start_with}
+use Rattle.wc_run.specs.Doing.{EndsWhole, WritesBy}
+use Rattle.wc_run.specs.Observing.{RefusesToBegin, bytes_of, logic_of, said_by, start_with, text_in_all}
 
 pub returns-in-Err-clause-writes : goal.returns-in-Err-clause-writes
 returns-in-Err-clause-writes g c =
@@ -48,23 +49,29 @@ returns-in-Err-begin-clause-writes g c =
 pub returns-in-Ok-scale_of-clause-writes : goal.returns-in-Ok-scale_of-clause-writes
 returns-in-Ok-scale_of-clause-writes g c =
     let o = g.O.Observer in
-    let observed = observed_by o.plan o.begins c.args.observer.now in
     let first = text_view c.args.programs.loaded.source in
     let held = option_map (λ text. text.now) c.args.programs.next in
     let logic = first_logic first (text_of_next c.in-Ok.next) in
-    let old = said_by o.speaks g.W.ByteOut.bytes_taken c.args.writer.now in
-    let new = said_by o.speaks g.W.ByteOut.bytes_taken c.run_scale.new.writer in
     let seen = subst (λ next. o.has_seen c.begin.new.observer c.args.programs.plate (logic_of (Some c.args.programs.loaded) next) []) c.next_program.ensures.loaded (c.in_default.ensures.seen c.args.programs.plate) in
     let bytes = g.W.ByteOut.bytes_taken c.args.writer.now in
     let start = start_with c.args.programs.text.now held bytes in
     let written = subst (λ known. o.has_written c.begin.new.observer (start_with c.args.programs.text.now known bytes) bytes c.args.programs.plate (logic_of (Some c.args.programs.loaded) c.in-Ok.next) []) c.next_program.ensures.text
     (subst (λ next. o.has_written c.begin.new.observer (start_with c.args.programs.text.now (bytes_of c.next_program.result) bytes) bytes c.args.programs.plate (logic_of (Some c.args.programs.loaded) next) []) c.next_program.ensures.loaded
     (c.in_default.ensures.written c.args.programs.plate bytes)) in
+    let observed = observed_by o.plan o.begins c.args.observer.now in
+    let plate = c.args.programs.plate in
+    let plan = o.plan c.args.observer.now in
+    let old = said_by o.speaks g.W.ByteOut.bytes_taken c.args.writer.now in
+    let new = said_by o.speaks g.W.ByteOut.bytes_taken c.run.new.writer in
     let begins = subst (λ next. o.begins c.args.observer.now (logic_of (Some c.args.programs.loaded) next) ≡ true) c.next_program.ensures.loaded c.in_default.ensures.begins in
     on_known (g.L.ByteIn.bytes_left c.args.log.now) _ _
-    (λ bytes reported. next_loaded held c.in-Ok.next (AnswersPrinting observed c.args.programs.plate (log_of (records_of bytes)) first) (raised c.run_scale.result) old new c.in-Ok.ensures.loaded
-    (answered_so observed c.args.programs.plate (Some logic) (log_of (records_of bytes)) (raised c.run_scale.result) old new begins (rw c.begin.ensures.plan at reported)))
-    (c.run_scale.ensures.writes start c.args.programs.plate (Some logic) c.in-Ok-scale_of.ensures.represents (seen, written))
+    (λ bytes reported. next_loaded held c.in-Ok.next (AnswersPrinting observed plate (log_of (records_of bytes)) first) (raised c.stopped_at_log.result) old new c.in-Ok.ensures.loaded
+    (answered_so observed plate (Some logic) (log_of (records_of bytes)) (raised c.stopped_at_log.result) old new begins
+    (subst (λ why. WritesUpTo (λ one. one ≡ answer_written (text_in_all plan) plate (Some logic) (log_of (records_of bytes))) why old new) (sym c.stopped_at_log.ensures.fault)
+    (written_by plan plate (Some logic) (log_by (Some logic) bytes) old new c.run.result
+    (subst (λ plan. WritesBy plan plate (Some logic) (log_by (Some logic) bytes) c.run.result old new) c.begin.ensures.plan
+    (reported start plate (Some logic) c.in-Ok-scale_of.ensures.represents (seen, written)))))))
+    c.run.ensures.writes
 
 pub returns-in-Ok-scale_of-clause-blames_log : goal.returns-in-Ok-scale_of-clause-blames_log
 returns-in-Ok-scale_of-clause-blames_log g c =
@@ -78,12 +85,26 @@ returns-in-Ok-scale_of-clause-blames_log g c =
     let written = subst (λ known. o.has_written c.begin.new.observer (start_with c.args.programs.text.now known bytes) bytes c.args.programs.plate (logic_of (Some c.args.programs.loaded) c.in-Ok.next) []) c.next_program.ensures.text
     (subst (λ next. o.has_written c.begin.new.observer (start_with c.args.programs.text.now (bytes_of c.next_program.result) bytes) bytes c.args.programs.plate (logic_of (Some c.args.programs.loaded) next) []) c.next_program.ensures.loaded
     (c.in_default.ensures.written c.args.programs.plate bytes)) in
-    subst (λ taken. StopsFor input.Log (RefusesLog taken (fields_reported c.run_scale.new.reported)) (g.L.ByteIn.bytes_left c.args.log.now) c.run_scale.result)
+    let taken = said_by o.speaks g.W.ByteOut.bytes_taken in
+    subst (λ taken. StopsFor input.Log (RefusesLog taken (fields_reported c.run.new.reported)) (g.L.ByteIn.bytes_left c.args.log.now) c.stopped_at_log.result)
     (λ i bytes. taken_alongside held c.in-Ok.next first bytes c.in-Ok.ensures.loaded i)
-    (c.run_scale.ensures.blames start c.args.programs.plate (Some logic) c.in-Ok-scale_of.ensures.represents (seen, written))
+    (c.stopped_at_log.ensures.blames (o.plan c.begin.new.observer) c.args.programs.plate (Some logic) (fields_reported c.run.new.reported) (g.L.ByteIn.bytes_left c.args.log.now)
+    (taken c.args.writer.now) (taken c.run.new.writer)
+    (on_known (g.L.ByteIn.bytes_left c.args.log.now) _ _
+    (λ bytes reported. reported start c.args.programs.plate (Some logic) c.in-Ok-scale_of.ensures.represents (seen, written)) c.run.ensures.writes)
+    c.run.ensures.reported)
+
+pub returns-in-Ok-scale_of-clause-read : goal.returns-in-Ok-scale_of-clause-read
+returns-in-Ok-scale_of-clause-read g c = λ at. c.run.ensures.read (c.stopped_at_log.ensures.read at)
 
 pub returns-in-Ok-scale_of-clause-memory : goal.returns-in-Ok-scale_of-clause-memory
-returns-in-Ok-scale_of-clause-memory g c = λ e. of_no_cause (c.run_scale.ensures.memory e)
+returns-in-Ok-scale_of-clause-memory g c = λ e. of_no_cause (c.run.ensures.memory (c.stopped_at_log.ensures.memory e))
+
+pub returns-in-Ok-scale_of-clause-reader : goal.returns-in-Ok-scale_of-clause-reader
+returns-in-Ok-scale_of-clause-reader g c = c.stopped_at_log.ensures.reader _ _ c.run.ensures.reader
+
+pub returns-in-Ok-scale_of-clause-failures : goal.returns-in-Ok-scale_of-clause-failures
+returns-in-Ok-scale_of-clause-failures g c = c.stopped_at_log.ensures.failures _ _ c.run.ensures.failures
 
 pub returns-in-Err-begin-clause-refused : goal.returns-in-Err-begin-clause-refused
 returns-in-Err-begin-clause-refused g c = λ at.
@@ -115,7 +136,14 @@ returns-in-Ok-scale_of-clause-ended g c =
     let written = subst (λ known. o.has_written c.begin.new.observer (start_with c.args.programs.text.now known bytes) bytes c.args.programs.plate (logic_of (Some c.args.programs.loaded) c.in-Ok.next) []) c.next_program.ensures.text
     (subst (λ next. o.has_written c.begin.new.observer (start_with c.args.programs.text.now (bytes_of c.next_program.result) bytes) bytes c.args.programs.plate (logic_of (Some c.args.programs.loaded) next) []) c.next_program.ensures.loaded
     (c.in_default.ensures.written c.args.programs.plate bytes)) in
-    let said = says_of (o.has_ended (o.settings c.args.observer.now)) (g.W.ByteOut.bytes_taken c.run_scale.new.writer) start c.args.programs.plate in
-    end_more c.run_scale.result _ _
-    (λ says. next_logic first held c.in-Ok.next (λ logic. IfSome (g.L.ByteIn.bytes_left c.args.log.now) (λ bytes. said logic (log_by logic bytes))) c.in-Ok.ensures.loaded says)
-    (rw c.begin.ensures.settings at (c.run_scale.ensures.ended start c.args.programs.plate (Some logic) c.in-Ok-scale_of.ensures.represents (seen, written)))
+    let plate = c.args.programs.plate in
+    let known = g.L.ByteIn.bytes_left c.args.log.now in
+    let taken = g.W.ByteOut.bytes_taken c.run.new.writer in
+    let ended = o.has_ended (o.settings c.args.observer.now) in
+    end_more c.stopped_at_log.result _ _
+    (λ says. next_logic first held c.in-Ok.next (λ logic. IfSome known (λ bytes. says_of ended taken start plate logic (log_by logic bytes))) c.in-Ok.ensures.loaded says)
+    (run_ended ended start plate (Some logic) (log_by (Some logic)) c.run.result c.stopped_at_log.result known taken c.stopped_at_log.ensures.fault
+    (on_known known _ _
+    (λ bytes says. subst (λ settings. EndsWhole (o.has_ended settings) start plate (Some logic) (log_by (Some logic) bytes) c.run.result taken) c.begin.ensures.settings
+    (says start plate (Some logic) c.in-Ok-scale_of.ensures.represents (seen, written)))
+    c.run.ensures.ended))
