@@ -55,7 +55,7 @@ impl Cutter {
 }
 
 impl<W: ByteOut> Observer<SlotStore, W> for Cutter {
-    ghost use Rattle.std.specs.Prelude.{⊤};
+    ghost use Rattle.std.specs.Prelude.{◌≡◌, ⊤, false};
     ghost use Rattle.wc_cut.specs.Cuts.{cut_plan};
     ghost use Rattle.wc_cut.specs.KeptRows.{HasSeen, IsNew};
 
@@ -66,6 +66,8 @@ impl<W: ByteOut> Observer<SlotStore, W> for Cutter {
     ghost is_new = { λ cutter. IsNew cutter };
 
     ghost has_seen = { λ cutter plate logic past. HasSeen cutter plate past };
+
+    ghost looks = { λ _ ms looked. looked ≡ false };
 
     ghost has_ended = { λ _ _ _ _ _ _ _. ⊤ };
 

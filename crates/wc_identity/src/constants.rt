@@ -7,7 +7,7 @@ macro_rules! with_constants {
             "0.1.0",
             "rattle-kit-13 logic dac8208d650f15bf",
             "1177ae17014caf8e427f4a8dde1f7a313153b343733dd3b4fb6765f5d55be068",
-            "c56b20e468b2a2144e4b959ba718d94a30053b04fb7421cccddd3fb674ddb707"
+            "70ab35ecfb1f0760753f4447dd1a8a49be66dab48261722e492c954636cb8045"
         )
     };
 }

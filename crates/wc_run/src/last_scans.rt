@@ -53,7 +53,7 @@ fn keep_scan(recorder: &mut Recorder, scan: &Option<ScanSeen>)
 }
 
 impl<S: Store, W: ByteOut> Observer<S, W> for LastScans {
-    ghost use Rattle.std.specs.Prelude.{⊤, []};
+    ghost use Rattle.std.specs.Prelude.{◌≡◌, ⊤, [], false};
     ghost use Rattle.wc_run.specs.Reports.{HoldsScans, last_plan, lines_so_far};
 
     ghost settings = { λ _. tt };
@@ -64,6 +64,8 @@ impl<S: Store, W: ByteOut> Observer<S, W> for LastScans {
 
     ghost has_seen = { λ scans plate logic past.
         HoldsScans scans.recorder scans.number (lines_so_far plate logic past) };
+
+    ghost looks = { λ _ ms looked. looked ≡ false };
 
     ghost has_ended = { λ _ _ _ _ _ _ _. ⊤ };
 

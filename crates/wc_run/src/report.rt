@@ -67,7 +67,7 @@ impl Report {
 }
 
 impl<S: Store, W: ByteOut> Observer<S, W> for Report {
-    ghost use Rattle.std.specs.Prelude.{⊤};
+    ghost use Rattle.std.specs.Prelude.{◌≡◌, ⊤, false};
     ghost use Rattle.wc_run.specs.Reports.{report_plan};
 
     ghost settings = { λ _. tt };
@@ -75,6 +75,8 @@ impl<S: Store, W: ByteOut> Observer<S, W> for Report {
     ghost plan = { λ report. report_plan };
 
     ghost has_seen = { λ report plate logic past. ⊤ };
+
+    ghost looks = { λ _ ms looked. looked ≡ false };
 
     ghost has_ended = { λ _ _ _ _ _ _ _. ⊤ };
 
