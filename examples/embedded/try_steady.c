@@ -1,4 +1,4 @@
-/* A million calls in steady state: none of them allocates memory, and the process does not grow. It prints the time of a call. */
+/* A million calls of a scale with a program and a plate, in steady state: none allocates memory, and the process does not grow. It prints the time of a call. */
 #define _POSIX_C_SOURCE 199309L
 #include "narbeddo.h"
 
@@ -66,19 +66,18 @@ static double seconds(void)
     return (double)now.tv_sec + (double)now.tv_nsec * 1e-9;
 }
 
-static uint8_t text[65536];
+static uint8_t text[65536], plate[65536];
 
-static size_t read_text(const char *path)
+/* Reads a file into 65536 bytes, and returns its length. */
+static size_t read_file(const char *path, uint8_t *into)
 {
     FILE *file = fopen(path, "rb");
-    size_t length = file == NULL ? 0 : fread(text, 1, sizeof text, file);
+    size_t length = file == NULL ? 0 : fread(into, 1, sizeof text, file);
     if (file != NULL) {
         fclose(file);
     }
     return length;
 }
-
-static const char plate[] = "unit = \"kg\"\ndecimals = 3\nmax = 15000\ne = 5\nzero_counts = 10000\nspan_counts = 600000\nwindow = 4\n";
 
 /* Rounds of six calls: a sample, three bytes on the line, inputs and a scan. Returns the steps of all scans. */
 static unsigned long long rounds(narbeddo_scale *scale, uint64_t *moment, unsigned long count, double spent[3])
@@ -115,14 +114,20 @@ static unsigned long long rounds(narbeddo_scale *scale, uint64_t *moment, unsign
 int main(int count, char **words)
 {
     static narbeddo_scale scale;
-    size_t length = count == 2 ? read_text(words[1]) : 0;
+    size_t length, plate_length;
     uint64_t moment = 0;
     double spent[3] = {0, 0, 0};
     unsigned long long steps;
     unsigned long before, more;
     long pages;
+    if (count != 3) {
+        fputs("usage: try_steady PROGRAM PLATE\n", stderr);
+        return 2;
+    }
+    length = read_file(words[1], text);
+    plate_length = read_file(words[2], plate);
     narbeddo_make(&scale);
-    if (narbeddo_open(&scale, (const uint8_t *)plate, strlen(plate)).status != NARBEDDO_DONE || narbeddo_load(&scale, text, length).status != NARBEDDO_DONE) {
+    if (narbeddo_open(&scale, plate, plate_length).status != NARBEDDO_DONE || narbeddo_load(&scale, text, length).status != NARBEDDO_DONE) {
         return 2;
     }
     rounds(&scale, &moment, 10000, spent);

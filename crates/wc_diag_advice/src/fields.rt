@@ -36,15 +36,20 @@ fn undeclared_advice(
     field: &str,
 ) -> Result<String, AllocError> {
     let near = str::from_utf8(near_name(text, name.as_bytes(), place, true)).unwrap_or("");
-    let block = block_with(field.as_bytes());
     if !near.is_empty() {
         let full = format!(in alloc; "{near}.{field}")?;
         return text_with(alloc, Values::Near(&full));
     }
+    let block = block_with(field.as_bytes());
     if block.is_empty() {
         return text_with(alloc, Values::NoGlobal(name, field));
     }
-    text_with(alloc, Values::NewInstance(name, block))
+    match str::from_utf8(near_name(text, name.as_bytes(), place, false)) {
+        Ok(near) if !near.is_empty() => {
+            text_with(alloc, Values::NearOrInstance(near, field, name, block))
+        }
+        _ => text_with(alloc, Values::NewInstance(name, block)),
+    }
 }
 
 /// What to write for a name before a point that is not of an instance.

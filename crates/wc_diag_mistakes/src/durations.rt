@@ -1,5 +1,6 @@
 use crate::slices::{following, prefix};
 use memchr::memchr;
+use wc_diag_texts::Case;
 use wc_model::is_word;
 
 /// The milliseconds of a unit of time; 0 if it is none.
@@ -82,21 +83,34 @@ fn first_unit(text: &[u8]) -> (u64, &[u8]) {
     (milliseconds_of(unit), following(letters, unit.len()))
 }
 
-/// Whether the units of a duration are all of the language, and one is not smaller than that before it.
-pub(crate) fn has_unit_order_broken(token: &[u8]) -> bool {
+/// The mistake in the units of a duration, if all are of the language and one is not smaller than that before it.
+pub(crate) fn mistaken_units(token: &[u8]) -> Option<Case> {
     let mut rest = after_prefix(token);
-    let (mut before, mut is_broken) = (u64::MAX, false);
+    let (mut before, mut mistake) = (u64::MAX, None);
     for _ in 0..token.len() {
         if rest.is_empty() {
-            return is_broken;
+            return mistake;
         }
         let (unit, after) = first_unit(rest);
         if unit == 0 {
-            return false;
+            return None;
         }
-        is_broken |= unit >= before;
+        if mistake.is_none() {
+            mistake = mistaken_pair(before, unit);
+        }
         before = unit;
         rest = after;
     }
-    is_broken
+    mistake
+}
+
+/// The mistake of a unit after another, both in milliseconds, if it is not smaller.
+fn mistaken_pair(before: u64, unit: u64) -> Option<Case> {
+    if unit == before {
+        Some(Case::UnitTwice)
+    } else if unit > before {
+        Some(Case::UnitOrder)
+    } else {
+        None
+    }
 }

@@ -1,4 +1,4 @@
-use crate::durations::{has_unit_order_broken, is_long_duration};
+use crate::durations::{is_long_duration, mistaken_units};
 use crate::slices::{excerpt, following, line_of, prefix};
 use crate::types::{is_conditional, type_hint};
 use crate::unreached::{block_line, is_unreached};
@@ -247,7 +247,8 @@ fn mistaken_operator(word: &[u8], rest: &[u8]) -> Case {
         _ => {}
     }
     match next.first() {
-        Some(b':' | b'.') => Case::Assignment,
+        Some(b':') => Case::Assignment,
+        Some(b'.') => Case::FieldAssignment,
         _ if is_among(&EXCHANGED, word) => Case::ConditionSpelling,
         _ => match (mistaken_statement(word), mistaken_word(word, next)) {
             (Some(statement), _) => statement,
@@ -503,8 +504,7 @@ fn mistaken_duration(token: &[u8], rest: &[u8], case: Case) -> Case {
         Some(b'#') => Case::SpacedDuration,
         _ if is_long_duration(token) && token.contains(&b'-') => Case::NegativeDuration,
         _ if is_long_duration(token) => Case::LongDuration,
-        _ if has_unit_order_broken(token) => Case::UnitOrder,
-        _ => case,
+        _ => mistaken_units(token).unwrap_or(case),
     }
 }
 

@@ -103,7 +103,18 @@ fn differ(a: PathToLabel, b: PathToLabel) -> bool {
     }
 }
 
-/// The paths so far, with one more.
+/// The paths to a label that were found.
+#[derive(Clone, Copy)]
+struct FoundPaths {
+    /// Those of which is sure what they bring.
+    sure: Option<LabelPaths>,
+    /// The first of which it is not.
+    unsure: Option<PathToLabel>,
+    /// Whether that is the only one.
+    is_only: bool,
+}
+
+/// The sure paths so far, with one more.
 fn with_path(paths: Option<LabelPaths>, path: PathToLabel) -> LabelPaths {
     match paths {
         None => LabelPaths {
@@ -118,22 +129,61 @@ fn with_path(paths: Option<LabelPaths>, path: PathToLabel) -> LabelPaths {
     }
 }
 
+/// The paths so far, with one more.
+fn with_found(found: FoundPaths, path: PathToLabel) -> FoundPaths {
+    match (path.brought, found.unsure) {
+        (Brought::Unsure, None) => FoundPaths {
+            unsure: Some(path),
+            ..found
+        },
+        (Brought::Unsure, Some(_)) => FoundPaths {
+            is_only: false,
+            ..found
+        },
+        _ => FoundPaths {
+            sure: Some(with_path(found.sure, path)),
+            ..found
+        },
+    }
+}
+
+/// The paths by which no single result is at a label: if all that are sure bring the same type, the only other one does not.
+fn paths_of(found: FoundPaths) -> Option<LabelPaths> {
+    let Some(sure) = found.sure else {
+        return Some(LabelPaths {
+            first: found.unsure?,
+            other: None,
+        });
+    };
+    match (sure.other, sure.first.brought) {
+        (None, Brought::Kind(_)) if found.is_only => Some(LabelPaths {
+            first: sure.first,
+            other: found.unsure,
+        }),
+        _ => Some(sure),
+    }
+}
+
 /// The paths to a label from a body above it.
 fn paths_from(above: &Above<'_, '_>, label: &[u8]) -> Option<LabelPaths> {
-    let mut paths = None;
+    let mut found = FoundPaths {
+        sure: None,
+        unsure: None,
+        is_only: true,
+    };
     let mut passed = 0_usize;
     for line in above
         .tokens
         .split(|token| matches!(token.shape, Shape::LineEnd))
     {
         if jumps_to(line, label) {
-            paths = Some(with_path(paths, path_of_jump(above, passed, line)));
+            found = with_found(found, path_of_jump(above, passed, line));
         }
         passed = passed.saturating_add(line.len()).saturating_add(1);
     }
     match path_of_line(above) {
-        Some(path) => Some(with_path(paths, path)),
-        None => paths,
+        Some(path) => paths_of(with_found(found, path)),
+        None => paths_of(found),
     }
 }
 

@@ -77,7 +77,10 @@ fn case_said(case: Case, mistake: Case) -> Case {
         | Case::LongDuration
         | Case::NegativeDuration
         | Case::UnitOrder
+        | Case::UnitTwice
         | Case::SpacedDuration
+        | Case::DecimalComma
+        | Case::MissingUnit
         | Case::Constant
         | Case::Retain
         | Case::Unreached
@@ -156,7 +159,7 @@ fn block_of_input(word: &[u8]) -> &'static str {
     }
 }
 
-/// What a path brings to a label, in words; empty if that is not sure.
+/// What a path brings to a label, in words: something else than the other, if that is not sure.
 fn words_brought(text: &[u8], path: PathToLabel) -> &'static str {
     match (path.brought, is_unreached(text, path.line)) {
         (Brought::Kind(Kind::Bool), false) => "a BOOL",
@@ -167,7 +170,7 @@ fn words_brought(text: &[u8], path: PathToLabel) -> &'static str {
         (Brought::Kind(Kind::Dint), true) => "a DINT, but is never reached",
         (Brought::Kind(Kind::Time), true) => "a TIME, but is never reached",
         (Brought::Nothing, true) => "no value and is never reached",
-        (Brought::Unsure, _) => "",
+        (Brought::Unsure, _) => "another type, or no value",
     }
 }
 

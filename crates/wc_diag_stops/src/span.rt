@@ -35,9 +35,9 @@ pub struct PathToLabel {
 /// Two paths to a label that bring different results, or one that brings none.
 #[derive(Clone, Copy)]
 pub struct LabelPaths {
-    /// The first path to the label.
+    /// The first path to the label of which is sure what it brings, if there is one.
     pub first: PathToLabel,
-    /// The first below it that brings something else, if there is one.
+    /// The first other one that brings something else, if there is one.
     pub other: Option<PathToLabel>,
 }
 

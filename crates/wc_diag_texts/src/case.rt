@@ -96,6 +96,8 @@ pub enum Case {
     CaseStatement,
     StatementList,
     Assignment,
+    /// An assignment to a field of an instance.
+    FieldAssignment,
     OpenSection,
     ListBelow,
     /// The inputs of a call without parentheses around them.
@@ -138,8 +140,10 @@ pub enum Case {
     LongDuration,
     /// A duration below the least.
     NegativeDuration,
-    /// A duration whose units are not from days to milliseconds, each once.
+    /// A duration whose units are not from days to milliseconds.
     UnitOrder,
+    /// A duration with the same unit twice in a row.
+    UnitTwice,
     TypedNumber,
     TypedTruth,
     SpacedDuration,

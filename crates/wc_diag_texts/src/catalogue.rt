@@ -68,7 +68,7 @@ fn token_entry(number: u16) -> Option<&'static Entry>
             help "close the comment with *)";
         103 "tokens": "comments cannot be nested"
             at "the line of the outer (*", "(*(*" => 1,
-            help "close the comment with *) before the next one opens";
+            help "close the comment with *) before the next one opens, or delete the inner (* and *)";
         104 "tokens": "an identifier has two underscores in a row, one at its end, or more than 32 characters"
             at "the line of the token", "_" => 1,
             help "an identifier has at most 32 letters, digits and single underscores, and no underscore at its end";
@@ -108,7 +108,7 @@ fn reading_entry(number: u16) -> Option<&'static Entry>
             help "close the parenthesis before it, with a `)` on a line of its own";
         206 "reader": "a parenthesis is not closed, or none is open"
             at "the line of the ); the line of the innermost opening", "PROGRAM P)" => 1,
-            help "write one ) on a line of its own for each ( that is open";
+            help "write one ) on a line of its own for each ( that is open, below its last line";
         207 "reader": "more than 8 parentheses are nested"
             at "the line of the ninth opening", "PROGRAM P&( / &( / &( / &( / &( / &( / &( / &( / &(" => 9,
             help "store the inner result in a variable, and use that";

@@ -5,6 +5,29 @@ use crate::case::Case;
 use crate::sentences::text_among;
 use wc_model::{Kind, StandardBlock};
 
+/// What to write for a CTD.
+macro_rules! counting_down {
+    () => {
+        concat!(
+            "there is no CTD: count down with e : R_TRIG and n : DINT := 10: CAL e(CLK := a); ",
+            "LD e.Q, JMPCN skip; LD n, SUB 1, ST n; `skip:` LD n, LE 0 is the Q of the CTD"
+        )
+    };
+}
+
+/// What to write, and how seconds are counted in a DINT.
+macro_rules! counting_seconds {
+    ($text:literal) => {
+        concat!(
+            $text,
+            "; to count seconds, with start, run : BOOL and n : DINT and tick : TON: LD start, ANDN tick.Q, ST run; ",
+            "CAL tick(IN := run, PT := T#1s); LD tick.Q, JMPCN skip; LD n, ADD 1, ST n; ",
+            "`skip:` LD start, JMPC done; LD 0, ST n; `done:` goes on with an LD; ",
+            "each count takes two scans more than 1 s"
+        )
+    };
+}
+
 /// What to write in place of what a refusal of that number refuses in that case; nothing if the number's own hint says all.
 pub fn hint_of(number: u16, case: Case) -> Option<&'static str>
     ensures { IsSome result → is_refusal number ≡ true }
@@ -39,7 +62,7 @@ fn token_hint(number: u16, case: Case) -> Option<&'static str> {
         101, Case::StatementAssign => "this looks like Siemens STL (AWL): `=` is ST; U or O is LD at the start and after each `=`, S or R, else AND or OR";
         101, Case::IfStatement => "this looks like Structured Text: for IF w >= 1000 write LD w, GE 1000, JMPCN skip; `skip:` is the END_IF";
         101, Case::IfEqual => "this looks like Structured Text: for IF a = 5 write LD a, EQ 5, JMPCN skip; `skip:` is the END_IF";
-        101, Case::Loop => "this looks like Structured Text: there are no loops; do one turn in each scan, with a DINT that counts";
+        101, Case::Loop => "this looks like Structured Text: there are no loops; do one pass of the loop in each scan: LD n, LT 10, JMPCN done; its lines; LD n, ADD 1, ST n; `done:` goes on with an LD";
         101, Case::Byte(b'>') => "to compare write GT or GE";
         101, Case::Byte(b'<') => "to compare write LT, LE or NE";
         101, Case::Byte(b'*') => "to multiply write MUL; a comment is (* .. *)";
@@ -55,8 +78,9 @@ fn token_hint(number: u16, case: Case) -> Option<&'static str> {
         106, Case::DecimalComma => "write a decimal point instead of the comma, such as T#1.5s";
         106, Case::MissingUnit => "a duration has a unit after its number, such as T#1s or T#500ms";
         106, Case::UnitOrder => "each unit is smaller than that before it: write days, hours, minutes, seconds, milliseconds in this order, such as T#3h5s";
+        106, Case::UnitTwice => "write each unit once, the larger first, such as T#1m10s";
         106, Case::NegativeDuration => "durations are T#-24d20h31m23s648ms to T#24d20h31m23s647ms";
-        106, Case::LongDuration => "durations are T#-24d20h31m23s648ms to T#24d20h31m23s647ms; for longer ones give a TON of T#1d as IN the input AND NOT its own Q; count its Q with a CTU (PV the days), whose R is TRUE while the input is FALSE";
+        106, Case::LongDuration => "durations are T#-24d20h31m23s648ms to T#24d20h31m23s647ms; for longer ones count days, with start, run, stop : BOOL and day : TON and days : CTU: LD start, ANDN day.Q, ST run; CAL day(IN := run, PT := T#1d); LDN start, ST stop; CAL days(CU := day.Q, R := stop, PV := 30); days.Q is TRUE after 30 days";
         106, Case::SpacedDuration => "write the number right after T#, without a space, such as T#5s";
     }
 }
@@ -67,7 +91,7 @@ fn reading_hint(number: u16, case: Case) -> Option<&'static str> {
         number, case;
         201, Case::SectionWord => "declarations go between VAR and END_VAR, before the first instruction";
         201, Case::UnitEnd => "a PROGRAM ends with END_PROGRAM, a FUNCTION_BLOCK with END_FUNCTION_BLOCK";
-        201, Case::NoOperator => "operators: LD ST AND OR XOR (with N: LDN) S R NOT ADD SUB MUL DIV MOD GT GE EQ NE LE LT JMP CAL RET";
+        201, Case::NoOperator => "operators: LD ST AND OR XOR (with N: LDN) S R NOT ADD SUB MUL DIV MOD GT GE EQ NE LE LT JMP CAL RET (with C or CN)";
         201, Case::LabelWithoutColon => "a label ends with a colon, such as skip:";
         201, Case::AfterProgram => "nothing is allowed after the END_PROGRAM of the program";
         201, Case::NoAddress => "an address begins with `%`, such as %IX0.0; a DINT has no bits: compare the number, such as LT 0 for its sign";
@@ -80,11 +104,12 @@ fn reading_hint(number: u16, case: Case) -> Option<&'static str> {
         201, Case::ConditionSpelling => "C comes before N: JMPCN, CALCN, RETCN";
         201, Case::InputOperator => "set an input in CAL, such as CAL c(CU := a): a store alone does not call the block";
         201, Case::InstanceCall => "a call begins with CAL, such as CAL t(IN := a, PT := T#1s)";
-        201, Case::Loop => "this looks like Structured Text: there are no loops; write the lines once for each turn, or do one turn in each scan with a DINT that counts";
+        201, Case::Loop => "this looks like Structured Text: there are no loops; write the lines once for each pass, or do one pass in each scan: LD n, LT 10, JMPCN done; the lines; LD n, ADD 1, ST n; `done:` goes on with an LD";
         201, Case::CaseStatement => "this looks like Structured Text: for each value write LD mode, EQ 1, JMPCN next1, its lines, JMP done; `next1:` begins the next value or ELSE; `done:` replaces END_CASE";
         201, Case::IfStatement => "this looks like Structured Text: for IF a write LD a, JMPCN skip; `skip:` is the END_IF";
         201, Case::StatementList => "this looks like Siemens STL (AWL): U, A or O is LD at the start and after each `=`, S or R, else AND or OR (UN: LDN, ANDN); `=` is ST";
         201, Case::Assignment => "to assign write LD and the value, and on the next line ST and the variable";
+        201, Case::FieldAssignment => "set an input of a block in its call, such as CAL t(IN := a), or by LD a, ST t.IN and then CAL t";
         201, Case::Constant => "write only VAR, or write the number at each place that uses it";
         201, Case::Retain => "write only VAR: a variable keeps its value from scan to scan, and none keeps it over a power failure";
         201, Case::Declaration => "a declaration is `name : TYPE;`, such as a : BOOL;";
@@ -93,16 +118,16 @@ fn reading_hint(number: u16, case: Case) -> Option<&'static str> {
         201, Case::DecimalComma => "numbers are integers, without a decimal comma: with 3 decimals write 1.5 kg as 1500";
         201, Case::Configuration => "leave out CONFIGURATION, RESOURCE and TASK: the one PROGRAM runs in every scan";
         201, Case::OwnType => "delete TYPE .. END_TYPE: values are BOOL, DINT or TIME; for an enumeration use a DINT with 0, 1, 2, for a structure one variable for each part";
-        201, Case::Conversion => "there are no conversions: compare a TIME with a TIME, such as GE T#15s; for a number of seconds, give a TON of T#1s as IN the start signal AND NOT its own Q; when its Q is TRUE, ADD 1 to a DINT; while the start signal is FALSE, set that DINT to 0; each count takes two scans more than 1 s";
+        201, Case::Conversion => counting_seconds!("there are no conversions: compare a TIME with a TIME, such as GE T#15s");
         201, Case::NumberConversion => "leave this line out: every number is a DINT, so there are no conversions";
         201, Case::Negative => "the negative of a number is LD 0, and on the next line SUB and the number";
         201, Case::NoUnit => "begin with PROGRAM and a name; then come VAR .. END_VAR, the instructions and END_PROGRAM";
-        201, Case::DownCounter => "there is no CTD: count down with SUB 1 at each edge of an R_TRIG";
-        201, Case::Limit => "store the value; then LD it, GT the limit, and JMPCN over the LD and ST of the limit; with LT for the lower one";
-        201, Case::Greatest => "store the first; then LD it, LT the second, and JMPCN over the LD and ST of the second";
-        201, Case::Least => "store the first; then LD it, GT the second, and JMPCN over the LD and ST of the second";
-        201, Case::Select => "store the first value; then load the condition, and JMPCN over the LD and ST of the second";
-        201, Case::Move => "LD loads the value, ST on the next line names where it goes";
+        201, Case::DownCounter => counting_down!();
+        201, Case::Limit => "for LIMIT(lo, x, hi) write LD x, ST y, GT hi, JMPCN low; LD hi, ST y; `low:` LD y, LT lo, JMPCN done; LD lo, ST y; `done:` LD y";
+        201, Case::Greatest => "for MAX(a, b) write LD a, ST y, LT b, JMPCN done; LD b, ST y; `done:` LD y";
+        201, Case::Least => "for MIN(a, b) write LD a, ST y, GT b, JMPCN done; LD b, ST y; `done:` LD y";
+        201, Case::Select => "for SEL(g, a, b) write LD a, ST y; LD g, JMPCN done; LD b, ST y; `done:` LD y";
+        201, Case::Move => "leave MOVE out: LD loads the value, ST on the next line names where it goes";
         201, Case::GlobalVariable => "declare the variable in VAR of the PROGRAM, and pass it to blocks as an input or output";
         201, Case::SharedVariable => "declare a VAR_INPUT and a VAR_OUTPUT, and name the variable at both in the CAL; an input cannot be written: copy it to the output first";
         201, Case::OpenVariable => "declare the variable in VAR, and store to it before you load it";
@@ -111,11 +136,11 @@ fn reading_hint(number: u16, case: Case) -> Option<&'static str> {
         201, Case::MissingComma => "separate the parameters with commas, such as CAL t(IN := a, PT := T#1s)";
         201, Case::AtAddress => "leave out AT and use the address itself (LD %IX0.0, ST %QX0.0); or copy inputs to variables on the first lines, and variables to outputs on the last";
         201, Case::UnnamedInput => "name each input of the block, such as CAL e(CLK := a) of an R_TRIG, CAL t(IN := a, PT := T#1s) of a TON";
-        201, Case::BareInputs => "put the inputs of the call in parentheses, such as CAL e(CLK := a)";
+        201, Case::BareInputs => "put the inputs of the call in parentheses, each with its name, such as CAL t(IN := a, PT := T#1s) of a TON";
         201, Case::OutsideSection => "declarations go between VAR and END_VAR, before the first instruction";
         201, Case::OpenList => "close the list of the call above with `)`";
         201, Case::ListBelow => "write the `(` on the line of its CAL, such as CAL t(IN := TRUE)";
-        201, Case::LeftOut => "write a FUNCTION_BLOCK with a VAR_OUTPUT for the result, and call an instance with CAL";
+        201, Case::LeftOut => "write a FUNCTION_BLOCK .. END_FUNCTION_BLOCK with a VAR_OUTPUT, ST the result to that, and call an instance with CAL";
         202, Case::OpenProgram => "close the unit with END_PROGRAM";
         202, Case::OpenBlock => "close the unit with END_FUNCTION_BLOCK";
         203, Case::SecondProgram => "make one of them a FUNCTION_BLOCK above the PROGRAM, and call an instance with CAL";
@@ -131,14 +156,14 @@ fn declaration_hint(number: u16, case: Case) -> Option<&'static str> {
         302, Case::RealNumber => "numbers are integers: use DINT, and count in a smaller unit";
         302, Case::TextType => "the types are BOOL, DINT and TIME: there are no strings, dates, arrays and structures";
         302, Case::FallingEdge => "for a falling edge call R_TRIG with the negated input: LDN a, then ST b, then CAL e(CLK := b)";
-        302, Case::DownCounter => "count up with CTU, or down by SUB 1 at each edge of an R_TRIG";
+        302, Case::DownCounter => counting_down!();
         303, Case::InitialBool => "a BOOL takes TRUE, FALSE, 0 or 1";
-        303, Case::InitialNumber => "a DINT takes an integer, such as 500";
+        303, Case::InitialNumber => "a DINT takes an integer, such as 500; for TRUE and FALSE declare a BOOL";
         303, Case::InitialTime => "a TIME takes a duration, such as T#500ms";
         303, Case::InitialInstance => "an instance takes no initial value: pass its inputs in CAL";
         304, Case::Marker => "there are no %M addresses: declare a variable in VAR";
         304, Case::NoSuchWord => "there are no 16-bit words: use %ID0 (gross), %ID1 (net), %ID2 (tare) or %QD0 to %QD3";
-        304, Case::NoSuchBit => "bits are %IX0.0 to %IX0.15, %IX1.0 to %IX1.5 and %QX0.0 to %QX0.15";
+        304, Case::NoSuchBit => "bits are %IX0.0 to %IX0.15, %IX1.0 to %IX1.5 and %QX0.0 to %QX0.15: bit 0 of a second output byte is %QX0.8";
         308, Case::BlockBelow => "move the block above the unit that uses it";
         308, Case::BlockInItself => "a block cannot contain itself: declare another block above, and use that";
     }
@@ -160,7 +185,7 @@ fn excerpt_hint(number: u16, case: Case) -> Option<&'static str> {
         404, Case::OutputTarget => "the block sets its own outputs: store to an input, or to a variable of your own";
         404, _ => "an input is set by the caller: copy it to a variable in VAR, and change the copy";
         405, _ => "store the value in a variable of your own, pass that to the input, and read the variable";
-        406, Case::LabelAbove => "jumps only go forward: do one turn in each scan, or write the lines several times";
+        406, Case::LabelAbove => "jumps only go forward: write the lines once for each pass, or do one pass in each scan: LD n, LT 10, JMPCN done; the lines; LD n, ADD 1, ST n; `done:` goes on with an LD";
         408, Case::VariableDivisor => "there is no division by a variable: divide by a literal other than 0, such as DIV 10; to compare a quotient, MUL the other side instead";
         408, Case::Deferred => "DIV and MOD take an integer literal, such as DIV 10; DIV( and MOD( do not exist";
         409, Case::InputArrow => "an input is passed with :=, such as IN := a";
@@ -195,15 +220,15 @@ fn kind_hint(number: u16, case: Case) -> Option<&'static str> {
         402, Case::StoredNumberToBool => "store it to a DINT, such as %QD0, or compare it first, such as GE 500, to get a BOOL";
         402, Case::StoredTimeToBool => "store it to a TIME, or compare it first, such as GE T#500ms, to get a BOOL";
         402, Case::StoredBool => "store a BOOL to a BOOL variable or to an output bit, such as ST %QX0.0";
-        402, Case::StoredTimeToNumber => "a TIME cannot be converted: store it to a TIME variable; for a number of seconds, give a TON of T#1s as IN the start signal AND NOT its own Q; when its Q is TRUE, ADD 1 to a DINT; while the start signal is FALSE, set that DINT to 0; each count takes two scans more than 1 s";
+        402, Case::StoredTimeToNumber => counting_seconds!("a TIME cannot be converted: store it to a TIME variable");
         402, Case::StoredNumberToTime => "a number cannot be converted to a TIME: load a duration, such as LD T#500ms, or store to a DINT";
-        402, Case::ComparedNumber => "compare the number first, such as GE 500: a comparison gives a BOOL";
-        402, Case::ComparedTime => "compare the time first, such as GE T#500ms: a comparison gives a BOOL";
+        402, Case::ComparedNumber => "compare the number first, such as GE 500: a comparison gives a BOOL; ST the number before it, if you use it below";
+        402, Case::ComparedTime => "compare the time first, such as GE T#500ms: a comparison gives a BOOL; ST the time before it, if you use it below";
         402, Case::NumberBefore => "compare the number before: LD n, GE 500, and then AND with the BOOL";
         402, Case::TimeBefore => "compare the time before: LD t.ET, GE T#1s, and then AND with the BOOL";
         402, Case::NegatedNumber => "load the number with LD; its negative is LD 0, then SUB and the number";
         402, Case::NegatedTime => "load the time with LD; its negative is LD T#0s, then SUB and the time";
-        402, Case::SetValue => "declare it as BOOL, or store a value on a condition with a JMPCN over LD and ST";
+        402, Case::SetValue => "declare it as BOOL; or to store a number on a condition write LD a, JMPCN skip; LD 5, ST n; `skip:` goes on with an LD";
         402, Case::StoredNegated => "STN stores a negated BOOL to a BOOL, such as STN %QX0.0; for the negative of a number LD 0, SUB the number, and ST";
         402, Case::CountedBool => "a BOOL cannot be converted to a number: use it with JMPCN, to jump over LD n, ADD 1, ST n";
         402, Case::OrderedBool => "BOOLs have no GT, GE, LE or LT: load a number first, or combine BOOLs with AND, OR or XOR";
@@ -214,7 +239,7 @@ fn kind_hint(number: u16, case: Case) -> Option<&'static str> {
         402, Case::AddedTime => "add a duration to a TIME, such as ADD T#500ms";
         402, Case::MultipliedTime => "a TIME cannot be multiplied: write the product as a duration, such as T#15s, or ADD the time several times";
         402, Case::MultipliedByTime => "a TIME cannot be multiplied: load the product, such as LD T#5s, and store it to a TIME variable; for milliseconds as a number use DINTs only, such as MUL 1000";
-        402, Case::DividedTime => "a TIME cannot be divided: compare it, such as GE T#15s; for a number of seconds, give a TON of T#1s as IN the start signal AND NOT its own Q; when its Q is TRUE, ADD 1 to a DINT; while the start signal is FALSE, set that DINT to 0; each count takes two scans more than 1 s";
+        402, Case::DividedTime => counting_seconds!("a TIME cannot be divided: compare it, such as GE T#15s");
         402, Case::NumberInParenthesis => "compare the number before the `)`, such as GE 500: a comparison gives a BOOL";
         402, Case::TimeInParenthesis => "compare the time before the `)`, such as GE T#500ms: a comparison gives a BOOL";
         402, Case::Closing => "end the lines in the parenthesis with the type of the result before it";

@@ -6,7 +6,7 @@ use wc_model::Kind;
 
 /// The text of a number in a case among these, if there is one.
 macro_rules! text_among {
-    ($number:expr, $case:expr; $($row:pat, $which:pat => $text:literal;)*) => {
+    ($number:expr, $case:expr; $($row:pat, $which:pat => $text:expr;)*) => {
         match ($number, $case) {
             $(($row, $which) => Some($text),)*
             _ => None,
@@ -51,8 +51,11 @@ fn token_sentence(number: u16, case: Case) -> Option<&'static str> {
         105, Case::TypedNumber | Case::TypedTruth => "is not a literal of this language";
         105, Case::OutOfRange => "is out of range";
         105, _ => "is not a number";
+        106, Case::UnitTwice => "has a unit twice";
         106, Case::UnitOrder => "has its units in a wrong order";
         106, Case::LongDuration | Case::NegativeDuration => "is a duration out of range";
+        106, Case::DecimalComma => "has a comma in place of a decimal point";
+        106, Case::MissingUnit => "is a duration without a unit";
         106, Case::SpacedDuration => "is a duration without a number";
         106, _ => "is not a valid duration, or is out of range";
     }
@@ -69,8 +72,8 @@ fn reading_sentence(number: u16, case: Case) -> Option<&'static str> {
         201, Case::LineEnd => "the line cannot end here";
         201, Case::StandardFunction => "is a standard function, and functions are not supported";
         201, Case::Configuration => "is not supported";
-        201, Case::Constant => "`CONSTANT` is not supported";
-        201, Case::Retain => "`RETAIN` is not supported";
+        201, Case::Constant => "the word `CONSTANT` before this name is not supported";
+        201, Case::Retain => "the word `RETAIN` before this name is not supported";
         201, _ => "is unexpected here";
         203, Case::SecondProgram => "there is a second PROGRAM";
         203, Case::EmptyText => "the file is empty";
@@ -118,8 +121,8 @@ fn excerpt_sentence(number: u16, case: Case) -> Option<&'static str> {
         404, _ => "cannot be written";
         405, _ => "cannot be read";
         406, Case::LabelAbove => "is the label of a line above this jump";
-        406, _ => "is not a label of this body";
-        407, _ => "is the label of two lines of this body";
+        406, _ => "is not a label of this unit";
+        407, _ => "is the label of two lines of this unit";
         408, Case::Deferred => "takes no parenthesis";
         408, _ => "is not a valid divisor";
         409, Case::OutputAssigned => "is an output of this block, and `:=` passes an input";

@@ -25,6 +25,8 @@ pub enum Values<'a> {
     BareInput(&'a str, &'a str),
     /// An instance that is not declared, and the block of which it may be.
     NewInstance(&'a str, &'a str),
+    /// Likewise, after a declared name that is spelled almost alike and the name after the point: only an instance has such.
+    NearOrInstance(&'a str, &'a str, &'a str, &'a str),
     /// A name before a point that is not declared, and the name after it.
     NoGlobal(&'a str, &'a str),
     /// A variable before a point, and its type.
@@ -86,6 +88,11 @@ pub fn text_with(alloc: Global, values: Values<'_>) -> Result<String, AllocError
         }
         Values::NewInstance(name, block) => {
             format!(in alloc; "declare the instance in VAR, such as {name} : {block};")
+        }
+        Values::NearOrInstance(near, field, name, block) => {
+            format!(in alloc;
+                "did you mean `{near}`? It has no fields: write it without `.{field}`; for an instance declare {name} : {block}; in VAR, and call it with CAL"
+            )
         }
         Values::NoGlobal(name, field) => {
             format!(in alloc;
