@@ -12,7 +12,7 @@ use Rattle.wc_diag_spans.specs.declared.diagnostic.TextSpan.{TextSpan}
 use Rattle.wc_diag_spans.specs.declared.refusal.Refusal.{Refusal}
 use Rattle.wc_diag_messages.specs.Explanations.{Explains, Knows, line_text, named_line}
 use Rattle.wc_diag_messages.specs.Locations.{column_text, number_text, place_text}
-use Rattle.wc_diag_messages.specs.Plain.{IsShown, column_of, is_plain, shown_text, words_after}
+use Rattle.wc_diag_messages.specs.Plain.{IsShown, acts_nowhere, column_of, is_plain, shown_text, words_after}
 use Rattle.wc_diag_texts.specs.declared.format.Format.{Format}
 use Rattle.wc_diag_texts.specs.declared.format.Format.TheVariants.{Long, Short, Json}
 
@@ -135,3 +135,9 @@ abbrev pub IsPlainIn : Format → List ℕ → Type 0
 IsPlainIn Long bytes = list_all is_plain bytes ≡ true
 IsPlainIn Short bytes = list_all is_plain bytes ≡ true
 IsPlainIn Json bytes = Unit {0}
+
+-- and no character acts on a terminal or an editor, or is not seen
+abbrev pub IsCalmIn : Format → List ℕ → Type 0
+IsCalmIn Long bytes = acts_nowhere bytes ≡ true
+IsCalmIn Short bytes = acts_nowhere bytes ≡ true
+IsCalmIn Json bytes = Unit {0}

@@ -24,6 +24,11 @@ abbrev pub is_calm : List ℕ → Bool
 is_calm [] = true
 is_calm (byte ∷ bytes) = not (is_control byte || acts (byte ∷ bytes)) && is_calm bytes
 
+-- none of its characters acts so
+abbrev pub acts_nowhere : List ℕ → Bool
+acts_nowhere [] = true
+acts_nowhere (byte ∷ bytes) = not (acts (byte ∷ bytes)) && acts_nowhere bytes
+
 -- a text is shown as it is
 abbrev pub passes : List ℕ → Bool
 passes bytes = is_calm bytes && is_utf8 bytes

@@ -1,5 +1,5 @@
 ghost use Rattle.std.specs.Prelude.{IfOk};
-ghost use Rattle.wc_diag_messages.specs.Formats.{IsPlainIn, Reports};
+ghost use Rattle.wc_diag_messages.specs.Formats.{IsCalmIn, IsPlainIn, Reports};
 ghost use Rattle.wc_diag_messages.specs.Known.{IsKnown};
 
 use crate::long::long;
@@ -20,6 +20,7 @@ fn reported_in(
     requires { IsKnown refusal.now parts.now }
     ensures all { IfOk result (λ bytes. Reports format refusal.now bytes.items) }
     ensures plain { IfOk result (λ bytes. IsPlainIn format bytes.items) }
+    ensures calm { IfOk result (λ bytes. IsCalmIn format bytes.items) }
 {
     match format {
         Format::Long => Ok(long(alloc, refusal, parts)?.into_bytes()),
@@ -36,6 +37,7 @@ pub fn explained(
 ) -> Result<Vec<u8>, AllocError>
     ensures all { IfOk result (λ bytes. Reports format refusal.now bytes.items) }
     ensures plain { IfOk result (λ bytes. IsPlainIn format bytes.items) }
+    ensures calm { IfOk result (λ bytes. IsCalmIn format bytes.items) }
 {
     let parts = parts_of(alloc, refusal)?;
     reported_in(alloc, format, refusal, &parts)

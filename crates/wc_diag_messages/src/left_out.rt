@@ -1,5 +1,5 @@
 ghost use Rattle.std.specs.Prelude.{◌≡◌, [], IfOk, OnOk};
-ghost use Rattle.wc_diag_messages.specs.Formats.{IsNameOf, IsPlainIn};
+ghost use Rattle.wc_diag_messages.specs.Formats.{IsCalmIn, IsNameOf, IsPlainIn};
 ghost use Rattle.wc_diag_messages.specs.Warned.{CountsLeftOut, LeavesOut, ReportsLeftOut, ReportsLeftOutInJson, ReportsLeftOutShortly, left_out_tokens};
 
 use crate::message::{Message, shown};
@@ -93,6 +93,7 @@ pub fn warnings_left_out(
 ) -> Result<Vec<u8>, AllocError>
     ensures all { IfOk result (λ bytes. LeavesOut format file.now count bytes.items) }
     ensures plain { IfOk result (λ bytes. IsPlainIn format bytes.items) }
+    ensures calm { IfOk result (λ bytes. IsCalmIn format bytes.items) }
 {
     match format {
         Format::Long => Ok(long_line(alloc, count)?.into_bytes()),

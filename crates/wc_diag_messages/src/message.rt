@@ -2,7 +2,7 @@ ghost use Rattle.std.specs.Prelude.{◌≡◌, ◌<◌, ◌/◌, ◌%◌, ◌∷
 ghost use Rattle.std.specs.Fmt.{decimal};
 ghost use Rattle.std.specs.List.{list_all};
 ghost use Rattle.std.specs.Str.{is_utf8};
-ghost use Rattle.wc_diag_messages.specs.Plain.{IsShown, escaped_byte, escaped_text, hex_digit, is_plain, passes, shown_text, with_spaces, words_after};
+ghost use Rattle.wc_diag_messages.specs.Plain.{IsShown, acts_nowhere, escaped_byte, escaped_text, hex_digit, is_plain, passes, shown_text, with_spaces, words_after};
 
 use crate::plain::{has_tab, passes, with_spaces};
 use std::alloc::{AllocError, Global};
@@ -14,6 +14,7 @@ pub struct Message {
     bytes: Vec<u8>,
     ghost plain: { list_all is_plain bytes.items ≡ true },
     ghost text: { is_utf8 bytes.items ≡ true },
+    ghost calm: { acts_nowhere bytes.items ≡ true },
 }
 
 /// A hexadecimal digit.
@@ -41,10 +42,11 @@ impl Message {
         }
     }
 
-    /// The bytes, which are UTF-8 without control characters but for line feeds.
+    /// The bytes, which are UTF-8 without control characters but for line feeds, and without characters that act on a terminal.
     pub fn as_bytes(&self) -> &[u8]
         ensures plain { list_all is_plain result.now ≡ true }
         ensures text { is_utf8 result.now ≡ true }
+        ensures calm { acts_nowhere result.now ≡ true }
         ensures all { result.now ≡ self.now.bytes.items }
     {
         self.bytes.as_slice()
@@ -55,6 +57,7 @@ impl Message {
         ensures all { result.items ≡ self.bytes.items }
         ensures plain { list_all is_plain result.items ≡ true }
         ensures text { is_utf8 result.items ≡ true }
+        ensures calm { acts_nowhere result.items ≡ true }
     {
         let Message { bytes, .. } = self;
         bytes

@@ -1,5 +1,5 @@
 ghost use Rattle.std.specs.Prelude.{◌≤◌, ℕ, List, IfOk, IfSome, length};
-ghost use Rattle.wc_diag_messages.specs.Formats.{IsPlainIn};
+ghost use Rattle.wc_diag_messages.specs.Formats.{IsCalmIn, IsPlainIn};
 ghost use Rattle.wc_diag_messages.specs.Warned.{KnowsWarning, Warns};
 
 use crate::warned_lines::{long_warning, short_warning};
@@ -22,6 +22,7 @@ fn warned_in(
     ensures all { IfOk result (λ bytes. (text : List ℕ) → KnowsWarning text warning.now parts.now
         → Warns format file.now text warning.now bytes.items) }
     ensures plain { IfOk result (λ bytes. IsPlainIn format bytes.items) }
+    ensures calm { IfOk result (λ bytes. IsCalmIn format bytes.items) }
 {
     match format {
         Format::Long => Ok(long_warning(alloc, file, warning, parts)?.into_bytes()),
@@ -42,6 +43,7 @@ pub fn warning_message(
     ensures all { IfOk result
         (λ bytes. Warns format file.now text.now warning.now bytes.items) }
     ensures plain { IfOk result (λ bytes. IsPlainIn format bytes.items) }
+    ensures calm { IfOk result (λ bytes. IsCalmIn format bytes.items) }
 {
     let parts = warning_parts(alloc, text, warning)?;
     warned_in(alloc, format, file, warning, &parts)

@@ -1,1 +1,3 @@
 pub mod Slices
+pub mod Unreached
+pub mod Words

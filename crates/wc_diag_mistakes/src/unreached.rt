@@ -1,105 +1,220 @@
-use crate::slices::{following, line_of, prefix};
-use crate::words::first_word;
+ghost use Rattle.std.specs.Prelude.{◌≡◌, ◌==◌, ◌≤◌, ◌↔◌, ◌&&◌, ◌||◌, ◌<◌, ◌+◌, not, min, IsTrue, if◌then◌else◌, drop, is_some, length};
+ghost use Rattle.std.specs.List.{position_or_len};
+ghost use Rattle.wc_diag_mistakes.specs.Unreached.{FollowsLeaving, IsUnreached, after_label, begins_with_colon, block_line, declares, has_label, has_star, is_block_start, is_frame, is_leaving, leaves, line_at, line_number, may_pass};
+ghost use Rattle.wc_diag_mistakes.specs.Words.{keyword_of};
+
+use crate::slices::{following, prefix};
+use crate::words::{after_word, first_word, from_word};
 use memchr::memchr;
 use wc_built_in::{Keyword, keyword_named};
-use wc_model::{Condition, UnitKind};
+use wc_model::{Condition, UnitKind, is_word};
 
-/// What a line of a body says of whether the line below it is reached from it.
-#[derive(Clone, Copy)]
-enum LinePassing {
-    /// It leaves by a jump or a return.
-    Leaves,
-    /// It may be reached, or that is not sure.
-    MayPass,
-    /// It passes on what the line above it says.
-    AsAbove,
-}
-
-/// The label of a line, if it has one, is left out.
-fn without_label(line: &[u8]) -> (&[u8], bool) {
-    let label = first_word(line);
-    let rest = following(line.trim_ascii_start(), label.len()).trim_ascii_start();
-    match rest.first() {
-        Some(b':') if !rest.starts_with(b":=") => (following(rest, 1), true),
-        _ => (line, false),
+/// The number of bytes before the first line feed.
+fn line_length(text: &[u8]) -> usize
+    ensures first { result ≡ position_or_len (λ byte. byte == 10) text.now }
+    ensures within { result ≤ length text.now }
+{
+    match memchr(b'\n', text) {
+        Some(place) => place,
+        None => text.len(),
     }
 }
 
-/// What a line says. The lines are passed upwards, so that no comment of several lines is entered without its end.
-fn passing_of(line: &[u8]) -> LinePassing {
-    if line.contains(&b'*') {
-        return LinePassing::MayPass;
-    }
-    let (instruction, has_label) = without_label(line);
-    match keyword_named(first_word(instruction)) {
-        Some(Keyword::Jump(Condition::Always) | Keyword::Return(Condition::Always)) => {
-            LinePassing::Leaves
-        }
-        Some(
-            Keyword::UnitStart(_)
-            | Keyword::UnitEnd(_)
-            | Keyword::SectionStart(_)
-            | Keyword::SectionEnd,
-        ) => LinePassing::MayPass,
-        _ if has_label => LinePassing::MayPass,
-        _ => LinePassing::AsAbove,
+/// What is below a line of that number of bytes, which a line feed ends.
+fn below_line(text: &[u8], end: usize) -> &[u8]
+    requires { end < length text.now }
+    ensures { result.now ≡ drop (min (end + 1) (length text.now)) text.now }
+{
+    following(text, end + 1)
+}
+
+/// Whether a text begins with a colon, which is not that of an assignment.
+fn begins_with_colon(text: &[u8]) -> bool
+    ensures { result ≡ begins_with_colon text.now }
+{
+    match text {
+        [b':', b'=', ..] => false,
+        [b':', ..] => true,
+        _ => false,
     }
 }
 
-/// How many bytes of a text are above its line of that number, counted from 1.
-fn start_of_line(text: &[u8], line: u32) -> usize {
-    let mut start = 0_usize;
-    for _line in 1..line {
-        match memchr(b'\n', following(text, start)) {
-            Some(length) => start = start.saturating_add(length).saturating_add(1),
-            None => return text.len(),
-        }
+/// Whether the first word of a line is a label.
+fn has_label(line: &[u8]) -> bool
+    ensures { result ≡ has_label line.now }
+{
+    begins_with_colon(from_word(after_word(line)))
+}
+
+/// A line after its label, if it has one.
+fn after_label(line: &[u8]) -> &[u8]
+    ensures { result.now ≡ after_label line.now }
+{
+    let rest = from_word(after_word(line));
+    if begins_with_colon(rest) {
+        following(rest, 1)
+    } else {
+        line
     }
-    start
+}
+
+/// What the first word of a line represents, if it is a reserved word.
+fn keyword_of(line: &[u8]) -> Option<Keyword>
+    ensures { result ≡ keyword_of line.now }
+{
+    keyword_named(first_word(line))
+}
+
+/// Whether the line below is not next after this word.
+fn is_leaving(word: Option<Keyword>) -> bool
+    ensures { result ≡ is_leaving word }
+{
+    match word {
+        Some(Keyword::Jump(Condition::Always)) => true,
+        Some(Keyword::Return(Condition::Always)) => true,
+        _ => false,
+    }
+}
+
+/// Whether this word begins or ends a unit or a section.
+fn is_frame(word: Option<Keyword>) -> bool
+    ensures { result ≡ is_frame word }
+{
+    match word {
+        Some(Keyword::UnitStart(_)) => true,
+        Some(Keyword::UnitEnd(_)) => true,
+        Some(Keyword::SectionStart(_)) => true,
+        Some(Keyword::SectionEnd) => true,
+        _ => false,
+    }
+}
+
+/// Whether this word is FUNCTION_BLOCK.
+fn is_block_start(word: Option<Keyword>) -> bool
+    ensures { result ≡ is_block_start word }
+{
+    match word {
+        Some(Keyword::UnitStart(UnitKind::FunctionBlock)) => true,
+        _ => false,
+    }
+}
+
+/// Whether a comment may begin or end on a line.
+fn has_star(line: &[u8]) -> bool
+    ensures { result ≡ has_star line.now }
+{
+    line.contains(&b'*')
+}
+
+/// Whether a line leaves by a jump or a return.
+fn leaves(line: &[u8]) -> bool
+    ensures { result ≡ leaves line.now }
+{
+    !has_star(line) && is_leaving(keyword_of(after_label(line)))
+}
+
+/// Whether a line may be reached by other ways than from the line above, or that is not sure.
+fn may_pass(line: &[u8]) -> bool
+    ensures { result ≡ may_pass line.now }
+{
+    has_star(line) || has_label(line) || is_frame(keyword_of(after_label(line)))
+}
+
+/// Whether the lines up to this one leave, if this is so of those above it or not.
+fn leaving_after(leaving: bool, line: &[u8]) -> bool
+    ensures { result ≡ (leaves line.now || leaving && not (may_pass line.now)) }
+{
+    leaves(line) || leaving && !may_pass(line)
 }
 
 /// Whether a line of a body surely follows a jump or a return, and no label is between: nothing leads to it but its own label.
-pub fn follows_leaving(text: &[u8], line: u32) -> bool {
-    for above in prefix(text, start_of_line(text, line))
-        .rsplit(|byte| *byte == b'\n')
-        .skip(1)
-    {
-        match passing_of(above) {
-            LinePassing::Leaves => return true,
-            LinePassing::MayPass => return false,
-            LinePassing::AsAbove => {}
+pub fn follows_leaving(text: &[u8], line: u32) -> bool
+    ensures { IsTrue result ↔ FollowsLeaving text.now line }
+{
+    let mut leaving = false;
+    let mut rest = text;
+    for _above in 0..line.saturating_sub(1) {
+        let end = line_length(rest);
+        if end == rest.len() {
+            return leaving;
         }
+        leaving = leaving_after(leaving, prefix(rest, end));
+        rest = below_line(rest, end);
     }
-    false
+    leaving
+}
+
+/// The line of that number, counted from 1; empty if the text has fewer.
+fn line_at(text: &[u8], line: u32) -> &[u8]
+    ensures { result.now ≡ line_at text.now line }
+{
+    let mut rest = text;
+    for _above in 0..line.saturating_sub(1) {
+        let end = line_length(rest);
+        if end == rest.len() {
+            return following(rest, end);
+        }
+        rest = below_line(rest, end);
+    }
+    prefix(rest, line_length(rest))
 }
 
 /// Whether surely nothing leads to a line of a body.
-pub fn is_unreached(text: &[u8], line: u32) -> bool {
-    let start = start_of_line(text, line);
-    let here = following(text, start);
-    let end = memchr(b'\n', here).unwrap_or(here.len());
-    let (_, has_label) = without_label(prefix(here, end));
-    !has_label && follows_leaving(text, line)
+pub fn is_unreached(text: &[u8], line: u32) -> bool
+    ensures { IsTrue result ↔ IsUnreached text.now line }
+{
+    !has_label(line_at(text, line)) && follows_leaving(text, line)
+}
+
+/// Whether a line begins the declaration of a function block of that name.
+fn declares(name: &[u8], line: &[u8]) -> bool
+    ensures { result ≡ declares name.now line.now }
+{
+    is_block_start(keyword_of(line)) && is_word(first_word(after_word(line)), name)
+}
+
+/// The number of the line after that many others.
+fn line_number(above: usize) -> u32
+    ensures { result ≡ line_number above }
+{
+    above.saturating_add(1).min(1048577) as u32
+}
+
+/// Whether a line is one, and another is found already.
+fn is_second(found: Option<u32>, is_one: bool) -> bool
+    ensures { result ≡ (is_one && is_some found) }
+{
+    is_one && found.is_some()
+}
+
+/// The line that is found, with the line after that many others, if it is one.
+fn found_with(found: Option<u32>, is_one: bool, above: usize) -> Option<u32>
+    ensures { result ≡ (if is_one then Some (line_number above) else found) }
+{
+    if is_one {
+        Some(line_number(above))
+    } else {
+        found
+    }
 }
 
 /// The line on which a text declares a function block, if surely one line does so.
-pub fn block_line(text: &[u8], name: &[u8]) -> Option<u32> {
+pub fn block_line(text: &[u8], name: &[u8]) -> Option<u32>
+    ensures { result ≡ block_line text.now name.now }
+{
     let mut found = None;
-    let mut start = 0_usize;
-    for line in text.split(|byte| *byte == b'\n') {
-        let word = first_word(line);
-        let rest = following(line.trim_ascii_start(), word.len());
-        let is_start = matches!(
-            keyword_named(word),
-            Some(Keyword::UnitStart(UnitKind::FunctionBlock))
-        );
-        if is_start && first_word(rest).eq_ignore_ascii_case(name) {
-            if found.is_some() {
-                return None;
-            }
-            found = Some(line_of(text, start));
+    let mut rest = text;
+    for above in 0..text.len() + 1 {
+        let end = line_length(rest);
+        let is_one = declares(name, prefix(rest, end));
+        if is_second(found, is_one) {
+            return None;
         }
-        start = start.saturating_add(line.len()).saturating_add(1);
+        found = found_with(found, is_one, above);
+        if end == rest.len() {
+            return found;
+        }
+        rest = below_line(rest, end);
     }
     found
 }

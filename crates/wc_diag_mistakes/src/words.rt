@@ -1,3 +1,7 @@
+ghost use Rattle.std.specs.Prelude.{◌≡◌};
+ghost use Rattle.std.specs.List.{prefix_len};
+ghost use Rattle.wc_diag_mistakes.specs.Words.{after_word, first_word, from_word, is_word_byte};
+
 use crate::slices::{following, prefix};
 
 /// The number of letters, digits and underscores at the end of a text.
@@ -61,13 +65,44 @@ pub fn is_near(a: &[u8], b: &[u8]) -> bool {
     shorter > 1 && (differ <= 1 || differ == 2 && a.len() == b.len())
 }
 
-/// The first word of some bytes.
-pub fn first_word(text: &[u8]) -> &[u8] {
-    let text = text.trim_ascii_start();
+/// Whether a byte is a letter, a digit or an underscore.
+fn is_word_byte(byte: u8) -> bool
+    ensures { result ≡ is_word_byte byte }
+{
+    byte.is_ascii_alphanumeric() || byte == b'_'
+}
+
+/// The number of letters, digits and underscores at the start of some bytes.
+fn word_length(text: &[u8]) -> usize
+    ensures { result ≡ prefix_len is_word_byte text.now }
+{
     for count in 0..text.len() {
-        if !text[count].is_ascii_alphanumeric() && text[count] != b'_' {
-            return prefix(text, count);
+        if !is_word_byte(text[count]) {
+            return count;
         }
     }
-    text
+    text.len()
+}
+
+/// Bytes without the white space at their start.
+pub(crate) fn from_word(text: &[u8]) -> &[u8]
+    ensures { result.now ≡ from_word text.now }
+{
+    text.trim_ascii_start()
+}
+
+/// The first word of some bytes.
+pub fn first_word(text: &[u8]) -> &[u8]
+    ensures { result.now ≡ first_word text.now }
+{
+    let text = from_word(text);
+    prefix(text, word_length(text))
+}
+
+/// What comes after the first word of some bytes.
+pub(crate) fn after_word(text: &[u8]) -> &[u8]
+    ensures { result.now ≡ after_word text.now }
+{
+    let text = from_word(text);
+    following(text, word_length(text))
 }

@@ -1,3 +1,7 @@
+ghost use Rattle.std.specs.Prelude.{◌≡◌, IfOk};
+ghost use Rattle.std.specs.String.{string_bytes};
+ghost use Rattle.wc_diag_texts.specs.PathTexts.{empty_path_advice, paths_text};
+
 use std::alloc::{AllocError, Global};
 
 /// The paths to a label at which no result is defined.
@@ -14,7 +18,9 @@ pub enum Paths<'a> {
 }
 
 /// What is said of the paths to a label.
-pub fn paths_text(alloc: Global, paths: Paths<'_>) -> Result<String, AllocError> {
+pub fn paths_text(alloc: Global, paths: Paths<'_>) -> Result<String, AllocError>
+    ensures { IfOk result (λ text. string_bytes text ≡ paths_text paths.entry) }
+{
     match paths {
         Paths::Two(label, first, brought, other, different) => {
             format!(in alloc;
@@ -40,6 +46,8 @@ pub fn paths_text(alloc: Global, paths: Paths<'_>) -> Result<String, AllocError>
 }
 
 /// What to write if that line brings nothing to a label.
-pub fn empty_path_advice(alloc: Global, line: u32) -> Result<String, AllocError> {
+pub fn empty_path_advice(alloc: Global, line: u32) -> Result<String, AllocError>
+    ensures { IfOk result (λ text. string_bytes text ≡ empty_path_advice line) }
+{
     format!(in alloc; "write an LD above line {line}, or between the label and this instruction")
 }

@@ -16,8 +16,8 @@ ends_control second = is_within 128 159 second
 
 -- after the byte E2 these two make an end of a line or of a paragraph, U+2028 and U+2029; a character that turns the direction of
 -- writing, U+200E, U+200F, U+202A to U+202E, U+2066 to U+2069; or one without a width, U+200B to U+200D
-abbrev pub ends_turning : ℕ → ℕ → Bool
-ends_turning second third = second == 128 && (is_within 139 143 third || is_within 168 174 third) || second == 129 && is_within 166 169 third
+abbrev pub ends_hidden : ℕ → ℕ → Bool
+ends_hidden second third = second == 128 && (is_within 139 143 third || is_within 168 174 third) || second == 129 && is_within 166 169 third
 
 -- after the byte EF these two make one without a width, U+FEFF
 abbrev pub ends_unseen : ℕ → ℕ → Bool
@@ -25,7 +25,7 @@ ends_unseen second third = second == 187 && third == 191
 
 -- the number of bytes the character has that these begin, if a terminal or an editor would act on it, or it is not seen, and it is not ASCII; else 0
 abbrev pub acting_by : ℕ → ℕ → ℕ → ℕ
-acting_by first second third = if first == 194 && ends_control second then 2 else (if first == 226 && ends_turning second third || first == 239 && ends_unseen second third then 3 else 0)
+acting_by first second third = if first == 194 && ends_control second then 2 else (if first == 226 && ends_hidden second third || first == 239 && ends_unseen second third then 3 else 0)
 
 -- so of the one that begins a text
 abbrev pub acting_length : List ℕ → ℕ
