@@ -83,12 +83,11 @@ fn path_advice(alloc: Global, text: &[u8], span: &RefusalSpan) -> Result<String,
     }
 }
 
-/// What to write for a word that may be a label without its colon, or a misspelled operator.
+/// What to write for a word to which a jump leads: it is a label without its colon.
 fn colon_advice(alloc: Global, word: &[u8]) -> Result<String, AllocError> {
-    let near = operator_advice(alloc, word)?;
     let label = short_words(word);
-    if !near.is_empty() || label.is_empty() {
-        return Ok(near);
+    if label.is_empty() {
+        return Ok(String::new(alloc));
     }
     text_with(alloc, Values::LabelColon(label))
 }

@@ -1,5 +1,5 @@
 use crate::advice::short_words;
-use crate::near::near_name;
+use crate::near::{has_word, near_name};
 use std::alloc::{AllocError, Global};
 use wc_built_in::variable_at;
 use wc_diag_mistakes::{excerpt, first_word, following, prefix, word_before, words_at};
@@ -116,7 +116,18 @@ fn bit_of_number_advice(alloc: Global, name: &str, bit: u32) -> Result<String, A
     text_with(alloc, Values::Bit(bit, name, power))
 }
 
-/// What to write for a number after a point: an address without its `%`, or a bit of a number.
+/// Whether a name is an area of another tool with a number, such as E0 or M10.
+fn is_foreign_area(name: &[u8]) -> bool {
+    let areas: [u8; 7] = [b'a', b'e', b'i', b'm', b'q', b'x', b'y'];
+    match name.first() {
+        Some(letter) => {
+            areas.contains(&letter.to_ascii_lowercase()) && bit_of(following(name, 1)).is_some()
+        }
+        None => false,
+    }
+}
+
+/// What to write for a number after a point: an address, with or without its `%`, or a bit of a number.
 pub(crate) fn number_advice(
     alloc: Global,
     text: &[u8],
@@ -131,6 +142,10 @@ pub(crate) fn number_advice(
     let address = format!(in alloc; "%{name}.{}", short_words(digits))?;
     if variable_at(address.as_bytes()).is_some() {
         return text_with(alloc, Values::Near(&address));
+    }
+    let start = above.len().saturating_sub(name.len()).saturating_sub(1);
+    if is_foreign_area(name.as_bytes()) && !has_word(prefix(text, start), name.as_bytes()) {
+        return text_with(alloc, Values::ForeignBit(name));
     }
     match bit_of(digits) {
         Some(bit) => bit_of_number_advice(alloc, name, bit),

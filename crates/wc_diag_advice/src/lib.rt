@@ -4,6 +4,7 @@
 
 mod advice;
 mod fields;
+mod foreign;
 mod members;
 mod near;
 

@@ -1,3 +1,4 @@
+use crate::foreign::foreign_advice;
 use memchr::memchr;
 use std::alloc::{AllocError, Global};
 use wc_built_in::{Keyword, elementary_type, keyword_named};
@@ -65,9 +66,14 @@ fn word_advice(alloc: Global, words: &[&'static str], word: &[u8]) -> Result<Str
     Ok(String::new(alloc))
 }
 
-/// Which operator or keyword a word that begins a line, and is neither, may be a misspelling of.
+/// What to write for a word that begins a line and is neither an operator nor a keyword: that of another tool, or one that it may be a
+/// misspelling of.
 pub(crate) fn operator_advice(alloc: Global, word: &[u8]) -> Result<String, AllocError> {
-    word_advice(alloc, &OPERATORS, word)
+    let foreign = foreign_advice(word);
+    if foreign.is_empty() {
+        return word_advice(alloc, &OPERATORS, word);
+    }
+    format!(in alloc; "{foreign}")
 }
 
 /// Which keyword a word that begins no unit may be a misspelling of.

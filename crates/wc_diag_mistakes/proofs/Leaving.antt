@@ -103,6 +103,7 @@ left_by before (line ∷ lines) e = step (left_by (leaves line || before && not 
     by false is says closed =
         let parts = and_parts before (not (may_pass line)) says in
         Above parts.0 (none_in (may_pass line) (list_any may_pass lines) (not_true (may_pass line) parts.1) closed)
+
     step : LeftBy (leaves line || before && not (may_pass line)) lines → LeftBy before (line ∷ lines)
     step (Inside left) = Inside (one_above line lines left)
     step (Above says closed) = by (leaves line) refl says closed

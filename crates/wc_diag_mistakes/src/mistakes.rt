@@ -2,7 +2,7 @@ use crate::durations::{is_long_duration, mistaken_units};
 use crate::slices::{excerpt, following, line_of, prefix};
 use crate::types::{is_conditional, type_hint};
 use crate::unreached::{block_line, is_unreached};
-use crate::words::{first_word, is_near, word_before};
+use crate::words::{first_word, is_near, letters_at_end, word_before};
 use wc_built_in::{Keyword, elementary_type, keyword_named, standard_block};
 use wc_diag_stops::RefusalSpan;
 use wc_diag_texts::{Case, Expected};
@@ -25,9 +25,9 @@ const LOOPS: [&[u8]; 6] = [
 const CHOICES: [&[u8]; 2] = [b"case", b"end_case"];
 
 /// Operators of STL (AWL) that are written otherwise here.
-const STATEMENT_LIST: [&[u8]; 14] = [
-    b"a", b"an", b"o", b"on", b"u", b"un", b"l", b"t", b"spa", b"spb", b"spbn", b"ju", b"jc",
-    b"network",
+const STATEMENT_LIST: [&[u8]; 16] = [
+    b"a", b"an", b"o", b"on", b"u", b"un", b"x", b"xn", b"l", b"t", b"spa", b"spb", b"spbn", b"ju",
+    b"jc", b"network",
 ];
 
 /// Inputs of standard blocks that the standard also writes as operators.
@@ -88,6 +88,9 @@ const TEXTS: [&[u8]; 11] = [
     b"struct",
     b"pointer",
 ];
+
+/// Words that are written for END_VAR.
+const SECTION_ENDS: [&[u8]; 2] = [b"end", b"var_end"];
 
 /// Whether a text is one of these words. Letter case is not significant.
 fn is_among(words: &[&'static [u8]], text: &[u8]) -> bool {
@@ -320,6 +323,10 @@ fn mistaken_before(before: &[u8], expected: Expected) -> Option<Case> {
             Case::NegatedOperand,
         ),
         (Some(Keyword::Kept), Expected::CommaOrColon) => Some(left_out(before)),
+        (None, Expected::CommaOrColon) if is_word(b"persistent", before) => Some(Case::Persistent),
+        (None, Expected::CommaOrColon) if is_among(&SECTION_ENDS, before) => Some(
+            Case::OpenSection,
+        ),
         (Some(_), Expected::CommaOrColon) => Some(Case::OpenSection),
         (None, Expected::CommaOrColon) if is_near(b"END_VAR", before) => Some(Case::OpenSection),
         _ => None,
@@ -365,6 +372,8 @@ fn mistaken_after_value(rest: &[u8]) -> Case {
 fn mistaken_in_list(token: &[u8], rest: &[u8], expected: Expected) -> Option<Case> {
     match (expected, token.first()) {
         (Expected::Field, Some(b'0'..=b'9')) => Some(Case::NoAddress),
+        (Expected::UnitName, _) => Some(Case::UnnamedUnit),
+        (Expected::Operand, Some(b'(')) => Some(Case::LoadParenthesis),
         (Expected::LineEnd | Expected::PointOrLineEnd | Expected::OperandOrLineEnd, Some(b')')) => {
             Some(Case::Closing)
         }
@@ -394,6 +403,7 @@ fn mistaken_semicolon(expected: Expected) -> Case {
 fn mistaken_on_line(token: &[u8], expected: Expected) -> Option<Case> {
     match (expected, token.first()) {
         (Expected::InstructionOrLineEnd, _) if is_type(token) => Some(Case::OutsideSection),
+        (Expected::LineEnd | Expected::PointOrLineEnd, Some(b',')) => Some(Case::InstructionComma),
         (Expected::LineEnd | Expected::PointOrLineEnd, _) => match keyword_named(token) {
             Some(Keyword::Apply(_)) => Some(Case::SecondOperator),
             _ => None,
@@ -460,6 +470,17 @@ fn is_decimal_comma(text: &[u8], start: usize, token: &[u8]) -> bool {
         && is_digit(following(text, start).get(1))
 }
 
+/// Whether a text ends with `%`, letters and digits.
+fn ends_address(text: &[u8]) -> bool {
+    let (before, _) = text.split_at(text.len().saturating_sub(letters_at_end(text)));
+    before.last() == Some(&b'%')
+}
+
+/// Whether a line begins with the keyword of a unit.
+fn begins_unit(line: &[u8]) -> bool {
+    matches!(keyword_named(first_word(line)), Some(Keyword::UnitStart(_)))
+}
+
 /// A `)` on the line of its opening, or on another.
 fn mistaken_closing(before: &[u8]) -> Case {
     if before.contains(&b'(') {
@@ -485,7 +506,17 @@ fn mistaken_by_place(text: &[u8], span: RefusalSpan, token: &[u8]) -> Case {
         (None, Expected::AssignOrSemicolon | Expected::Semicolon)
             if begins_line(text, span.start) => { Case::DeclarationAbove }
         (None, Expected::LineEnd | Expected::Semicolon)
-            if is_decimal_comma(text, span.start, token) => { Case::DecimalComma }
+            if is_decimal_comma(text, span.start, token) => {
+            if ends_address(prefix(text, span.start)) {
+                Case::AddressComma
+            } else {
+                Case::DecimalComma
+            }
+        }
+        (None, Expected::Instruction | Expected::InstructionOrLineEnd)
+            if token.starts_with(b"(") && begins_unit(line_before(text, span.start)) => {
+            Case::UnitList
+        }
         (None, expected) => mistaken_token(
             token,
             following(text, span.start.saturating_add(span.length)),
@@ -514,10 +545,23 @@ fn is_foreign_address(before: &[u8], token: &[u8]) -> bool {
     is_among(&areas, before) && token.len() < 8 && token.contains(&b'.')
 }
 
+/// Whether a word is the area and the size of an address: IX or QX.
+fn is_address(word: &[u8]) -> bool {
+    is_word(b"ix", word) || is_word(b"qx", word)
+}
+
+/// Whether a literal has a prefix of another tool for a duration.
+fn is_foreign_duration(token: &[u8]) -> bool {
+    let prefixes: [&[u8]; 4] = [b"s5t", b"s5time", b"ltime", b"lt"];
+    is_among(&prefixes, first_word(token))
+}
+
 /// A mistake in a number.
 fn mistaken_number(before: &[u8], token: &[u8], case: Case) -> Case {
     match case {
         Case::WithPoint if is_foreign_address(before, token) => Case::StatementAddress,
+        Case::WithPoint if is_address(before) => Case::AddressSpace,
+        Case::WithBase if is_foreign_duration(token) => Case::NoDuration,
         Case::WithBase if token.starts_with(b"BOOL") || token.starts_with(b"bool") => {
             Case::TypedTruth
         }
@@ -587,7 +631,8 @@ fn mistaken_block(text: &[u8], name: &[u8], start: usize) -> Case {
 fn mistaken_address(address: &[u8]) -> Case {
     match (address.get(1), address.get(2)) {
         (Some(b'm' | b'M'), _) => Case::Marker,
-        (_, Some(b'w' | b'W' | b'b' | b'B' | b'd' | b'D' | b'l' | b'L')) => Case::NoSuchWord,
+        (_, Some(b'd' | b'D')) => Case::NoSuchNumber,
+        (_, Some(b'w' | b'W' | b'b' | b'B' | b'l' | b'L')) => Case::NoSuchWord,
         _ => Case::NoSuchBit,
     }
 }

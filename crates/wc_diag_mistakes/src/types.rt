@@ -196,6 +196,7 @@ fn follows_bit(text: &[u8], start: usize) -> bool {
 /// What to write if types do not match: by the operator, the type of the operand and that of the result.
 pub(crate) fn type_hint(text: &[u8], token: &[u8], span: RefusalSpan) -> Case {
     match (span.case, span.result) {
+        (Case::Unpassed(_, kind), _) if !span.is_passed => Case::ReadOutput(kind),
         (Case::Untaken(Kind::Dint), _) if is_bit(token) => Case::TruthLiteral,
         (Case::Unlike(Kind::Bool) | Case::Result, _) if follows_bit(text, span.start) => {
             Case::TruthLiteral

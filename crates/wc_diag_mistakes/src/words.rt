@@ -55,14 +55,23 @@ fn same_end(a: &[u8], b: &[u8]) -> usize {
     a.len()
 }
 
-/// Whether two names differ by one letter, more, less or other, or by two that are exchanged.
+/// Whether the letter at a place of one name is that after the same place of the other, and the letter after it that at the place.
+fn are_exchanged(a: &[u8], b: &[u8], place: usize) -> bool {
+    let next = place.saturating_add(1);
+    are_alike(a.get(place).copied(), b.get(next).copied())
+        && are_alike(a.get(next).copied(), b.get(place).copied())
+}
+
+/// Whether two names differ by one letter, more, less or other, or by two neighbours that are exchanged.
 pub fn is_near(a: &[u8], b: &[u8]) -> bool {
     let (shorter, longer) = (a.len().min(b.len()), a.len().max(b.len()));
-    let same = same_prefix(a, b)
-        .saturating_add(same_end(a, b))
-        .min(shorter);
-    let differ = longer.saturating_sub(same);
-    shorter > 1 && (differ <= 1 || differ == 2 && a.len() == b.len())
+    let start = same_prefix(a, b);
+    let same = start.saturating_add(same_end(a, b)).min(shorter);
+    match longer.saturating_sub(same) {
+        0 | 1 => shorter > 1,
+        2 => shorter > 1 && a.len() == b.len() && are_exchanged(a, b, start),
+        _ => false,
+    }
 }
 
 /// Whether a byte is a letter, a digit or an underscore.

@@ -82,6 +82,7 @@ fn case_said(case: Case, mistake: Case) -> Case {
         | Case::DecimalComma
         | Case::MissingUnit
         | Case::Constant
+        | Case::Persistent
         | Case::Retain
         | Case::Unreached
         | Case::InitialBool
@@ -96,7 +97,7 @@ fn case_said(case: Case, mistake: Case) -> Case {
 /// What could be at a slice, if that is what is wrong: not after a word that is left out, nor a point after a NOT.
 fn expected_at(expected: Expected, mistake: Case) -> Expected {
     match mistake {
-        Case::Constant | Case::Retain => Expected::Nothing,
+        Case::Constant | Case::Persistent | Case::Retain => Expected::Nothing,
         Case::NegatedOperand => Expected::LineEnd,
         _ => expected,
     }
@@ -117,7 +118,8 @@ fn quoted_length(text: &[u8], number: u16, case: Case, span: &RefusalSpan) -> us
     match (number, case) {
         (101, Case::ByteOrderMark) => BYTE_ORDER_MARK.len(),
         (101, Case::Byte(128..)) => character_length(following(text, span.start)),
-        (201, Case::LineEnd | Case::Constant | Case::Retain) | (202..=208, _) => 0,
+        (201, Case::LineEnd | Case::Constant | Case::Persistent | Case::Retain) | (202..=208, _) =>
+            0,
         (403, Case::AtLabel | Case::Unreached | Case::Plain) => 0,
         _ if span.below.is_some() || sentence_of(number, case).is_none() => 0,
         (402, _) if names_operator(text, span) => 0,

@@ -96,6 +96,22 @@ pub enum Case {
     CaseStatement,
     StatementList,
     Assignment,
+    /// Instructions with commas between them, or an operator with two operands.
+    InstructionComma,
+    /// An address with a comma in place of its point.
+    AddressComma,
+    /// A list after the name of a unit.
+    UnitList,
+    /// A unit without a name.
+    UnnamedUnit,
+    /// A parenthesis after an operator that takes none.
+    LoadParenthesis,
+    /// An output of that type, which is read to something of another type.
+    ReadOutput(Kind),
+    /// A number that is not a bit.
+    NoSuchNumber,
+    /// An address with a space in it.
+    AddressSpace,
     /// An assignment to a field of an instance.
     FieldAssignment,
     OpenSection,
@@ -172,6 +188,7 @@ pub enum Case {
     OpenVariable,
     Constant,
     Retain,
+    Persistent,
     Declaration,
     DeclarationAbove,
     MissingType,

@@ -108,7 +108,7 @@ fn reading_entry(number: u16) -> Option<&'static Entry>
             help "close the parenthesis before it, with a `)` on a line of its own";
         206 "reader": "a parenthesis is not closed, or none is open"
             at "the line of the ); the line of the innermost opening", "PROGRAM P)" => 1,
-            help "write one ) on a line of its own for each ( that is open, below its last line";
+            help "write one ) on a line of its own for each ( that is open";
         207 "reader": "more than 8 parentheses are nested"
             at "the line of the ninth opening", "PROGRAM P&( / &( / &( / &( / &( / &( / &( / &( / &(" => 9,
             help "store the inner result in a variable, and use that";
@@ -145,7 +145,7 @@ fn declaration_entry(number: u16) -> Option<&'static Entry>
             help "use fewer variables or instances: a unit may have 256 variables, a frame 4096 places";
         307 "tables": "the name is a reserved word"
             at "the name", "PROGRAM R / END_PROGRAM" => 1,
-            help "choose another name: operators, keywords and types are reserved";
+            help "choose another name: operators, keywords and types are reserved; letter case makes no difference";
         308 "tables": "the function block is declared below, or is this one itself"
             at "the type", "FUNCTION_BLOCK B / VAR a : B; END_VAR / END_FUNCTION_BLOCK / PROGRAM P / END_PROGRAM" => 2,
             help "move the block above the unit that uses it; a block cannot contain itself";

@@ -34,7 +34,7 @@ pub fn hint_of(number: u16, case: Case) -> Option<&'static str>
 {
     match number {
         101..=106 => token_hint(number, case),
-        201..=203 => reading_hint(number, case),
+        201..=206 => reading_hint(number, case),
         302..=308 => declaration_hint(number, case),
         401..=409 => match case {
             Case::NotOfBlock(block) => Some(members_hint(block)),
@@ -69,14 +69,16 @@ fn token_hint(number: u16, case: Case) -> Option<&'static str> {
         101, Case::Byte(b'/') => "to divide write DIV; a comment is (* .. *)";
         101, Case::Byte(b'#') => "a # belongs to a literal, such as 16#FF or T#5s";
         101, Case::Byte(b'\r') => "save the file with line ends of Windows (CR LF) or Unix (LF)";
+        105, Case::SignAlone => "to add write ADD, to subtract SUB, each on a line of its own; the negative of a number is LD 0, and on the next line SUB and the number";
+        105, Case::AddressSpace => "write an address without a space, such as %IX0.0";
         105, Case::WithBase => "the largest is 16#7FFFFFFF: write -2147483648 for 16#80000000, -1 for 16#FFFFFFFF";
         105, Case::TypedNumber => "write the number without its type, such as 5";
         105, Case::TypedTruth => "a BOOL is TRUE, FALSE, BOOL#0 or BOOL#1";
         105, Case::StatementAddress => "this looks like Siemens STL (AWL): E 0.0 is %IX0.0, A 4.0 an output such as %QX0.0; U is LD at the start and after each `=`, S or R, else AND (UN: LDN, ANDN); `=` is ST";
         105, Case::NoDuration => "a duration begins with T#, such as T#500ms";
-        105, Case::WithPoint => "a weight is counted in its last decimal: with 3 decimals 1.5 kg is 1500";
+        105, Case::WithPoint => "write 1.5 kg as 1500, if weights have 3 decimals";
         106, Case::DecimalComma => "write a decimal point instead of the comma, such as T#1.5s";
-        106, Case::MissingUnit => "a duration has a unit after its number, such as T#1s or T#500ms";
+        106, Case::MissingUnit => "a duration has a unit right after its number, without a space, such as T#1s or T#500ms";
         106, Case::UnitOrder => "each unit is smaller than that before it: write days, hours, minutes, seconds, milliseconds in this order, such as T#3h5s";
         106, Case::UnitTwice => "write each unit once, the larger first, such as T#1m10s";
         106, Case::NegativeDuration => "durations are T#-24d20h31m23s648ms to T#24d20h31m23s647ms";
@@ -107,15 +109,20 @@ fn reading_hint(number: u16, case: Case) -> Option<&'static str> {
         201, Case::Loop => "this looks like Structured Text: there are no loops; write the lines once for each pass, or do one pass in each scan: LD n, LT 10, JMPCN done; the lines; LD n, ADD 1, ST n; `done:` goes on with an LD";
         201, Case::CaseStatement => "this looks like Structured Text: for each value write LD mode, EQ 1, JMPCN next1, its lines, JMP done; `next1:` begins the next value or ELSE; `done:` replaces END_CASE";
         201, Case::IfStatement => "this looks like Structured Text: for IF a write LD a, JMPCN skip; `skip:` is the END_IF";
-        201, Case::StatementList => "this looks like Siemens STL (AWL): U, A or O is LD at the start and after each `=`, S or R, else AND or OR (UN: LDN, ANDN); `=` is ST";
+        201, Case::StatementList => "this looks like Siemens STL (AWL): U, A or O is LD at the start and after each `=`, S or R, else AND or OR (UN: LDN, ANDN), X is XOR, L is LD; `=` and T are ST; +I is ADD, >=I is GE";
         201, Case::Assignment => "to assign write LD and the value, and on the next line ST and the variable";
+        201, Case::InstructionComma => "write each instruction on a line of its own, without commas; an operator has one operand";
+        201, Case::AddressComma => "an address has a point, such as %IX0.0";
+        201, Case::UnitList => "delete the parentheses: inputs and outputs of a FUNCTION_BLOCK are declared in VAR_INPUT and VAR_OUTPUT";
+        201, Case::UnnamedUnit => "write a name after the word, such as PROGRAM Main";
+        201, Case::LoadParenthesis => "only AND, OR, XOR, ADD, SUB, MUL and comparisons take a parenthesis: begin with LD and its operand";
         201, Case::FieldAssignment => "set an input of a block in its call, such as CAL t(IN := a), or by LD a, ST t.IN and then CAL t";
         201, Case::Constant => "write only VAR, or write the number at each place that uses it";
-        201, Case::Retain => "write only VAR: a variable keeps its value from scan to scan, and none keeps it over a power failure";
+        201, Case::Persistent | Case::Retain => "write only VAR: a variable keeps its value from scan to scan, and none keeps it over a power failure";
         201, Case::Declaration => "a declaration is `name : TYPE;`, such as a : BOOL;";
         201, Case::DeclarationAbove => "the declaration above has no `;` at its end";
         201, Case::MissingType => "a declaration names a type, such as d, e : DINT;";
-        201, Case::DecimalComma => "numbers are integers, without a decimal comma: with 3 decimals write 1.5 kg as 1500";
+        201, Case::DecimalComma => "numbers are integers, without a decimal comma: write 1,5 kg as 1500, if weights have 3 decimals";
         201, Case::Configuration => "leave out CONFIGURATION, RESOURCE and TASK: the one PROGRAM runs in every scan";
         201, Case::OwnType => "delete TYPE .. END_TYPE: values are BOOL, DINT or TIME; for an enumeration use a DINT with 0, 1, 2, for a structure one variable for each part";
         201, Case::Conversion => counting_seconds!("there are no conversions: compare a TIME with a TIME, such as GE T#15s");
@@ -144,6 +151,8 @@ fn reading_hint(number: u16, case: Case) -> Option<&'static str> {
         202, Case::OpenProgram => "close the unit with END_PROGRAM";
         202, Case::OpenBlock => "close the unit with END_FUNCTION_BLOCK";
         203, Case::SecondProgram => "make one of them a FUNCTION_BLOCK above the PROGRAM, and call an instance with CAL";
+        206, Case::Closing => "delete this `)`, or write an opening one above, such as AND( a";
+        206, _ => "write `)` on a line of its own after the last operand, above the ST that takes the result";
         203, Case::EmptyText => "a file has function blocks, if any, and then one PROGRAM .. END_PROGRAM";
     }
 }
@@ -163,6 +172,7 @@ fn declaration_hint(number: u16, case: Case) -> Option<&'static str> {
         303, Case::InitialInstance => "an instance takes no initial value: pass its inputs in CAL";
         304, Case::Marker => "there are no %M addresses: declare a variable in VAR";
         304, Case::NoSuchWord => "there are no 16-bit words: use %ID0 (gross), %ID1 (net), %ID2 (tare) or %QD0 to %QD3";
+        304, Case::NoSuchNumber => "numbers are %ID0 (gross), %ID1 (net), %ID2 (tare) and %QD0 to %QD3";
         304, Case::NoSuchBit => "bits are %IX0.0 to %IX0.15, %IX1.0 to %IX1.5 and %QX0.0 to %QX0.15: bit 0 of a second output byte is %QX0.8";
         308, Case::BlockBelow => "move the block above the unit that uses it";
         308, Case::BlockInItself => "a block cannot contain itself: declare another block above, and use that";
@@ -186,7 +196,7 @@ fn excerpt_hint(number: u16, case: Case) -> Option<&'static str> {
         404, _ => "an input is set by the caller: copy it to a variable in VAR, and change the copy";
         405, _ => "store the value in a variable of your own, pass that to the input, and read the variable";
         406, Case::LabelAbove => "jumps only go forward: write the lines once for each pass, or do one pass in each scan: LD n, LT 10, JMPCN done; the lines; LD n, ADD 1, ST n; `done:` goes on with an LD";
-        408, Case::VariableDivisor => "there is no division by a variable: divide by a literal other than 0, such as DIV 10; to compare a quotient, MUL the other side instead";
+        408, Case::VariableDivisor => "there is no division by a variable: divide by a literal other than 0, such as DIV 10; to compare a quotient, MUL the other side instead; for a quotient subtract once in each scan: LD rest, LT b, JMPC done; LD rest, SUB b, ST rest; LD q, ADD 1, ST q; `done:` goes on with an LD";
         408, Case::Deferred => "DIV and MOD take an integer literal, such as DIV 10; DIV( and MOD( do not exist";
         409, Case::InputArrow => "an input is passed with :=, such as IN := a";
         409, Case::OutputAssigned => "an output is read with =>, such as Q => a";
@@ -216,14 +226,17 @@ fn kind_hint(number: u16, case: Case) -> Option<&'static str> {
         402, Case::Unpassed(Kind::Time, Kind::Dint) => "write an integer, such as 500, or pass a DINT";
         402, Case::Unpassed(_, Kind::Bool) => "compare before the call, store the BOOL in a variable, and pass that variable";
         402, Case::Unpassed(Kind::Bool, _) => "pass a number to a DINT, a duration to a TIME";
+        402, Case::ReadOutput(Kind::Bool) => "read it to a BOOL variable or to an output bit, such as Q => %QX0.0";
+        402, Case::ReadOutput(Kind::Dint) => "read it to a DINT variable or to a number, such as CV => %QD0";
+        402, Case::ReadOutput(Kind::Time) => "read it to a TIME variable, such as ET => elapsed; a TIME cannot be converted to a number";
         402, Case::TruthLiteral => "here 0 and 1 are DINTs: write FALSE for 0, TRUE for 1";
         402, Case::StoredNumberToBool => "store it to a DINT, such as %QD0, or compare it first, such as GE 500, to get a BOOL";
         402, Case::StoredTimeToBool => "store it to a TIME, or compare it first, such as GE T#500ms, to get a BOOL";
         402, Case::StoredBool => "store a BOOL to a BOOL variable or to an output bit, such as ST %QX0.0";
         402, Case::StoredTimeToNumber => counting_seconds!("a TIME cannot be converted: store it to a TIME variable");
         402, Case::StoredNumberToTime => "a number cannot be converted to a TIME: load a duration, such as LD T#500ms, or store to a DINT";
-        402, Case::ComparedNumber => "compare the number first, such as GE 500: a comparison gives a BOOL; ST the number before it, if you use it below";
-        402, Case::ComparedTime => "compare the time first, such as GE T#500ms: a comparison gives a BOOL; ST the time before it, if you use it below";
+        402, Case::ComparedNumber => "compare the number first, such as GE 500: a comparison gives a BOOL; to use the number below, LD it again";
+        402, Case::ComparedTime => "compare the time first, such as GE T#500ms: a comparison gives a BOOL; to use the time below, LD it again";
         402, Case::NumberBefore => "compare the number before: LD n, GE 500, and then AND with the BOOL";
         402, Case::TimeBefore => "compare the time before: LD t.ET, GE T#1s, and then AND with the BOOL";
         402, Case::NegatedNumber => "load the number with LD; its negative is LD 0, then SUB and the number";

@@ -68,11 +68,12 @@ fn reading_sentence(number: u16, case: Case) -> Option<&'static str> {
         201, Case::LeftOut => "is not supported";
         201, Case::SectionWord => "is not allowed after an instruction";
         201, Case::UnitEnd => "does not end this unit";
-        201, Case::NoOperator => "is not an operator";
+        201, Case::NoOperator => "is not an operator or a keyword";
         201, Case::LineEnd => "the line cannot end here";
         201, Case::StandardFunction => "is a standard function, and functions are not supported";
         201, Case::Configuration => "is not supported";
         201, Case::Constant => "the word `CONSTANT` before this name is not supported";
+        201, Case::Persistent => "the word `PERSISTENT` before this name is not supported";
         201, Case::Retain => "the word `RETAIN` before this name is not supported";
         201, _ => "is unexpected here";
         203, Case::SecondProgram => "there is a second PROGRAM";

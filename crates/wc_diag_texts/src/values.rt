@@ -19,6 +19,8 @@ pub enum Values<'a> {
     NearEnd(&'a str, u32),
     /// A word and a number, of which another tool makes an address.
     ForeignAddress(&'a str, &'a str),
+    /// An area of another tool with a number, before a point and a bit.
+    ForeignBit(&'a str),
     /// The hint for lines of STL outside a unit.
     Framed(&'a str),
     /// An instance that is called without parentheses, and its input.
@@ -75,6 +77,11 @@ pub fn text_with(alloc: Global, values: Values<'_>) -> Result<String, AllocError
         }
         Values::ForeignAddress(word, number) => {
             format!(in alloc; "is not a number, and `{word} {number}` is not an address")
+        }
+        Values::ForeignBit(area) => {
+            format!(in alloc;
+                "inputs are %IX0.0 to %IX0.15, outputs %QX0.0 to %QX0.15; for a bit of {area} that is neither declare a BOOL in VAR"
+            )
         }
         Values::Framed(hint) => {
             format!(in alloc;

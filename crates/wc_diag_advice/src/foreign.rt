@@ -1,0 +1,84 @@
+use wc_model::is_word;
+
+/// Operators of other tools and languages, with what to write for each. Without this list a name that is spelled almost as one of them,
+/// and does something else, would be suggested.
+const FOREIGN: [(&str, &str); 41] = [
+    ("LDI", "did you mean `LDN`?"),
+    ("LDNOT", "did you mean `LDN`?"),
+    ("ANI", "did you mean `ANDN`?"),
+    ("ANDI", "did you mean `ANDN`?"),
+    ("ORI", "did you mean `ORN`?"),
+    (
+        "NAND",
+        "write AND and its operand, and NOT on the next line",
+    ),
+    ("NOR", "write OR and its operand, and NOT on the next line"),
+    (
+        "XNOR",
+        "write XOR and its operand, and NOT on the next line",
+    ),
+    ("JMPN", "did you mean `JMPCN`?"),
+    ("JCN", "did you mean `JMPCN`?"),
+    ("RETN", "did you mean `RETCN`?"),
+    ("CALN", "did you mean `CALCN`?"),
+    ("UC", "did you mean `CAL`?"),
+    ("CC", "did you mean `CALC`?"),
+    (
+        "SET",
+        "did you mean `S`? It needs an operand; for SET alone write LD TRUE",
+    ),
+    ("RST", "did you mean `R`?"),
+    ("CLR", "write LD FALSE"),
+    (
+        "SN",
+        "S and R have no N: negate the result with NOT on the line before",
+    ),
+    (
+        "RN",
+        "S and R have no N: negate the result with NOT on the line before",
+    ),
+    ("OUT", "did you mean `ST`?"),
+    (
+        "MOV",
+        "LD loads the value, ST on the next line names where it goes",
+    ),
+    ("GTE", "did you mean `GE`?"),
+    ("LTE", "did you mean `LE`?"),
+    ("NEQ", "did you mean `NE`?"),
+    (
+        "INC",
+        "write LD n, on the next line ADD 1, on the next ST n",
+    ),
+    (
+        "DEC",
+        "write LD n, on the next line SUB 1, on the next ST n",
+    ),
+    ("END", "did you mean `END_PROGRAM`?"),
+    ("BE", "did you mean `END_PROGRAM`?"),
+    ("BEA", "did you mean `RET`?"),
+    ("BEU", "did you mean `RET`?"),
+    ("BEB", "did you mean `RETC`?"),
+    ("BEC", "did you mean `RETC`?"),
+    ("SE", TIMER),
+    ("SD", TIMER),
+    ("SI", TIMER),
+    ("SP", TIMER),
+    ("SA", TIMER),
+    ("SF", TIMER),
+    ("SV", TIMER),
+    ("SS", TIMER),
+    ("TIM", TIMER),
+];
+
+/// What to write for the start of a timer.
+const TIMER: &str = "declare t : TON; in VAR, and write CAL t(IN := a, PT := T#1s)";
+
+/// What to write for an operator of another tool or language; empty if a word is not one.
+pub(crate) fn foreign_advice(word: &[u8]) -> &'static str {
+    for (name, advice) in FOREIGN {
+        if is_word(name.as_bytes(), word) {
+            return advice;
+        }
+    }
+    ""
+}
