@@ -66,9 +66,10 @@ pub first_of : (text first : List ℕ) (place : ℕ) → place ≡ position_or_l
 first_of text first place is within e = by (ltb place (length text)) refl
   where
     by : (b : Bool) → ltb place (length text) ≡ b → (below : List (List ℕ)) × (cut_lines text ≡ first ∷ below)
-    by true h =
-        (cut_lines (drop (min (place + 1) (length text)) text),
-        more_lines text first (drop (min (place + 1) (length text)) text) place is (ltb-true place (length text) h) e refl)
+    by true h = (
+      cut_lines (drop (min (place + 1) (length text)) text),
+      more_lines text first (drop (min (place + 1) (length text)) text) place is (ltb-true place (length text) h) e refl,
+    )
     by false h =
         let more : length text ≤ place = ltb-false place (length text) h in
         ([], last_first text first place is (omega arith) e)

@@ -1,5 +1,5 @@
 -- Whether a line follows one that leaves, from the first line of a text on.
-use Rattle.std.proofs.Common.{◌≡◌, ◌≤◌, ◌<◌, ◌+◌, ◌-◌, ◌&&◌, ◌||◌, not, ℕ, zero, suc, Bool, true, false, min, drop, IsTrue, ◌↔◌, List, [], ◌∷◌, ◌++◌, length, take, refl, sym, ap, ◌∙◌, arith}
+use Rattle.std.proofs.Common.{◌≡◌, ◌≤◌, ◌<◌, ◌+◌, ◌-◌, ◌&&◌, ◌||◌, not, ℕ, suc, Bool, true, false, min, drop, IsTrue, ◌↔◌, List, [], ◌∷◌, ◌++◌, length, take, refl, sym, ap, ◌∙◌, arith}
 use Rattle.std.proofs.lemmas.Bool.{and_parts}
 use Rattle.std.specs.List.{list_any, position_or_len}
 use Rattle.wc_diag_mistakes.proofs.Cuts.{is_end, last_line, more_lines, some_line}
@@ -103,6 +103,7 @@ left_by before (line ∷ lines) e = step (left_by (leaves line || before && not 
     by false is says closed =
         let parts = and_parts before (not (may_pass line)) says in
         Above parts.0 (none_in (may_pass line) (list_any may_pass lines) (not_true (may_pass line) parts.1) closed)
+
     step : LeftBy (leaves line || before && not (may_pass line)) lines → LeftBy before (line ∷ lines)
     step (Inside left) = Inside (one_above line lines left)
     step (Above says closed) = by (leaves line) refl says closed
