@@ -7,7 +7,7 @@ use Rattle.std.specs.List.{position_or_len}
 use Rattle.wc_diag_mistakes.proofs.Cuts.{first_of, is_end, last_first, more_lines}
 use Rattle.wc_diag_mistakes.specs.Unreached.{block_line, cut_lines, declares, line_number}
 
--- what is found, if after this one that many lines are found, the first of them after so many others
+-- what is found in the end, if after this one that many lines declare it, the first of them at that index
 abbrev pub found_in : Option ℕ → ℕ → ℕ → ℕ → Option ℕ
 found_in found above zero first = found
 found_in None above (suc zero) first = Some (line_number (above + first))
