@@ -1,5 +1,5 @@
 -- The one line of a text that declares a block.
-use Rattle.std.proofs.Common.{◌≡◌, ◌≤◌, ◌+◌, ◌-◌, ◌==◌, ◌&&◌, not, ◌<◌, min, take, drop, ℕ, zero, suc, Bool, true, false, cond, if◌then◌else◌, List, [], ◌∷◌, length, Option, Some, None, refl, sym, ap, ◌∙◌, arith}
+use Rattle.std.proofs.Common.{◌≡◌, ◌≤◌, ◌+◌, ◌==◌, ◌&&◌, not, ◌<◌, min, take, drop, ℕ, zero, suc, Bool, true, false, cond, if◌then◌else◌, List, [], ◌∷◌, length, Option, Some, None, refl, sym, ap, ◌∙◌, arith}
 use Rattle.std.proofs.lemmas.Bool.{and_parts, ne_eqb}
 use Rattle.std.proofs.lemmas.List.Sums.{sum_by-cons}
 use Rattle.std.specs.Prelude.{count_by, is_some}
@@ -7,7 +7,7 @@ use Rattle.std.specs.List.{position_or_len}
 use Rattle.wc_diag_mistakes.proofs.Cuts.{first_of, is_end, last_first, more_lines}
 use Rattle.wc_diag_mistakes.specs.Unreached.{block_line, cut_lines, declares, line_number}
 
--- what is found, if after this one that many lines are found, the first of them after so many others
+-- what is found in the end, if after this one that many lines declare it, the first of them at that index
 abbrev pub found_in : Option ℕ → ℕ → ℕ → ℕ → Option ℕ
 found_in found above zero first = found
 found_in None above (suc zero) first = Some (line_number (above + first))

@@ -3,7 +3,7 @@
 use Rattle.std.specs.Prelude.{◌≡◌, ℕ, ◌+◌, ◌-◌, ◌==◌, ◌&&◌, ◌||◌, not, min, Bool, true, false, List, [], ◌∷◌, ◌++◌, Option, Some, None, count_by, drop, length, slice_index, slice_index_or, take, if◌then◌else◌}
 use Rattle.std.specs.List.{list_any, position_or_len, slice_split}
 use Rattle.wc_built_in.specs.declared.keyword.Keyword.{Keyword}
-use Rattle.wc_built_in.specs.declared.keyword.Keyword.TheVariants.{Load, Store, Apply, Not, Jump, Call, Return, UnitStart, UnitEnd, SectionStart, SectionEnd, Truth, Elementary, Standard, Kept}
+use Rattle.wc_built_in.specs.declared.keyword.Keyword.TheVariants.{Jump, Return, UnitStart, UnitEnd, SectionStart, SectionEnd}
 use Rattle.wc_model.specs.Language.Declarations.{same_name}
 use Rattle.wc_model.specs.Language.Names.{name_of}
 use Rattle.wc_model.specs.declared.operator.Condition.{Condition}

@@ -113,7 +113,7 @@ fn leaves(line: &[u8]) -> bool
     !has_star(line) && is_leaving(keyword_of(after_label(line)))
 }
 
-/// Whether a line may be reached by other ways than from the line above, or that is not sure.
+/// Whether a line may be reached otherwise than from the line above, or that is not sure.
 fn may_pass(line: &[u8]) -> bool
     ensures { result ≡ may_pass line.now }
 {

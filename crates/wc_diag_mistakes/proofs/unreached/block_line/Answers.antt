@@ -1,4 +1,4 @@
-use Rattle.std.proofs.Common.{◌≡◌, ◌≤◌, ◌∙◌, ◌+◌, ◌&&◌, if◌then◌else◌, Some, ap, sym, arith, length, length-drop, min}
+use Rattle.std.proofs.Common.{◌∙◌, ◌+◌, ◌&&◌, if◌then◌else◌, Some, ap, sym, arith, length, length-drop, min}
 use Rattle.std.specs.Prelude.{is_some}
 use Rattle.wc_diag_mistakes.proofs.Declaring.{all_lines, at_last, at_other, at_second}
 use Rattle.wc_diag_mistakes.proofs.unreached.block_line.Goals as goal

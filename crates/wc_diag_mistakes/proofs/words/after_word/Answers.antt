@@ -2,7 +2,7 @@ use Rattle.std.proofs.Common.{◌≡◌, ◌∙◌, ap, arith, length, min, drop
 use Rattle.std.proofs.lemmas.List.Sums.{prefix_len-le-length}
 use Rattle.std.specs.List.{prefix_len}
 use Rattle.wc_diag_mistakes.proofs.words.after_word.Goals as goal
-use Rattle.wc_diag_mistakes.specs.Words.{from_word, is_word_byte}
+use Rattle.wc_diag_mistakes.specs.Words.{is_word_byte}
 
 pub returns : goal.returns
 returns c =

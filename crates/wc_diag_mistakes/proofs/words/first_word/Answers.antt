@@ -1,8 +1,8 @@
-use Rattle.std.proofs.Common.{◌∙◌, ap, length, min, take}
+use Rattle.std.proofs.Common.{◌∙◌, ap, take}
 use Rattle.std.proofs.lemmas.List.{take_min}
 use Rattle.std.specs.List.{prefix_len}
 use Rattle.wc_diag_mistakes.proofs.words.first_word.Goals as goal
-use Rattle.wc_diag_mistakes.specs.Words.{from_word, is_word_byte}
+use Rattle.wc_diag_mistakes.specs.Words.{is_word_byte}
 
 pub returns : goal.returns
 returns c =
