@@ -3,3 +3,4 @@ pub mod Addresses
 pub mod FieldTables
 pub mod WordTables
 pub mod ReservedWords
+pub mod WordLengths

@@ -1,5 +1,5 @@
 -- The reserved words, each with what it represents. (IEC 61131-3:2003, tables 10, 51, 52 and C.2; the order is the profile's own.)
-use Rattle.std.specs.Prelude.{true, false, List, [], ◌∷◌, codes, Option, Some, None}
+use Rattle.std.specs.Prelude.{ℕ, ◌==◌, true, false, List, [], ◌∷◌, codes, filter, length, nat_lt, Option, Some, None}
 use Rattle.wc_model.specs.Language.Names.{Name, name_of}
 use Rattle.wc_model.specs.Text.Keywords.{unit_word, end_word, section_word, end_var, truth_word, load_word, store_word, operator_word, not_word, jump_word, call_word, return_word, kind_word, block_word}
 use Rattle.wc_model.specs.declared.block.StandardBlock.{StandardBlock}
@@ -54,6 +54,13 @@ keywords =
     ∷ (end_word units.Program, UnitEnd units.Program) ∷ standard blocks.RTrig ∷ (codes "function", Kept)
     ∷ (codes "end_function", Kept) ∷ (codes "var_in_out", Kept) ∷ (codes "var_global", Kept)
     ∷ (codes "var_external", Kept) ∷ (codes "var_temp", Kept) ∷ (codes "constant", Kept) ∷ (codes "retain", Kept) ∷ []
+
+-- the rows of words of that many letters, and of words of more
+abbrev pub of_length : {X : Type 0} → ℕ → List (Name × X) → List (Name × X)
+of_length letters rows = filter (λ row. length row.0 == letters) rows
+
+abbrev pub longer_than : {X : Type 0} → ℕ → List (Name × X) → List (Name × X)
+longer_than letters rows = filter (λ row. nat_lt letters (length row.0)) rows
 
 -- the elementary type that a word represents, and the standard block
 abbrev pub elementary_for : Keyword → Option Kind

@@ -1,7 +1,7 @@
 ghost use Rattle.std.specs.Prelude.{◌≡◌, map};
 ghost use Rattle.wc_model.specs.Language.Declarations.{named_in};
 ghost use Rattle.wc_model.specs.Language.Names.{name_of};
-ghost use Rattle.wc_built_in.specs.Keywords.{keyword_row, keywords};
+ghost use Rattle.wc_built_in.specs.Keywords.{keyword_row, keywords, longer_than, of_length};
 
 use crate::keyword::Keyword;
 use crate::words::{END_FUNCTION_BLOCK, END_PROGRAM, END_VAR, FALSE, TRUE};
@@ -23,17 +23,24 @@ macro_rules! words {
     };
 }
 
-/// The reserved words, the most frequent first.
-fn all_words() -> &'static [KeywordRow]
-    ensures { map keyword_row result.now ≡ keywords }
+/// The reserved words of one letter.
+fn words_of_one_letter() -> &'static [KeywordRow]
+    ensures { map keyword_row result.now ≡ of_length 1 keywords }
+{
+    words! {
+        b"s" Keyword::Store(Storing::Set);
+        b"r" Keyword::Store(Storing::Reset);
+    }
+}
+
+/// The reserved words of two letters, the most frequent first.
+fn words_of_two_letters() -> &'static [KeywordRow]
+    ensures { map keyword_row result.now ≡ of_length 2 keywords }
 {
     words! {
         b"ld" Keyword::Load(false);
         b"st" Keyword::Store(Storing::Result);
-        b"and" Keyword::Apply(Operator::And);
         b"or" Keyword::Apply(Operator::Or);
-        b"s" Keyword::Store(Storing::Set);
-        b"r" Keyword::Store(Storing::Reset);
         b"gt" Keyword::Apply(Operator::Gt);
         b"ge" Keyword::Apply(Operator::Ge);
         b"eq" Keyword::Apply(Operator::Eq);
@@ -44,6 +51,15 @@ fn all_words() -> &'static [KeywordRow]
         b"rs" Keyword::Standard(StandardBlock::Rs);
         b"tp" Keyword::Standard(StandardBlock::Tp);
         b"at" Keyword::Kept;
+    }
+}
+
+/// The reserved words of three letters, the most frequent first.
+fn words_of_three_letters() -> &'static [KeywordRow]
+    ensures { map keyword_row result.now ≡ of_length 3 keywords }
+{
+    words! {
+        b"and" Keyword::Apply(Operator::And);
         b"orn" Keyword::Apply(Operator::Orn);
         b"xor" Keyword::Apply(Operator::Xor);
         b"ldn" Keyword::Load(true);
@@ -61,6 +77,14 @@ fn all_words() -> &'static [KeywordRow]
         b"ton" Keyword::Standard(StandardBlock::Ton);
         b"tof" Keyword::Standard(StandardBlock::Tof);
         b"ctu" Keyword::Standard(StandardBlock::Ctu);
+    }
+}
+
+/// The reserved words of four letters.
+fn words_of_four_letters() -> &'static [KeywordRow]
+    ensures { map keyword_row result.now ≡ of_length 4 keywords }
+{
+    words! {
         b"andn" Keyword::Apply(Operator::Andn);
         b"xorn" Keyword::Apply(Operator::Xorn);
         b"jmpc" Keyword::Jump(Condition::IfTrue);
@@ -70,10 +94,26 @@ fn all_words() -> &'static [KeywordRow]
         b"bool" Keyword::Elementary(Kind::Bool);
         b"dint" Keyword::Elementary(Kind::Dint);
         b"time" Keyword::Elementary(Kind::Time);
+    }
+}
+
+/// The reserved words of five letters.
+fn words_of_five_letters() -> &'static [KeywordRow]
+    ensures { map keyword_row result.now ≡ of_length 5 keywords }
+{
+    words! {
         b"jmpcn" Keyword::Jump(Condition::IfFalse);
         b"calcn" Keyword::Call(Condition::IfFalse);
         b"retcn" Keyword::Return(Condition::IfFalse);
         FALSE Keyword::Truth(false);
+    }
+}
+
+/// The reserved words of more than five letters.
+fn longer_words() -> &'static [KeywordRow]
+    ensures { map keyword_row result.now ≡ longer_than 5 keywords }
+{
+    words! {
         END_VAR Keyword::SectionEnd;
         b"var_input" Keyword::SectionStart(Section::Input);
         b"var_output" Keyword::SectionStart(Section::Output);
@@ -93,6 +133,20 @@ fn all_words() -> &'static [KeywordRow]
     }
 }
 
+/// The reserved words among which those of that number of letters are.
+fn words_of_length(letters: usize) -> &'static [KeywordRow]
+    ensures { of_length letters (map keyword_row result.now) ≡ of_length letters keywords }
+{
+    match letters {
+        1 => words_of_one_letter(),
+        2 => words_of_two_letters(),
+        3 => words_of_three_letters(),
+        4 => words_of_four_letters(),
+        5 => words_of_five_letters(),
+        _ => longer_words(),
+    }
+}
+
 /// The first of these that the text is.
 fn keyword_in(rows: &[KeywordRow], text: &[u8]) -> Option<Keyword>
     ensures { result ≡ named_in (map keyword_row rows.now) (name_of text.now) }
@@ -109,5 +163,5 @@ fn keyword_in(rows: &[KeywordRow], text: &[u8]) -> Option<Keyword>
 pub fn keyword_named(text: &[u8]) -> Option<Keyword>
     ensures { result ≡ named_in keywords (name_of text.now) }
 {
-    keyword_in(all_words(), text)
+    keyword_in(words_of_length(text.len()), text)
 }

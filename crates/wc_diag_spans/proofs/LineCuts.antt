@@ -1,9 +1,9 @@
 -- A text cut in lines, one after another.
-use Rattle.std.proofs.Common.{◌≡◌, ◌≤◌, ◌<◌, ◌+◌, ◌-◌, ◌==◌, ltb, ℕ, zero, suc, Bool, true, false, cond, not, min, List, [], ◌∷◌, length, drop, take, get_or, zero-add, add-zero, Some, None, if◌then◌else◌, refl, sym, ap, ◌∙◌, arith}
+use Rattle.std.proofs.Common.{◌≡◌, ◌≤◌, ◌<◌, ◌+◌, ◌-◌, ◌==◌, ltb, ℕ, zero, suc, Bool, true, false, cond, not, min, List, [], ◌∷◌, length, count_by, drop, take, get_or, zero-add, add-zero, Some, None, if◌then◌else◌, refl, sym, ap, ◌∙◌, arith}
 use Rattle.std.proofs.lemmas.Bool.{false_from_ne_true, ltb-false, ltb-true, ne_eqb}
 use Rattle.std.proofs.lemmas.List.{drop-drop}
 use Rattle.std.proofs.lemmas.List.Splits.{slice_split_first}
-use Rattle.std.proofs.lemmas.List.Sums.{position_or_len_is}
+use Rattle.std.proofs.lemmas.List.Sums.{position_or_len_is, sum_by-cons}
 use Rattle.std.proofs.lemmas.Option.{slice_get-map}
 use Rattle.std.specs.List.{after_first, before_first, onto_first, position_or_len}
 use Rattle.std.specs.Prelude.{option_map, slice_get}
@@ -91,6 +91,57 @@ line_kept (byte ∷ next ∷ rest) other =
 -- after that number of lines come these bytes
 abbrev pub IsAfterRecords : List ℕ → ℕ → List ℕ → Type 0
 IsAfterRecords text count rest = drop count (cut_lines text) ≡ cut_lines rest
+
+-- a first byte changes no line but the first
+drop-onto_first : (n byte : ℕ) (lines : List (List ℕ)) → 1 ≤ n → drop n (onto_first byte lines) ≡ drop n lines
+drop-onto_first zero byte lines some = absurd (omega arith)
+drop-onto_first (suc n) byte [] some = all_dropped n
+  where
+    no_lines : List (List ℕ)
+    no_lines = []
+
+    all_dropped : (k : ℕ) → drop k no_lines ≡ no_lines
+    all_dropped zero = refl
+    all_dropped (suc k) = refl
+drop-onto_first (suc n) byte (line ∷ lines) some = refl
+
+-- a byte more
+count-cons : (byte : ℕ) (bytes : List ℕ) → count_by is_end (byte ∷ bytes) ≡ cond (is_end byte) 1 0 + count_by is_end bytes
+count-cons byte bytes = sum_by-cons (λ x. cond (is_end x) 1 0) byte bytes
+
+-- the last byte is not the first
+ends_later : (byte : ℕ) (text : List ℕ) (k : ℕ) → get_or (byte ∷ text) (suc (suc k) - 1) 0 ≡ 10 → get_or text (suc k - 1) 0 ≡ 10
+ends_later byte text k ends =
+    let less : suc (suc k) - 1 ≡ suc (suc k - 1) = omega arith in
+    sym (ap (λ n. get_or (byte ∷ text) n 0) less) ∙ ends
+
+-- bytes that end with a line feed have one
+some_end : (text : List ℕ) (size : ℕ) → 0 < size → size ≤ length text → get_or text (size - 1) 0 ≡ 10 → 1 ≤ count_by is_end (take size text)
+some_end [] size some within ends = absurd (omega arith)
+some_end (byte ∷ text) zero some within ends = absurd (omega arith)
+some_end (byte ∷ text) (suc zero) some within ends = rw ends (omega arith)
+some_end (byte ∷ text) (suc (suc k)) some within ends =
+    omega (arith, count-cons byte (take (suc k) text), some_end text (suc k) (omega arith) (omega (arith, within)) (ends_later byte text k ends))
+
+-- the lines that one more byte is on
+passed_more : (byte : ℕ) (text : List ℕ) (k count : ℕ) (b : Bool) → is_end byte ≡ b → count ≡ count_by is_end (take k text) → 1 ≤ count → drop count (cut_lines text) ≡ cut_lines (drop k text)
+    → drop (count_by is_end (byte ∷ take k text)) (cond (is_end byte) ([] ∷ cut_lines text) (onto_first byte (cut_lines text))) ≡ cut_lines (drop k text)
+passed_more byte text k count true e is some further =
+    let one : count_by is_end (byte ∷ take k text) ≡ suc count = omega (arith, count-cons byte (take k text), is, ap {B = ℕ} (λ b. cond b 1 0) e) in
+    rw e (ap (λ n. drop n ([] ∷ cut_lines text)) one ∙ further)
+passed_more byte text k count false e is some further =
+    let none : count_by is_end (byte ∷ take k text) ≡ count = omega (arith, count-cons byte (take k text), is, ap {B = ℕ} (λ b. cond b 1 0) e) in
+    rw e (ap (λ n. drop n (onto_first byte (cut_lines text))) none ∙ drop-onto_first count byte (cut_lines text) some ∙ further)
+
+-- the line feeds of bytes that end with one are the ends of the lines that they are on
+pub lines_passed : (text : List ℕ) (size : ℕ) → 0 < size → size ≤ length text → get_or text (size - 1) 0 ≡ 10 → drop (count_by is_end (take size text)) (cut_lines text) ≡ cut_lines (drop size text)
+lines_passed [] size some within ends = absurd (omega arith)
+lines_passed (byte ∷ text) zero some within ends = absurd (omega arith)
+lines_passed (byte ∷ text) (suc zero) some within ends = rw ends refl
+lines_passed (byte ∷ text) (suc (suc k)) some within ends =
+    passed_more byte text (suc k) (count_by is_end (take (suc k) text)) (is_end byte) refl refl
+    (some_end text (suc k) (omega arith) (omega (arith, within)) (ends_later byte text k ends))
+    (lines_passed text (suc k) (omega arith) (omega (arith, within)) (ends_later byte text k ends))
 
 -- one line more
 pub is_further : (text : List ℕ) (count : ℕ) (rest below : List ℕ) → IsAfterRecords text count rest → HasBelow rest below → IsAfterRecords text (count + 1) below

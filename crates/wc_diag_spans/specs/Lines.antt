@@ -1,6 +1,6 @@
 -- The lines of a text, as a message numbers and shows them. A line ends with LF or CR LF; the rule is
 -- the profile's own.
-use Rattle.std.specs.Prelude.{◌≡◌, ℕ, zero, suc, ◌==◌, List, [], ◌∷◌, map, Option, None, slice_get, not, take, if◌then◌else◌}
+use Rattle.std.specs.Prelude.{◌≡◌, ℕ, zero, suc, ◌==◌, List, [], ◌∷◌, map, Option, None, slice_get, not, drop, take, if◌then◌else◌}
 use Rattle.std.specs.List.{slice_split, suffix_len}
 
 -- a line without the CR at its end
@@ -24,6 +24,10 @@ IsOneLine text = cut_lines text ≡ text ∷ []
 -- these bytes are below the first line
 abbrev pub HasBelow : List ℕ → List ℕ → Type 0
 HasBelow text below = (first : List ℕ) × (cut_lines text ≡ first ∷ cut_lines below)
+
+-- these bytes are below that number of lines
+abbrev pub AreLinesAbove : List ℕ → ℕ → List ℕ → Type 0
+AreLinesAbove text count below = drop count (cut_lines text) ≡ cut_lines below
 
 -- the item of that number, counted from 1
 abbrev pub item_at : {X : Type 0} → ℕ → List X → Option X

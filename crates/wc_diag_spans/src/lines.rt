@@ -1,8 +1,8 @@
-ghost use Rattle.std.specs.Prelude.{◌≡◌, ◌≤◌, ◌==◌, MatchOption, length, option_map, slice_get, Some};
+ghost use Rattle.std.specs.Prelude.{◌≡◌, ◌≤◌, ◌<◌, ◌-◌, ◌==◌, IfSome, MatchOption, count_by, length, option_map, slice_get, slice_index, Some};
 ghost use Rattle.std.specs.List.{position_or_len};
-ghost use Rattle.wc_diag_spans.specs.Lines.{HasBelow, IsOneLine, column_at, cut_lines, line_of_number, without_return};
+ghost use Rattle.wc_diag_spans.specs.Lines.{AreLinesAbove, HasBelow, IsOneLine, column_at, cut_lines, line_of_number, without_return};
 
-use memchr::memchr;
+use memchr::{memchr, memrchr};
 use wc_diag_mistakes::{following, prefix};
 
 /// The number of bytes before the first line feed.
@@ -53,6 +53,63 @@ fn below_line(text: &[u8]) -> Option<&[u8]>
     }
 }
 
+/// The number of bytes whose line feeds are counted together.
+const CHUNK: usize = 1024;
+
+/// The number of bytes of the whole lines in the first bytes of a text; 0 if the first line is longer.
+fn lines_size(text: &[u8]) -> usize
+    ensures ends { 0 < result → slice_index text.now (result - 1) ≡ 10 }
+    ensures within { result ≤ length text.now }
+{
+    match memrchr(b'\n', prefix(text, CHUNK)) {
+        Some(last) => last + 1,
+        None => 0,
+    }
+}
+
+/// The number of line feeds. The loop has no branch inside, so that the compiler can count those of many bytes at once.
+fn line_feeds(text: &[u8]) -> usize
+    ensures counted { result ≡ count_by (λ byte. byte == 10) text.now }
+    ensures within { result ≤ length text.now }
+{
+    let mut feeds = 0;
+    for index in 0..text.len() {
+        feeds += usize::from(text[index] == b'\n');
+    }
+    feeds
+}
+
+/// The number of the whole lines in the first bytes, if there are some and no more than `most`, and what is below them.
+fn pass_first_lines(text: &[u8], most: usize) -> Option<(usize, &[u8])>
+    ensures above { IfSome result (λ found. AreLinesAbove text.now found.0 found.1.now) }
+    ensures few { IfSome result (λ found. found.0 ≤ most) }
+{
+    let size = lines_size(text);
+    let count = line_feeds(prefix(text, size));
+    if size == 0 || count > most {
+        return None;
+    }
+    Some((count, following(text, size)))
+}
+
+/// Passes lines many at a time, at most that number: how many, and what is below them.
+fn pass_lines(text: &[u8], most: usize) -> (usize, &[u8])
+    ensures above { AreLinesAbove text.now result.0 result.1.now }
+    ensures few { result.0 ≤ most }
+{
+    let (mut passed, mut rest) = (0, text);
+    for _chunk in 0..text.len() {
+        match pass_first_lines(rest, most - passed) {
+            Some((count, below)) => {
+                passed += count;
+                rest = below;
+            }
+            None => return (passed, rest),
+        }
+    }
+    (passed, rest)
+}
+
 /// The line of that number, counted from 1, without its end; `None` if the text has none.
 pub fn line_at(text: &[u8], number: u32) -> Option<&[u8]>
     ensures { option_map (λ line. line.now) result ≡ line_of_number number text.now }
@@ -60,8 +117,9 @@ pub fn line_at(text: &[u8], number: u32) -> Option<&[u8]>
     if number == 0 {
         return None;
     }
-    let mut rest = text;
-    for _passed in 0..number - 1 {
+    let above = number as usize - 1;
+    let (passed, mut rest) = pass_lines(text, above);
+    for _passed in passed..above {
         match below_line(rest) {
             Some(below) => rest = below,
             None => return None,

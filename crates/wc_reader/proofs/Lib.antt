@@ -1,4 +1,5 @@
 mod AnyProgram
 mod FirstTokens
+mod LastLines
 mod ReadingSteps
 pub mod ReadTexts

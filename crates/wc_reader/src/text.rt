@@ -1,9 +1,9 @@
-ghost use Rattle.std.specs.Prelude.{◌≡◌, ◌+◌, ◌==◌, ◌≤◌, ◌<◌, ◌∷◌, IfErr, IfOk, IfSome, List, None, OnOk, Some, count_by, drop, false, length};
+ghost use Rattle.std.specs.Prelude.{◌≡◌, ◌+◌, ◌==◌, ◌≤◌, ◌<◌, ◌∷◌, IfErr, IfOk, IfSome, List, None, OnOk, Some, count_by, drop, false, length, map};
 ghost use Rattle.wc_laws_grammar.specs.Moves as moves;
 ghost use Rattle.wc_laws_grammar.specs.Moves.{at_first, colon_next};
 ghost use Rattle.wc_model.specs.Text.Marks.{Mark};
 ghost use Rattle.wc_model.specs.Text.Reading.{IsRead, last_line, mark_of_token};
-ghost use Rattle.wc_model.specs.Text.Tokens.{most_bytes};
+ghost use Rattle.wc_model.specs.Text.Tokens.{IsCut, most_bytes};
 ghost use Rattle.wc_model.specs.Language.Tree.{ProgramUnit};
 ghost use Rattle.wc_model.specs.Language.Views.{text_view};
 ghost use Rattle.wc_lexer.specs.Views.{token_view};
@@ -328,6 +328,26 @@ pub fn last_line(text: &[u8]) -> u32
     1 + line_feeds(text) as u32
 }
 
+/// What follows a place of the text, up to its end.
+fn following(text: &[u8], place: usize) -> &[u8]
+    ensures { result.now ≡ drop place text.now }
+{
+    let (_, rest) = text.split_at(place.min(text.len()));
+    rest
+}
+
+/// The number of the text's last line, from its tokens: line feeds are counted only after the start of the last one.
+fn line_at_end(text: &[u8], tokens: &[Token]) -> u32
+    requires short { length text.now ≤ most_bytes }
+    requires cut { IsCut text.now (map token_view tokens.now) }
+    ensures { result ≡ last_line text.now }
+{
+    match tokens.split_last() {
+        Some((last, _)) => last.line + line_feeds(following(text, last.start as usize)) as u32,
+        None => last_line(text),
+    }
+}
+
 /// The text as a tree (IEC 61131-3:2003, annex B), or its first fault. `Err(Refused)` has the
 /// number and line of the first fault in text order, by the list of refusals: 101 to 107 of its
 /// tokens, 201 to 208 of what they spell; the text is then read as no tree. `Err(Memory)` means
@@ -338,7 +358,10 @@ pub fn read<'a>(alloc: Global, text: &'a [u8]) -> Result<Source<'a>, Fault>
     ensures refused { IfErr result (λ fault. IsRefusedAs text.now fault) }
 {
     match tokens(alloc, text) {
-        Ok(tokens) => read_tokens(alloc, &tokens, last_line(text)),
+        Ok(tokens) => {
+            let last_line = line_at_end(text, &tokens);
+            read_tokens(alloc, &tokens, last_line)
+        }
         Err(fault) => Err(fault),
     }
 }

@@ -1,7 +1,16 @@
-use Rattle.std.proofs.Common.{ap, ◌∙◌}
+use Rattle.std.proofs.Common.{◌≡◌, ap, length, map, sym, ◌∙◌}
+use Rattle.std.proofs.lemmas.List.{length-map}
+use Rattle.std.specs.Char.{to_ascii_lowercase}
 use Rattle.wc_model.specs.Language.Declarations.{named_in}
 use Rattle.wc_model.specs.Language.Names.{name_of}
+use Rattle.wc_built_in.specs.Keywords.{keyword_row, keywords, of_length}
+use Rattle.wc_built_in.proofs.WordLengths.{found_of_length}
 use Rattle.wc_built_in.proofs.keywords.keyword_named.Goals as goal
 
 pub returns : goal.returns
-returns c = c.keyword_in.ensures ∙ ap (λ rows. named_in rows (name_of c.args.text.now)) c.all_words.ensures
+returns c =
+    let name = name_of c.args.text.now in
+    let rows = map keyword_row c.words_of_length.result.now in
+    let letters : length c.args.text.now ≡ length name = sym (length-map c.args.text.now to_ascii_lowercase) in
+    let same = ap (λ n. of_length n rows) (sym letters) ∙ c.words_of_length.ensures ∙ ap (λ n. of_length n keywords) letters in
+    c.keyword_in.ensures ∙ sym (found_of_length rows name) ∙ ap (λ found. named_in found name) same ∙ found_of_length keywords name
