@@ -5,8 +5,9 @@ mod body;
 mod carry;
 mod first;
 mod machine;
+mod observer;
 mod seen;
-mod tracing;
+mod state;
 
 pub use machine::Machine;
 pub use seen::SeenLine;
