@@ -1,5 +1,5 @@
 -- Looking a name up among the words that have as many letters.
-use Rattle.std.proofs.Common.{◌≡◌, ◌<◌, ◌≤◌, ℕ, zero, suc, Bool, true, false, List, [], ◌∷◌, cond, filter, length, Some, arith, refl, sym, ap, ◌∙◌, eq-eqb, true≢false}
+use Rattle.std.proofs.Common.{◌≡◌, ◌<◌, ◌≤◌, ℕ, zero, suc, Bool, true, false, List, [], ◌∷◌, cond, length, Some, arith, refl, sym, ap, ◌∙◌, eq-eqb, true≢false}
 use Rattle.std.proofs.lemmas.Bool.{ltb-false, ne_eqb}
 use Rattle.std.specs.Prelude.{◌==◌, nat_lt, if◌then◌else◌}
 use Rattle.wc_model.specs.Language.Declarations.{named_in, same_name}

@@ -1,4 +1,4 @@
-ghost use Rattle.std.specs.Prelude.{◌≡◌, ◌≤◌, ◌≤ℤ◌, ◌<◌, ◌^◌, ◌-◌, length, map, if◌then◌else◌, Some, None, IfSome};
+ghost use Rattle.std.specs.Prelude.{◌≡◌, ◌≤◌, ◌≤ℤ◌, ◌<◌, ◌^◌, ◌-◌, length, map, if◌then◌else◌, nat_lt, Some, None, IfSome};
 ghost use Rattle.std.specs.Char.{is_ascii_digit};
 ghost use Rattle.std.specs.Int.Digits.{number_from_digits};
 ghost use Rattle.std.specs.List.{list_all};
@@ -6,6 +6,16 @@ ghost use Rattle.wc_model.specs.Instrument.Plates.{least_sample, greatest_sample
 ghost use Rattle.wc_model.specs.Run.Log.{number_within, moment_of, whole_of, counts_of};
 
 use wc_model::{GREATEST_COUNTS, LAST_MOMENT, LEAST_COUNTS};
+
+/// The value of a byte as a digit, 10 or more if it is none. It is computed in the width of the number that it is added to, so
+/// that the byte is extended once.
+#[inline(always)]
+fn digit_value(byte: u8) -> u64
+    ensures digit { nat_lt result 10 ≡ is_ascii_digit byte }
+    ensures value { result < 10 → result ≡ byte - 48 }
+{
+    u64::from(byte).wrapping_sub(48)
+}
 
 /// The number that at most thirteen digits write, and none if a byte is not a digit.
 #[inline(always)]
@@ -19,10 +29,11 @@ fn value_of_digits(text: &[u8]) -> Option<u64>
     let mut value = 0_u64;
     let mut rest = text;
     while let [first, after @ ..] = rest {
-        if !first.is_ascii_digit() {
+        let digit = digit_value(*first);
+        if digit >= 10 {
             return None;
         }
-        value = value * 10 + u64::from(*first - b'0');
+        value = value * 10 + digit;
         rest = after;
     }
     Some(value)

@@ -1,4 +1,4 @@
-use Rattle.std.proofs.Common.{arith, ap, ◌∙◌, count_by, length, ◌==◌, ◌+◌, ◌≡◌}
+use Rattle.std.proofs.Common.{arith, ap, ◌∙◌, count_by, ◌==◌, ◌+◌, ◌≡◌}
 use Rattle.std.proofs.lemmas.List.Sums.{count_by-le-length}
 use Rattle.wc_model.specs.Text.Reading.{last_line}
 use Rattle.wc_reader.proofs.LastLines.{counted_on}

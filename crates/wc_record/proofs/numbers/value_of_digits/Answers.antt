@@ -1,4 +1,7 @@
-use Rattle.std.proofs.Common.{◌≤◌, ◌-◌, length, arith}
+use Rattle.std.proofs.Common.{◌≡◌, ◌≤◌, ◌<◌, ◌-◌, get_or, length, true, arith, sym, ◌∙◌}
+use Rattle.std.proofs.lemmas.Bool.Decides.{nat_tests}
+use Rattle.std.specs.Char.{is_ascii_digit}
+use Rattle.std.specs.Prelude.{nat_lt}
 use Rattle.wc_record.proofs.DigitValues.{digits_after, few_after, shorter_after, ten_rises, whole_after}
 use Rattle.wc_record.proofs.numbers.value_of_digits.Goals as goal
 
@@ -19,10 +22,13 @@ loop-rest-preserved c =
     let i = c.loop-rest.invariant in
     let rest = c.loop-rest.rest.now in
     let some = c.in-len1-up.len_at_least in
-    let digit = c.if-not-is_ascii_digit.ensures.value in
+    let below : c.digit_value-digit.result < 10 = omega arith in
+    let test : nat_lt c.digit_value-digit.result 10 ≡ true = grind (arith, nat_tests) in
+    let digit : true ≡ is_ascii_digit (get_or rest 0 0) = sym test ∙ c.digit_value-digit.ensures.digit in
+    let value = c.digit_value-digit.ensures.value below in
     record {
       digits = digits_after rest _ some digit i.digits;
-      whole = whole_after c.loop-rest.value c.from.result _ rest some c.from.ensures i.whole;
+      whole = whole_after c.loop-rest.value c.digit_value-digit.result _ rest some value i.whole;
       shorter = shorter_after rest (length c.args.text.now) some i.shorter;
-      few = few_after c.loop-rest.value c.from.result (length c.args.text.now) rest some i.shorter digit c.from.ensures i.few;
+      few = few_after c.loop-rest.value c.digit_value-digit.result (length c.args.text.now) rest some i.shorter digit value i.few;
     }
