@@ -4,6 +4,7 @@ pub mod Kept
 pub mod BlockCalls
 pub mod BlockSlots
 pub mod After
+pub mod Filling
 pub mod Lefts
 pub mod BodyLines
 pub mod Bits

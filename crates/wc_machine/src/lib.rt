@@ -5,9 +5,8 @@ mod body;
 mod carry;
 mod first;
 mod machine;
-mod observer;
 mod seen;
-mod state;
+mod tracing;
 
 pub use machine::Machine;
 pub use seen::SeenLine;

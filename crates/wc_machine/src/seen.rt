@@ -1,12 +1,8 @@
-ghost use Rattle.std.specs.Prelude.{[], ◌∷◌, ◌≡◌, IfOk, IsOkUnless, None, Some, false, if◌then◌else◌};
-ghost use Rattle.wc_machine.specs.Seeing.{Keeps, keeps_more, keeps_none};
+ghost use Rattle.std.specs.Prelude.{◌∷◌, [], false, ◌≡◌, IfOk, IsOkUnless};
+ghost use Rattle.wc_machine.specs.Seeing.{Keeps};
 
-use crate::observer::LineObserver;
-use crate::state::{BodyState, Instance, execute};
 use std::alloc::Global;
-use wc_execution::{Flow, number_written};
 use wc_model::{Code, Fault};
-use wc_store::Store;
 
 /// A flat line that a scan executed, with what it wrote and the result after it. Numbers are as a store keeps them: BOOL is 0
 /// or 1, TIME milliseconds.
@@ -70,41 +66,5 @@ impl Sight {
             return Err(Fault::Memory);
         }
         Ok(self.lines)
-    }
-}
-
-/// The result, if there is one.
-fn result_of(present: bool, current: i32) -> Option<i32>
-    ensures { result ≡ if present then Some current else None }
-{
-    if present { Some(current) } else { None }
-}
-
-impl LineObserver for Sight {
-    ghost is_shown = { Keeps };
-
-    ghost shown_none = { keeps_none };
-
-    ghost shown_more = { keeps_more };
-
-    fn observe<S: Store>(
-        &mut self,
-        store: &mut S,
-        body: &mut BodyState,
-        line: &Code,
-        source: u32,
-        instance: Instance,
-    ) -> Flow {
-        let written = number_written(store, body.current, line, instance.base);
-        let course = execute(store, body, line, instance);
-        self.keep(SeenLine {
-            depth: instance.depth,
-            source,
-            line: *line,
-            base: instance.base,
-            written,
-            result: result_of(body.present, body.current),
-        });
-        course
     }
 }
