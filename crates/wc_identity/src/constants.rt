@@ -6,7 +6,7 @@ macro_rules! with_constants {
         $macro!(
             "0.1.0",
             "rattle-kit-13 logic dac8208d650f15bf",
-            "1177ae17014caf8e427f4a8dde1f7a313153b343733dd3b4fb6765f5d55be068",
+            "734ab92aaaac09ad787229193f5c88ceca5afb5eac7a1edff88c8575f05a8739",
             "70ab35ecfb1f0760753f4447dd1a8a49be66dab48261722e492c954636cb8045"
         )
     };
