@@ -53,13 +53,14 @@ fn below_line(text: &[u8]) -> Option<&[u8]>
     }
 }
 
-/// The number of bytes whose line feeds are counted together.
-const CHUNK: usize = 1024;
+/// The number of bytes whose line feeds are counted together: no more than a byte can count.
+const CHUNK: usize = 240;
 
 /// The number of bytes of the whole lines in the first bytes of a text; 0 if the first line is longer.
 fn lines_size(text: &[u8]) -> usize
     ensures ends { 0 < result → slice_index text.now (result - 1) ≡ 10 }
     ensures within { result ≤ length text.now }
+    ensures few { result ≤ 240 }
 {
     match memrchr(b'\n', prefix(text, CHUNK)) {
         Some(last) => last + 1,
@@ -67,16 +68,18 @@ fn lines_size(text: &[u8]) -> usize
     }
 }
 
-/// The number of line feeds. The loop has no branch inside, so that the compiler can count those of many bytes at once.
+/// The number of line feeds. It is counted in a byte, and the loop has no branch inside, so that the compiler counts those of
+/// sixteen bytes at once.
 fn line_feeds(text: &[u8]) -> usize
+    requires { length text.now ≤ 240 }
     ensures counted { result ≡ count_by (λ byte. byte == 10) text.now }
     ensures within { result ≤ length text.now }
 {
-    let mut feeds = 0;
+    let mut feeds = 0_u8;
     for index in 0..text.len() {
-        feeds += usize::from(text[index] == b'\n');
+        feeds += u8::from(text[index] == b'\n');
     }
-    feeds
+    usize::from(feeds)
 }
 
 /// The number of the whole lines in the first bytes, if there are some and no more than `most`, and what is below them.
