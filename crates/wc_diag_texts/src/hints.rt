@@ -9,8 +9,9 @@ use wc_model::{Kind, StandardBlock};
 macro_rules! counting_down {
     () => {
         concat!(
-            "there is no CTD: count down with e : R_TRIG and n : DINT := 10: CAL e(CLK := a); ",
-            "LD e.Q, JMPCN skip; LD n, SUB 1, ST n; `skip:` LD n, LE 0 is the Q of the CTD"
+            "there is no CTD, and a CTU only counts up: count down with e : R_TRIG and n : DINT := 10: CAL e(CLK := a); ",
+            "LD e.Q, JMPCN skip; LD n, SUB 1, ST n; `skip:` LD r, JMPCN go; LD 10, ST n; ",
+            "`go:` LD n, LE 0 is the Q of the CTD, r its LOAD"
         )
     };
 }
@@ -187,7 +188,7 @@ fn excerpt_hint(number: u16, case: Case) -> Option<&'static str> {
         401, Case::Watched => "name a variable, or a field after its instance, such as `t.ET`, with commas and no spaces between";
         401, Case::BlockType => "declare an instance in VAR, `t : TON;`, and call that: CAL t(..)";
         403, Case::Plain => "begin with LD: no line that leads here has loaded a value";
-        403, Case::AtLabel => "write an LD between the label and this instruction, or bring the same type on every path to the label";
+        403, Case::AtLabel => "write an LD between the label and this instruction, or bring the same type on every path to the label; if this instruction is only for the value above the label, move it above the label";
         403, Case::Unreached => "make the JMP or RET above conditional (JMPC, JMPCN, RETC), give this line a label to which a line above jumps, or delete it";
         403, Case::NoCondition => "load the condition with LD first, or use CAL, JMP or RET without the C";
         404, Case::InputAddress => "inputs are only read: store to an output, such as %QX0.0, or to a variable";
@@ -195,7 +196,7 @@ fn excerpt_hint(number: u16, case: Case) -> Option<&'static str> {
         404, Case::OutputTarget => "the block sets its own outputs: store to an input, or to a variable of your own";
         404, _ => "an input is set by the caller: copy it to a variable in VAR, and change the copy";
         405, _ => "store the value in a variable of your own, pass that to the input, and read the variable";
-        406, Case::LabelAbove => "jumps only go forward: write the lines once for each pass, or do one pass in each scan: LD n, LT 10, JMPCN done; the lines; LD n, ADD 1, ST n; `done:` goes on with an LD";
+        406, Case::LabelAbove => "jumps only go forward; the whole program runs again in each scan, so to repeat it delete this jump; to repeat lines write them once for each pass, or do one pass in each scan: LD n, LT 10, JMPCN done; the lines; LD n, ADD 1, ST n; `done:` goes on with an LD";
         408, Case::VariableDivisor => "there is no division by a variable: divide by a literal other than 0, such as DIV 10; to compare a quotient, MUL the other side instead; for a quotient subtract once in each scan: LD rest, LT b, JMPC done; LD rest, SUB b, ST rest; LD q, ADD 1, ST q; `done:` goes on with an LD";
         408, Case::Deferred => "DIV and MOD take an integer literal, such as DIV 10; DIV( and MOD( do not exist";
         409, Case::InputArrow => "an input is passed with :=, such as IN := a";
@@ -235,8 +236,8 @@ fn kind_hint(number: u16, case: Case) -> Option<&'static str> {
         402, Case::StoredBool => "store a BOOL to a BOOL variable or to an output bit, such as ST %QX0.0";
         402, Case::StoredTimeToNumber => counting_seconds!("a TIME cannot be converted: store it to a TIME variable");
         402, Case::StoredNumberToTime => "a number cannot be converted to a TIME: load a duration, such as LD T#500ms, or store to a DINT";
-        402, Case::ComparedNumber => "compare the number first, such as GE 500: a comparison gives a BOOL; to use the number below, LD it again";
-        402, Case::ComparedTime => "compare the time first, such as GE T#500ms: a comparison gives a BOOL; to use the time below, LD it again";
+        402, Case::ComparedNumber => "compare the number first, such as NE 0 or GE 500: a comparison gives a BOOL; to use the number below, ST it before the comparison and LD it again";
+        402, Case::ComparedTime => "compare the time first, such as GE T#500ms: a comparison gives a BOOL; to use the time below, ST it before the comparison and LD it again";
         402, Case::NumberBefore => "compare the number before: LD n, GE 500, and then AND with the BOOL";
         402, Case::TimeBefore => "compare the time before: LD t.ET, GE T#1s, and then AND with the BOOL";
         402, Case::NegatedNumber => "load the number with LD; its negative is LD 0, then SUB and the number";
