@@ -9,9 +9,9 @@ use wc_model::{Kind, StandardBlock};
 macro_rules! counting_down {
     () => {
         concat!(
-            "there is no CTD, and a CTU only counts up: count down with e : R_TRIG and n : DINT := 10: CAL e(CLK := a); ",
-            "LD e.Q, JMPCN skip; LD n, SUB 1, ST n; `skip:` LD r, JMPCN go; LD 10, ST n; ",
-            "`go:` LD n, LE 0 is the Q of the CTD, r its LOAD"
+            "there is no CTD, and a CTU only counts up: count down with e : R_TRIG and n : DINT: CAL e(CLK := a); ",
+            "LD e.Q, JMPCN skip; LD n, SUB 1, ST n; `skip:` LD b, JMPCN go; LD 10, ST n; ",
+            "`go:` LD n, LE 0 is the Q of the CTD, a its CD, b its LOAD (LD), 10 its PV"
         )
     };
 }
@@ -24,7 +24,7 @@ macro_rules! counting_seconds {
             "; to count seconds, with start, run : BOOL and n : DINT and tick : TON: LD start, ANDN tick.Q, ST run; ",
             "CAL tick(IN := run, PT := T#1s); LD tick.Q, JMPCN skip; LD n, ADD 1, ST n; ",
             "`skip:` LD start, JMPC done; LD 0, ST n; `done:` goes on with an LD; ",
-            "each count takes two scans more than 1 s"
+            "each count after the first takes two scans more than 1 s"
         )
     };
 }
@@ -70,7 +70,7 @@ fn token_hint(number: u16, case: Case) -> Option<&'static str> {
         101, Case::Byte(b'/') => "to divide write DIV; a comment is (* .. *)";
         101, Case::Byte(b'#') => "a # belongs to a literal, such as 16#FF or T#5s";
         101, Case::Byte(b'\r') => "save the file with line ends of Windows (CR LF) or Unix (LF)";
-        105, Case::SignAlone => "to add write ADD, to subtract SUB, each on a line of its own; the negative of a number is LD 0, and on the next line SUB and the number";
+        105, Case::SignAlone => "write ADD or SUB and the number on a line of its own, such as ADD m; the negative of a number is LD 0, and on the next line SUB and the number";
         105, Case::AddressSpace => "write an address without a space, such as %IX0.0";
         105, Case::WithBase => "the largest is 16#7FFFFFFF: write -2147483648 for 16#80000000, -1 for 16#FFFFFFFF";
         105, Case::TypedNumber => "write the number without its type, such as 5";
@@ -188,7 +188,7 @@ fn excerpt_hint(number: u16, case: Case) -> Option<&'static str> {
         401, Case::Watched => "name a variable, or a field after its instance, such as `t.ET`, with commas and no spaces between";
         401, Case::BlockType => "declare an instance in VAR, `t : TON;`, and call that: CAL t(..)";
         403, Case::Plain => "begin with LD: no line that leads here has loaded a value";
-        403, Case::AtLabel => "write an LD between the label and this instruction, or bring the same type on every path to the label; if this instruction is only for the value above the label, move it above the label";
+        403, Case::AtLabel => "write an LD between the label and this instruction, or bring the same type on every path to the label (JMPC and JMPCN bring a BOOL); if this instruction is only for the value above the label, move it above the label";
         403, Case::Unreached => "make the JMP or RET above conditional (JMPC, JMPCN, RETC), give this line a label to which a line above jumps, or delete it";
         403, Case::NoCondition => "load the condition with LD first, or use CAL, JMP or RET without the C";
         404, Case::InputAddress => "inputs are only read: store to an output, such as %QX0.0, or to a variable";
@@ -196,7 +196,7 @@ fn excerpt_hint(number: u16, case: Case) -> Option<&'static str> {
         404, Case::OutputTarget => "the block sets its own outputs: store to an input, or to a variable of your own";
         404, _ => "an input is set by the caller: copy it to a variable in VAR, and change the copy";
         405, _ => "store the value in a variable of your own, pass that to the input, and read the variable";
-        406, Case::LabelAbove => "jumps only go forward; the whole program runs again in each scan, so to repeat it delete this jump; to repeat lines write them once for each pass, or do one pass in each scan: LD n, LT 10, JMPCN done; the lines; LD n, ADD 1, ST n; `done:` goes on with an LD";
+        406, Case::LabelAbove => "jumps only go forward; the whole program runs again in each scan, so to repeat it delete this jump; to repeat lines write them once for each pass, or do one pass in each scan: LD n, LT 10, JMPCN done; the lines; LD n, ADD 1, ST n (n keeps its value between scans); `done:` goes on with an LD";
         408, Case::VariableDivisor => "there is no division by a variable: divide by a literal other than 0, such as DIV 10; to compare a quotient, MUL the other side instead; for a quotient subtract once in each scan: LD rest, LT b, JMPC done; LD rest, SUB b, ST rest; LD q, ADD 1, ST q; `done:` goes on with an LD";
         408, Case::Deferred => "DIV and MOD take an integer literal, such as DIV 10; DIV( and MOD( do not exist";
         409, Case::InputArrow => "an input is passed with :=, such as IN := a";
