@@ -8,7 +8,9 @@ use wc_diag_mistakes::{
     word_before, words_at,
 };
 use wc_diag_stops::{Brought, RefusalSpan};
-use wc_diag_texts::{Case, Values, empty_path_advice, hint_of, text_with};
+use wc_diag_texts::{
+    Case, InstructionValues, NameValues, empty_path_advice, hint_of, instruction_text, name_text,
+};
 use wc_model::is_word;
 
 /// Text that is longer than a name is not printed in an advice.
@@ -31,7 +33,10 @@ fn exchanged_advice(alloc: Global, word: &[u8]) -> Result<String, AllocError> {
     } else {
         "RETCN"
     };
-    text_with(alloc, Values::NearOf(likely, "The C comes before the N"))
+    name_text(
+        alloc,
+        NameValues::NearOf(likely, "The C comes before the N"),
+    )
 }
 
 /// How to set an input that is used as an operator: the instance is the word after it.
@@ -42,7 +47,7 @@ fn setting_advice(alloc: Global, text: &[u8], span: &RefusalSpan) -> Result<Stri
     if input.is_empty() || instance.is_empty() {
         return Ok(String::new(alloc));
     }
-    text_with(alloc, Values::Setting(input, instance))
+    instruction_text(alloc, InstructionValues::Setting(input, instance))
 }
 
 /// What to write for lines of STL: around them a unit too, if none starts above.
@@ -56,7 +61,7 @@ fn frame_advice(
     let above = prefix(text, span.start);
     match hint_of(number, mistake) {
         Some(hint) if !has_word(above, b"PROGRAM") && !has_word(above, b"FUNCTION_BLOCK") => {
-            text_with(alloc, Values::Framed(hint))
+            instruction_text(alloc, InstructionValues::Framed(hint))
         }
         _ => Ok(String::new(alloc)),
     }
@@ -69,7 +74,7 @@ fn unreached_label_advice(alloc: Global, text: &[u8], place: usize) -> Result<St
     if label.is_empty() || !follows_leaving(text, line_of(text, colon)) {
         return Ok(String::new(alloc));
     }
-    text_with(alloc, Values::UnreachedLabel(label))
+    instruction_text(alloc, InstructionValues::UnreachedLabel(label))
 }
 
 /// What to write if no path is known to a label, or one alone, which brings nothing.
@@ -89,7 +94,7 @@ fn colon_advice(alloc: Global, word: &[u8]) -> Result<String, AllocError> {
     if label.is_empty() {
         return Ok(String::new(alloc));
     }
-    text_with(alloc, Values::LabelColon(label))
+    instruction_text(alloc, InstructionValues::LabelColon(label))
 }
 
 /// The likely END_VAR for a word almost like it; empty if the word before is not one.
@@ -100,9 +105,9 @@ fn section_advice(alloc: Global, text: &[u8], span: &RefusalSpan) -> Result<Stri
     }
     // The word is on the last line above the token that has more than blanks.
     let above = prefix(text, span.start).trim_ascii_end();
-    text_with(
+    name_text(
         alloc,
-        Values::NearEnd(short_words(word), line_of(text, above.len())),
+        NameValues::NearEnd(short_words(word), line_of(text, above.len())),
     )
 }
 
@@ -129,7 +134,7 @@ fn address_advice(alloc: Global, address: &str, is_output: bool) -> Result<Strin
     if variable_at(address.as_bytes()).is_none() {
         return Ok(String::new(alloc));
     }
-    text_with(alloc, Values::NearOf(address, bits_of(is_output)))
+    name_text(alloc, NameValues::NearOf(address, bits_of(is_output)))
 }
 
 /// A likely address of one bit for another without the bit; empty if it is not one.

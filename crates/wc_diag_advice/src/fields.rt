@@ -4,7 +4,7 @@ use std::alloc::{AllocError, Global};
 use wc_built_in::variable_at;
 use wc_diag_mistakes::{excerpt, first_word, following, prefix, word_before, words_at};
 use wc_diag_stops::RefusalSpan;
-use wc_diag_texts::{Values, text_with};
+use wc_diag_texts::{InstructionValues, NameValues, instruction_text, name_text};
 use wc_model::is_word;
 
 /// The greatest bit of a number that is not negative.
@@ -38,17 +38,17 @@ fn undeclared_advice(
     let near = str::from_utf8(near_name(text, name.as_bytes(), place, true)).unwrap_or("");
     if !near.is_empty() {
         let full = format!(in alloc; "{near}.{field}")?;
-        return text_with(alloc, Values::Near(&full));
+        return name_text(alloc, NameValues::Near(&full));
     }
     let block = block_with(field.as_bytes());
     if block.is_empty() {
-        return text_with(alloc, Values::NoGlobal(name, field));
+        return name_text(alloc, NameValues::NoGlobal(name, field));
     }
     match str::from_utf8(near_name(text, name.as_bytes(), place, false)) {
         Ok(near) if !near.is_empty() => {
-            text_with(alloc, Values::NearOrInstance(near, field, name, block))
+            name_text(alloc, NameValues::NearOrInstance(near, field, name, block))
         }
-        _ => text_with(alloc, Values::NewInstance(name, block)),
+        _ => name_text(alloc, NameValues::NewInstance(name, block)),
     }
 }
 
@@ -70,7 +70,7 @@ pub(crate) fn point_advice(
         return Ok(String::new(alloc));
     }
     if !kind.is_empty() {
-        return text_with(alloc, Values::NoFields(name, kind));
+        return name_text(alloc, NameValues::NoFields(name, kind));
     }
     undeclared_advice(alloc, text, span.start, name, field)
 }
@@ -87,7 +87,7 @@ pub(crate) fn input_advice(
     if !rest.trim_ascii_start().starts_with(b":=") || input.is_empty() || instance.is_empty() {
         return Ok(String::new(alloc));
     }
-    text_with(alloc, Values::BareInput(instance, input))
+    instruction_text(alloc, InstructionValues::BareInput(instance, input))
 }
 
 /// The number of a bit, if some digits are one.
@@ -113,7 +113,7 @@ fn bit_of_number_advice(alloc: Global, name: &str, bit: u32) -> Result<String, A
     for _doubled in 0..bit.min(GREATEST_BIT) {
         power = power.saturating_mul(2);
     }
-    text_with(alloc, Values::Bit(bit, name, power))
+    instruction_text(alloc, InstructionValues::Bit(bit, name, power))
 }
 
 /// Whether a name is an area of another tool with a number, such as E0 or M10.
@@ -141,11 +141,11 @@ pub(crate) fn number_advice(
     }
     let address = format!(in alloc; "%{name}.{}", short_words(digits))?;
     if variable_at(address.as_bytes()).is_some() {
-        return text_with(alloc, Values::Near(&address));
+        return name_text(alloc, NameValues::Near(&address));
     }
     let start = above.len().saturating_sub(name.len()).saturating_sub(1);
     if is_foreign_area(name.as_bytes()) && !has_word(prefix(text, start), name.as_bytes()) {
-        return text_with(alloc, Values::ForeignBit(name));
+        return instruction_text(alloc, InstructionValues::ForeignBit(name));
     }
     match bit_of(digits) {
         Some(bit) => bit_of_number_advice(alloc, name, bit),

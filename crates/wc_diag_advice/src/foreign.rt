@@ -71,7 +71,11 @@ const FOREIGN: [(&str, &str); 41] = [
 ];
 
 /// What to write for the start of a timer.
-const TIMER: &str = "declare t : TON; in VAR, and write CAL t(IN := a, PT := T#1s)";
+const TIMER: &str = concat!(
+    "a timer is a block: declare t : TON; in VAR for an on-delay (SD, German SE), t : TP; for a pulse ",
+    "(SP or SE, German SI or SV) or t : TOF; for an off-delay (SF, German SA), ",
+    "and write CAL t(IN := a, PT := T#1s); t.Q is its output"
+);
 
 /// What to write for an operator of another tool or language; empty if a word is not one.
 pub(crate) fn foreign_advice(word: &[u8]) -> &'static str {

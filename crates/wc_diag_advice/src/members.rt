@@ -3,7 +3,7 @@ use memchr::memchr;
 use std::alloc::{AllocError, Global};
 use wc_built_in::{Keyword, standard_block};
 use wc_diag_mistakes::{first_word, prefix};
-use wc_diag_texts::{Case, Values, hint_of, text_with};
+use wc_diag_texts::{Case, NameValues, hint_of, name_text};
 use wc_model::{Section, StandardBlock};
 
 /// The inputs and outputs of a timer.
@@ -150,9 +150,9 @@ fn own_outputs(alloc: Global, text: &[u8], block: &[u8]) -> Result<String, Alloc
 fn own_members(alloc: Global, text: &[u8], block: &[u8]) -> Result<String, AllocError> {
     let inputs = own_inputs(alloc, text, block)?;
     let outputs = own_outputs(alloc, text, block)?;
-    text_with(
+    name_text(
         alloc,
-        Values::Members(str::from_utf8(block).unwrap_or("it"), &inputs, &outputs),
+        NameValues::Members(str::from_utf8(block).unwrap_or("it"), &inputs, &outputs),
     )
 }
 
@@ -170,7 +170,7 @@ fn near_advice(
 ) -> Result<String, AllocError> {
     let instance = str::from_utf8(instance).unwrap_or("");
     let likely = format!(in alloc; "{instance}{near}")?;
-    text_with(alloc, Values::NearOf(&likely, members_said(block)))
+    name_text(alloc, NameValues::NearOf(&likely, members_said(block)))
 }
 
 /// What to write for a name that a standard block does not have.

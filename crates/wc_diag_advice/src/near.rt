@@ -3,7 +3,7 @@ use memchr::memchr;
 use std::alloc::{AllocError, Global};
 use wc_built_in::{Keyword, elementary_type, keyword_named};
 use wc_diag_mistakes::{first_word, following, is_near, prefix};
-use wc_diag_texts::{Values, text_with};
+use wc_diag_texts::{InstructionValues, NameValues, instruction_text, name_text};
 
 /// The operators.
 const OPERATORS: [&str; 39] = [
@@ -60,7 +60,7 @@ const TYPES: [&str; 10] = [
 fn word_advice(alloc: Global, words: &[&'static str], word: &[u8]) -> Result<String, AllocError> {
     for other in words {
         if is_near(other.as_bytes(), word) {
-            return text_with(alloc, Values::Near(other));
+            return name_text(alloc, NameValues::Near(other));
         }
     }
     Ok(String::new(alloc))
@@ -175,7 +175,7 @@ pub(crate) fn advice_for(
     if near.is_empty() {
         return Ok(String::new(alloc));
     }
-    text_with(alloc, Values::Near(near))
+    name_text(alloc, NameValues::Near(near))
 }
 
 /// Whether a word is in a text, in letters of either case.
@@ -198,7 +198,7 @@ pub fn watched_advice(alloc: Global, program: &[u8], name: &[u8]) -> Result<Stri
         return Ok(String::new(alloc));
     }
     let full = format!(in alloc; "{near}{}", str::from_utf8(rest).unwrap_or(""))?;
-    text_with(alloc, Values::Near(&full))
+    name_text(alloc, NameValues::Near(&full))
 }
 
 /// The label of a line that is spelled almost as this one; empty if it has none.
@@ -233,10 +233,10 @@ pub(crate) fn label_advice(
     place: usize,
 ) -> Result<String, AllocError> {
     match str::from_utf8(near_label(text, name, place)) {
-        Ok(near) if !near.is_empty() => text_with(alloc, Values::Near(near)),
-        _ => text_with(
+        Ok(near) if !near.is_empty() => name_text(alloc, NameValues::Near(near)),
+        _ => instruction_text(
             alloc,
-            Values::NewLabel(str::from_utf8(name).unwrap_or("label")),
+            InstructionValues::NewLabel(str::from_utf8(name).unwrap_or("label")),
         ),
     }
 }
@@ -261,7 +261,7 @@ pub(crate) fn type_advice(
     place: usize,
 ) -> Result<String, AllocError> {
     match str::from_utf8(near_block(text, name, place)) {
-        Ok(near) if !near.is_empty() => text_with(alloc, Values::Near(near)),
+        Ok(near) if !near.is_empty() => name_text(alloc, NameValues::Near(near)),
         _ => word_advice(alloc, &TYPES, name),
     }
 }

@@ -6,7 +6,7 @@ use std::fmt::Write;
 use toml::Table;
 use toml::de::Error;
 use wc_diag_mistakes::{excerpt, following, line_of};
-use wc_diag_texts::{Case, Values, text_with};
+use wc_diag_texts::{Case, PlateValues, plate_text};
 use wc_plate::{BrokenRule, allows_interval, plate_of};
 
 /// The scale intervals that some plate may have.
@@ -164,10 +164,13 @@ fn advice_of(alloc: Global, rule: BrokenRule<'_>) -> Result<String, AllocError> 
     match rule {
         BrokenRule::Interval { unit, decimals } => {
             let allowed = allowed_intervals(alloc, unit, decimals)?;
-            text_with(alloc, Values::Interval(unit_word(unit), decimals, &allowed))
+            plate_text(
+                alloc,
+                PlateValues::Interval(unit_word(unit), decimals, &allowed),
+            )
         }
-        BrokenRule::Load { e } => text_with(alloc, Values::Load(e)),
-        BrokenRule::SpanCounts { n } => text_with(alloc, Values::Span(n)),
+        BrokenRule::Load { e } => plate_text(alloc, PlateValues::Load(e)),
+        BrokenRule::SpanCounts { n } => plate_text(alloc, PlateValues::Span(n)),
         _ => Ok(String::new(alloc)),
     }
 }
@@ -183,7 +186,7 @@ fn report_rule(
         BrokenRule::UnknownKey { key, missing } => {
             point_to(diagnostic, text, key, true);
             if let Some(missing) = missing {
-                diagnostic.advice = text_with(alloc, Values::MissingKey(missing))?;
+                diagnostic.advice = plate_text(alloc, PlateValues::MissingKey(missing))?;
             }
             diagnostic.report(key.as_bytes(), Case::UnknownKey)
         }

@@ -18,7 +18,7 @@ use wc_diag_mistakes::{
 };
 use wc_diag_places::{read_by_places, text_span_in};
 use wc_diag_stops::{Brought, LabelPaths, PathToLabel, RefusalSpan, stop_of};
-use wc_diag_texts::{Case, Expected, Paths, Values, paths_text, sentence_of, text_with};
+use wc_diag_texts::{Case, Expected, Paths, PlaceValues, paths_text, place_text, sentence_of};
 use wc_model::{Fault, Kind, is_word};
 
 /// In which way a word does not begin a line, if only a colon could follow it.
@@ -137,11 +137,11 @@ fn detail_of(
 ) -> Result<String, AllocError> {
     if number == 205 {
         if let Some(lines) = lines_to_opening(prefix(text, span.start)) {
-            return text_with(alloc, Values::OpenSince(line.saturating_sub(lines)));
+            return place_text(alloc, PlaceValues::OpenSince(line.saturating_sub(lines)));
         }
     }
     if span.first != 0 && number != 406 {
-        return text_with(alloc, Values::FirstLine(span.first));
+        return place_text(alloc, PlaceValues::FirstLine(span.first));
     }
     Ok(String::new(alloc))
 }
@@ -225,7 +225,7 @@ fn label_text(
 /// Where a function block is declared that the text has below; empty if that is not sure.
 fn block_text(alloc: Global, text: &[u8], name: &[u8]) -> Result<String, AllocError> {
     match block_line(text, name) {
-        Some(line) => text_with(alloc, Values::BlockBelow(line)),
+        Some(line) => place_text(alloc, PlaceValues::BlockBelow(line)),
         None => Ok(String::new(alloc)),
     }
 }
@@ -241,13 +241,13 @@ fn said_there(
 ) -> Result<String, AllocError> {
     let word = excerpt(text, span.start, span.length);
     match mistake {
-        Case::LabelAbove => text_with(alloc, Values::LabelLine(span.first)),
+        Case::LabelAbove => place_text(alloc, PlaceValues::LabelLine(span.first)),
         Case::AtLabel => label_text(alloc, text, span.start, span.paths),
         Case::BlockBelow => block_text(alloc, text, word),
-        Case::InputOperator => text_with(alloc, Values::InputOf(block_of_input(word))),
-        Case::StatementAddress => text_with(
+        Case::InputOperator => place_text(alloc, PlaceValues::InputOf(block_of_input(word))),
+        Case::StatementAddress => place_text(
             alloc,
-            Values::ForeignAddress(
+            PlaceValues::ForeignAddress(
                 str::from_utf8(word_before(text, span.start)).unwrap_or(""),
                 str::from_utf8(word).unwrap_or(""),
             ),
@@ -276,9 +276,9 @@ fn said_of(
     if sentence.is_empty() {
         return Ok(String::new(alloc));
     }
-    text_with(
+    place_text(
         alloc,
-        Values::Below(words_at(text, Some(below)), below.line, sentence),
+        PlaceValues::Below(words_at(text, Some(below)), below.line, sentence),
     )
 }
 

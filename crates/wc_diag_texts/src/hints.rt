@@ -16,15 +16,14 @@ macro_rules! counting_down {
     };
 }
 
-/// What to write, and how seconds are counted in a DINT.
+/// What to write, and how the seconds of a timer are counted in a DINT.
 macro_rules! counting_seconds {
     ($text:literal) => {
         concat!(
             $text,
-            "; to count seconds, with start, run : BOOL and n : DINT and tick : TON: LD start, ANDN tick.Q, ST run; ",
-            "CAL tick(IN := run, PT := T#1s); LD tick.Q, JMPCN skip; LD n, ADD 1, ST n; ",
-            "`skip:` LD start, JMPC done; LD 0, ST n; `done:` goes on with an LD; ",
-            "each count after the first takes two scans more than 1 s"
+            "; for the seconds of a t.ET, with lim : TIME and n : DINT, below CAL t: LD t.ET, GE lim, JMPCN skip; ",
+            "LD lim, ADD T#1s, ST lim; LD n, ADD 1, ST n; `skip:` LD t.ET, GT T#0s, JMPC done; ",
+            "LD T#1s, ST lim; LD 0, ST n; `done:` LD n is the seconds"
         )
     };
 }
@@ -70,7 +69,7 @@ fn token_hint(number: u16, case: Case) -> Option<&'static str> {
         101, Case::Byte(b'/') => "to divide write DIV; a comment is (* .. *)";
         101, Case::Byte(b'#') => "a # belongs to a literal, such as 16#FF or T#5s";
         101, Case::Byte(b'\r') => "save the file with line ends of Windows (CR LF) or Unix (LF)";
-        105, Case::SignAlone => "write ADD or SUB and the number on a line of its own, such as ADD m; the negative of a number is LD 0, and on the next line SUB and the number";
+        105, Case::SignAlone => "write ADD or SUB and the number on a line of its own, such as LD n, then ADD m in place of an L m and a +I; the negative of a number is LD 0, and on the next line SUB and the number";
         105, Case::AddressSpace => "write an address without a space, such as %IX0.0";
         105, Case::WithBase => "the largest is 16#7FFFFFFF: write -2147483648 for 16#80000000, -1 for 16#FFFFFFFF";
         105, Case::TypedNumber => "write the number without its type, such as 5";
@@ -196,7 +195,7 @@ fn excerpt_hint(number: u16, case: Case) -> Option<&'static str> {
         404, Case::OutputTarget => "the block sets its own outputs: store to an input, or to a variable of your own";
         404, _ => "an input is set by the caller: copy it to a variable in VAR, and change the copy";
         405, _ => "store the value in a variable of your own, pass that to the input, and read the variable";
-        406, Case::LabelAbove => "jumps only go forward; the whole program runs again in each scan, so to repeat it delete this jump; to repeat lines write them once for each pass, or do one pass in each scan: LD n, LT 10, JMPCN done; the lines; LD n, ADD 1, ST n (n keeps its value between scans); `done:` goes on with an LD";
+        406, Case::LabelAbove => "jumps only go forward; the whole program runs again in each scan, so to repeat it delete this jump; to repeat lines write them once for each pass, or do one pass in each scan: LD n, LT 10, JMPCN done; the lines; LD n, ADD 1, ST n (n keeps its value between scans: set it to 0 only to start again); `done:` goes on with an LD";
         408, Case::VariableDivisor => "there is no division by a variable: divide by a literal other than 0, such as DIV 10; to compare a quotient, MUL the other side instead; for a quotient subtract once in each scan: LD rest, LT b, JMPC done; LD rest, SUB b, ST rest; LD q, ADD 1, ST q; `done:` goes on with an LD";
         408, Case::Deferred => "DIV and MOD take an integer literal, such as DIV 10; DIV( and MOD( do not exist";
         409, Case::InputArrow => "an input is passed with :=, such as IN := a";
@@ -244,7 +243,7 @@ fn kind_hint(number: u16, case: Case) -> Option<&'static str> {
         402, Case::NegatedTime => "load the time with LD; its negative is LD T#0s, then SUB and the time";
         402, Case::SetValue => "declare it as BOOL; or to store a number on a condition write LD a, JMPCN skip; LD 5, ST n; `skip:` goes on with an LD";
         402, Case::StoredNegated => "STN stores a negated BOOL to a BOOL, such as STN %QX0.0; for the negative of a number LD 0, SUB the number, and ST";
-        402, Case::CountedBool => "a BOOL cannot be converted to a number: use it with JMPCN, to jump over LD n, ADD 1, ST n";
+        402, Case::CountedBool => "a BOOL cannot be converted to a number: with n : DINT write LD 0, ST n; LD a, JMPCN skip; LD 1, ST n; `skip:` LD n is 1 while a is TRUE, otherwise 0; to count pulses write CAL c(CU := a), with c : CTU, and LD c.CV";
         402, Case::OrderedBool => "BOOLs have no GT, GE, LE or LT: load a number first, or combine BOOLs with AND, OR or XOR";
         402, Case::EqualBool => "compare a BOOL with TRUE or FALSE; to compare a number or a time, load it first";
         402, Case::NumberWithTime => "compare a DINT with a number, such as GE 500";

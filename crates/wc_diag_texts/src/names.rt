@@ -1,0 +1,57 @@
+use std::alloc::{AllocError, Global};
+
+/// Values of a name, which are named in a hint.
+#[derive(Clone, Copy)]
+pub enum NameValues<'a> {
+    /// A declared name that is spelled almost alike.
+    Near(&'a str),
+    /// A declared name that is spelled almost alike, and what else there is.
+    NearOf(&'a str, &'a str),
+    /// A word and its line, if it may be a misspelled END_VAR.
+    NearEnd(&'a str, u32),
+    /// An instance that is not declared, and the block of which it may be.
+    NewInstance(&'a str, &'a str),
+    /// A declared name that is spelled almost alike, and the name after its point, which only an instance has; an instance that is
+    /// not declared, and the block of which it may be.
+    NearOrInstance(&'a str, &'a str, &'a str, &'a str),
+    /// A name before a point that is not declared, and the name after it.
+    NoGlobal(&'a str, &'a str),
+    /// A variable before a point, and its type.
+    NoFields(&'a str, &'a str),
+    /// A block with its inputs and its outputs, in words.
+    Members(&'a str, &'a str, &'a str),
+}
+
+/// What is said of a name with these values.
+pub fn name_text(alloc: Global, values: NameValues<'_>) -> Result<String, AllocError> {
+    match values {
+        NameValues::Near(name) => format!(in alloc; "did you mean `{name}`?"),
+        NameValues::NearOf(name, others) => format!(in alloc; "did you mean `{name}`? {others}"),
+        NameValues::NearEnd(word, line) => {
+            format!(in alloc;
+                "did you mean END_VAR on line {line}? `{word}` there is read as the name of a variable"
+            )
+        }
+        NameValues::NewInstance(name, block) => {
+            format!(in alloc; "declare the instance in VAR, such as {name} : {block};")
+        }
+        NameValues::NearOrInstance(near, field, name, block) => {
+            format!(in alloc;
+                "did you mean `{near}`? It has no fields: write it without `.{field}`; for an instance declare {name} : {block}; in VAR, and call it with CAL"
+            )
+        }
+        NameValues::NoGlobal(name, field) => {
+            format!(in alloc;
+                "there are no global variables: declare {field} in VAR, and write {field} without `{name}.`"
+            )
+        }
+        NameValues::NoFields(name, kind) => {
+            format!(in alloc;
+                "`{name}` is a {kind}, and has no fields: only an instance has, such as t.Q of t : TON;"
+            )
+        }
+        NameValues::Members(block, inputs, outputs) => {
+            format!(in alloc; "{block} has {inputs} and {outputs}")
+        }
+    }
+}
