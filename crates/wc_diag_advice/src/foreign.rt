@@ -72,9 +72,9 @@ const FOREIGN: [(&str, &str); 41] = [
 
 /// What to write for the start of a timer.
 const TIMER: &str = concat!(
-    "a timer is a block: declare t : TON; in VAR for an on-delay (SD, German SE), t : TP; for a pulse ",
-    "(SP or SE, German SI or SV) or t : TOF; for an off-delay (SF, German SA), ",
-    "and write CAL t(IN := a, PT := T#1s); t.Q is its output"
+    "a timer is a block: declare t : TON; in VAR for an on-delay (SD, German SE), t : TOF; for an off-delay (SF, German SA) ",
+    "or t : TP; for a pulse that runs on when a falls (SE, German SV), and write CAL t(IN := a, PT := T#1s); t.Q is its output; ",
+    "for a pulse that ends when a falls (SP, German SI) take a TON, and LD a, ANDN t.Q is the output"
 );
 
 /// What to write for an operator of another tool or language; empty if a word is not one.

@@ -21,7 +21,7 @@ macro_rules! counting_seconds {
     ($text:literal) => {
         concat!(
             $text,
-            "; for the seconds of a t.ET, with lim : TIME and n : DINT, below CAL t: LD t.ET, GE lim, JMPCN skip; ",
+            "; for the seconds of a t.ET, with lim : TIME := T#1s and n : DINT, below CAL t: LD t.ET, GE lim, JMPCN skip; ",
             "LD lim, ADD T#1s, ST lim; LD n, ADD 1, ST n; `skip:` LD t.ET, GT T#0s, JMPC done; ",
             "LD T#1s, ST lim; LD 0, ST n; `done:` LD n is the seconds"
         )
