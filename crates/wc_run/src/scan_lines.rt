@@ -17,7 +17,9 @@ pub fn put_record(text: &mut Vec<u8>, scan: &Record) -> Result<(), RunFault>
         (text.new.items ≡ text.old.items ++ line_text (line_of_record scan.now)) }
     ensures memory { IsOkUnless result RunFault.Memory }
 {
-    put_scan_line(text, scan.ms, Steps(scan.steps), &scan.outputs)?;
+    // A copy, so that what is seen of a row has no address and stays in registers.
+    let outputs = scan.outputs;
+    put_scan_line(text, scan.ms, Steps(scan.steps), &outputs)?;
     Ok(())
 }
 
