@@ -7,7 +7,7 @@ macro_rules! with_constants {
             "0.1.0",
             "rattle-kit-13 logic dac8208d650f15bf",
             "734ab92aaaac09ad787229193f5c88ceca5afb5eac7a1edff88c8575f05a8739",
-            "70ab35ecfb1f0760753f4447dd1a8a49be66dab48261722e492c954636cb8045"
+            "b026a39b923230de1c7d8dc93db8445a1ddfc74897fcc0facac1c71b87455b10"
         )
     };
 }
