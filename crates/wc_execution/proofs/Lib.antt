@@ -4,7 +4,6 @@ pub mod Kept
 pub mod BlockCalls
 pub mod BlockSlots
 pub mod After
-pub mod Filling
 pub mod Lefts
 pub mod BodyLines
 pub mod Bits

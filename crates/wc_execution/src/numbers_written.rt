@@ -21,7 +21,9 @@ fn number_stored(storing: Storing, current: i32) -> Option<i32>
     }
 }
 
-/// The number that a line is going to write to the place that it names.
+/// The number that a line is going to write to the place that it names. It stays a call: where nobody asks for the
+/// number, what only reads is compiled to nothing, but once it is inlined its choice by the line would stay.
+#[inline(never)]
 pub fn number_written<S: Store>(store: &S, current: i32, line: &Code, base: usize) -> Option<i32>
     requires capacity { length (S.slot_kinds store.now) ≤ 65536 }
     requires there { IsWritable base (S.slot_kinds store.now) (S.numbers store.now) current

@@ -4,3 +4,4 @@ pub mod Scanning
 pub mod Carrying
 pub mod SeenLines
 pub mod SeenScans
+pub mod Presence

@@ -5,8 +5,10 @@ mod body;
 mod carry;
 mod first;
 mod machine;
+mod observer;
+mod own_line;
 mod seen;
-mod tracing;
+mod started;
 
 pub use machine::Machine;
 pub use seen::SeenLine;

@@ -1,7 +1,7 @@
 ghost use Rattle.std.specs.Prelude.{◌≡◌, ◌≤◌, ◌<◌, ℕ, Some, IfErr, IfOk, IsOkUnless};
 ghost use Rattle.wc_text_flat.specs.Contents.{frame_of_text, number_in};
 ghost use Rattle.wc_machine.specs.Machines.{text_of, Leaves, RepresentsText};
-ghost use Rattle.wc_machine.specs.Seeing.{IsSeen};
+ghost use Rattle.wc_machine.specs.Seeing.{IsScanShown, IsSeen};
 ghost use Rattle.wc_model.specs.Language.Carried.{carried};
 ghost use Rattle.wc_model.specs.Language.Frames.{place_number};
 ghost use Rattle.wc_model.specs.Language.Paths.{IsProgramBound};
@@ -13,8 +13,8 @@ ghost use Rattle.wc_model.specs.Language.Views.{text_view};
 use crate::body::run;
 use crate::carry::carried_over;
 use crate::first::first_store;
+use crate::observer::{LineObserver, NoObserver};
 use crate::seen::{SeenLine, Sight};
-use crate::tracing::{Instance, run_seen};
 use std::alloc::Global;
 use std::marker::Model;
 use wc_cost::Loaded;
@@ -106,6 +106,24 @@ impl<'a, S: Store> Machine<'a, S> {
         })
     }
 
+    /// One scan as `scan` does it, with an observer of its lines.
+    fn observe_scan<O: LineObserver>(&mut self, now: u64, image: &Image, observer: &mut O) -> Steps
+        requires not_before { self.old.last ≤ now }
+        requires in_range { now ≤ 1099511627775 }
+        ensures shown { (text : Text) (store : Contents) → RepresentsText self.old text store
+            → IsScanShown (O.is_shown observer.old observer.new) text store image.now now }
+        ensures means { (text : Text) (store : Contents) → RepresentsText self.old text store
+            → Leaves self.new text result.0 (scan_of text store image.now now) }
+        ensures last { self.new.last ≡ now }
+        ensures within { (n : ℕ) → IsProgramBound (text_of self.old) n → result.0 ≤ n }
+    {
+        copy_image(&mut self.store, image);
+        let program = self.loaded.units() - 1;
+        let steps = run(&self.loaded, &mut self.store, observer, program, 0, now, 0);
+        self.last = now;
+        Steps(steps)
+    }
+
     /// One scan at a moment in milliseconds: the image goes to the inputs, the program's body is executed, and its
     /// items are counted. It takes no memory.
     pub fn scan(&mut self, now: u64, image: &Image) -> Steps
@@ -118,11 +136,7 @@ impl<'a, S: Store> Machine<'a, S> {
         ensures last { self.new.last ≡ now }
         ensures within { (n : ℕ) → IsProgramBound (text_of self.old) n → result.0 ≤ n }
     {
-        copy_image(&mut self.store, image);
-        let program = self.loaded.units() - 1;
-        let steps = run(&self.loaded, &mut self.store, program, 0, now);
-        self.last = now;
-        Steps(steps)
+        self.observe_scan(now, image, &mut NoObserver)
     }
 
     /// One scan as `scan` does it, with its steps, and what was seen of each item that it counts, in the order of execution:
@@ -146,18 +160,9 @@ impl<'a, S: Store> Machine<'a, S> {
         ensures within { (n : ℕ) → IsProgramBound (text_of self.old) n → result.0.0 ≤ n }
         ensures memory { IsOkUnless result.1 Fault.Memory }
     {
-        let store = &mut self.store;
-        copy_image(store, image);
-        let program = self.loaded.units() - 1;
         let mut sight = Sight::new(alloc);
-        let instance = Instance {
-            base: 0,
-            now,
-            depth: 0,
-        };
-        let steps = run_seen(&self.loaded, store, &mut sight, program, instance);
-        self.last = instance.now;
-        (Steps(steps), sight.into_lines())
+        let steps = self.observe_scan(now, image, &mut sight);
+        (steps, sight.into_lines())
     }
 
     /// What the last scan left at the outputs.

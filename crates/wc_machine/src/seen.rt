@@ -1,6 +1,8 @@
-ghost use Rattle.std.specs.Prelude.{◌∷◌, [], false, ◌≡◌, IfOk, IsOkUnless};
-ghost use Rattle.wc_machine.specs.Seeing.{Keeps};
+ghost use Rattle.std.specs.Prelude.{[], ◌∷◌, ◌≡◌, IfOk, IsOkUnless, None, Some, false, if◌then◌else◌};
+ghost use Rattle.wc_machine.specs.Seeing.{Keeps, keeps_more, keeps_none};
 
+use crate::observer::LineObserver;
+use crate::started::StartedLine;
 use std::alloc::Global;
 use wc_model::{Code, Fault};
 
@@ -44,7 +46,7 @@ impl Sight {
     }
 
     /// Keeps a line, unless one is lost already.
-    pub(crate) fn keep(&mut self, line: SeenLine)
+    fn keep(&mut self, line: SeenLine)
         ensures { Keeps self.old self.new (line ∷ []) }
     {
         if self.lost {
@@ -66,5 +68,31 @@ impl Sight {
             return Err(Fault::Memory);
         }
         Ok(self.lines)
+    }
+}
+
+/// A result, if there is one.
+fn result_of(present: bool, current: i32) -> Option<i32>
+    ensures { result ≡ if present then Some current else None }
+{
+    if present { Some(current) } else { None }
+}
+
+impl LineObserver for Sight {
+    ghost is_shown = { Keeps };
+
+    ghost shown_none = { keeps_none };
+
+    ghost shown_more = { keeps_more };
+
+    fn show(&mut self, line: &StartedLine, current: i32) {
+        self.keep(SeenLine {
+            depth: line.depth,
+            source: line.source,
+            line: line.line,
+            base: line.base,
+            written: line.written,
+            result: result_of(line.following, current),
+        });
     }
 }

@@ -1,94 +1,14 @@
--- A scan that is watched is the run of the program's flat code, and what is kept of it is what is seen of the text.
-use Rattle.std.proofs.Common.{◌≡◌, ◌+◌, ◌-◌, ◌≤◌, ◌++◌, List, length, map, refl, ap, sym, ◌∙◌, subst, arith}
-use Rattle.wc_text_flat.specs.Contents.{frame_of_text, AreContents}
-use Rattle.wc_machine.proofs.FirstPlaces.{AreFirst, first_places}
-use Rattle.wc_machine.proofs.Scanning.{has_a_unit, machine_runs, later, short_run, ran_is}
-use Rattle.wc_machine.proofs.SeenScans.{scan_is_seen}
-use Rattle.wc_machine.proofs.machine.Machine.trace.Goals as goal
-use Rattle.wc_machine.specs.Machines.{MachineState, Leaves, machine_view, text_of}
-use Rattle.wc_model.specs.Language.Paths.{IsProgramBound}
-use Rattle.wc_model.specs.Language.Scans.{initial_of, scan_of}
-use Rattle.wc_model.specs.Language.Views.{text_view}
-use Rattle.wc_laws_soundness.specs.Typing.{SameSlots}
+-- What is kept of a scan is what was shown of it.
+use Rattle.std.proofs.Common.{◌∙◌, ◌++◌, List, ap, subst, sym}
 use Rattle.std.proofs.lemmas.Result.{IfOk-weaker}
-use Rattle.wc_machine.specs.Seeing.{IsSeen, kept_at}
+use Rattle.wc_machine.proofs.machine.Machine.trace.Goals as goal
+use Rattle.wc_machine.specs.Seeing.{IsSeen}
 use Rattle.wc_machine.specs.declared.seen.SeenLine.{SeenLine}
-use Rattle.wc_laws_trace.specs.FlatSeen.{flat_seen_of_unit}
-use Rattle.wc_laws_trace.specs.Laws.{sources_of_text}
-
-pub copy_image-requires-clause-weights : goal.copy_image-requires-clause-weights
-copy_image-requires-clause-weights g c =
-    let inv = c.self.invariant in
-    (subst (λ k. AreFirst k) (sym inv.kinds_are) (first_places inv.sound.read.0 (text_view c.self.inside.loaded.source) inv.sound.read.1)).weights
-
-pub run_seen-steps-requires-clause-there : goal.run_seen-steps-requires-clause-there
-run_seen-steps-requires-clause-there g c =
-    let inv = c.self.invariant in
-    let run = machine_runs c.self.inside.loaded (g.S.Store.slot_kinds c.self.inside.store) (g.S.Store.numbers c.self.inside.store) c.self.inside.last c.self.inside.bound c.self.invariant c.args.image.now c.args.now (c.units-program.result - 1) c.self.inside.bound
-    (omega (arith, c.units-program.ensures.count, has_a_unit c.self.invariant.sound.read.0 (text_view c.self.inside.loaded.source) c.self.invariant.sound.read.1)) inv.bounded
-    (g.S.Store.slot_kinds c.copy_image.new.store) (g.S.Store.numbers c.copy_image.new.store) c.copy_image.ensures.kinds c.copy_image.ensures.numbers inv.held.0 inv.held.1 inv.held.2 in
-    short_run _ run.ran c.self.inside.bound run.is run.within inv.fits
-
-pub run_seen-steps-requires-clause-forward : goal.run_seen-steps-requires-clause-forward
-run_seen-steps-requires-clause-forward g c =
-    let last : c.self.inside.last ≤ c.args.now = omega (arith, c.requires.not_before, ap (λ (m : MachineState). m.last) c.self.view_is) in
-    c.copy_image.ensures.moments c.args.now (later c.self.inside.last c.args.now (g.S.Store.slot_kinds c.self.inside.store) (g.S.Store.numbers c.self.inside.store) last c.self.invariant.before)
-
-pub invariant_of-self : goal.invariant_of-self
-invariant_of-self g c =
-    let inv = c.self.invariant in
-    let text = text_view c.self.inside.loaded.source in
-    let run = machine_runs c.self.inside.loaded (g.S.Store.slot_kinds c.self.inside.store) (g.S.Store.numbers c.self.inside.store) c.self.inside.last c.self.inside.bound c.self.invariant c.args.image.now c.args.now (c.units-program.result - 1) c.self.inside.bound
-    (omega (arith, c.units-program.ensures.count, has_a_unit c.self.invariant.sound.read.0 (text_view c.self.inside.loaded.source) c.self.invariant.sound.read.1)) inv.bounded
-    (g.S.Store.slot_kinds c.copy_image.new.store) (g.S.Store.numbers c.copy_image.new.store) c.copy_image.ensures.kinds c.copy_image.ensures.numbers inv.held.0 inv.held.1 inv.held.2 in
-    let both = ran_is _ run.ran (g.S.Store.numbers c.run_seen-steps.new.store) c.run_seen-steps.result run.is c.run_seen-steps.ensures.ran in
-    let same = c.run_seen-steps.ensures.kinds ∙ c.copy_image.ensures.kinds in
-    record {
-      sound = inv.sound;
-      kinds_are = same ∙ inv.kinds_are;
-      capacity = subst (λ k. length k ≤ 65536) (sym same) inv.capacity;
-      held = (run.store, run.slots, subst (λ ns. AreContents (frame_of_text text) run.store ns) both.0 run.contents);
-      before = c.run_seen-steps.ensures.moments;
-      bounded = inv.bounded;
-      fits = inv.fits;
-    }
-
-pub returns-clause-means : goal.returns-clause-means
-returns-clause-means g c = λ text store represents.
-    let here = text_view c.self.inside.loaded.source in
-    let same : text ≡ here = sym represents.same_text ∙ ap (λ (m : MachineState). text_of m) (sym c.self.view_is) in
-    let slots : SameSlots (initial_of here) store = subst (λ t. SameSlots (initial_of t) store) same represents.slots in
-    let contents : AreContents (frame_of_text here) store (g.S.Store.numbers c.self.inside.store) =
-    subst (λ ns. AreContents (frame_of_text here) store ns) (ap (λ (m : MachineState). m.numbers) (sym c.self.view_is)) (subst (λ t. AreContents (frame_of_text t) store c.args.self.now.numbers) same represents.contents) in
-    let run = machine_runs c.self.inside.loaded (g.S.Store.slot_kinds c.self.inside.store) (g.S.Store.numbers c.self.inside.store) c.self.inside.last c.self.inside.bound c.self.invariant c.args.image.now c.args.now (c.units-program.result - 1) c.self.inside.bound
-    (omega (arith, c.units-program.ensures.count, has_a_unit c.self.invariant.sound.read.0 (text_view c.self.inside.loaded.source) c.self.invariant.sound.read.1)) c.self.invariant.bounded
-    (g.S.Store.slot_kinds c.copy_image.new.store) (g.S.Store.numbers c.copy_image.new.store) c.copy_image.ensures.kinds c.copy_image.ensures.numbers store slots contents in
-    let both = ran_is _ run.ran (g.S.Store.numbers c.run_seen-steps.new.store) c.run_seen-steps.result run.is c.run_seen-steps.ensures.ran in
-    let after = machine_view c.self.inside.loaded (g.S.Store.numbers c.run_seen-steps.new.store) c.args.now in
-    subst (λ t. Leaves after t c.run_seen-steps.result (scan_of t store c.args.image.now c.args.now)) (sym same)
-    (subst (λ n. Leaves after here n (scan_of here store c.args.image.now c.args.now)) both.1 (run.leaves after refl (sym both.0)))
-
-pub returns-clause-within : goal.returns-clause-within
-returns-clause-within g c = λ n longest.
-    let inv = c.self.invariant in
-    let bounded : IsProgramBound (text_view c.self.inside.loaded.source) n = subst (λ t. IsProgramBound t n) (ap (λ (m : MachineState). text_of m) (sym c.self.view_is)) longest in
-    let run = machine_runs c.self.inside.loaded (g.S.Store.slot_kinds c.self.inside.store) (g.S.Store.numbers c.self.inside.store) c.self.inside.last c.self.inside.bound c.self.invariant c.args.image.now c.args.now (c.units-program.result - 1) n
-    (omega (arith, c.units-program.ensures.count, has_a_unit c.self.invariant.sound.read.0 (text_view c.self.inside.loaded.source) c.self.invariant.sound.read.1)) bounded
-    (g.S.Store.slot_kinds c.copy_image.new.store) (g.S.Store.numbers c.copy_image.new.store) c.copy_image.ensures.kinds c.copy_image.ensures.numbers inv.held.0 inv.held.1 inv.held.2 in
-    let both = ran_is _ run.ran (g.S.Store.numbers c.run_seen-steps.new.store) c.run_seen-steps.result run.is c.run_seen-steps.ensures.ran in
-    omega (arith, run.within, both.1)
 
 pub returns-clause-seen : goal.returns-clause-seen
 returns-clause-seen g c = λ text store represents.
-    let here = text_view c.self.inside.loaded.source in
-    let same : text ≡ here = sym represents.same_text ∙ ap (λ (m : MachineState). text_of m) (sym c.self.view_is) in
-    let slots : SameSlots (initial_of here) store = subst (λ t. SameSlots (initial_of t) store) same represents.slots in
-    let contents : AreContents (frame_of_text here) store (g.S.Store.numbers c.self.inside.store) =
-    subst (λ ns. AreContents (frame_of_text here) store ns) (ap (λ (m : MachineState). m.numbers) (sym c.self.view_is)) (subst (λ t. AreContents (frame_of_text t) store c.args.self.now.numbers) same represents.contents) in
-    let n : c.units-program.result - 1 + 1 ≡ length (text_view c.self.inside.loaded.source) = omega (arith, c.units-program.ensures.count, has_a_unit c.self.invariant.sound.read.0 (text_view c.self.inside.loaded.source) c.self.invariant.sound.read.1) in
+    let scan = c.observe_scan-steps.ensures.shown text store represents in
     IfOk-weaker c.into_lines.result _ _
-    (λ lines h. subst (λ t. IsSeen t store c.args.image.now c.args.now lines.items) (sym same)
-    (scan_is_seen c.self.inside.loaded (g.S.Store.slot_kinds c.self.inside.store) (g.S.Store.numbers c.self.inside.store) c.self.inside.last c.self.inside.bound c.self.invariant c.args.image.now c.args.now (c.units-program.result - 1) n
-    (g.S.Store.slot_kinds c.copy_image.new.store) (g.S.Store.numbers c.copy_image.new.store) c.copy_image.ensures.kinds c.copy_image.ensures.numbers store slots contents lines.items
-    (h.1 ∙ ((c.run_seen-steps.ensures.keeps h.0).1 ∙ ap (λ (l : List SeenLine). l ++ map (kept_at 0) (flat_seen_of_unit (g.S.Store.slot_kinds c.copy_image.new.store) c.self.inside.loaded.codes (sources_of_text here) c.args.now (c.units-program.result - 1) 0 (g.S.Store.numbers c.copy_image.new.store))) c.new-sight.ensures.nothing))))
+    (λ lines held. subst (λ (l : List SeenLine). IsSeen text store c.args.image.now c.args.now l)
+    (sym (held.1 ∙ ((scan.are_shown held.0).1 ∙ ap (λ (l : List SeenLine). l ++ scan.lines) c.new-sight.ensures.nothing))) scan.seen)
     c.into_lines.ensures.lines

@@ -1,10 +1,12 @@
--- A scan is the run of the program's flat code.
-use Rattle.std.proofs.Common.{◌≡◌, ◌-◌, ◌≤◌, length, refl, ap, sym, ◌∙◌, subst, arith}
+-- A scan is the run of the program's flat code, and what is shown of it is what is seen of the text.
+use Rattle.std.proofs.Common.{◌≡◌, ◌+◌, ◌-◌, ◌≤◌, length, refl, ap, sym, ◌∙◌, subst, arith}
 use Rattle.wc_text_flat.specs.Contents.{frame_of_text, AreContents}
 use Rattle.wc_machine.proofs.FirstPlaces.{AreFirst, first_places}
 use Rattle.wc_machine.proofs.Scanning.{has_a_unit, machine_runs, later, short_run, ran_is}
-use Rattle.wc_machine.proofs.machine.Machine.scan.Goals as goal
+use Rattle.wc_machine.proofs.machine.Machine.observe_scan.Goals as goal
+use Rattle.wc_machine.proofs.SeenScans.{scan_is_seen}
 use Rattle.wc_machine.specs.Machines.{MachineState, Leaves, machine_view, text_of}
+use Rattle.wc_machine.specs.Seeing.{IsScanShown}
 use Rattle.wc_model.specs.Language.Paths.{IsProgramBound}
 use Rattle.wc_model.specs.Language.Scans.{initial_of, scan_of}
 use Rattle.wc_model.specs.Language.Views.{text_view}
@@ -71,3 +73,19 @@ returns-clause-within g c = λ n longest.
     (g.S.Store.slot_kinds c.copy_image.new.store) (g.S.Store.numbers c.copy_image.new.store) c.copy_image.ensures.kinds c.copy_image.ensures.numbers inv.held.0 inv.held.1 inv.held.2 in
     let both = ran_is _ run.ran (g.S.Store.numbers c.run-steps.new.store) c.run-steps.result run.is c.run-steps.ensures.ran in
     omega (arith, run.within, both.1)
+
+pub returns-clause-shown : goal.returns-clause-shown
+returns-clause-shown g c = λ text store represents.
+    let here = text_view c.self.inside.loaded.source in
+    let same : text ≡ here = sym represents.same_text ∙ ap (λ (m : MachineState). text_of m) (sym c.self.view_is) in
+    let slots : SameSlots (initial_of here) store = subst (λ t. SameSlots (initial_of t) store) same represents.slots in
+    let contents : AreContents (frame_of_text here) store (g.S.Store.numbers c.self.inside.store) =
+    subst (λ ns. AreContents (frame_of_text here) store ns) (ap (λ (m : MachineState). m.numbers) (sym c.self.view_is)) (subst (λ t. AreContents (frame_of_text t) store c.args.self.now.numbers) same represents.contents) in
+    let n : c.units-program.result - 1 + 1 ≡ length (text_view c.self.inside.loaded.source) = omega (arith, c.units-program.ensures.count, has_a_unit c.self.invariant.sound.read.0 (text_view c.self.inside.loaded.source) c.self.invariant.sound.read.1) in
+    subst (λ t. IsScanShown (g.O.LineObserver.is_shown c.args.observer.now c.run-steps.new.observer) t store c.args.image.now c.args.now) (sym same)
+    (record {
+      lines = _;
+      are_shown = c.run-steps.ensures.shown;
+      seen = scan_is_seen c.self.inside.loaded (g.S.Store.slot_kinds c.self.inside.store) (g.S.Store.numbers c.self.inside.store) c.self.inside.last c.self.inside.bound c.self.invariant c.args.image.now c.args.now (c.units-program.result - 1) n
+          (g.S.Store.slot_kinds c.copy_image.new.store) (g.S.Store.numbers c.copy_image.new.store) c.copy_image.ensures.kinds c.copy_image.ensures.numbers store slots contents _ refl;
+    })
