@@ -24,6 +24,7 @@ use wc_text_lines::{
 };
 
 /// The operand that the token is by itself.
+#[inline(always)]
 pub fn operand_of<'a>(token: Token<'a>) -> Option<Operand<'a>>
     ensures { option_map term_view result
         ≡ operand_of (symbol_view token.entry) token.entry.line }
@@ -117,6 +118,7 @@ fn is_plain_start(body: &Body, text: &[u8]) -> bool
 
 /// The operator that the word is at the start of a line with no parenthesis open, if it is
 /// neither a line too many nor the start of a section.
+#[inline(always)]
 pub(crate) fn operation_at<'a>(body: &Body<'a>, text: &[u8]) -> Option<Operation>
     requires { IsCounted body.now }
     ensures { IfSome result
