@@ -53,6 +53,22 @@ fn after_line<'b, 'a>(tokens: &'b [Token<'a>]) -> &'b [Token<'a>]
     rest
 }
 
+/// Whether the three tokens are an operator with its operand or its label and the line's end, as far
+/// as they show.
+#[inline(always)]
+fn is_short_line(first: Token, second: Token, third: Token) -> bool {
+    matches!(third.shape, Shape::LineEnd)
+        && matches!(first.shape, Shape::Identifier)
+        && matches!(
+            second.shape,
+            Shape::Identifier
+                | Shape::Whole(_)
+                | Shape::Duration(_)
+                | Shape::Truth(_)
+                | Shape::Address
+        )
+}
+
 /// How many lines of the body come at once. It is a guess for memory alone, and counts none of the
 /// lines of a parenthesis.
 fn lines_ahead(tokens: &[Token]) -> usize
@@ -60,15 +76,18 @@ fn lines_ahead(tokens: &[Token]) -> usize
 {
     let mut lines = 0;
     let mut rest = tokens;
-    while let [first, after @ ..] = rest {
-        let [second, ..] = after else {
+    while let [first, following @ ..] = rest {
+        let [second, third, after @ ..] = following else {
             return lines;
         };
-        if begins_line(*first, *second) {
+        if is_short_line(*first, *second, *third) {
             lines += 1;
-            rest = after_line(after);
-        } else if is_between_lines(*first, *second) {
             rest = after;
+        } else if begins_line(*first, *second) {
+            lines += 1;
+            rest = after_line(following);
+        } else if is_between_lines(*first, *second) {
+            rest = following;
         } else {
             return lines;
         }
