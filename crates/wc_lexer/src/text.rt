@@ -1,4 +1,4 @@
-ghost use Rattle.std.specs.Prelude.{◌≡◌, ◌+◌, ◌≤◌, IfErr, IfOk, length, map};
+ghost use Rattle.std.specs.Prelude.{◌≡◌, ◌+◌, ◌≤◌, [], IfErr, IfOk, length, map};
 ghost use Rattle.wc_lexer.specs.Refusals.{Names};
 ghost use Rattle.wc_lexer.specs.TextSpans.{StopsAt, stuck_length};
 ghost use Rattle.wc_lexer.specs.Views.{token_view};
@@ -42,6 +42,16 @@ fn stop_at(number: u16, line: u32, place: usize, rest: &[u8]) -> Stop
     }
 }
 
+/// A list of tokens with space for one in sixteen bytes of the text, if there is memory for that: most
+/// texts have more.
+fn with_space<'a>(alloc: Global, text: &'a [u8]) -> Vec<Token<'a>, Global>
+    ensures { result.items ≡ [] }
+{
+    let mut tokens = Vec::new(alloc);
+    let _ = tokens.reserve(text.len() / 16);
+    tokens
+}
+
 /// Out of memory, which no slice causes.
 fn stop_for_memory() -> Stop
     ensures { result ≡ record { fault = Fault.Memory; start = 0; length = 0 } }
@@ -70,7 +80,7 @@ pub fn tokens_or_stop<'a>(alloc: Global, text: &'a [u8]) -> Result<Vec<Token<'a>
             length: 0,
         });
     }
-    let mut tokens = Vec::new(alloc);
+    let mut tokens = with_space(alloc, text);
     let mut start = 0_usize;
     let mut line = 1_u32;
     while start < text.len() {
