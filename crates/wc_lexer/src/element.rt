@@ -86,8 +86,8 @@ fn word(text: &[u8]) -> LexicalElement
 }
 
 /// The number without a sign that is here. A plain one is read in one pass.
-#[inline(always)]
-fn number(text: &[u8]) -> LexicalElement
+#[inline(never)]
+fn any_number(text: &[u8]) -> LexicalElement
     requires { begins is_ascii_digit text.now ≡ true }
     ensures represents { sight_of result ≡ sight_by_reach (reach text.now) text.now }
     ensures within { IsWithin (length text.now) result }
@@ -99,6 +99,18 @@ fn number(text: &[u8]) -> LexicalElement
         Some(value) => LexicalElement::Lexeme(count, Shape::Whole(value)),
         None => parse_rare_lexeme(text),
     }
+}
+
+/// The same, outlined: the space for its answer is then not prepared unless it is
+/// called.
+#[inline(always)]
+fn number(text: &[u8]) -> LexicalElement
+    requires { begins is_ascii_digit text.now ≡ true }
+    ensures represents { sight_of result ≡ sight_by_reach (reach text.now) text.now }
+    ensures within { IsWithin (length text.now) result }
+{
+    let found = any_number(text);
+    found
 }
 
 /// What is here, whatever it is.
