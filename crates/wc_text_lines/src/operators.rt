@@ -2,7 +2,7 @@ ghost use Rattle.std.specs.Prelude.{◌≡◌, IfSome, Some, option_map};
 ghost use Rattle.wc_laws_grammar.specs.Words as words;
 ghost use Rattle.wc_model.specs.Language.Names.{name_of};
 ghost use Rattle.wc_text_lines.specs.Meanings.{operation_for};
-ghost use Rattle.wc_text_lines.specs.Words.{operating_view, operation_view, symbol_view};
+ghost use Rattle.wc_text_lines.specs.Words.{operation_view, symbol_view};
 
 use wc_built_in::{Keyword, keyword_named};
 use wc_lexer::{Shape, Token};
