@@ -95,27 +95,31 @@ fn lines_ahead(tokens: &[Token]) -> usize
     lines
 }
 
-/// Makes space for as many lines as come at once. If memory is short, the list grows as they come.
+/// Makes space for as many lines as come at once.
 #[cold]
 #[inline(never)]
-fn reserve_ahead<'a>(done: &mut Vec<Line<'a>, Global>, tokens: &[Token<'a>])
+fn reserve_ahead<'a>(
+    done: &mut Vec<Line<'a>, Global>,
+    tokens: &[Token<'a>],
+) -> Result<(), AllocError>
     ensures { done.new.items ≡ done.old.items }
 {
     let (next, _) = tokens.split_at(tokens.len().min(MOST_TOKENS));
-    let _ = done.reserve(lines_ahead(next).min(MOST_LINES));
+    done.reserve(lines_ahead(next).min(MOST_LINES))
 }
 
 /// Makes space for the lines that come if there is none for the next one.
 #[inline(always)]
-fn make_space<'a>(body: &mut Body<'a>, tokens: &[Token<'a>])
+fn make_space<'a>(body: &mut Body<'a>, tokens: &[Token<'a>]) -> Result<(), AllocError>
     requires { IsCounted body.old }
     ensures same { (units : List ProgramUnit)
         → position_view units body.new ≡ position_view units body.old }
     ensures counted { IsCounted body.new }
 {
     if body.done.len() == body.done.capacity() {
-        reserve_ahead(&mut body.done, tokens);
+        return reserve_ahead(&mut body.done, tokens);
     }
+    Ok(())
 }
 
 /// Adds an instruction after a body's lines, with space for those that come with it.
@@ -135,7 +139,7 @@ pub(crate) fn append_step<'a>(
         (step_view step.entry))) }
     ensures counted { OnOk result (IsCounted body.new) }
 {
-    make_space(body, tokens);
+    make_space(body, tokens)?;
     add_step(body, started, step)?;
     Ok(())
 }
@@ -155,7 +159,7 @@ pub(crate) fn append_label<'a>(
         (lines.LabelAlone (word_view label.entry))) }
     ensures counted { OnOk result (IsCounted body.new) }
 {
-    make_space(body, tokens);
+    make_space(body, tokens)?;
     add_label(body, label)?;
     Ok(())
 }
