@@ -12,3 +12,4 @@ pub mod BracketBytes
 pub mod NamePrefixes
 pub mod WordSights
 pub mod Colons
+pub mod PlainNumbers

@@ -1,4 +1,5 @@
 ghost use Rattle.std.specs.Prelude.{◌≡◌, ◌+◌, ◌≤◌, ◌==◌, length, true};
+ghost use Rattle.std.specs.Char.{is_ascii_digit};
 ghost use Rattle.wc_lexer.specs.Sights.{IsWithin, sight_of};
 ghost use Rattle.wc_laws_tokens.specs.Sights.{sight, sight_by_reach, sight_in_comment};
 ghost use Rattle.wc_laws_tokens.specs.Reaches.{reach};
@@ -8,6 +9,8 @@ ghost use Rattle.wc_model.specs.Text.Characters.{begins, starts_identifier};
 use crate::Shape;
 use crate::identifiers::identifier_prefix;
 use crate::lengths::lexeme_length;
+use crate::numbers::signed;
+use crate::plain_numbers::plain_number;
 use crate::prefixes::{begins_with, following_first};
 use crate::shapes::{is_name, shape};
 use crate::spaces::{from_bracket, opens_comment, starts_space};
@@ -82,6 +85,34 @@ fn word(text: &[u8]) -> LexicalElement
     LexicalElement::Lexeme(count, Shape::Identifier)
 }
 
+/// The number without a sign that is here. A plain one is read in one pass.
+#[inline(never)]
+fn any_number(text: &[u8]) -> LexicalElement
+    requires { begins is_ascii_digit text.now ≡ true }
+    ensures represents { sight_of result ≡ sight_by_reach (reach text.now) text.now }
+    ensures within { IsWithin (length text.now) result }
+{
+    let Some((count, size)) = plain_number(text) else {
+        return parse_rare_lexeme(text);
+    };
+    match signed(false, size) {
+        Some(value) => LexicalElement::Lexeme(count, Shape::Whole(value)),
+        None => parse_rare_lexeme(text),
+    }
+}
+
+/// The same, outlined: the space for its answer is then not prepared unless it is
+/// called.
+#[inline(always)]
+fn number(text: &[u8]) -> LexicalElement
+    requires { begins is_ascii_digit text.now ≡ true }
+    ensures represents { sight_of result ≡ sight_by_reach (reach text.now) text.now }
+    ensures within { IsWithin (length text.now) result }
+{
+    let found = any_number(text);
+    found
+}
+
 /// What is here, whatever it is.
 #[inline(never)]
 fn any_element(text: &[u8]) -> LexicalElement
@@ -141,6 +172,7 @@ pub(crate) fn first_element(text: &[u8]) -> LexicalElement
         [b'.', ..] => LexicalElement::Lexeme(1, Shape::Point),
         [b';', ..] => LexicalElement::Lexeme(1, Shape::Semicolon),
         [b'_' | b'A'..=b'Z' | b'a'..=b'z', ..] => word(text),
+        [b'0'..=b'9', ..] => number(text),
         _ => other_element(text),
     }
 }

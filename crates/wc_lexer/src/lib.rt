@@ -8,6 +8,7 @@ mod identifiers;
 mod lengths;
 mod marks;
 mod numbers;
+mod plain_numbers;
 mod prefixes;
 mod shape;
 mod shapes;

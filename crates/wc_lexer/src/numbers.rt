@@ -21,7 +21,8 @@ fn digit_value(byte: u8) -> u64
 }
 
 /// The byte is a digit of that base.
-fn is_digit(byte: u8, base: u64) -> bool
+#[inline(always)]
+pub(crate) fn is_digit(byte: u8, base: u64) -> bool
     ensures { result ≡ is_digit byte base }
 {
     digit_value(byte) < base
@@ -67,7 +68,8 @@ pub(crate) fn are_digits(base: u64, text: &[u8]) -> bool
 }
 
 /// The number with one digit more, if it has 64 bits.
-fn with_digit(number: u64, base: u64, digit: u8) -> Option<u64>
+#[inline(always)]
+pub(crate) fn with_digit(number: u64, base: u64, digit: u8) -> Option<u64>
     ensures { result ≡ within_64_bits (number * base + digit_value digit) }
 {
     number.checked_mul(base)?.checked_add(digit_value(digit))

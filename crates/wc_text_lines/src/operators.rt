@@ -2,7 +2,7 @@ ghost use Rattle.std.specs.Prelude.{◌≡◌, IfSome, Some, option_map};
 ghost use Rattle.wc_laws_grammar.specs.Words as words;
 ghost use Rattle.wc_model.specs.Language.Names.{name_of};
 ghost use Rattle.wc_text_lines.specs.Meanings.{operation_for};
-ghost use Rattle.wc_text_lines.specs.Words.{operating_view, operation_view, symbol_view};
+ghost use Rattle.wc_text_lines.specs.Words.{operation_view, symbol_view};
 
 use wc_built_in::{Keyword, keyword_named};
 use wc_lexer::{Shape, Token};
@@ -52,6 +52,7 @@ fn operation_for(keyword: Keyword) -> Option<Operation>
 }
 
 /// The operator that a reserved word is, whichever it is.
+#[inline(never)]
 fn any_operation(text: &[u8]) -> Option<Operation>
     ensures { option_map operation_view result ≡ words.found words.operations (name_of text.now) }
 {
@@ -62,27 +63,31 @@ fn any_operation(text: &[u8]) -> Option<Operation>
 }
 
 /// The operator that the word is if it is one of the most frequent, in capitals. These are found without the list of words.
-fn frequent_operation(text: &[u8]) -> Option<Operating>
-    ensures { IfSome result (λ operating. words.found words.operations (name_of text.now)
-        ≡ Some (words.Operates (operating_view operating))) }
+#[inline(always)]
+fn frequent_operation(text: &[u8]) -> Option<Operation>
+    ensures { IfSome result (λ operation. words.found words.operations (name_of text.now)
+        ≡ Some (operation_view operation)) }
 {
     match text {
-        b"LD" => Some(Operating::Loads(false)),
-        b"ST" => Some(Operating::Stores(Storing::Result)),
-        b"AND" => Some(Operating::Applies(Operator::And)),
-        b"OR" => Some(Operating::Applies(Operator::Or)),
-        b"ADD" => Some(Operating::Applies(Operator::Add)),
-        b"GT" => Some(Operating::Applies(Operator::Gt)),
+        b"LD" => Some(Operation::Operates(Operating::Loads(false))),
+        b"ST" => Some(Operation::Operates(Operating::Stores(Storing::Result))),
+        b"AND" => Some(Operation::Operates(Operating::Applies(Operator::And))),
+        b"OR" => Some(Operation::Operates(Operating::Applies(Operator::Or))),
+        b"ADD" => Some(Operation::Operates(Operating::Applies(Operator::Add))),
+        b"GT" => Some(Operation::Operates(Operating::Applies(Operator::Gt))),
+        b"CAL" => Some(Operation::Calls(Condition::Always)),
+        b"JMPC" => Some(Operation::Jumps(Condition::IfTrue)),
         _ => None,
     }
 }
 
 /// The operator that the word is.
+#[inline(always)]
 pub fn operation_named(text: &[u8]) -> Option<Operation>
     ensures { option_map operation_view result ≡ words.found words.operations (name_of text.now) }
 {
     match frequent_operation(text) {
-        Some(operating) => Some(Operation::Operates(operating)),
+        Some(operation) => Some(operation),
         None => any_operation(text),
     }
 }

@@ -15,6 +15,7 @@ use Rattle.wc_model.specs.Text.Keywords.{end_word}
 use Rattle.wc_model.specs.Text.Marks.{Mark, Symbol, Identifier, Whole, Duration, Truth, Direct, Colon, LineEnd}
 use Rattle.wc_model.specs.Text.Positions.{Position}
 use Rattle.wc_model.specs.Text.ReadingFaults.{TooMany}
+use Rattle.wc_model.specs.declared.operator.Condition.{Condition}
 use Rattle.wc_lexer.specs.Views.{shape_view, token_view}
 use Rattle.wc_lexer.specs.declared.shape.Shape.TheVariants as Shape
 use Rattle.wc_lexer.specs.declared.shape.Token.{Token}
@@ -129,6 +130,16 @@ makes_operated operating mark term e = record {
   no_colon = operand_is_no_colon mark.symbol mark.line term e;
   ends = λ p line end following. operand_ends p (record { label = None; line = line }) operating mark.symbol mark.line end following term e;
 }
+
+-- a call without a list
+makes_call : (condition : Condition) (bytes : List ℕ) (line : ℕ) → Makes (words.Calls condition) (record { symbol = Identifier bytes; line = line }) (tree.Call condition (name_of bytes) [])
+makes_call condition bytes line = record { no_colon = refl; ends = λ p line end following. record { same = λ last. refl } }
+
+-- an instance with which it is made
+pub makes_call_of : (condition : Condition) (token : Token) → token.shape ≡ Shape.Identifier → Makes (words.Calls condition) (mark_of_token (token_view token)) (tree.Call condition (name_of token.text.now) [])
+makes_call_of condition token e =
+    subst (λ s. Makes (words.Calls condition) (record { symbol = symbol_of (shape_view s) token.text.now; line = token.line }) (tree.Call condition (name_of token.text.now) [])) (sym e)
+    (makes_call condition token.text.now token.line)
 
 -- a word that is an operator at the start of a line
 pub begins_line : (p : Position) (bytes : List ℕ) (operation : Operation) → p.openings ≡ [] → is_full p ≡ false → same_name (name_of bytes) (end_word p.unit.kind) ≡ false

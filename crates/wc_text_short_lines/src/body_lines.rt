@@ -13,16 +13,18 @@ ghost use Rattle.wc_text_short_lines.specs.Several.{Begins, GoesOn, IsLine, Make
 ghost use Rattle.wc_text_bodies.specs.BodyViews.{IsCounted, position_view};
 ghost use Rattle.wc_text_lines.specs.Words.{marks_of, operating_view, operation_view, symbol_view};
 
+use crate::ahead::append_step;
 use crate::label_lines::take_empty;
-use std::alloc::AllocError;
+use std::alloc::{AllocError, Global};
 use wc_lexer::{Shape, Token};
 use wc_model::{Condition, Operand, Value};
-use wc_text_bodies::{Body, add_step, is_full, section_of_word};
+use wc_text_bodies::{Body, is_full, section_of_word};
 use wc_text_lines::{
-    Operating, Operation, StartedLine, Step, ends_unit, operation_named, truth, word,
+    Listed, Operating, Operation, StartedLine, Step, ends_unit, operation_named, truth, word,
 };
 
 /// The operand that the token is by itself.
+#[inline(always)]
 pub fn operand_of<'a>(token: Token<'a>) -> Option<Operand<'a>>
     ensures { option_map term_view result
         ≡ operand_of (symbol_view token.entry) token.entry.line }
@@ -65,8 +67,24 @@ fn jump_to<'a>(condition: Condition, token: Token<'a>) -> Option<Step<'a>>
     }
 }
 
+/// The call without a list of the instance that the token is.
+fn call_to<'a>(alloc: Global, condition: Condition, token: Token<'a>) -> Option<Step<'a>>
+    ensures { IfSome result
+        (λ step.
+        Makes (words.Calls condition) (mark_of_token (token_view token.entry)) (step_view step)) }
+{
+    match token.shape {
+        Shape::Identifier => Some(Step::Call(Listed {
+            condition,
+            instance: word(token),
+            arguments: Vec::new(alloc),
+        })),
+        _ => None,
+    }
+}
+
 /// The instruction that the operator and the token after it are, if the line ends there.
-fn step_with<'a>(operation: Operation, token: Token<'a>) -> Option<Step<'a>>
+fn step_with<'a>(alloc: Global, operation: Operation, token: Token<'a>) -> Option<Step<'a>>
     ensures { IfSome result
         (λ step.
         Makes (operation_view operation) (mark_of_token (token_view token.entry))
@@ -75,6 +93,7 @@ fn step_with<'a>(operation: Operation, token: Token<'a>) -> Option<Step<'a>>
     match operation {
         Operation::Operates(operating) => operation_with(operating, token),
         Operation::Jumps(condition) => jump_to(condition, token),
+        Operation::Calls(condition) => call_to(alloc, condition, token),
         _ => None,
     }
 }
@@ -99,6 +118,7 @@ fn is_plain_start(body: &Body, text: &[u8]) -> bool
 
 /// The operator that the word is at the start of a line with no parenthesis open, if it is
 /// neither a line too many nor the start of a section.
+#[inline(always)]
 pub(crate) fn operation_at<'a>(body: &Body<'a>, text: &[u8]) -> Option<Operation>
     requires { IsCounted body.now }
     ensures { IfSome result
@@ -115,7 +135,12 @@ pub(crate) fn operation_at<'a>(body: &Body<'a>, text: &[u8]) -> Option<Operation
 }
 
 /// The instruction that the two tokens are, if a line is no more than these.
-fn step_at<'a>(body: &Body<'a>, first: Token<'a>, second: Token<'a>) -> Option<Step<'a>>
+fn step_at<'a>(
+    alloc: Global,
+    body: &Body<'a>,
+    first: Token<'a>,
+    second: Token<'a>,
+) -> Option<Step<'a>>
     requires { IsCounted body.now }
     ensures { IfSome result
         (λ step. (units : List ProgramUnit)
@@ -124,17 +149,21 @@ fn step_at<'a>(body: &Body<'a>, first: Token<'a>, second: Token<'a>) -> Option<S
 {
     match first.shape {
         Shape::Identifier => match operation_at(body, first.text) {
-            Some(operation) => step_with(operation, second),
+            Some(operation) => step_with(alloc, operation, second),
             None => None,
         },
         _ => None,
     }
 }
 
-/// Reads a line of an operator with its operand or its label, and returns the number of its tokens:
+/// Reads a line of an operator with its operand, its label or its instance, and returns the number of its tokens:
 /// none if no such line is here.
 #[inline(always)]
-fn take_step<'a>(body: &mut Body<'a>, tokens: &[Token<'a>]) -> Result<usize, AllocError>
+fn take_step<'a>(
+    alloc: Global,
+    body: &mut Body<'a>,
+    tokens: &[Token<'a>],
+) -> Result<usize, AllocError>
     requires { IsCounted body.old }
     ensures goes_on { IfOk result
         (λ taken. (units : List ProgramUnit)
@@ -149,13 +178,13 @@ fn take_step<'a>(body: &mut Body<'a>, tokens: &[Token<'a>]) -> Result<usize, All
     let Shape::LineEnd = third.shape else {
         return Ok(0);
     };
-    match step_at(body, *first, *second) {
+    match step_at(alloc, body, *first, *second) {
         Some(step) => {
             let started = StartedLine {
                 label: None,
                 line: first.line,
             };
-            add_step(body, started, step)?;
+            append_step(body, tokens, started, step)?;
             Ok(3)
         }
         None => Ok(0),
@@ -165,7 +194,11 @@ fn take_step<'a>(body: &mut Body<'a>, tokens: &[Token<'a>]) -> Result<usize, All
 /// Reads a short line in place, after an empty one and a label alone if each is here, and
 /// returns the number of their tokens.
 #[inline(always)]
-pub(crate) fn take_line<'a>(body: &mut Body<'a>, tokens: &[Token<'a>]) -> Result<usize, AllocError>
+pub(crate) fn take_line<'a>(
+    alloc: Global,
+    body: &mut Body<'a>,
+    tokens: &[Token<'a>],
+) -> Result<usize, AllocError>
     requires { IsCounted body.old }
     ensures goes_on { IfOk result
         (λ taken. (units : List ProgramUnit)
@@ -176,6 +209,6 @@ pub(crate) fn take_line<'a>(body: &mut Body<'a>, tokens: &[Token<'a>]) -> Result
 {
     let before = take_empty(body, tokens)?;
     let (_, following) = tokens.split_at(before);
-    let taken = take_step(body, following)?;
+    let taken = take_step(alloc, body, following)?;
     Ok(before + taken)
 }

@@ -11,11 +11,12 @@ ghost use Rattle.wc_text_short_lines.specs.Several.{BeginsCall, GoesOn, IsArgume
 ghost use Rattle.wc_text_bodies.specs.BodyViews.{IsCounted, position_view};
 ghost use Rattle.wc_text_lines.specs.Words.{marks_of};
 
+use crate::ahead::append_step;
 use crate::body_lines::{operand_of, operation_at, take_line};
 use std::alloc::{AllocError, Global};
 use wc_lexer::{Shape, Token};
 use wc_model::{Argument, Direction};
-use wc_text_bodies::{Body, add_step};
+use wc_text_bodies::Body;
 use wc_text_lines::{Listed, Operation, StartedLine, Step, word};
 
 /// Which way a value goes by the sign between a formal and an actual parameter.
@@ -217,6 +218,9 @@ fn take_call<'a>(
     let [operator, instance, opening, input, ..] = tokens else {
         return Ok(0);
     };
+    let Shape::Opening = opening.shape else {
+        return Ok(0);
+    };
     match call_at(alloc, body, *operator, *instance, *opening, *input) {
         Some(call) => {
             let mut call = call;
@@ -229,7 +233,7 @@ fn take_call<'a>(
                 label: None,
                 line: operator.line,
             };
-            add_step(body, started, Step::Call(call))?;
+            append_step(body, tokens, started, Step::Call(call))?;
             Ok(3 + taken)
         }
         None => Ok(0),
@@ -252,7 +256,7 @@ pub fn take_line_and_call<'a>(
     ensures counted { OnOk result (IsCounted body.new) }
     ensures within { IfOk result (λ taken. taken ≤ length tokens.now) }
 {
-    let before = take_line(body, tokens)?;
+    let before = take_line(alloc, body, tokens)?;
     let (_, following) = tokens.split_at(before);
     let taken = take_call(alloc, body, following)?;
     Ok(before + taken)
