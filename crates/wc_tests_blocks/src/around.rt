@@ -1,5 +1,5 @@
 //! Readers and writers around others: what they hand on, and what they keep.
-use std::alloc::{AllocError, Global};
+use std::alloc::Global;
 use std::io;
 use std::io::{Read, Write};
 use wc_devices::{OutputBuffer, RetryReader, TeeReader};
@@ -59,51 +59,56 @@ fn has_kept(kept: Option<&[u8]>, wanted: &[u8]) -> bool {
     }
 }
 
+/// Whether a reader of three bytes keeps what it reads.
+fn keeps_what_it_reads(reader: &mut TeeReader<&[u8]>) -> bool {
+    let mut buffer = [0_u8; 2];
+    has_kept(reader.bytes_read(), b"")
+        && moved(reader.read(&mut buffer)) == Some(2)
+        && moved(reader.read(&mut buffer)) == Some(1)
+        && moved(reader.read(&mut buffer)) == Some(0)
+        && has_kept(reader.bytes_read(), b"abc")
+        && reader.get_ref().is_empty()
+}
+
 #[test]
 fn a_reader_keeps_what_it_reads(rt: HostRuntime) {
     let bytes: &[u8] = b"abc";
     let mut reader = TeeReader::new(rt.alloc(), bytes);
+    assert!(rt; keeps_what_it_reads(&mut reader));
+}
+
+/// Whether a read fails.
+fn fails_to_read(calls: &mut RetryReader<Interrupted>) -> bool {
     let mut buffer = [0_u8; 2];
-    assert!(rt; has_kept(reader.bytes_read(), b""));
-    assert!(rt; moved(reader.read(&mut buffer)) == Some(2));
-    assert!(rt; moved(reader.read(&mut buffer)) == Some(1));
-    assert!(rt; moved(reader.read(&mut buffer)) == Some(0));
-    assert!(rt; has_kept(reader.bytes_read(), b"abc"));
-    assert!(rt; reader.get_ref().is_empty());
+    moved(calls.read(&mut buffer)).is_none()
+}
+
+/// Whether a read and a write fail, and the cause is then that of the last call.
+fn are_tried_again(calls: &mut RetryReader<Interrupted>) -> bool {
+    let before = is_broken(calls.cause());
+    let read = fails_to_read(calls) && is_broken(calls.cause());
+    let written = moved(calls.write(b"abc")).is_none() && is_broken(calls.cause());
+    !before && read && written
 }
 
 #[test]
 fn calls_are_tried_again(rt: HostRuntime) {
     let mut calls = RetryReader::new(Interrupted { left: 3 });
-    let mut buffer = [0_u8; 2];
-    assert!(rt; !is_broken(calls.cause()));
-    assert!(rt; moved(calls.read(&mut buffer)).is_none());
-    assert!(rt; is_broken(calls.cause()));
-    assert!(rt; moved(calls.write(b"abc")).is_none());
-    assert!(rt; is_broken(calls.cause()));
+    assert!(rt; are_tried_again(&mut calls));
+}
+
+/// Whether the next read fails, by the error of the last call or by another.
+fn fails_by_the_last(calls: &mut RetryReader<Interrupted>, last: bool) -> bool {
+    fails_to_read(calls) && is_broken(calls.cause()) == last
 }
 
 #[test]
 fn interruptions_have_a_bound(rt: HostRuntime) {
-    let mut buffer = [0_u8; 2];
     let mut calls = RetryReader::new(Interrupted { left: 16 });
-    assert!(rt; moved(calls.read(&mut buffer)).is_none());
-    assert!(rt; is_broken(calls.cause()));
+    assert!(rt; fails_by_the_last(&mut calls, true));
     let mut more_calls = RetryReader::new(Interrupted { left: 17 });
-    assert!(rt; moved(more_calls.read(&mut buffer)).is_none());
-    assert!(rt; !is_broken(more_calls.cause()));
-    assert!(rt; moved(more_calls.read(&mut buffer)).is_none());
-    assert!(rt; is_broken(more_calls.cause()));
-}
-
-/// Whether a writer with a buffer of four bytes passes bytes on when it has no more space, and when it is flushed.
-fn gathers(alloc: Global) -> Result<bool, AllocError> {
-    let mut writer = OutputBuffer::new(alloc, Vec::new(alloc), 4)?;
-    let first = moved(writer.write(b"abc")) == Some(3) && writer.get_ref().is_empty();
-    let second = moved(writer.write(b"de")) == Some(2) && has_taken(&writer, b"abc");
-    let flushed = writer.flush().is_ok() && has_taken(&writer, b"abcde");
-    let third = moved(writer.write(b"fghij")) == Some(5) && has_taken(&writer, b"abcdefghij");
-    Ok(first && second && flushed && third)
+    assert!(rt; fails_by_the_last(&mut more_calls, false));
+    assert!(rt; fails_by_the_last(&mut more_calls, true));
 }
 
 /// Whether the writer inside has taken these bytes, and no others.
@@ -111,32 +116,73 @@ fn has_taken(writer: &OutputBuffer<Vec<u8>>, wanted: &[u8]) -> bool {
     writer.get_ref().as_slice() == wanted
 }
 
+/// Whether a writer with a buffer of four bytes takes these, and the writer inside has then taken those.
+fn takes(writer: &mut OutputBuffer<Vec<u8>>, bytes: &[u8], inside: &[u8]) -> bool {
+    moved(writer.write(bytes)) == Some(bytes.len()) && has_taken(writer, inside)
+}
+
+/// Whether it hands all on when it is flushed.
+fn is_flushed(writer: &mut OutputBuffer<Vec<u8>>, inside: &[u8]) -> bool {
+    writer.flush().is_ok() && has_taken(writer, inside)
+}
+
+/// Whether a writer with a buffer of four bytes passes bytes on when it has no more space, and when it is flushed.
+fn gathers_all(writer: &mut OutputBuffer<Vec<u8>>) -> bool {
+    takes(writer, b"abc", b"")
+        && takes(writer, b"de", b"abc")
+        && is_flushed(writer, b"abcde")
+        && takes(writer, b"fghij", b"abcdefghij")
+}
+
+/// Whether there is such a writer.
+fn gathers(alloc: Global) -> bool {
+    match OutputBuffer::new(alloc, Vec::new(alloc), 4) {
+        Ok(mut writer) => gathers_all(&mut writer),
+        Err(_) => false,
+    }
+}
+
 /// Whether a writer that could not hand its bytes on takes no more.
-fn stays_failed(alloc: Global) -> Result<bool, AllocError> {
-    let mut writer = OutputBuffer::new(alloc, Interrupted { left: 0 }, 4)?;
+fn takes_no_more(writer: &mut OutputBuffer<Interrupted>) -> bool {
     let taken = moved(writer.write(b"abc")) == Some(3);
     let failed = writer.flush().is_err() && writer.empty().is_err();
-    Ok(taken && failed && moved(writer.write(b"d")).is_none())
+    taken && failed && moved(writer.write(b"d")).is_none()
+}
+
+/// Whether there is such a writer.
+fn stays_failed(alloc: Global) -> bool {
+    match OutputBuffer::new(alloc, Interrupted { left: 0 }, 4) {
+        Ok(mut writer) => takes_no_more(&mut writer),
+        Err(_) => false,
+    }
 }
 
 #[test]
 fn a_writer_gathers_what_it_takes(rt: HostRuntime) {
-    assert!(rt; gathers(rt.alloc()) == Ok(true));
+    assert!(rt; gathers(rt.alloc()));
 }
 
 #[test]
 fn nothing_is_taken_after_a_failure(rt: HostRuntime) {
-    assert!(rt; stays_failed(rt.alloc()) == Ok(true));
+    assert!(rt; stays_failed(rt.alloc()));
+}
+
+/// Whether a write is passed on.
+fn is_write_passed_on(writer: &mut RetryReader<Vec<u8>>) -> bool {
+    moved(writer.write(b"abc")) == Some(3) && writer.cause().is_none()
+}
+
+/// Whether a read is passed on.
+fn is_read_passed_on(reader: &mut RetryReader<&[u8]>) -> bool {
+    let mut buffer = [0_u8; 2];
+    moved(reader.read(&mut buffer)) == Some(2) && buffer == *b"ab"
 }
 
 #[test]
 fn bytes_are_passed_on(rt: HostRuntime) {
     let mut writer = RetryReader::new(Vec::new(rt.alloc()));
-    assert!(rt; moved(writer.write(b"abc")) == Some(3));
-    assert!(rt; writer.cause().is_none());
+    assert!(rt; is_write_passed_on(&mut writer));
     let bytes: &[u8] = b"abc";
     let mut reader = RetryReader::new(bytes);
-    let mut buffer = [0_u8; 2];
-    assert!(rt; moved(reader.read(&mut buffer)) == Some(2));
-    assert!(rt; buffer == *b"ab");
+    assert!(rt; is_read_passed_on(&mut reader));
 }

@@ -1,6 +1,7 @@
 //! Both stores of a frame's numbers, through their trait, and over the same writes.
-ghost use Rattle.std.specs.Prelude.{◌≡◌, ◌≤◌, length, true};
+ghost use Rattle.std.specs.Prelude.{◌≡◌, ◌<◌, ◌≤◌, length, true};
 ghost use Rattle.wc_model.specs.Language.Frames.{IsInRange};
+ghost use Rattle.wc_store.specs.Slots.{IsInRangeAt};
 
 use std::alloc::Global;
 use wc_model::{Fault, Place, SlotKind};
@@ -33,6 +34,14 @@ fn fits(kind: SlotKind, number: i64) -> bool
     }
 }
 
+/// Whether a number is in the range of the kind at a place.
+fn fits_at(kinds: &[SlotKind], place: usize, number: i64) -> bool
+    requires { place < length kinds.now }
+    ensures { result ≡ true → IsInRangeAt kinds.now place number }
+{
+    fits(kinds[place], number)
+}
+
 /// A number in the range of a kind, made of any number.
 fn within(kind: SlotKind, any: u64) -> i64 {
     match kind {
@@ -51,7 +60,7 @@ fn put<S: Store>(store: &mut S, kinds: &[SlotKind], place: u16, number: i64) -> 
 {
     let at = usize::from(place);
     if at < kinds.len() {
-        if fits(kinds[at], number) {
+        if fits_at(kinds, at, number) {
             if at % 2 == 0 {
                 store.set(Place(place), number);
             } else {
@@ -76,7 +85,11 @@ fn put_four<S: Store>(store: &mut S, kinds: &[SlotKind], numbers: &[i64; 4]) -> 
 {
     let [a, b, c, d] = *numbers;
     if kinds.len() >= 4 {
-        if fits(kinds[0], a) && fits(kinds[1], b) && fits(kinds[2], c) && fits(kinds[3], d) {
+        if fits_at(kinds, 0, a)
+            && fits_at(kinds, 1, b)
+            && fits_at(kinds, 2, c)
+            && fits_at(kinds, 3, d)
+        {
             store.set_four(0, a, b, c, d);
             return true;
         }
@@ -84,22 +97,43 @@ fn put_four<S: Store>(store: &mut S, kinds: &[SlotKind], numbers: &[i64; 4]) -> 
     false
 }
 
+/// A store holds 0 at first; what is written is read, and no other place changes.
+fn keeps_numbers<S: Store>(store: &mut S, kinds: &[SlotKind]) -> bool
+    requires { S.slot_kinds store.old ≡ kinds.now }
+    ensures { S.slot_kinds store.new ≡ kinds.now }
+{
+    let zero = store.size() == kinds.len() && holds(store, 1, 0) && holds(store, 3, 0);
+    let dint = put(store, kinds, 1, -2147483648) && holds(store, 1, -2147483648);
+    let moment = put(store, kinds, 3, 1099511627775) && holds(store, 3, 1099511627775);
+    let last = put(store, kinds, 9, 1) && holds(store, 9, 1) && !holds(store, 10, 0);
+    let kept = holds(store, 1, -2147483648) && holds(store, 2, 0);
+    zero && dint && moment && last && kept
+}
+
+/// After that, what is written to four places at once is read, and no other place changes.
+fn keeps_four<S: Store>(store: &mut S, kinds: &[SlotKind]) -> bool
+    requires { S.slot_kinds store.old ≡ kinds.now }
+{
+    let four = put_four(store, kinds, &[1, -5, 6, 7]) && holds(store, 0, 1);
+    let following = holds(store, 1, -5) && holds(store, 2, 6) && holds(store, 3, 7);
+    four && following && holds(store, 9, 1)
+}
+
+/// Both in turn.
+fn keeps_all<S: Store>(store: &mut S, kinds: &[SlotKind]) -> bool
+    requires { S.slot_kinds store.old ≡ kinds.now }
+{
+    keeps_numbers(store, kinds) && keeps_four(store, kinds)
+}
+
 /// Each call of a store: 0 at first; what is written is read, and no other place changes.
 fn each_call<S: Store>(alloc: Global, kinds: &[SlotKind]) -> Result<bool, Fault>
     requires { length kinds.now ≤ 65536 }
 {
-    let mut store = match S::make(alloc, kinds) {
-        Ok(store) => store,
-        Err(fault) => return Err(fault),
-    };
-    let zero = store.size() == kinds.len() && holds(&store, 1, 0) && holds(&store, 3, 0);
-    let dint = put(&mut store, kinds, 1, -2147483648) && holds(&store, 1, -2147483648);
-    let moment = put(&mut store, kinds, 3, 1099511627775) && holds(&store, 3, 1099511627775);
-    let last = put(&mut store, kinds, 9, 1) && holds(&store, 9, 1) && !holds(&store, 10, 0);
-    let kept = holds(&store, 1, -2147483648) && holds(&store, 2, 0);
-    let four = put_four(&mut store, kinds, &[1, -5, 6, 7]) && holds(&store, 0, 1);
-    let following = holds(&store, 1, -5) && holds(&store, 2, 6) && holds(&store, 3, 7);
-    Ok(zero && dint && moment && last && kept && four && following && holds(&store, 9, 1))
+    match S::make(alloc, kinds) {
+        Ok(mut store) => Ok(keeps_all(&mut store, kinds)),
+        Err(fault) => Err(fault),
+    }
 }
 
 #[test]
@@ -150,20 +184,31 @@ fn agree<A: Store, B: Store>(one: &A, other: &B, places: u16) -> bool {
     true
 }
 
+/// Both stores were made, all writes were in range, and both hold the same numbers.
+fn are_made_alike(
+    named: &Result<(NamedStore, bool), Fault>,
+    slots: &Result<(SlotStore, bool), Fault>,
+) -> bool {
+    match (named, slots) {
+        (Ok(named), Ok(slots)) => named.1 && slots.1 && agree(&named.0, &slots.0, 10),
+        _ => false,
+    }
+}
+
 /// Both stores hold the same numbers after n writes.
 fn agree_after(alloc: Global, writes: u32) -> bool {
-    let Ok((named, all)) = after_writes::<NamedStore>(alloc, &KINDS, writes) else {
-        return false;
-    };
-    let Ok((slots, too)) = after_writes::<SlotStore>(alloc, &KINDS, writes) else {
-        return false;
-    };
-    all && too && agree(&named, &slots, 10)
+    are_made_alike(
+        &after_writes(alloc, &KINDS, writes),
+        &after_writes(alloc, &KINDS, writes),
+    )
 }
+
+/// Numbers of writes.
+const WRITES: [u32; 6] = [0, 1, 2, 10, 100, 5000];
 
 #[test]
 fn both_stores_agree(rt: HostRuntime) {
-    for writes in [0, 1, 2, 10, 100, 5000] {
-        assert!(rt; agree_after(rt.alloc(), writes));
+    for writes in &WRITES {
+        assert!(rt; agree_after(rt.alloc(), *writes));
     }
 }

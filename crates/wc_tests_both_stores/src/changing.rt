@@ -33,17 +33,21 @@ fn scanned(machine: &mut Machine<'_, SlotStore>, ms: u64) -> Option<(Steps, Outp
     Some((steps, machine.outputs()))
 }
 
+/// What a machine shows: its outputs, its last time and its bound.
+fn shown(machine: &Machine<'_, SlotStore>) -> (Outputs, u64, u32) {
+    (machine.outputs(), machine.last(), machine.bound())
+}
+
 /// Whether two machines have the same outputs, last time and bound, and the same next scan.
 fn are_alike(one: &mut Machine<'_, SlotStore>, other: &mut Machine<'_, SlotStore>) -> bool {
-    let same = one.outputs() == other.outputs() && one.last() == other.last();
-    same && one.bound() == other.bound() && scanned(one, 100) == scanned(other, 100)
+    shown(one) == shown(other) && scanned(one, 100) == scanned(other, 100)
 }
 
 /// Asks one of two machines that are alike for a change.
 fn change_one<'a>(
     alloc: Global,
     machine: Machine<'a, SlotStore>,
-    other: &mut Machine<'a, SlotStore>,
+    other: &mut Machine<'_, SlotStore>,
     next: Loaded<'a>,
 ) -> Change {
     match machine.change(alloc, next) {
@@ -72,16 +76,26 @@ fn machine_of<'a>(alloc: Global, text: &'a [u8]) -> Result<Machine<'a, SlotStore
     }
 }
 
-/// Asks a machine over a text for the change to the next.
-pub(crate) fn change_of(alloc: Global, program: &[u8], next: &[u8]) -> Change {
+/// Asks a machine over a text, of which another is the like, for the change to the next.
+fn change_first(
+    alloc: Global,
+    program: &[u8],
+    other: &mut Machine<'_, SlotStore>,
+    next: &[u8],
+) -> Change {
     let Ok(machine) = machine_of(alloc, program) else {
         return Change::Unloaded;
     };
-    let Ok(mut other) = machine_of(alloc, program) else {
-        return Change::Unloaded;
-    };
     match load(alloc, next) {
-        Ok(next) => change_one(alloc, machine, &mut other, next),
+        Ok(next) => change_one(alloc, machine, other, next),
+        Err(_) => Change::Unloaded,
+    }
+}
+
+/// Asks a machine over a text for the change to the next.
+pub(crate) fn change_of(alloc: Global, program: &[u8], next: &[u8]) -> Change {
+    match machine_of(alloc, program) {
+        Ok(mut other) => change_first(alloc, program, &mut other, next),
         Err(_) => Change::Unloaded,
     }
 }

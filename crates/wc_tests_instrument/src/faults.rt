@@ -13,18 +13,45 @@ fn says<E: Display>(alloc: Global, fault: &E, words: &str) -> bool {
     }
 }
 
+/// Whether each fault says the words that come after it.
+fn all_say<E: Display>(alloc: Global, rows: &[(E, &str)]) -> bool {
+    for (fault, words) in rows {
+        if !says(alloc, fault, words) {
+            return false;
+        }
+    }
+    true
+}
+
+/// A log's row that is refused.
+const REFUSED: LogFault = LogFault::Refused {
+    number: 603,
+    place: 4,
+};
+
+/// Faults of a log.
+const OF_LOGS: [(LogFault, &str); 3] = [
+    (REFUSED, "refused 603 4"),
+    (LogFault::Read, "read fault"),
+    (LogFault::Memory, "out of memory"),
+];
+
+/// Refusals of the indicator.
+const OF_INDICATORS: [(Refused, &str); 2] = [
+    (Refused::Motion, "in motion"),
+    (Refused::Range, "out of range"),
+];
+
+/// Faults of an input.
+const OF_INPUTS: [(ReadFault, &str); 3] = [
+    (ReadFault::TooLong, "more than 1048576 bytes"),
+    (ReadFault::Read, "read fault"),
+    (ReadFault::Memory, "out of memory"),
+];
+
 #[test]
 fn faults_say_what_they_are(rt: HostRuntime) {
-    let refused = LogFault::Refused {
-        number: 603,
-        place: 4,
-    };
-    assert!(rt; says(rt.alloc(), &refused, "refused 603 4"));
-    assert!(rt; says(rt.alloc(), &LogFault::Read, "read fault"));
-    assert!(rt; says(rt.alloc(), &LogFault::Memory, "out of memory"));
-    assert!(rt; says(rt.alloc(), &Refused::Motion, "in motion"));
-    assert!(rt; says(rt.alloc(), &Refused::Range, "out of range"));
-    assert!(rt; says(rt.alloc(), &ReadFault::TooLong, "more than 1048576 bytes"));
-    assert!(rt; says(rt.alloc(), &ReadFault::Read, "read fault"));
-    assert!(rt; says(rt.alloc(), &ReadFault::Memory, "out of memory"));
+    assert!(rt; all_say(rt.alloc(), &OF_LOGS));
+    assert!(rt; all_say(rt.alloc(), &OF_INDICATORS));
+    assert!(rt; all_say(rt.alloc(), &OF_INPUTS));
 }

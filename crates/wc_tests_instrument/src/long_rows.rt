@@ -55,74 +55,106 @@ fn a_row_of_commas(rt: HostRuntime) {
     assert!(rt; spent > 0 && spent < 200000);
 }
 
-#[test]
-fn a_fault_after_what_is_read(rt: HostRuntime) {
-    assert!(rt;
-        ends_with(
-            rt.alloc(),
-            b"ms,kind,data\n0,S,,",
-            b"x",
-            90000,
-            0,
-            refused(601, 2)
-        )
-    );
-}
+/// The fault of a row that is cut.
+const CUT: Option<LogFault> = Some(LogFault::Refused {
+    number: 601,
+    place: 2,
+});
+
+/// The fault of a reader.
+const FAILED: Option<LogFault> = Some(LogFault::Read);
+
+/// What a log has: its head, what is after it and how often; and how it ends: after how many rows, and with which fault.
+type Long = (
+    &'static str,
+    &'static [u8],
+    &'static [u8],
+    u32,
+    u32,
+    Option<LogFault>,
+);
+
+/// Logs with long rows.
+const LONG: [Long; 8] = [
+    (
+        "a fault after what is read",
+        b"ms,kind,data\n0,S,,",
+        b"x",
+        90000,
+        0,
+        CUT,
+    ),
+    (
+        "a fault in a short row",
+        b"ms,kind,data\n0,S,,",
+        b"x",
+        50000,
+        0,
+        FAILED,
+    ),
+    (
+        "a fault in the third field",
+        b"ms,kind,data\n0,L,",
+        b"00",
+        45000,
+        0,
+        FAILED,
+    ),
+    (
+        "commas in quotes",
+        b"ms,kind,data\n0,S,\"",
+        b",",
+        90000,
+        0,
+        FAILED,
+    ),
+    (
+        "commas after quotes",
+        b"ms,kind,data\n0,\"S,\",\"a\"\",\",",
+        b"x",
+        90000,
+        0,
+        CUT,
+    ),
+    (
+        "lines in quotes",
+        b"ms,kind,data\n0,\"S\r\n\",x,",
+        b"x",
+        90000,
+        0,
+        CUT,
+    ),
+    (
+        "rows that end in two bytes",
+        b"ms,kind,data\r\n",
+        b"0,S,\r\n",
+        50,
+        50,
+        FAILED,
+    ),
+    (
+        "quotes after a mark",
+        b"\xef\xbb\xbf\"m,s\",kind,data",
+        b"x",
+        90000,
+        0,
+        FAILED,
+    ),
+];
 
 #[test]
-fn a_fault_in_a_short_row(rt: HostRuntime) {
-    let fault = Some(LogFault::Read);
-    assert!(rt; ends_with(rt.alloc(), b"ms,kind,data\n0,S,,", b"x", 50000, 0, fault));
-}
-
-#[test]
-fn a_fault_in_the_third_field(rt: HostRuntime) {
-    let fault = Some(LogFault::Read);
-    assert!(rt; ends_with(rt.alloc(), b"ms,kind,data\n0,L,", b"00", 45000, 0, fault));
+fn logs_with_long_rows(rt: HostRuntime) {
+    for (what, head, chunk, times, count, fault) in &LONG {
+        assert!(rt;
+            ends_with(rt.alloc(), head, chunk, *times, *count, *fault),
+            "{what}"
+        );
+    }
 }
 
 #[test]
 fn a_long_third_field(rt: HostRuntime) {
     assert!(rt; spent_until(rt.alloc(), b"ms,kind,data\n0,L,", b"00", refused(606, 2)) > 80000);
-}
-
-#[test]
-fn commas_in_quotes(rt: HostRuntime) {
-    let fault = Some(LogFault::Read);
-    assert!(rt; ends_with(rt.alloc(), b"ms,kind,data\n0,S,\"", b",", 90000, 0, fault));
-}
-
-#[test]
-fn commas_after_quotes(rt: HostRuntime) {
-    let head = b"ms,kind,data\n0,\"S,\",\"a\"\",\",";
-    assert!(rt; ends_with(rt.alloc(), head, b"x", 90000, 0, refused(601, 2)));
-}
-
-#[test]
-fn lines_in_quotes(rt: HostRuntime) {
-    let head = b"ms,kind,data\n0,\"S\r\n\",x,";
-    assert!(rt; ends_with(rt.alloc(), head, b"x", 90000, 0, refused(601, 2)));
-}
-
-#[test]
-fn rows_that_end_in_two_bytes(rt: HostRuntime) {
-    let fault = Some(LogFault::Read);
-    assert!(rt; ends_with(rt.alloc(), b"ms,kind,data\r\n", b"0,S,\r\n", 50, 50, fault));
-}
-
-#[test]
-fn quotes_after_a_mark(rt: HostRuntime) {
-    let fault = Some(LogFault::Read);
-    assert!(rt;
-        ends_with(
-            rt.alloc(),
-            b"\xef\xbb\xbf\"m,s\",kind,data",
-            b"x",
-            90000,
-            0,
-            fault
-        )
-    );
 }
 
 #[test]

@@ -69,29 +69,39 @@ fn is_answer(alloc: Global, mode: Mode, asked: Asked, wanted: &[u8; 20]) -> bool
     }
 }
 
-/// After a zero at 11000 counts, a tare at 71000 and a request that is open, the indicator and the line say so.
-fn is_state_reported(alloc: Global) -> bool {
-    let Ok(mut indicator) = at_rest(alloc, 11000) else {
-        return false;
-    };
-    let mut out = Vec::new(alloc);
-    let mut line = Line::new();
-    let zeroed = answers(&mut line, &mut indicator, b"\nZ\r", &mut out);
-    for _ in 0..4 {
-        indicator.sample(71000);
-    }
-    let tared = answers(&mut line, &mut indicator, b"\nT\r\nWx", &mut out);
+/// The line says which request is open, and the indicator at which loads it was zeroed and tared and what its window holds.
+fn are_both_known(line: &Line, indicator: &Indicator) -> bool {
     let open = match line.open_request() {
         Some(text) => text.as_slice() == b"??".as_slice(),
         None => false,
     };
     let loads = indicator.zero_load() == Some(11000) && indicator.tare_load() == Some(71000);
-    zeroed && tared && open && loads && indicator.window().as_slice() == [71000; 4].as_slice()
+    open && loads && indicator.window().as_slice() == [71000; 4].as_slice()
+}
+
+/// After a zero at 11000 counts, a tare at 71000 and a request that is open, the indicator and the line say so.
+fn is_state_reported(line: &mut Line, indicator: &mut Indicator, out: &mut Vec<u8>) -> bool {
+    let zeroed = answers(line, indicator, b"\nZ\r", out);
+    for _ in 0..4 {
+        indicator.sample(71000);
+    }
+    let tared = answers(line, indicator, b"\nT\r\nWx", out);
+    zeroed && tared && are_both_known(line, indicator)
+}
+
+/// Likewise for an indicator at 11000 counts.
+fn is_state_reported_at_rest(alloc: Global) -> bool {
+    match at_rest(alloc, 11000) {
+        Ok(mut indicator) => {
+            is_state_reported(&mut Line::new(), &mut indicator, &mut Vec::new(alloc))
+        }
+        Err(_) => false,
+    }
 }
 
 #[test]
 fn a_state_is_reported(rt: HostRuntime) {
-    assert!(rt; is_state_reported(rt.alloc()));
+    assert!(rt; is_state_reported_at_rest(rt.alloc()));
 }
 
 #[test]

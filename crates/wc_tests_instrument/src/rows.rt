@@ -1,7 +1,7 @@
 //! The rows of a log, one by one.
 use std::alloc::Global;
 use wc_model::{ByteIn, Device};
-use wc_record::{HeadKind, RowKind, Rows};
+use wc_record::{HeadKind, LogFault, Row, RowKind, Rows};
 
 /// A log with a row of each kind, blank lines, quotes, and counts and moments at their ends.
 const EACH_KIND: &[u8] =
@@ -18,6 +18,23 @@ fn brought(kind: &RowKind) -> (u8, i64, &[u8]) {
     }
 }
 
+/// What was read is a row of this number and this moment, and brings this.
+fn is_row(
+    next: &Result<Option<Row>, LogFault>,
+    number: u32,
+    ms: u64,
+    wanted: (u8, i64),
+    bytes: &[u8],
+) -> bool {
+    match next {
+        Ok(Some(row)) => {
+            let (kind, value, own) = brought(&row.kind);
+            row.number == number && row.ms == ms && (kind, value) == wanted && own == bytes
+        }
+        _ => false,
+    }
+}
+
 /// The next row has this number and this moment, and brings this.
 fn is_next<R: ByteIn>(
     rows: &mut Rows<'_, R>,
@@ -26,13 +43,7 @@ fn is_next<R: ByteIn>(
     wanted: (u8, i64),
     bytes: &[u8],
 ) -> bool {
-    match rows.next() {
-        Ok(Some(row)) => {
-            let (kind, value, own) = brought(&row.kind);
-            row.number == number && row.ms == ms && (kind, value) == wanted && own == bytes
-        }
-        _ => false,
-    }
+    is_row(&rows.next(), number, ms, wanted, bytes)
 }
 
 /// No row is left, however often one is asked for.
@@ -106,17 +117,28 @@ fn is_next_head<R: ByteIn>(rows: &mut Rows<'_, R>, number: u32, bytes: Option<&[
     }
 }
 
-/// Heads and rows of one log, in turn: a row that was read before keeps its bytes.
-fn in_turn<R: ByteIn>(rows: &mut Rows<'_, R>) -> bool {
-    let Ok(Some(first)) = rows.next() else {
-        return false;
-    };
-    let heads = is_next_head(rows, 3, Some(b"A")) && is_next_head(rows, 4, None);
-    heads
+/// What was read is a row that brings a request.
+fn is_request(next: &Result<Option<Row>, LogFault>) -> bool {
+    match next {
+        Ok(Some(row)) => brought(&row.kind) == (b'L', 0, b"\nZ\r".as_slice()),
+        _ => false,
+    }
+}
+
+/// Heads and rows of the rest of one log, in turn.
+fn is_rest_in_turn<R: ByteIn>(rows: &mut Rows<'_, R>) -> bool {
+    is_next_head(rows, 3, Some(b"A"))
+        && is_next_head(rows, 4, None)
         && is_next(rows, 5, 2, (b'L', 0), b"")
         && is_next_head(rows, 6, Some(b"\r\r\r\r"))
         && has_ended(rows)
-        && brought(&first.kind) == (b'L', 0, b"\nZ\r".as_slice())
+}
+
+/// Heads and rows of one log, in turn: a row that was read before keeps its bytes.
+fn in_turn<R: ByteIn>(rows: &mut Rows<'_, R>) -> bool {
+    let first = rows.next();
+    let rest = is_rest_in_turn(rows);
+    is_request(&first) && rest
 }
 
 /// Heads and rows of a log, in turn.

@@ -1,6 +1,7 @@
 //! Answers of the line over writers that are slow, or fail.
 use crate::requests::at_rest;
 use std::alloc::{AllocError, Global};
+use wc_indicator::Indicator;
 use wc_model::{ByteOut, Device, FuseOut};
 use wc_sma::{Line, WriteFault};
 
@@ -15,35 +16,59 @@ fn slow_is_given_all(alloc: Global) -> Result<bool, AllocError> {
     Ok(fed.is_ok() && written && writer.failures() == 0)
 }
 
+/// The line refuses to go on.
+fn fails<W: ByteOut>(
+    line: &mut Line,
+    chunk: &[u8],
+    indicator: &mut Indicator,
+    writer: &mut W,
+) -> bool {
+    line.feed(chunk, indicator, writer) == Err(WriteFault)
+}
+
 /// A writer with space for 25 bytes fails at the second answer, and from then on: no later request is acted on.
-fn fails_at_the_second_answer(alloc: Global) -> bool {
-    let Ok(mut indicator) = at_rest(alloc, 60000) else {
-        return false;
-    };
+fn fails_at_the_second_answer(line: &mut Line, indicator: &mut Indicator) -> bool {
     let mut buffer = [0; 25];
     let mut device = Device::new(buffer.as_mut_slice());
-    let mut line = Line::new();
-    let first = line.feed(b"\nW\r\nT\r\nC\r", &mut indicator, &mut device) == Err(WriteFault);
+    let first = fails(line, b"\nW\r\nT\r\nC\r", indicator, &mut device);
     let tared = indicator.tare_active();
-    let again = line.feed(b"\nC\r", &mut indicator, &mut device) == Err(WriteFault);
-    let failed = first && again && ByteOut::failures(&device) == 1;
+    let again = fails(line, b"\nC\r", indicator, &mut device);
+    let failed = ByteOut::failures(&device) == 1;
     let written = buffer.as_slice() == b"\n 1G       1.250kg \r\n 1N ".as_slice();
-    failed && written && tared && indicator.tare_active()
+    first && again && failed && written && tared && indicator.tare_active()
+}
+
+/// Likewise with a load.
+fn fails_at_the_second_answer_at_rest(alloc: Global) -> bool {
+    match at_rest(alloc, 60000) {
+        Ok(mut indicator) => fails_at_the_second_answer(&mut Line::new(), &mut indicator),
+        Err(_) => false,
+    }
 }
 
 /// A writer that takes nothing fails once an answer comes; the request was acted on.
-fn fails_once_an_answer_comes(alloc: Global) -> bool {
-    let Ok(mut indicator) = at_rest(alloc, 60000) else {
-        return false;
-    };
+fn fails_once_an_answer_comes<W: ByteOut>(
+    line: &mut Line,
+    indicator: &mut Indicator,
+    writer: &mut W,
+) -> bool {
+    let before = line.feed(b"garbage\nT", indicator, writer) == Ok(());
+    let not_yet = !indicator.tare_active();
+    let then = fails(line, b"\r\nC\r", indicator, writer);
+    let empty = fails(line, b"", indicator, writer);
+    before && not_yet && then && empty && indicator.tare_active() && writer.failures() == 1
+}
+
+/// Likewise with a load.
+fn fails_once_an_answer_comes_at_rest(alloc: Global) -> bool {
     let mut buffer = [0; 0];
     let mut device = Device::new(buffer.as_mut_slice());
-    let mut line = Line::new();
-    let before = line.feed(b"garbage\nT", &mut indicator, &mut device) == Ok(());
-    let not_yet = !indicator.tare_active();
-    let then = line.feed(b"\r\nC\r", &mut indicator, &mut device) == Err(WriteFault);
-    let empty = line.feed(b"", &mut indicator, &mut device) == Err(WriteFault);
-    before && not_yet && then && empty && indicator.tare_active() && ByteOut::failures(&device) == 1
+    match at_rest(alloc, 60000) {
+        Ok(mut indicator) => {
+            fails_once_an_answer_comes(&mut Line::new(), &mut indicator, &mut device)
+        }
+        Err(_) => false,
+    }
 }
 
 #[test]
@@ -53,10 +78,10 @@ fn a_slow_writer(rt: HostRuntime) {
 
 #[test]
 fn a_writer_that_fails(rt: HostRuntime) {
-    assert!(rt; fails_at_the_second_answer(rt.alloc()));
+    assert!(rt; fails_at_the_second_answer_at_rest(rt.alloc()));
 }
 
 #[test]
 fn a_writer_that_takes_nothing(rt: HostRuntime) {
-    assert!(rt; fails_once_an_answer_comes(rt.alloc()));
+    assert!(rt; fails_once_an_answer_comes_at_rest(rt.alloc()));
 }

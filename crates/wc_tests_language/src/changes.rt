@@ -3,7 +3,7 @@
 use crate::texts::loaded;
 use std::alloc::Global;
 use wc_cost::Loaded;
-use wc_model::Place;
+use wc_model::{Fault, Place};
 
 /// It counts from 5 on, and a timer of a tenth of a second runs.
 const COUNTING: &[u8] =
@@ -33,18 +33,20 @@ fn are_carried(new: &Loaded<'_>, old: &Loaded<'_>) -> bool {
     new.size() == 53 && address && field && number && carried(new, old, 52).is_none()
 }
 
-/// The same from the counting program that is loaded, if the summing one can be.
-fn are_carried_from(alloc: Global, old: &Loaded<'_>) -> bool {
-    match loaded(alloc, SUMMING) {
-        Ok(new) => are_carried(&new, old),
-        Err(_) => false,
+/// Both were loaded, and the places of the one carry on those of the other.
+fn are_carried_from(new: &Result<Loaded<'_>, Fault>, old: &Result<Loaded<'_>, Fault>) -> bool {
+    match (new, old) {
+        (Ok(new), Ok(old)) => are_carried(new, old),
+        _ => false,
     }
+}
+
+/// The same for the summing program and the counting one.
+fn are_carried_over(alloc: Global) -> bool {
+    are_carried_from(&loaded(alloc, SUMMING), &loaded(alloc, COUNTING))
 }
 
 #[test]
 fn places_are_carried_by_name(rt: HostRuntime) {
-    match loaded(rt.alloc(), COUNTING) {
-        Ok(old) => assert!(rt; are_carried_from(rt.alloc(), &old)),
-        Err(_) => assert!(rt; false),
-    }
+    assert!(rt; are_carried_over(rt.alloc()));
 }

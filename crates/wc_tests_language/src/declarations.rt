@@ -1,31 +1,30 @@
 //! Declarations of texts: names, types, frames and places.
 use crate::texts::tabled;
 use std::alloc::Global;
-use wc_declare::{DeclaredType, Entity, Formal, Located, Tables};
+use wc_declare::{DeclaredType, Entity, Formal, Frame, Located, Tables};
 use wc_model::{Direction, Fault, Kind, Operand, Path, Place, SlotKind, StandardBlock, Word};
 
 /// A block of ten places, and a program with a timer, two instances of the block and plain variables.
 const PLANT: &[u8] =
     b"FUNCTION_BLOCK Dose\nVAR_INPUT x : BOOL; y : DINT; END_VAR\nVAR_OUTPUT z : TIME; END_VAR\nVAR c : CTU; w : BOOL; END_VAR\nEND_FUNCTION_BLOCK\nPROGRAM P\nVAR a : BOOL; t : TON; one, two : DOSE; n : DINT := 5; END_VAR\nEND_PROGRAM";
 
-/// Of the names of a block and a program each is at this place, or nowhere.
+/// Names of a block and a program, each after its unit, and with its place, if it has one.
+const PLACES: [(usize, &[&[u8]], Option<Place>); 9] = [
+    (0, &[b"Z"], Some(Place(2))),
+    (1, &[b"A"], Some(Place(45))),
+    (1, &[b"n"], Some(Place(72))),
+    (1, &[b"m"], None),
+    (1, &[b"T", b"start"], Some(Place(51))),
+    (1, &[b"one", b"x"], Some(Place(52))),
+    (1, &[b"two", b"x"], Some(Place(62))),
+    (1, &[b"two", b"c", b"m"], Some(Place(70))),
+    (1, &[b"two"], None),
+];
+
+/// Of the names of a block and a program each is at its place, or nowhere.
 fn are_at_places(tables: &Tables<'_>) -> bool {
-    for (unit, names, wanted) in [
-        (0, &[b"Z".as_slice()] as &[&[u8]], Some(Place(2))),
-        (1, &[b"A".as_slice()], Some(Place(45))),
-        (1, &[b"n".as_slice()], Some(Place(72))),
-        (1, &[b"m".as_slice()], None),
-        (1, &[b"T".as_slice(), b"start".as_slice()], Some(Place(51))),
-        (1, &[b"one".as_slice(), b"x".as_slice()], Some(Place(52))),
-        (1, &[b"two".as_slice(), b"x".as_slice()], Some(Place(62))),
-        (
-            1,
-            &[b"two".as_slice(), b"c".as_slice(), b"m".as_slice()],
-            Some(Place(70)),
-        ),
-        (1, &[b"two".as_slice()], None),
-    ] {
-        if tables.place(unit, &Path::Names(names)) != wanted {
+    for (unit, names, wanted) in &PLACES {
+        if tables.place(*unit, &Path::Names(names)) != *wanted {
             return false;
         }
     }
@@ -137,9 +136,9 @@ fn are_guarded(tables: &Tables<'_>) -> bool {
     input && output && bit
 }
 
-/// The kind of a place of a unit's frame, and the number that it holds at first.
-fn slot(alloc: Global, tables: &Tables<'_>, unit: usize, place: usize) -> Option<(SlotKind, i64)> {
-    match tables.frame(alloc, unit) {
+/// The kind of a place of a frame, and the number that it holds at first.
+fn slot_of(frame: &Result<Frame, Fault>, place: usize) -> Option<(SlotKind, i64)> {
+    match frame {
         Ok(frame) => match (frame.kinds.get(place), frame.initials.get(place)) {
             (Some(kind), Some(number)) => Some((*kind, *number)),
             _ => None,
@@ -148,17 +147,29 @@ fn slot(alloc: Global, tables: &Tables<'_>, unit: usize, place: usize) -> Option
     }
 }
 
-/// The frames of block and program have these places.
-fn have_slots(alloc: Global, tables: &Tables<'_>) -> bool {
-    for (unit, place, wanted) in [
-        (1, 0, Some((SlotKind::Bool, 0))),
-        (1, 24, Some((SlotKind::Dint, 0))),
-        (1, 51, Some((SlotKind::Moment, 0))),
-        (1, 72, Some((SlotKind::Dint, 5))),
-        (1, 73, None),
-        (0, 2, Some((SlotKind::Time, 0))),
-    ] {
-        if slot(alloc, tables, unit, place) != wanted {
+/// Likewise for a unit's frame.
+fn slot(alloc: Global, tables: &Tables<'_>, unit: usize, place: usize) -> Option<(SlotKind, i64)> {
+    slot_of(&tables.frame(alloc, unit), place)
+}
+
+/// Places of the frames of block and program: the unit, the place, its kind and its first number, if it is there.
+const SLOTS: [(usize, usize, Option<(SlotKind, i64)>); 6] = [
+    (1, 0, Some((SlotKind::Bool, 0))),
+    (1, 24, Some((SlotKind::Dint, 0))),
+    (1, 51, Some((SlotKind::Moment, 0))),
+    (1, 72, Some((SlotKind::Dint, 5))),
+    (1, 73, None),
+    (0, 2, Some((SlotKind::Time, 0))),
+];
+
+/// The frames have these places.
+fn have_slots(
+    alloc: Global,
+    tables: &Tables<'_>,
+    slots: &[(usize, usize, Option<(SlotKind, i64)>)],
+) -> bool {
+    for (unit, place, wanted) in slots {
+        if slot(alloc, tables, *unit, *place) != *wanted {
             return false;
         }
     }
@@ -166,46 +177,51 @@ fn have_slots(alloc: Global, tables: &Tables<'_>) -> bool {
 }
 
 /// All that the tables of the block and the program say.
-fn are_right(alloc: Global) -> bool {
-    match tabled(alloc, PLANT) {
+fn are_right(alloc: Global, tables: &Result<Tables<'_>, Fault>) -> bool {
+    match tables {
         Ok(tables) => {
-            let places = are_at_places(&tables) && are_addresses_at_places(&tables);
-            let inside = have_sizes(&tables) && have_formals(&tables) && begin_somewhere(&tables);
-            let names = are_named(&tables) && are_guarded(&tables);
-            places && inside && names && have_slots(alloc, &tables)
+            let places = are_at_places(tables) && are_addresses_at_places(tables);
+            let inside = have_sizes(tables) && have_formals(tables) && begin_somewhere(tables);
+            let names = are_named(tables) && are_guarded(tables);
+            places && inside && names && have_slots(alloc, tables, &SLOTS)
         }
         Err(_) => false,
     }
+}
+
+/// Likewise from their text.
+fn are_right_for_the_text(alloc: Global) -> bool {
+    are_right(alloc, &tabled(alloc, PLANT))
 }
 
 #[test]
 fn names_represent_what_is_declared(rt: HostRuntime) {
-    assert!(rt; are_right(rt.alloc()));
+    assert!(rt; are_right_for_the_text(rt.alloc()));
 }
 
-/// Variables with initial values have them in the frame.
-fn have_first_values(alloc: Global, tables: &Tables<'_>) -> bool {
-    for (place, kind, number) in [
-        (45, SlotKind::Bool, 1),
-        (46, SlotKind::Time, -1000),
-        (47, SlotKind::Bool, 1),
-        (52, SlotKind::Phase, 0),
-    ] {
-        if slot(alloc, tables, 0, place) != Some((kind, number)) {
-            return false;
-        }
-    }
-    true
-}
+/// Variables with initial values.
+const INITIAL: &[u8] =
+    b"PROGRAM P\nVAR a : BOOL := 1; b : TIME := T#-1s; c : BOOL := TRUE; d : TOF; END_VAR\nEND_PROGRAM";
 
-/// Likewise for their text.
-fn are_first_values(alloc: Global) -> bool {
-    let text =
-        b"PROGRAM P\nVAR a : BOOL := 1; b : TIME := T#-1s; c : BOOL := TRUE; d : TOF; END_VAR\nEND_PROGRAM";
-    match tabled(alloc, text) {
-        Ok(tables) => have_first_values(alloc, &tables),
+/// What the frame of the program with initial values has of them.
+const FIRST_VALUES: [(usize, usize, Option<(SlotKind, i64)>); 4] = [
+    (0, 45, Some((SlotKind::Bool, 1))),
+    (0, 46, Some((SlotKind::Time, -1000))),
+    (0, 47, Some((SlotKind::Bool, 1))),
+    (0, 52, Some((SlotKind::Phase, 0))),
+];
+
+/// The frame has these first values.
+fn have_first_values(alloc: Global, tables: &Result<Tables<'_>, Fault>) -> bool {
+    match tables {
+        Ok(tables) => have_slots(alloc, tables, &FIRST_VALUES),
         Err(_) => false,
     }
+}
+
+/// Likewise for the text.
+fn are_first_values(alloc: Global) -> bool {
+    have_first_values(alloc, &tabled(alloc, INITIAL))
 }
 
 #[test]

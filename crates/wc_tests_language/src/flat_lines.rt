@@ -2,7 +2,7 @@
 use crate::texts::loaded;
 use std::alloc::Global;
 use wc_cost::Loaded;
-use wc_model::{Code, Operator, Place, StandardBlock, Storing};
+use wc_model::{Code, Fault, Operator, Place, StandardBlock, Storing};
 
 /// A block of two places, and a program with a timer, an instance of the block and plain variables.
 const PLANT: &[u8] =
@@ -61,15 +61,20 @@ fn are_flat(loaded: &Loaded<'_>) -> bool {
     loaded.units() == 2 && is_next(loaded.code(0)) && is_program(loaded.code(1))
 }
 
-/// Likewise for the text.
-fn is_flat(alloc: Global, text: &[u8]) -> bool {
-    match loaded(alloc, text) {
-        Ok(loaded) => are_flat(&loaded),
+/// Likewise for what may be loaded.
+fn is_flat(loaded: &Result<Loaded<'_>, Fault>) -> bool {
+    match loaded {
+        Ok(loaded) => are_flat(loaded),
         Err(_) => false,
     }
 }
 
+/// Likewise for the text.
+fn is_text_flat(alloc: Global, text: &[u8]) -> bool {
+    is_flat(&loaded(alloc, text))
+}
+
 #[test]
 fn calls_are_lowered(rt: HostRuntime) {
-    assert!(rt; is_flat(rt.alloc(), PLANT));
+    assert!(rt; is_text_flat(rt.alloc(), PLANT));
 }

@@ -2,22 +2,29 @@
 use std::alloc::Global;
 use wc_declare::Names;
 
-/// Whether a name is added as a new one.
-fn is_new<'a>(names: &mut Names<'a>, name: &'a [u8]) -> bool {
-    match names.add(name) {
-        Ok(new) => new,
-        Err(_) => false,
-    }
+/// Whether a name is added, and is a new one or not.
+fn is_added<'a>(names: &mut Names<'a>, name: &'a [u8], new: bool) -> bool {
+    names.add(name) == Ok(new)
+}
+
+/// Names have their numbers, and another is not there.
+fn have_numbers(names: &Names<'_>) -> bool {
+    let numbers = names.number(b"fill") == Some(0) && names.number(b"TARE") == Some(1);
+    let other = names.number(b"filled") == None && !names.contains(b"filled");
+    numbers && other && names.contains(b"Tare")
 }
 
 /// Of three names the third is the first in other letters.
+fn are_added(names: &mut Names<'_>) -> bool {
+    is_added(names, b"Fill", true)
+        && is_added(names, b"tare", true)
+        && is_added(names, b"FILL", false)
+        && have_numbers(names)
+}
+
+/// Likewise from no names on.
 fn are_numbered(alloc: Global) -> bool {
-    let mut names = Names::new(alloc);
-    let added = is_new(&mut names, b"Fill") && is_new(&mut names, b"tare");
-    let again = is_new(&mut names, b"FILL");
-    let numbers = names.number(b"fill") == Some(0) && names.number(b"TARE") == Some(1);
-    let other = names.number(b"filled") == None && !names.contains(b"filled");
-    added && !again && numbers && other && names.contains(b"Tare")
+    are_added(&mut Names::new(alloc))
 }
 
 #[test]

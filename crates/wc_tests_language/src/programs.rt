@@ -4,7 +4,7 @@ ghost use Rattle.std.specs.Prelude.{◌≡◌};
 use crate::texts::loaded;
 use std::alloc::Global;
 use wc_machine::Machine;
-use wc_model::{Image, Outputs, Place, Steps};
+use wc_model::{Fault, Image, Outputs, Place, Steps};
 use wc_store::{NamedStore, SlotStore, Store};
 
 /// The inputs, and a scale that shows nothing.
@@ -50,13 +50,18 @@ fn mixed<S: Store>(machine: &mut Machine<'_, S>, all: &[u16]) -> i64 {
     mix
 }
 
+/// Likewise for a machine, if it was made.
+fn mixed_if_made<S: Store>(made: &mut Result<Machine<'_, S>, Fault>, all: &[u16]) -> Option<i64> {
+    match made {
+        Ok(machine) => Some(mixed(machine, all)),
+        Err(_) => None,
+    }
+}
+
 /// Likewise for a text over a store; nothing if it is refused.
 fn mixed_over<S: Store>(alloc: Global, text: &[u8], all: &[u16]) -> Option<i64> {
     match loaded(alloc, text) {
-        Ok(loaded) => match Machine::<S>::new(alloc, loaded) {
-            Ok(mut machine) => Some(mixed(&mut machine, all)),
-            Err(_) => None,
-        },
+        Ok(loaded) => mixed_if_made(&mut Machine::<S>::new(alloc, loaded), all),
         Err(_) => None,
     }
 }
@@ -87,6 +92,15 @@ fn both_stores_are_scanned_alike(rt: HostRuntime) {
     assert!(rt; agree(rt.alloc(), INSTANCES, &all));
 }
 
+/// What is at the outputs, and at some places: the second output bit, the second word, and a place after the last.
+fn has_seen(machine: &Machine<'_, SlotStore>) -> bool {
+    let outputs = machine.outputs();
+    let right = outputs.bits == 3 && outputs.words == [5000, -5, 2147483647, 0];
+    let bit = machine.number(Place(26)) == Some(1) && machine.number(Place(27)) == Some(0);
+    let word = machine.number(Place(42)) == Some(-5) && machine.number(Place(45)).is_none();
+    right && bit && word
+}
+
 /// A machine of a program that copies what it sees of a scale.
 fn sees(machine: &mut Machine<'_, SlotStore>) -> bool {
     let seen = Image {
@@ -98,12 +112,15 @@ fn sees(machine: &mut Machine<'_, SlotStore>) -> bool {
         return false;
     }
     let steps = machine.scan(7, &seen);
-    let outputs = machine.outputs();
-    let right = outputs.bits == 3 && outputs.words == [5000, -5, 2147483647, 0];
-    // The second output bit, the second word, and a place after the last.
-    let bit = machine.number(Place(26)) == Some(1) && machine.number(Place(27)) == Some(0);
-    let word = machine.number(Place(42)) == Some(-5) && machine.number(Place(45)).is_none();
-    bit && word && right && steps == Steps(10) && machine.last() == 7
+    has_seen(machine) && steps == Steps(10) && machine.last() == 7
+}
+
+/// Likewise for a machine, if it was made.
+fn sees_if_made(made: &mut Result<Machine<'_, SlotStore>, Fault>) -> bool {
+    match made {
+        Ok(machine) => sees(machine),
+        Err(_) => false,
+    }
 }
 
 /// Likewise for the program's text.
@@ -111,10 +128,7 @@ fn is_seen(alloc: Global) -> bool {
     let text =
         b"PROGRAM P\nLD %IX1.0\nST %QX0.0\nLD %IX1.5\nST %QX0.1\nLD %ID0\nST %QD0\nLD %ID1\nST %QD1\nLD %ID2\nST %QD2\nEND_PROGRAM";
     match loaded(alloc, text) {
-        Ok(loaded) => match Machine::<SlotStore>::new(alloc, loaded) {
-            Ok(mut machine) => sees(&mut machine),
-            Err(_) => false,
-        },
+        Ok(loaded) => sees_if_made(&mut Machine::new(alloc, loaded)),
         Err(_) => false,
     }
 }

@@ -2,7 +2,7 @@
 ghost use Rattle.std.specs.Prelude.{◌≤◌};
 
 use std::alloc::Global;
-use wc_model::{Condition, Instr, Operand, Operator, Storing, Value};
+use wc_model::{Condition, Decl, Fault, Instr, Line, Operand, Operator, Source, Storing, Value};
 use wc_reader::read;
 
 /// What an operand is: a number for its form, and its value or the number of letters it has.
@@ -91,168 +91,171 @@ fn numbers(instr: &Instr<'_>) -> (u8, (u8, i64), u32) {
     }
 }
 
+/// The line at that place of the body of the first unit, counted from 0.
+fn line_at<'s, 'a>(read: &'s Result<Source<'a>, Fault>, place: usize) -> Option<&'s Line<'a>> {
+    match read {
+        Ok(source) => match source.units.first() {
+            Some(unit) => unit.body.get(place),
+            None => None,
+        },
+        Err(_) => None,
+    }
+}
+
+/// The instruction of a line.
+fn instruction_of(line: Option<&Line<'_>>) -> (u8, (u8, i64), u32) {
+    match line {
+        Some(line) => match &line.instr {
+            Some(instr) => numbers(instr),
+            None => (4, (0, 0), 0),
+        },
+        None => (1, (0, 0), 0),
+    }
+}
+
 /// The instruction that is at that place of the program's body, counted from 0.
 fn instruction_at(alloc: Global, text: &[u8], place: usize) -> (u8, (u8, i64), u32) {
-    let Ok(source) = read(alloc, text) else {
-        return (1, (0, 0), 0);
-    };
-    let Some(unit) = source.units.first() else {
-        return (2, (0, 0), 0);
-    };
-    let Some(line) = unit.body.get(place) else {
-        return (3, (0, 0), 0);
-    };
-    match &line.instr {
-        Some(instr) => numbers(instr),
-        None => (4, (0, 0), 0),
+    instruction_of(line_at(&read(alloc, text), place))
+}
+
+/// The number of letters and the line of a line's label.
+fn label_of(line: Option<&Line<'_>>) -> (usize, u32) {
+    match line {
+        Some(line) => match line.label {
+            Some(label) => (label.text.len(), label.line),
+            None => (0, 0),
+        },
+        None => (0, 1),
     }
 }
 
 /// The number of letters and the line of the label at that place of the program's body.
 fn label_at(alloc: Global, text: &[u8], place: usize) -> (usize, u32) {
-    let Ok(source) = read(alloc, text) else {
-        return (0, 1);
-    };
-    let Some(unit) = source.units.first() else {
-        return (0, 2);
-    };
-    let Some(line) = unit.body.get(place) else {
-        return (0, 3);
-    };
-    match line.label {
-        Some(label) => (label.text.len(), label.line),
-        None => (0, 0),
+    label_of(line_at(&read(alloc, text), place))
+}
+
+/// The declaration at that place of the first unit.
+fn nth_declaration<'s, 'a>(
+    read: &'s Result<Source<'a>, Fault>,
+    place: usize,
+) -> Option<&'s Decl<'a>> {
+    match read {
+        Ok(source) => match source.units.first() {
+            Some(unit) => unit.declarations.get(place),
+            None => None,
+        },
+        Err(_) => None,
     }
 }
 
-/// The number of letters the name and the type of the declaration at that place have, and their lines.
-fn declaration_at(alloc: Global, text: &[u8], place: usize) -> (usize, u32, usize, u32) {
-    let Ok(source) = read(alloc, text) else {
-        return (0, 1, 0, 0);
-    };
-    let Some(unit) = source.units.first() else {
-        return (0, 2, 0, 0);
-    };
-    let Some(declaration) = unit.declarations.get(place) else {
-        return (0, 3, 0, 0);
-    };
-    let type_name = declaration.type_name;
-    match declaration.names.first() {
-        Some(name) => (
-            name.text.len(),
-            name.line,
-            type_name.text.len(),
-            type_name.line,
-        ),
-        None => (0, 4, 0, 0),
+/// The number of letters the name and the type of a declaration have, and their lines.
+fn words_of(declaration: Option<&Decl<'_>>) -> (usize, u32, usize, u32) {
+    match declaration {
+        Some(declaration) => {
+            let word = declaration.type_name;
+            match declaration.names.first() {
+                Some(name) => (name.text.len(), name.line, word.text.len(), word.line),
+                None => (0, 4, 0, 0),
+            }
+        }
+        None => (0, 1, 0, 0),
     }
 }
+
+/// Likewise for the declaration at that place of a text.
+fn declaration_at(alloc: Global, text: &[u8], place: usize) -> (usize, u32, usize, u32) {
+    words_of(nth_declaration(&read(alloc, text), place))
+}
+
+/// Texts, each with a place of its body and the instruction there.
+const OPERATORS: [(&[u8], usize, (u8, (u8, i64), u32)); 7] = [
+    (b"PROGRAM P\nLDN abc\nEND_PROGRAM", 0, (11, (5, 3), 2)),
+    (b"PROGRAM P\nL: LDN abc\nEND_PROGRAM", 0, (11, (5, 3), 2)),
+    (b"PROGRAM P\nLD %IX0.7\nEND_PROGRAM", 0, (10, (4, 6), 2)),
+    (b"PROGRAM P\nL: LD %IX0.7\nEND_PROGRAM", 0, (10, (4, 6), 2)),
+    (b"PROGRAM P\nLD 1\nADD -5\nEND_PROGRAM", 1, (31, (2, -5), 3)),
+    (
+        b"PROGRAM P\nLD T#2s\nAND TRUE\nEND_PROGRAM",
+        0,
+        (10, (3, 2000), 2),
+    ),
+    (
+        b"PROGRAM P\nLD T#2s\nAND TRUE\nEND_PROGRAM",
+        1,
+        (30, (1, 1), 3),
+    ),
+];
 
 #[test]
 fn an_operator_and_its_operand_are_a_line(rt: HostRuntime) {
-    for (text, place, wanted) in [
-        (
-            b"PROGRAM P\nLDN abc\nEND_PROGRAM".as_slice(),
-            0,
-            (11, (5, 3), 2),
-        ),
-        (
-            b"PROGRAM P\nL: LDN abc\nEND_PROGRAM".as_slice(),
-            0,
-            (11, (5, 3), 2),
-        ),
-        (
-            b"PROGRAM P\nLD %IX0.7\nEND_PROGRAM".as_slice(),
-            0,
-            (10, (4, 6), 2),
-        ),
-        (
-            b"PROGRAM P\nL: LD %IX0.7\nEND_PROGRAM".as_slice(),
-            0,
-            (10, (4, 6), 2),
-        ),
-        (
-            b"PROGRAM P\nLD 1\nADD -5\nEND_PROGRAM".as_slice(),
-            1,
-            (31, (2, -5), 3),
-        ),
-        (
-            b"PROGRAM P\nLD T#2s\nAND TRUE\nEND_PROGRAM".as_slice(),
-            0,
-            (10, (3, 2000), 2),
-        ),
-        (
-            b"PROGRAM P\nLD T#2s\nAND TRUE\nEND_PROGRAM".as_slice(),
-            1,
-            (30, (1, 1), 3),
-        ),
-    ] {
-        assert!(rt; instruction_at(rt.alloc(), text, place) == wanted);
+    for (text, place, wanted) in &OPERATORS {
+        assert!(rt; instruction_at(rt.alloc(), text, *place) == *wanted);
     }
+}
+
+/// The instructions at these places of the program's body are these.
+fn are_instructions(alloc: Global, text: &[u8], rows: &[(usize, (u8, (u8, i64), u32))]) -> bool {
+    for (place, wanted) in rows {
+        if instruction_at(alloc, text, *place) != *wanted {
+            return false;
+        }
+    }
+    true
 }
 
 #[test]
 fn what_is_stored_is_a_line(rt: HostRuntime) {
     let text = b"PROGRAM P\nST abcd\nSTN b\nS c\nR %QX0.0\nL: R a\nEND_PROGRAM";
-    for (place, wanted) in [
+    let rows = [
         (0, (20, (5, 4), 2)),
         (1, (21, (5, 1), 3)),
         (2, (22, (5, 1), 4)),
         (3, (23, (4, 6), 5)),
         (4, (23, (5, 1), 6)),
-    ] {
-        assert!(rt; instruction_at(rt.alloc(), text, place) == wanted);
-    }
+    ];
+    assert!(rt; are_instructions(rt.alloc(), text, &rows));
 }
 
 #[test]
 fn a_jump_and_its_label_are_a_line(rt: HostRuntime) {
     let text = b"PROGRAM P\nJMP on\nJMPC off\n\nJMPCN o\nL: JMPCN on\nEND_PROGRAM";
-    for (place, wanted) in [
+    let rows = [
         (0, (40, (5, 2), 2)),
         (1, (41, (5, 3), 3)),
         (2, (42, (5, 1), 5)),
         (3, (42, (5, 2), 6)),
-    ] {
-        assert!(rt; instruction_at(rt.alloc(), text, place) == wanted);
-    }
+    ];
+    assert!(rt; are_instructions(rt.alloc(), text, &rows));
 }
 
 #[test]
 fn a_label_alone_is_a_line(rt: HostRuntime) {
     let text = b"PROGRAM P\n\non:\noff: LD 1\nEND_PROGRAM";
-    for (place, wanted) in [(0, (2, 3)), (1, (3, 4))] {
-        assert!(rt; label_at(rt.alloc(), text, place) == wanted);
-    }
-    for (place, wanted) in [(0, (4, (0, 0), 0)), (1, (10, (2, 1), 4))] {
-        assert!(rt; instruction_at(rt.alloc(), text, place) == wanted);
-    }
+    assert!(rt; label_at(rt.alloc(), text, 0) == (2, 3));
+    assert!(rt; label_at(rt.alloc(), text, 1) == (3, 4));
+    let rows = [(0, (4, (0, 0), 0)), (1, (10, (2, 1), 4))];
+    assert!(rt; are_instructions(rt.alloc(), text, &rows));
 }
 
 #[test]
 fn a_call_and_its_list_are_a_line(rt: HostRuntime) {
     let text =
         b"PROGRAM P\nCAL a(x := 1, y := b, z := %IX0.0)\nCALC a(x := 1)\nCALCN a\nL: CALCN a(x := 1, y := b)\nEND_PROGRAM";
-    for (place, wanted) in [
+    let rows = [
         (0, (50, (7, 3), 2)),
         (1, (51, (7, 1), 3)),
         (2, (52, (7, 0), 4)),
         (3, (52, (7, 2), 5)),
-    ] {
-        assert!(rt; instruction_at(rt.alloc(), text, place) == wanted);
-    }
+    ];
+    assert!(rt; are_instructions(rt.alloc(), text, &rows));
 }
 
 #[test]
 fn a_name_and_its_type_are_a_declaration(rt: HostRuntime) {
     let text =
         b"PROGRAM P\nVAR abc : BOOL;\nde : DINT;\nf\n: TON; g : BOOL := TRUE;\nEND_VAR\nEND_PROGRAM";
-    for (place, wanted) in [
-        (0, (3, 2, 4, 2)),
-        (1, (2, 3, 4, 3)),
-        (2, (1, 4, 3, 5)),
-        (3, (1, 5, 4, 5)),
-    ] {
-        assert!(rt; declaration_at(rt.alloc(), text, place) == wanted);
-    }
+    assert!(rt; declaration_at(rt.alloc(), text, 0) == (3, 2, 4, 2));
+    assert!(rt; declaration_at(rt.alloc(), text, 1) == (2, 3, 4, 3));
+    assert!(rt; declaration_at(rt.alloc(), text, 2) == (1, 4, 3, 5));
+    assert!(rt; declaration_at(rt.alloc(), text, 3) == (1, 5, 4, 5));
 }

@@ -1,18 +1,22 @@
 //! Texts, read into their trees.
 use std::alloc::Global;
+use wc_model::{Fault, Source};
 use wc_reader::read;
+
+/// The number of units that were read, and those of the declarations and of the lines in no parenthesis that the first has.
+fn parts(read: &Result<Source<'_>, Fault>) -> Option<(usize, usize, usize)> {
+    match read {
+        Ok(source) => match source.units.first() {
+            Some(unit) => Some((source.units.len(), unit.declarations.len(), unit.body.len())),
+            None => None,
+        },
+        Err(_) => None,
+    }
+}
 
 /// The text is read, and has n units; the first has n declarations, and n lines that are in no parenthesis.
 fn has_parts(alloc: Global, text: &[u8], units: usize, declarations: usize, lines: usize) -> bool {
-    match read(alloc, text) {
-        Ok(source) => match source.units.first() {
-            Some(unit) => source.units.len() == units
-                && unit.declarations.len() == declarations
-                && unit.body.len() == lines,
-            None => false,
-        },
-        Err(_) => false,
-    }
+    parts(&read(alloc, text)) == Some((units, declarations, lines))
 }
 
 #[test]

@@ -4,7 +4,7 @@ use crate::passes::loaded_of;
 use std::alloc::Global;
 use wc_cost::Loaded;
 use wc_machine::Machine;
-use wc_model::{Fault, Steps};
+use wc_model::{Fault, Outputs, Steps};
 use wc_store::SlotStore;
 
 /// It counts from 5 on, and a timer of a tenth of a second runs.
@@ -47,12 +47,16 @@ fn goes_on(machine: &mut Machine<'_, SlotStore>) -> bool {
     steps == Some(Steps(9)) && outputs.bits == 1 && outputs.words == [14, 0, 0, 0]
 }
 
+/// What a machine shows: its outputs, its last time and its bound.
+fn shown(machine: &Machine<'_, SlotStore>) -> (Outputs, u64, u32) {
+    (machine.outputs(), machine.last(), machine.bound())
+}
+
 /// A machine has the same outputs, last time and bound as another, and the same next scan.
 fn are_alike(one: &mut Machine<'_, SlotStore>, other: &mut Machine<'_, SlotStore>) -> bool {
-    let same = one.outputs() == other.outputs() && one.last() == other.last();
-    let bound = one.bound() == other.bound();
+    let same = shown(one) == shown(other);
     let steps = scanned(one, 100) == scanned(other, 100);
-    same && bound && steps && one.outputs() == other.outputs()
+    same && steps && one.outputs() == other.outputs()
 }
 
 /// Changes a machine: whether the change was made and goes on rightly.
@@ -87,16 +91,21 @@ fn next_goes_on(alloc: Global) -> bool {
     }
 }
 
-/// Two machines of the old text, of which one is asked for the change.
-fn comes_back_as_it_was(alloc: Global) -> bool {
+/// A machine of the old text, next to another one, is asked for the change.
+fn comes_back_as(alloc: Global, other: &mut Machine<'static, SlotStore>) -> bool {
     let Ok(machine) = scanned_twice(alloc, OLD) else {
         return false;
     };
-    let Ok(mut other) = scanned_twice(alloc, OLD) else {
-        return false;
-    };
     match loaded_of(alloc, NEXT) {
-        Ok(next) => is_changed_or_back(alloc, machine, &mut other, next),
+        Ok(next) => is_changed_or_back(alloc, machine, other, next),
+        Err(_) => false,
+    }
+}
+
+/// Two machines of the old text, of which one is asked for the change.
+fn comes_back_as_it_was(alloc: Global) -> bool {
+    match scanned_twice(alloc, OLD) {
+        Ok(mut other) => comes_back_as(alloc, &mut other),
         Err(_) => false,
     }
 }

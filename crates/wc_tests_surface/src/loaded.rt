@@ -44,6 +44,19 @@ fn has_a_worst_path(alloc: Global, loaded: &Loaded<'_>) -> bool {
     }
 }
 
+/// The worst path, if the text was loaded.
+fn has_a_worst_path_if_loaded(alloc: Global, loaded: &Result<Loaded<'_>, Fault>) -> bool {
+    match loaded {
+        Ok(loaded) => has_a_worst_path(alloc, loaded),
+        Err(_) => false,
+    }
+}
+
+/// The worst path of the block of the text.
+fn has_the_texts_worst_path(alloc: Global) -> bool {
+    has_a_worst_path_if_loaded(alloc, &loaded_of(alloc, COUNTING))
+}
+
 /// The old place whose value a place keeps.
 fn carried(new: &Loaded<'_>, old: &Loaded<'_>, place: Place) -> Option<Place> {
     if usize::from(place.0) < new.size() {
@@ -53,22 +66,26 @@ fn carried(new: &Loaded<'_>, old: &Loaded<'_>, place: Place) -> Option<Place> {
     }
 }
 
-#[test]
-fn a_loaded_text_answers(rt: HostRuntime) {
-    match loaded_of(rt.alloc(), COUNTING) {
-        Ok(loaded) => {
-            assert!(rt; has_a_program(&loaded));
-            assert!(rt; has_a_frame(&loaded));
-            assert!(rt; carried(&loaded, &loaded, Place(54)) == Some(Place(54)));
-        }
-        Err(_) => assert!(rt; false),
+/// A loaded text has its program and its frame, and carries on the last place of the same.
+fn answers(loaded: &Loaded<'_>, same: &Loaded<'_>) -> bool {
+    let program = has_a_program(loaded) && has_a_frame(loaded);
+    program && carried(loaded, same, Place(54)) == Some(Place(54))
+}
+
+/// Likewise for the text.
+fn is_answering(alloc: Global) -> bool {
+    match loaded_of(alloc, COUNTING) {
+        Ok(loaded) => answers(&loaded, &loaded),
+        Err(_) => false,
     }
 }
 
 #[test]
+fn a_loaded_text_answers(rt: HostRuntime) {
+    assert!(rt; is_answering(rt.alloc()));
+}
+
+#[test]
 fn worst_path_succeeds(rt: HostRuntime) {
-    match loaded_of(rt.alloc(), COUNTING) {
-        Ok(loaded) => assert!(rt; has_a_worst_path(rt.alloc(), &loaded)),
-        Err(_) => assert!(rt; false),
-    }
+    assert!(rt; has_the_texts_worst_path(rt.alloc()));
 }

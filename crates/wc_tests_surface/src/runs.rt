@@ -94,40 +94,64 @@ pub(crate) const LOG: &[u8] = b"ms,kind,data\n0,I,0001\n0,S,\n10,S,\n20,I,0002\n
 pub(crate) const SCANS: &[u8] =
     b"S 0 21 0000 1 0 0 0\nS 10 18 0000 1 0 0 0\nS 20 21 0000 1 1 0 0\n";
 
+/// A run of five rows was answered, and wrote these bytes.
+fn has_written(answer: Result<u32, RunFault>, writer: &Device<Vec<u8>>, bytes: &[u8]) -> bool {
+    answer == Ok(5) && writer.get_ref().as_slice() == bytes
+}
+
+/// Runs the log over a store.
+fn run_counting<S: Store>(
+    alloc: Global,
+    plate: &Plate,
+    writer: &mut Device<Vec<u8>>,
+) -> Result<u32, RunFault> {
+    match machine_of::<S>(alloc, COUNTING) {
+        Ok(machine) => {
+            run_of(
+                alloc,
+                plate,
+                Some(machine),
+                None,
+                &mut Device::new(LOG),
+                writer,
+            )
+        }
+        Err(fault) => Err(RunFault::from(fault)),
+    }
+}
+
 /// Over a store all scans are printed.
 fn prints_all<S: Store>(alloc: Global, plate: &Plate) -> bool {
-    let Ok(machine) = machine_of::<S>(alloc, COUNTING) else {
-        return false;
-    };
     let mut writer = Device::new(Vec::new(alloc));
-    let answer = run_of(
-        alloc,
-        plate,
-        Some(machine),
-        None,
-        &mut Device::new(LOG),
-        &mut writer,
-    );
-    answer == Ok(5) && writer.get_ref().as_slice() == SCANS
+    let answer = run_counting::<S>(alloc, plate, &mut writer);
+    has_written(answer, &writer, SCANS)
+}
+
+/// Runs the log over a store and prints the last scan.
+fn run_last_counting<S: Store>(
+    alloc: Global,
+    plate: &Plate,
+    writer: &mut Device<Vec<u8>>,
+) -> Result<u32, RunFault> {
+    match machine_of::<S>(alloc, COUNTING) {
+        Ok(machine) => run_last_of(
+            alloc,
+            1,
+            plate,
+            Some(machine),
+            None,
+            &mut Device::new(LOG),
+            writer,
+        ),
+        Err(fault) => Err(RunFault::from(fault)),
+    }
 }
 
 /// Over a store the last scan is printed.
 fn prints_the_last<S: Store>(alloc: Global, plate: &Plate) -> bool {
-    let Ok(machine) = machine_of::<S>(alloc, COUNTING) else {
-        return false;
-    };
     let mut writer = Device::new(Vec::new(alloc));
-    let mut reader = Device::new(LOG);
-    let answer = run_last_of(
-        alloc,
-        1,
-        plate,
-        Some(machine),
-        None,
-        &mut reader,
-        &mut writer,
-    );
-    answer == Ok(5) && writer.get_ref().as_slice() == b"S 20 21 0000 1 1 0 0\n".as_slice()
+    let answer = run_last_counting::<S>(alloc, plate, &mut writer);
+    has_written(answer, &writer, b"S 20 21 0000 1 1 0 0\n")
 }
 
 /// Over both stores.
