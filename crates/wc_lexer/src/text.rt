@@ -1,4 +1,4 @@
-ghost use Rattle.std.specs.Prelude.{◌≡◌, ◌+◌, ◌++◌, ◌∷◌, ◌≤◌, [], IfErr, IfOk, if◌then◌else◌, is_ok, length, map};
+ghost use Rattle.std.specs.Prelude.{◌≡◌, ◌+◌, ◌≤◌, IfErr, IfOk, length, map};
 ghost use Rattle.wc_lexer.specs.Refusals.{Names};
 ghost use Rattle.wc_lexer.specs.TextSpans.{StopsAt, stuck_length};
 ghost use Rattle.wc_lexer.specs.Views.{token_view};
@@ -8,7 +8,7 @@ use crate::element::{LexicalElement, first_element};
 use crate::lengths::lexeme_length;
 use crate::spaces::{first_feeds, line_feeds, opens_comment};
 use crate::{Stop, Token};
-use std::alloc::{AllocError, Global};
+use std::alloc::Global;
 use wc_model::{Fault, MOST_BYTES};
 
 /// The number of bytes of the slice at which a text can't be cut further.
@@ -40,23 +40,6 @@ fn stop_at(number: u16, line: u32, place: usize, rest: &[u8]) -> Stop
         start: place as u32,
         length: stuck_length(rest) as u32,
     }
-}
-
-/// Appends a token. The first one brings space for one in sixteen bytes of the text: most texts have more.
-#[inline(always)]
-fn append_token<'a>(
-    tokens: &mut Vec<Token<'a>, Global>,
-    text: &'a [u8],
-    token: Token<'a>,
-) -> Result<(), AllocError>
-    ensures items { tokens.new.items
-        ≡ if is_ok result then tokens.old.items ++ (token.entry ∷ []) else tokens.old.items }
-{
-    if tokens.is_empty() {
-        tokens.reserve(text.len() / 16)?;
-    }
-    tokens.push(token)?;
-    Ok(())
 }
 
 /// Out of memory, which no slice causes.
@@ -107,7 +90,7 @@ pub fn tokens_or_stop<'a>(alloc: Global, text: &'a [u8]) -> Result<Vec<Token<'a>
                     start: start as u32,
                     line,
                 };
-                if append_token(&mut tokens, text, token).is_err() {
+                if tokens.push(token).is_err() {
                     return Err(stop_for_memory());
                 }
                 (count, first_feeds(rest))

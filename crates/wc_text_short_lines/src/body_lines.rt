@@ -13,12 +13,11 @@ ghost use Rattle.wc_text_short_lines.specs.Several.{Begins, GoesOn, IsLine, Make
 ghost use Rattle.wc_text_bodies.specs.BodyViews.{IsCounted, position_view};
 ghost use Rattle.wc_text_lines.specs.Words.{marks_of, operating_view, operation_view, symbol_view};
 
-use crate::ahead::append_step;
 use crate::label_lines::take_empty;
 use std::alloc::{AllocError, Global};
 use wc_lexer::{Shape, Token};
 use wc_model::{Condition, Operand, Value};
-use wc_text_bodies::{Body, is_full, section_of_word};
+use wc_text_bodies::{Body, add_step, is_full, section_of_word};
 use wc_text_lines::{
     Listed, Operating, Operation, StartedLine, Step, ends_unit, operation_named, truth, word,
 };
@@ -184,7 +183,7 @@ fn take_step<'a>(
                 label: None,
                 line: first.line,
             };
-            append_step(body, tokens, started, step)?;
+            add_step(body, started, step)?;
             Ok(3)
         }
         None => Ok(0),

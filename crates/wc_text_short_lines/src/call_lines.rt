@@ -11,12 +11,11 @@ ghost use Rattle.wc_text_short_lines.specs.Several.{BeginsCall, GoesOn, IsArgume
 ghost use Rattle.wc_text_bodies.specs.BodyViews.{IsCounted, position_view};
 ghost use Rattle.wc_text_lines.specs.Words.{marks_of};
 
-use crate::ahead::append_step;
 use crate::body_lines::{operand_of, operation_at, take_line};
 use std::alloc::{AllocError, Global};
 use wc_lexer::{Shape, Token};
 use wc_model::{Argument, Direction};
-use wc_text_bodies::Body;
+use wc_text_bodies::{Body, add_step};
 use wc_text_lines::{Listed, Operation, StartedLine, Step, word};
 
 /// Which way a value goes by the sign between a formal and an actual parameter.
@@ -233,7 +232,7 @@ fn take_call<'a>(
                 label: None,
                 line: operator.line,
             };
-            append_step(body, tokens, started, Step::Call(call))?;
+            add_step(body, started, Step::Call(call))?;
             Ok(3 + taken)
         }
         None => Ok(0),

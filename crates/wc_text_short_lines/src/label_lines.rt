@@ -6,11 +6,10 @@ ghost use Rattle.wc_text_short_lines.specs.Several.{GoesOn};
 ghost use Rattle.wc_text_bodies.specs.BodyViews.{IsCounted, position_view};
 ghost use Rattle.wc_text_lines.specs.Words.{marks_of, symbol_view};
 
-use crate::ahead::append_label;
 use crate::section_lines::empty_line;
 use std::alloc::AllocError;
 use wc_lexer::{Shape, Token};
-use wc_text_bodies::Body;
+use wc_text_bodies::{Body, add_label};
 use wc_text_lines::word;
 
 /// Whether the tokens are a label and its colon.
@@ -59,7 +58,7 @@ fn take_label<'a>(body: &mut Body<'a>, tokens: &[Token<'a>]) -> Result<usize, Al
     if !is_label_alone(body, *label, *colon, *end) {
         return Ok(0);
     }
-    append_label(body, tokens, word(*label))?;
+    add_label(body, word(*label))?;
     Ok(3)
 }
 

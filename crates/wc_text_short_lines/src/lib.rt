@@ -2,7 +2,6 @@
 //! what the walk over the same tokens comes to. The reader is the same without it.
 #![tactic(auto)]
 
-mod ahead;
 mod body_lines;
 mod call_lines;
 mod label_lines;

@@ -57,8 +57,8 @@ loop-start-preserved c = record {
     | in-Lexeme+else-is_err w ↦
         let items = c.loop-start.tokens.items in
         let token : Token = record { shape = w.in-Lexeme.shape; text = w.split_at-in-Lexeme.result.0; start = c.loop-start.start; line = c.loop-start.line } in
-        let taken = w.append_token.ensures.items ∙ ap (λ v. if v then items ++ (token ∷ []) else items) (w.is_err.ensures.negation ∙ ap not w.if-is_err.false) in
-        let said : map token_view w.append_token.new.tokens.items ≡ map token_view items ++ (token_view token ∷ []) = ap (map token_view) taken ∙ map-append token_view items (token ∷ []) in
+        let taken = w.push.ensures.items ∙ ap (λ v. if v then items ++ (token ∷ []) else items) (w.is_err.ensures.negation ∙ ap not w.if-is_err.false) in
+        let said : map token_view w.push.new.self.items ≡ map token_view items ++ (token_view token ∷ []) = ap (map token_view) taken ∙ map-append token_view items (token ∷ []) in
         let more = going_with c.args.text.now c.split_at.result.1.now c.loop-start.start w.in-Lexeme.count (map token_view items) (token_view token) c.split_at.ensures.back c.loop-start-test.true (sym (ap sight_of w.in-Lexeme.is) ∙ c.first_element.ensures.represents) w.split_at-in-Lexeme.ensures.front refl c.loop-start.invariant.counted c.loop-start.invariant.going in
         subst₂ (λ k ts. Going c.args.text.now (c.loop-start.start + k) (map token_view ts.items)) (sym (ap (λ s. s.0) w.count-is)) (sym w.tokens-is) (subst (Going c.args.text.now (c.loop-start.start + w.in-Lexeme.count)) (sym said) more)
   ];
