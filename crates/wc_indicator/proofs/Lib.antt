@@ -1,3 +1,4 @@
 pub mod Near
 pub mod Windows
 pub mod Units
+pub mod LeftByCommands

@@ -1,5 +1,5 @@
 -- Counts and units in the code's numbers: no product and no difference leaves them.
-use Rattle.std.proofs.Common.{◌≡◌, ℕ, zero, suc, ◌*◌, ◌^◌, ◌<◌, ◌≤◌, Bool, true, false, cond, ◌||◌, ◌==◌, List, [], ◌∷◌, length, refl, arith, to_z, of_z, w32, w64}
+use Rattle.std.proofs.Common.{◌≡◌, ℕ, zero, suc, ◌*◌, ◌^◌, ◌<◌, ◌≤◌, Bool, true, false, cond, ◌||◌, ◌==◌, List, [], ◌∷◌, length, refl, arith, to_z, of_z, w32, w64, FitsSigned}
 use Rattle.std.proofs.Math.Nat.{mul-le-mul_right}
 use Rattle.std.proofs.lemmas.Bool.{and_parts, leb-true}
 use Rattle.std.proofs.lemmas.Int.{ints, unsigned_abs-mul}
@@ -40,6 +40,28 @@ product_small i e a b =
 -- a number that fits keeps its value
 fits : (z : ℤ) → unsigned_abs z < 2 ^ 31 → to_z w32 (of_z w32 (to_z w64 (of_z w64 z))) ≡ z
 fits z h = omega (arith, ints)
+
+-- the code's factors are what they stand for
+raw_product : (i f : ℤ) (e : ℕ) → unsigned_abs i ≤ 2 ^ 25 → e ≤ 50 → f ≡ pos e →
+    to_z w64 (of_z w64 i) *ℤ to_z w64 (of_z w64 f) ≡ i *ℤ pos e
+raw_product i f e a b h =
+    let raw_i : to_z w64 (of_z w64 i) ≡ i = omega (arith, ints) in
+    let raw_f : to_z w64 (of_z w64 f) ≡ pos e = omega (arith, ints) in
+    rw (raw_i, raw_f) refl
+
+-- the product of the code's factors fits
+pub product_fits : (i f : ℤ) (e : ℕ) → unsigned_abs i ≤ 2 ^ 25 → e ≤ 50 → f ≡ pos e →
+    FitsSigned w64 (to_z w64 (of_z w64 i) *ℤ to_z w64 (of_z w64 f))
+product_fits i f e a b h =
+    let small : unsigned_abs (i *ℤ pos e) < 2 ^ 31 = product_small i e a b in
+    rw (raw_product i f e a b h) (omega (arith, ints, small))
+
+-- and so it does in the width of a weight
+pub units_fit : (i f : ℤ) (e : ℕ) → unsigned_abs i ≤ 2 ^ 25 → e ≤ 50 → f ≡ pos e →
+    FitsSigned w32 (to_z w64 (of_z w64 (to_z w64 (of_z w64 i) *ℤ to_z w64 (of_z w64 f))))
+units_fit i f e a b h =
+    let small : unsigned_abs (i *ℤ pos e) < 2 ^ 31 = product_small i e a b in
+    rw (raw_product i f e a b h) (omega (arith, ints, small))
 
 -- intervals in units
 pub units_kept : (i f : ℤ) (e : ℕ) → unsigned_abs i ≤ 2 ^ 25 → e ≤ 50 → f ≡ pos e →
