@@ -9,7 +9,7 @@ use Rattle.wc_run.proofs.Prefixes.{prefix_after, prefix_of_more}
 use Rattle.wc_run.specs.Doing.{Ended, EndsWhole, HasSeenAll, IsCutShort, IsClassified, RunsRows, Seeing, Writes, WritesBy, is_cut_short, refused_in}
 use Rattle.wc_model.specs.Say.ProgramReport.{Logic}
 use Rattle.wc_run.specs.Observing.{Plan, Start, onto, refusal_of, text_coming}
-use Rattle.wc_run.specs.Runs.{IsNoRefusal, ReportsBy}
+use Rattle.wc_run.specs.Runs.{IsNoRefusal, ReportsBy, ReportsWrite}
 use Rattle.wc_run.specs.declared.fault.RunFault.{RunFault}
 use Rattle.wc_run.specs.declared.fault.RunFault.TheVariants.{Refused, Read, Write, Memory}
 
@@ -92,3 +92,12 @@ classified_says whole coming log old new Read classified (inr same) says = subst
 classified_says whole coming log old new Memory classified (inl same) says = subst (λ raised. ReportsBy whole coming log (Err raised) old new) (sym same) says
 classified_says whole coming log old new Memory classified (inr same) says = subst (λ raised. ReportsBy whole coming log (Err raised) old new) (sym same) says
 classified_says whole coming log old new fault classified same says = subst (λ raised. ReportsBy whole coming log (Err raised) old new) (sym same) says
+
+-- what a fault says of the writer is also said by what it is classified as
+pub classified_writes : (old new : ℕ) (fault classified : RunFault) → IsClassified fault classified → ReportsWrite fault old new
+    → ReportsWrite classified old new
+classified_writes old new Read classified (inl same) says = subst (λ raised. ReportsWrite raised old new) (sym same) says
+classified_writes old new Read classified (inr same) says = subst (λ raised. ReportsWrite raised old new) (sym same) says
+classified_writes old new Memory classified (inl same) says = subst (λ raised. ReportsWrite raised old new) (sym same) says
+classified_writes old new Memory classified (inr same) says = subst (λ raised. ReportsWrite raised old new) (sym same) says
+classified_writes old new fault classified same says = subst (λ raised. ReportsWrite raised old new) (sym same) says

@@ -5,7 +5,7 @@ use Rattle.wc_model.specs.Run.Log.{LogOf, log_of}
 use Rattle.wc_model.specs.Say.LogFor.{log_for}
 use Rattle.wc_record.specs.Reading.{records_of}
 use Rattle.wc_record.specs.Reported.{fields_reported, records_read}
-use Rattle.wc_run.proofs.RunEnds.{classified_at_end, classified_says}
+use Rattle.wc_run.proofs.RunEnds.{classified_at_end, classified_says, classified_writes}
 use Rattle.wc_run.proofs.ReportedRows.{reported_still}
 use Rattle.wc_run.proofs.running.run.Goals as goal
 use Rattle.wc_run.specs.Doing.{EndsWhole}
@@ -69,3 +69,13 @@ pub returns-in-Ok-clause-reader : goal.returns-in-Ok-clause-reader
 returns-in-Ok-clause-reader g c =
     c.in-Ok.ensures.reader (g.R.ByteIn.failure_count c.args.reader.now) _
     (λ steady. let at_most = ltb-false c.failures-failures.result c.failures.result steady in omega (arith, at_most))
+
+pub returns-in-Ok-clause-failures : goal.returns-in-Ok-clause-failures
+returns-in-Ok-clause-failures g c =
+    c.in-Ok.ensures.failures (g.W.ByteOut.failure_count c.args.writer.now) c.run_rows-answer.ensures.failures
+
+pub returns-clause-failures : goal.returns-clause-failures
+returns-clause-failures g c =
+    classified_writes (g.W.ByteOut.failure_count c.args.writer.now) (g.W.ByteOut.failure_count c.end_rows.new.writer)
+    c.in-Err.fault c.classified.result c.classified.ensures.classified
+    (c.in-Err.ensures.failures (g.W.ByteOut.failure_count c.args.writer.now) c.run_rows-answer.ensures.failures)
