@@ -41,7 +41,7 @@ product_small i e a b =
 fits : (z : ℤ) → unsigned_abs z < 2 ^ 31 → to_z w32 (of_z w32 (to_z w64 (of_z w64 z))) ≡ z
 fits z h = omega (arith, ints)
 
--- the code's factors are what they stand for
+-- the code's factors keep their values
 raw_product : (i f : ℤ) (e : ℕ) → unsigned_abs i ≤ 2 ^ 25 → e ≤ 50 → f ≡ pos e →
     to_z w64 (of_z w64 i) *ℤ to_z w64 (of_z w64 f) ≡ i *ℤ pos e
 raw_product i f e a b h =
