@@ -1,5 +1,5 @@
 -- Each number is the bit, and no moment is written.
-use Rattle.std.proofs.Common.{◌≡◌, ◌∙◌, ℤ, ◌+◌, to_z, of_z, w64}
+use Rattle.std.proofs.Common.{◌∙◌}
 use Rattle.wc_execution.proofs.FourBools.{four_are, four_fit, four_in_range, four_moments, four_there}
 use Rattle.wc_execution.proofs.SlotKinds.{wide_bit}
 use Rattle.wc_execution.proofs.image.copy_four.Goals as goal

@@ -1,0 +1,204 @@
+-- What each line does to the numbers is what its function does.
+use Rattle.std.proofs.Common.{w32, rules, refl, ◌∙◌}
+use Rattle.std.proofs.lemmas.Int.{to_z-of_z}
+use Rattle.wc_execution.proofs.BlockFields.{narrow_same}
+use Rattle.wc_execution.proofs.LineParts.{block_fits, block_there, read_there, load_there, put_there, pass_there, write_there, load_leaves, put_leaves, pass_leaves, write_leaves, apply_leaves, call_leaves}
+use Rattle.wc_execution.proofs.own_lines.step.Goals as goal
+
+pub load-requires-clause-there : goal.load-requires-clause-there
+load-requires-clause-there g c =
+    load_there c.args.base c.args.now (g.S.Store.slot_kinds c.args.store.now) c.args.current c.args.deferred.now.items (g.S.Store.numbers c.args.store.now) c.args.line.now
+    c.in-LoadPlace.negated c.in-LoadPlace.place c.in-LoadPlace.is c.requires.there
+
+pub put-requires-clause-there : goal.put-requires-clause-there
+put-requires-clause-there g c =
+    put_there c.args.base c.args.now (g.S.Store.slot_kinds c.args.store.now) c.args.current c.args.deferred.now.items (g.S.Store.numbers c.args.store.now) c.args.line.now
+    c.in-Store.storing c.in-Store.target _ (to_z-of_z w32 c.args.current c.ranges.current) c.in-Store.is c.requires.there
+
+pub pass-requires-clause-there : goal.pass-requires-clause-there
+pass-requires-clause-there g c =
+    pass_there c.args.base c.args.now (g.S.Store.slot_kinds c.args.store.now) c.args.current c.args.deferred.now.items (g.S.Store.numbers c.args.store.now) c.args.line.now
+    c.in-ArgumentPlace.place c.in-ArgumentPlace.target c.in-ArgumentPlace.is c.requires.there
+
+pub returns-in-LoadPlace-clause-leaves : goal.returns-in-LoadPlace-clause-leaves
+returns-in-LoadPlace-clause-leaves g c =
+    load_leaves c.args.base c.args.now (g.S.Store.slot_kinds c.args.store.now) c.args.current c.args.deferred.now.items (g.S.Store.numbers c.args.store.now) c.args.line.now
+    c.in-LoadPlace.negated c.in-LoadPlace.place c.on-in-LoadPlace.result c.load.result c.in-LoadPlace.is c.load.ensures (c.on-in-LoadPlace.ensures.current ∙ (narrow_same c.load.result c.load.type_inv)) c.on-in-LoadPlace.ensures.course
+
+pub returns-in-Store-clause-leaves : goal.returns-in-Store-clause-leaves
+returns-in-Store-clause-leaves g c =
+    put_leaves c.args.base c.args.now (g.S.Store.slot_kinds c.args.store.now) c.args.current c.args.deferred.now.items (g.S.Store.numbers c.args.store.now) c.args.line.now
+    c.in-Store.storing c.in-Store.target _ c.on-in-Store.result (g.S.Store.numbers c.put.new.store) (to_z-of_z w32 c.args.current c.ranges.current) c.in-Store.is c.put.ensures.numbers c.on-in-Store.ensures.current c.on-in-Store.ensures.course
+
+pub returns-in-ArgumentPlace-clause-leaves : goal.returns-in-ArgumentPlace-clause-leaves
+returns-in-ArgumentPlace-clause-leaves g c =
+    pass_leaves c.args.base c.args.now (g.S.Store.slot_kinds c.args.store.now) c.args.current c.args.deferred.now.items (g.S.Store.numbers c.args.store.now) c.args.line.now
+    c.in-ArgumentPlace.place c.in-ArgumentPlace.target c.on-in-ArgumentPlace.result (g.S.Store.numbers c.pass.new.store) c.in-ArgumentPlace.is c.pass.ensures.numbers (c.on-in-ArgumentPlace.ensures.current ∙ (to_z-of_z w32 c.args.current c.ranges.current)) c.on-in-ArgumentPlace.ensures.course
+
+pub returns-in-Standard-clause-leaves : goal.returns-in-Standard-clause-leaves
+returns-in-Standard-clause-leaves g c =
+    call_leaves c.args.base c.args.now (g.S.Store.slot_kinds c.args.store.now) c.args.current c.args.deferred.now.items (g.S.Store.numbers c.args.store.now) c.args.line.now
+    c.in-Standard.block c.in-Standard.at c.on-in-Standard.result (g.S.Store.numbers c.call_standard.new.store) c.in-Standard.is c.call_standard.ensures.called (c.on-in-Standard.ensures.current ∙ (to_z-of_z w32 c.args.current c.ranges.current)) c.on-in-Standard.ensures.course
+
+pub returns-in-Store-clause-moments : goal.returns-in-Store-clause-moments
+returns-in-Store-clause-moments g c =
+    c.put.ensures.moments c.args.now c.requires.forward
+
+pub returns-in-ArgumentNumber-clause-moments : goal.returns-in-ArgumentNumber-clause-moments
+returns-in-ArgumentNumber-clause-moments g c =
+    c.write.ensures.moments c.args.now c.requires.forward
+
+pub returns-in-ArgumentPlace-clause-moments : goal.returns-in-ArgumentPlace-clause-moments
+returns-in-ArgumentPlace-clause-moments g c =
+    c.pass.ensures.moments c.args.now c.requires.forward
+
+pub returns-in-ApplyPlace-clause-leaves : goal.returns-in-ApplyPlace-clause-leaves
+returns-in-ApplyPlace-clause-leaves g c =
+    apply_leaves c.args.base c.args.now (g.S.Store.slot_kinds c.args.store.now) c.args.current c.args.deferred.now.items (g.S.Store.numbers c.args.store.now) c.args.line.now
+    c.in-ApplyPlace.operator c.in-ApplyPlace.place c.on-in-ApplyPlace.result c.read-operand.result _ _ c.combined-in-ApplyPlace.result c.in-ApplyPlace.is c.read-operand.ensures
+    (to_z-of_z w32 c.args.current c.ranges.current) (narrow_same c.read-operand.result c.read-operand.type_inv) c.combined-in-ApplyPlace.ensures (c.on-in-ApplyPlace.ensures.current ∙ (narrow_same c.combined-in-ApplyPlace.result c.combined-in-ApplyPlace.type_inv)) c.on-in-ApplyPlace.ensures.course
+
+pub write-requires-clause-there : goal.write-requires-clause-there
+write-requires-clause-there g c =
+    write_there c.args.base c.args.now (g.S.Store.slot_kinds c.args.store.now) c.args.current c.args.deferred.now.items (g.S.Store.numbers c.args.store.now) c.args.line.now
+    c.in-ArgumentNumber.target c.in-ArgumentNumber.number _ (to_z-of_z w32 c.in-ArgumentNumber.number (search rules)) c.in-ArgumentNumber.is c.requires.there
+
+pub returns-in-ArgumentNumber-clause-leaves : goal.returns-in-ArgumentNumber-clause-leaves
+returns-in-ArgumentNumber-clause-leaves g c =
+    write_leaves c.args.base c.args.now (g.S.Store.slot_kinds c.args.store.now) c.args.current c.args.deferred.now.items (g.S.Store.numbers c.args.store.now) c.args.line.now
+    c.in-ArgumentNumber.target c.in-ArgumentNumber.number _ c.on-in-ArgumentNumber.result (g.S.Store.numbers c.write.new.store) (to_z-of_z w32 c.in-ArgumentNumber.number (search rules)) c.in-ArgumentNumber.is c.write.ensures.numbers (c.on-in-ArgumentNumber.ensures.current ∙ (to_z-of_z w32 c.args.current c.ranges.current)) c.on-in-ArgumentNumber.ensures.course
+
+pub read-operand-requires-clause-there : goal.read-operand-requires-clause-there
+read-operand-requires-clause-there g c =
+    read_there c.args.base c.args.now (g.S.Store.slot_kinds c.args.store.now) c.args.current c.args.deferred.now.items (g.S.Store.numbers c.args.store.now) c.args.line.now
+    c.in-ApplyPlace.operator c.in-ApplyPlace.place c.in-ApplyPlace.is c.requires.there
+
+pub call_standard-requires-clause-there : goal.call_standard-requires-clause-there
+call_standard-requires-clause-there g c =
+    block_there c.args.base c.args.now (g.S.Store.slot_kinds c.args.store.now) c.args.current c.args.deferred.now.items (g.S.Store.numbers c.args.store.now) c.args.line.now
+    c.in-Standard.block c.in-Standard.at c.in-Standard.is c.requires.there
+
+pub overflow_add-base : goal.overflow_add-base
+overflow_add-base g c =
+    block_fits c.args.base c.args.now (g.S.Store.slot_kinds c.args.store.now) c.args.current c.args.deferred.now.items (g.S.Store.numbers c.args.store.now) c.args.line.now
+    c.in-Standard.block c.in-Standard.at c.requires.capacity c.in-Standard.is c.requires.there
+
+pub load-requires-clause-capacity : goal.load-requires-clause-capacity
+load-requires-clause-capacity g c = c.requires.capacity
+
+pub put-requires-clause-capacity : goal.put-requires-clause-capacity
+put-requires-clause-capacity g c = c.requires.capacity
+
+pub read-operand-requires-clause-capacity : goal.read-operand-requires-clause-capacity
+read-operand-requires-clause-capacity g c = c.requires.capacity
+
+pub read-inner-requires-clause-capacity : goal.read-inner-requires-clause-capacity
+read-inner-requires-clause-capacity g c = c.requires.capacity
+
+pub write-requires-clause-capacity : goal.write-requires-clause-capacity
+write-requires-clause-capacity g c = c.requires.capacity
+
+pub pass-requires-clause-capacity : goal.pass-requires-clause-capacity
+pass-requires-clause-capacity g c = c.requires.capacity
+
+pub call_standard-requires-clause-capacity : goal.call_standard-requires-clause-capacity
+call_standard-requires-clause-capacity g c = c.requires.capacity
+
+pub call_standard-requires-clause-moment : goal.call_standard-requires-clause-moment
+call_standard-requires-clause-moment g c = c.requires.moment
+
+pub call_standard-requires-clause-forward : goal.call_standard-requires-clause-forward
+call_standard-requires-clause-forward g c = c.requires.forward
+
+pub returns-in-LoadNumber-clause-kinds : goal.returns-in-LoadNumber-clause-kinds
+returns-in-LoadNumber-clause-kinds g c = refl
+
+pub returns-in-LoadNumber-clause-moments : goal.returns-in-LoadNumber-clause-moments
+returns-in-LoadNumber-clause-moments g c = c.requires.forward
+
+pub returns-in-LoadPlace-clause-kinds : goal.returns-in-LoadPlace-clause-kinds
+returns-in-LoadPlace-clause-kinds g c = refl
+
+pub returns-in-LoadPlace-clause-moments : goal.returns-in-LoadPlace-clause-moments
+returns-in-LoadPlace-clause-moments g c = c.requires.forward
+
+pub returns-in-Store-clause-kinds : goal.returns-in-Store-clause-kinds
+returns-in-Store-clause-kinds g c = c.put.ensures.kinds
+
+pub returns-in-ApplyNumber-clause-kinds : goal.returns-in-ApplyNumber-clause-kinds
+returns-in-ApplyNumber-clause-kinds g c = refl
+
+pub returns-in-ApplyNumber-clause-moments : goal.returns-in-ApplyNumber-clause-moments
+returns-in-ApplyNumber-clause-moments g c = c.requires.forward
+
+pub returns-in-ApplyPlace-clause-kinds : goal.returns-in-ApplyPlace-clause-kinds
+returns-in-ApplyPlace-clause-kinds g c = refl
+
+pub returns-in-ApplyPlace-clause-moments : goal.returns-in-ApplyPlace-clause-moments
+returns-in-ApplyPlace-clause-moments g c = c.requires.forward
+
+pub returns-in-Not-clause-kinds : goal.returns-in-Not-clause-kinds
+returns-in-Not-clause-kinds g c = refl
+
+pub returns-in-Not-clause-moments : goal.returns-in-Not-clause-moments
+returns-in-Not-clause-moments g c = c.requires.forward
+
+pub returns-in-Open-clause-kinds : goal.returns-in-Open-clause-kinds
+returns-in-Open-clause-kinds g c = refl
+
+pub returns-in-Open-clause-moments : goal.returns-in-Open-clause-moments
+returns-in-Open-clause-moments g c = c.requires.forward
+
+pub returns-in-OpenNumber-clause-kinds : goal.returns-in-OpenNumber-clause-kinds
+returns-in-OpenNumber-clause-kinds g c = refl
+
+pub returns-in-OpenNumber-clause-moments : goal.returns-in-OpenNumber-clause-moments
+returns-in-OpenNumber-clause-moments g c = c.requires.forward
+
+pub returns-in-OpenPlace-clause-kinds : goal.returns-in-OpenPlace-clause-kinds
+returns-in-OpenPlace-clause-kinds g c = refl
+
+pub returns-in-OpenPlace-clause-moments : goal.returns-in-OpenPlace-clause-moments
+returns-in-OpenPlace-clause-moments g c = c.requires.forward
+
+pub returns-in-Close-clause-kinds : goal.returns-in-Close-clause-kinds
+returns-in-Close-clause-kinds g c = refl
+
+pub returns-in-Close-clause-moments : goal.returns-in-Close-clause-moments
+returns-in-Close-clause-moments g c = c.requires.forward
+
+pub returns-in-Jump-clause-kinds : goal.returns-in-Jump-clause-kinds
+returns-in-Jump-clause-kinds g c = refl
+
+pub returns-in-Jump-clause-moments : goal.returns-in-Jump-clause-moments
+returns-in-Jump-clause-moments g c = c.requires.forward
+
+pub returns-in-Return-clause-kinds : goal.returns-in-Return-clause-kinds
+returns-in-Return-clause-kinds g c = refl
+
+pub returns-in-Return-clause-moments : goal.returns-in-Return-clause-moments
+returns-in-Return-clause-moments g c = c.requires.forward
+
+pub returns-in-Call-clause-kinds : goal.returns-in-Call-clause-kinds
+returns-in-Call-clause-kinds g c = refl
+
+pub returns-in-Call-clause-moments : goal.returns-in-Call-clause-moments
+returns-in-Call-clause-moments g c = c.requires.forward
+
+pub returns-in-ArgumentNumber-clause-kinds : goal.returns-in-ArgumentNumber-clause-kinds
+returns-in-ArgumentNumber-clause-kinds g c = c.write.ensures.kinds
+
+pub returns-in-ArgumentPlace-clause-kinds : goal.returns-in-ArgumentPlace-clause-kinds
+returns-in-ArgumentPlace-clause-kinds g c = c.pass.ensures.kinds
+
+pub returns-in-Standard-clause-kinds : goal.returns-in-Standard-clause-kinds
+returns-in-Standard-clause-kinds g c = c.call_standard.ensures.kinds
+
+pub returns-in-Standard-clause-moments : goal.returns-in-Standard-clause-moments
+returns-in-Standard-clause-moments g c = c.call_standard.ensures.moments
+
+pub returns-in-Body-clause-kinds : goal.returns-in-Body-clause-kinds
+returns-in-Body-clause-kinds g c = refl
+
+pub returns-in-Body-clause-moments : goal.returns-in-Body-clause-moments
+returns-in-Body-clause-moments g c = c.requires.forward
