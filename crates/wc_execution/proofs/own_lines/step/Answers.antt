@@ -1,8 +1,9 @@
 -- What each line does to the numbers is what its function does.
 use Rattle.std.proofs.Common.{w32, rules, refl, ◌∙◌}
+use Rattle.std.proofs.Math.Dec.{lit<}
 use Rattle.std.proofs.lemmas.Int.{to_z-of_z}
 use Rattle.wc_execution.proofs.BlockFields.{narrow_same}
-use Rattle.wc_execution.proofs.LineParts.{block_fits, block_there, read_there, load_there, put_there, pass_there, write_there, load_leaves, put_leaves, pass_leaves, write_leaves, apply_leaves, call_leaves}
+use Rattle.wc_execution.proofs.LineParts.{apply_number_leaves, apply_place_there, apply_there, close_leaves, close_there, conditional_there, flip_leaves, flip_there, jump_there, open_number_space, open_place_there, open_space, return_there, block_fits, block_there, read_there, load_there, put_there, pass_there, write_there, load_leaves, put_leaves, pass_leaves, write_leaves, apply_leaves, call_leaves}
 use Rattle.wc_execution.proofs.own_lines.step.Goals as goal
 
 pub load-requires-clause-there : goal.load-requires-clause-there
@@ -202,3 +203,67 @@ returns-in-Body-clause-kinds g c = refl
 
 pub returns-in-Body-clause-moments : goal.returns-in-Body-clause-moments
 returns-in-Body-clause-moments g c = c.requires.forward
+
+pub combined-requires : goal.combined-requires
+combined-requires g c =
+    apply_there c.args.base c.args.now (g.S.Store.slot_kinds c.args.store.now) c.args.current c.args.deferred.now.items (g.S.Store.numbers c.args.store.now) c.args.line.now
+    c.in-ApplyNumber.operator c.in-ApplyNumber.number _ _ (to_z-of_z w32 c.args.current c.ranges.current) (to_z-of_z w32 c.in-ApplyNumber.number (search rules)) c.in-ApplyNumber.is c.requires.there
+
+pub returns-in-ApplyNumber-clause-leaves : goal.returns-in-ApplyNumber-clause-leaves
+returns-in-ApplyNumber-clause-leaves g c =
+    apply_number_leaves c.args.base c.args.now (g.S.Store.slot_kinds c.args.store.now) c.args.current c.args.deferred.now.items (g.S.Store.numbers c.args.store.now) c.args.line.now
+    c.in-ApplyNumber.operator _ _ c.in-ApplyNumber.number c.combined.result c.on-in-ApplyNumber.result (to_z-of_z w32 c.args.current c.ranges.current) (to_z-of_z w32 c.in-ApplyNumber.number (search rules)) c.in-ApplyNumber.is c.combined.ensures
+    (c.on-in-ApplyNumber.ensures.current ∙ (narrow_same c.combined.result c.combined.type_inv)) c.on-in-ApplyNumber.ensures.course
+
+pub combined-requires-in-ApplyPlace : goal.combined-requires-in-ApplyPlace
+combined-requires-in-ApplyPlace g c =
+    apply_place_there c.args.base c.args.now (g.S.Store.slot_kinds c.args.store.now) c.args.current c.args.deferred.now.items (g.S.Store.numbers c.args.store.now) c.args.line.now
+    c.in-ApplyPlace.operator c.in-ApplyPlace.place c.read-operand.result _ _ (to_z-of_z w32 c.args.current c.ranges.current) (narrow_same c.read-operand.result c.read-operand.type_inv) c.read-operand.ensures c.in-ApplyPlace.is c.requires.there
+
+pub flipped-requires : goal.flipped-requires
+flipped-requires g c =
+    flip_there c.args.base c.args.now (g.S.Store.slot_kinds c.args.store.now) c.args.current c.args.deferred.now.items (g.S.Store.numbers c.args.store.now) c.args.line.now
+    _ (to_z-of_z w32 c.args.current c.ranges.current) c.in-Not.is c.requires.there
+
+pub returns-in-Not-clause-leaves : goal.returns-in-Not-clause-leaves
+returns-in-Not-clause-leaves g c =
+    flip_leaves c.args.base c.args.now (g.S.Store.slot_kinds c.args.store.now) c.args.current c.args.deferred.now.items (g.S.Store.numbers c.args.store.now) c.args.line.now
+    _ c.flipped.result c.on-in-Not.result (to_z-of_z w32 c.args.current c.ranges.current) c.in-Not.is c.flipped.ensures (c.on-in-Not.ensures.current ∙ (narrow_same c.flipped.result c.flipped.type_inv)) c.on-in-Not.ensures.course
+
+pub push-requires : goal.push-requires
+push-requires g c =
+    (lit< tt, open_space c.args.base c.args.now (g.S.Store.slot_kinds c.args.store.now) c.args.current c.args.deferred.now.items (g.S.Store.numbers c.args.store.now) c.args.line.now c.in-Open.is c.requires.there)
+
+pub push-requires-in-OpenNumber : goal.push-requires-in-OpenNumber
+push-requires-in-OpenNumber g c =
+    (lit< tt, open_number_space c.args.base c.args.now (g.S.Store.slot_kinds c.args.store.now) c.args.current c.args.deferred.now.items (g.S.Store.numbers c.args.store.now) c.args.line.now c.in-OpenNumber.number c.in-OpenNumber.is c.requires.there)
+
+pub read-inner-requires-clause-there : goal.read-inner-requires-clause-there
+read-inner-requires-clause-there g c =
+    open_place_there c.args.base c.args.now (g.S.Store.slot_kinds c.args.store.now) c.args.current c.args.deferred.now.items (g.S.Store.numbers c.args.store.now) c.args.line.now
+    c.in-OpenPlace.place c.in-OpenPlace.is c.requires.there
+
+pub close-requires : goal.close-requires
+close-requires g c =
+    close_there c.args.base c.args.now (g.S.Store.slot_kinds c.args.store.now) c.args.current c.args.deferred.now.items (g.S.Store.numbers c.args.store.now) c.args.line.now
+    c.in-Close.operator _ (to_z-of_z w32 c.args.current c.ranges.current) c.in-Close.is c.requires.there
+
+pub returns-in-Close-clause-leaves : goal.returns-in-Close-clause-leaves
+returns-in-Close-clause-leaves g c =
+    close_leaves c.args.base c.args.now (g.S.Store.slot_kinds c.args.store.now) c.args.current c.args.deferred.now.items (g.S.Store.numbers c.args.store.now) c.args.line.now
+    c.in-Close.operator _ _ c.on-in-Close.result c.close.new.deferred.items (to_z-of_z w32 c.args.current c.ranges.current) c.in-Close.is c.close.ensures (c.on-in-Close.ensures.current ∙ (narrow_same c.close.result c.close.type_inv)) c.on-in-Close.ensures.course
+
+pub acts-requires : goal.acts-requires
+acts-requires g c =
+    jump_there c.args.base c.args.now (g.S.Store.slot_kinds c.args.store.now) c.args.current c.args.deferred.now.items (g.S.Store.numbers c.args.store.now) c.args.line.now
+    c.in-Jump.condition c.in-Jump.skip _ (to_z-of_z w32 c.args.current c.ranges.current) c.in-Jump.is c.requires.there
+
+pub acts-requires-in-Return : goal.acts-requires-in-Return
+acts-requires-in-Return g c =
+    return_there c.args.base c.args.now (g.S.Store.slot_kinds c.args.store.now) c.args.current c.args.deferred.now.items (g.S.Store.numbers c.args.store.now) c.args.line.now
+    c.in-Return.condition _ (to_z-of_z w32 c.args.current c.ranges.current) c.in-Return.is c.requires.there
+
+pub acts-requires-in-Call : goal.acts-requires-in-Call
+acts-requires-in-Call g c =
+    conditional_there c.args.base c.args.now (g.S.Store.slot_kinds c.args.store.now) c.args.current c.args.deferred.now.items (g.S.Store.numbers c.args.store.now) c.args.line.now
+    c.in-Call.condition c.in-Call.skip _ (to_z-of_z w32 c.args.current c.ranges.current) c.in-Call.is c.requires.there
