@@ -1,10 +1,11 @@
 -- What each line does to the numbers is what its function does.
-use Rattle.std.proofs.Common.{w32, rules, refl, ◌∙◌}
+use Rattle.std.proofs.Common.{w32, rules, refl, subst, ◌∙◌}
 use Rattle.std.proofs.Math.Dec.{lit<}
 use Rattle.std.proofs.lemmas.Int.{to_z-of_z}
 use Rattle.wc_execution.proofs.BlockFields.{narrow_same}
-use Rattle.wc_execution.proofs.LineParts.{apply_number_leaves, apply_place_there, apply_there, close_leaves, close_there, conditional_there, flip_leaves, flip_there, jump_there, open_number_space, open_place_there, open_space, return_there, block_fits, block_there, read_there, load_there, put_there, pass_there, write_there, load_leaves, put_leaves, pass_leaves, write_leaves, apply_leaves, call_leaves}
+use Rattle.wc_execution.proofs.LineParts.{conditional_leaves, jump_leaves, load_number_leaves, open_leaves, open_number_leaves, open_place_leaves, open_place_space, return_leaves, apply_number_leaves, apply_place_there, apply_there, close_leaves, close_there, conditional_there, flip_leaves, flip_there, jump_there, open_number_space, open_place_there, open_space, return_there, block_fits, block_there, read_there, load_there, put_there, pass_there, write_there, load_leaves, put_leaves, pass_leaves, write_leaves, apply_leaves, call_leaves}
 use Rattle.wc_execution.proofs.own_lines.step.Goals as goal
+use Rattle.wc_execution.specs.Courses.{IsOwn}
 
 pub load-requires-clause-there : goal.load-requires-clause-there
 load-requires-clause-there g c =
@@ -267,3 +268,49 @@ pub acts-requires-in-Call : goal.acts-requires-in-Call
 acts-requires-in-Call g c =
     conditional_there c.args.base c.args.now (g.S.Store.slot_kinds c.args.store.now) c.args.current c.args.deferred.now.items (g.S.Store.numbers c.args.store.now) c.args.line.now
     c.in-Call.condition c.in-Call.skip _ (to_z-of_z w32 c.args.current c.ranges.current) c.in-Call.is c.requires.there
+
+pub returns-in-LoadNumber-clause-leaves : goal.returns-in-LoadNumber-clause-leaves
+returns-in-LoadNumber-clause-leaves g c =
+    load_number_leaves c.args.base c.args.now (g.S.Store.slot_kinds c.args.store.now) c.args.current c.args.deferred.now.items (g.S.Store.numbers c.args.store.now) c.args.line.now
+    c.in-LoadNumber.number c.on.result c.in-LoadNumber.is (c.on.ensures.current ∙ (to_z-of_z w32 c.in-LoadNumber.number (search rules))) c.on.ensures.course
+
+pub returns-in-Jump-clause-leaves : goal.returns-in-Jump-clause-leaves
+returns-in-Jump-clause-leaves g c =
+    jump_leaves c.args.base c.args.now (g.S.Store.slot_kinds c.args.store.now) c.args.current c.args.deferred.now.items (g.S.Store.numbers c.args.store.now) c.args.line.now
+    c.in-Jump.condition c.in-Jump.skip _ c.acts.result c.over.result (to_z-of_z w32 c.args.current c.ranges.current) c.in-Jump.is c.acts.ensures (c.over.ensures.current ∙ (to_z-of_z w32 c.args.current c.ranges.current)) c.over.ensures.course
+
+pub returns-in-Return-clause-leaves : goal.returns-in-Return-clause-leaves
+returns-in-Return-clause-leaves g c =
+    return_leaves c.args.base c.args.now (g.S.Store.slot_kinds c.args.store.now) c.args.current c.args.deferred.now.items (g.S.Store.numbers c.args.store.now) c.args.line.now
+    c.in-Return.condition _ c.acts-in-Return.result c.out.result (to_z-of_z w32 c.args.current c.ranges.current) c.in-Return.is c.acts-in-Return.ensures (c.out.ensures.current ∙ (to_z-of_z w32 c.args.current c.ranges.current)) c.out.ensures.course
+
+pub returns-in-Call-clause-leaves : goal.returns-in-Call-clause-leaves
+returns-in-Call-clause-leaves g c =
+    conditional_leaves c.args.base c.args.now (g.S.Store.slot_kinds c.args.store.now) c.args.current c.args.deferred.now.items (g.S.Store.numbers c.args.store.now) c.args.line.now
+    c.in-Call.condition c.in-Call.skip _ c.acts-in-Call.result c.over-in-Call.result (to_z-of_z w32 c.args.current c.ranges.current) c.in-Call.is c.acts-in-Call.ensures (c.over-in-Call.ensures.current ∙ (to_z-of_z w32 c.args.current c.ranges.current)) c.over-in-Call.ensures.course
+
+pub returns-in-Open-clause-leaves : goal.returns-in-Open-clause-leaves
+returns-in-Open-clause-leaves g c =
+    open_leaves c.args.base c.args.now (g.S.Store.slot_kinds c.args.store.now) c.args.current c.args.deferred.now.items (g.S.Store.numbers c.args.store.now) c.args.line.now
+    _ c.on-in-Open.result c.push.new.self.items (to_z-of_z w32 c.args.current c.ranges.current) c.in-Open.is c.requires.there c.push.ensures.items c.on-in-Open.ensures.course
+
+pub returns-in-OpenNumber-clause-leaves : goal.returns-in-OpenNumber-clause-leaves
+returns-in-OpenNumber-clause-leaves g c =
+    open_number_leaves c.args.base c.args.now (g.S.Store.slot_kinds c.args.store.now) c.args.current c.args.deferred.now.items (g.S.Store.numbers c.args.store.now) c.args.line.now
+    c.in-OpenNumber.number _ c.on-in-OpenNumber.result c.push-in-OpenNumber.new.self.items (to_z-of_z w32 c.args.current c.ranges.current) c.in-OpenNumber.is c.requires.there c.push-in-OpenNumber.ensures.items
+    (c.on-in-OpenNumber.ensures.current ∙ (to_z-of_z w32 c.in-OpenNumber.number (search rules))) c.on-in-OpenNumber.ensures.course
+
+pub push-requires-in-OpenPlace : goal.push-requires-in-OpenPlace
+push-requires-in-OpenPlace g c =
+    (lit< tt, open_place_space c.args.base c.args.now (g.S.Store.slot_kinds c.args.store.now) c.args.current c.args.deferred.now.items (g.S.Store.numbers c.args.store.now) c.args.line.now
+    c.in-OpenPlace.place c.read-inner.result c.read-inner.ensures c.in-OpenPlace.is c.requires.there)
+
+pub returns-in-OpenPlace-clause-leaves : goal.returns-in-OpenPlace-clause-leaves
+returns-in-OpenPlace-clause-leaves g c =
+    open_place_leaves c.args.base c.args.now (g.S.Store.slot_kinds c.args.store.now) c.args.current c.args.deferred.now.items (g.S.Store.numbers c.args.store.now) c.args.line.now
+    c.in-OpenPlace.place c.read-inner.result _ c.on-in-OpenPlace.result c.push-in-OpenPlace.new.self.items (to_z-of_z w32 c.args.current c.ranges.current) c.read-inner.ensures c.in-OpenPlace.is c.requires.there c.push-in-OpenPlace.ensures.items
+    (c.on-in-OpenPlace.ensures.current ∙ (narrow_same c.read-inner.result c.read-inner.type_inv)) c.on-in-OpenPlace.ensures.course
+
+pub returns-in-Body-clause-leaves : goal.returns-in-Body-clause-leaves
+returns-in-Body-clause-leaves g c =
+    absurd (subst (λ l. IsOwn l) c.in-Body.is c.requires.own)
