@@ -4,6 +4,7 @@ pub mod SlotKinds
 pub mod FourBools
 pub mod BitRows
 pub mod BlockFields
+pub mod NamedPlaces
 pub mod LineParts
 pub mod Kept
 pub mod BlockCalls

@@ -301,9 +301,11 @@ returns-in-OpenNumber-clause-leaves g c =
     (c.on-in-OpenNumber.ensures.current ∙ (to_z-of_z w32 c.in-OpenNumber.number (search rules))) c.on-in-OpenNumber.ensures.course
 
 pub push-requires-in-OpenPlace : goal.push-requires-in-OpenPlace
-push-requires-in-OpenPlace g c =
-    (lit< tt, open_place_space c.args.base c.args.now (g.S.Store.slot_kinds c.args.store.now) c.args.current c.args.deferred.now.items (g.S.Store.numbers c.args.store.now) c.args.line.now
-    c.in-OpenPlace.place c.read-inner.result c.read-inner.ensures c.in-OpenPlace.is c.requires.there)
+push-requires-in-OpenPlace g c = (
+  lit< tt,
+  open_place_space c.args.base c.args.now (g.S.Store.slot_kinds c.args.store.now) c.args.current c.args.deferred.now.items (g.S.Store.numbers c.args.store.now) c.args.line.now
+      c.in-OpenPlace.place c.read-inner.result c.read-inner.ensures c.in-OpenPlace.is c.requires.there,
+)
 
 pub returns-in-OpenPlace-clause-leaves : goal.returns-in-OpenPlace-clause-leaves
 returns-in-OpenPlace-clause-leaves g c =
