@@ -1,5 +1,5 @@
 -- Whether a parenthesis is open says whether there is an innermost.
-use Rattle.std.proofs.Common.{◌≡◌, sym, ap, ◌∙◌}
+use Rattle.std.proofs.Common.{sym, ap, ◌∙◌}
 use Rattle.wc_laws_grammar.specs.Moves.{start_move}
 use Rattle.wc_text_bodies.proofs.Openings.{innermost_of}
 use Rattle.wc_text_lines.proofs.Outcomes.{ok-map}

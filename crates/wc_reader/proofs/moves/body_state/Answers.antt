@@ -1,5 +1,5 @@
 -- Where the token leads says which view the state has.
-use Rattle.std.proofs.Common.{◌≡◌, Some, IfSome, map, sym, ap, ◌∙◌, subst}
+use Rattle.std.proofs.Common.{Some, IfSome, map, sym, ap, ◌∙◌, subst}
 use Rattle.std.specs.Prelude.{option_map}
 use Rattle.wc_model.specs.Language.Views.{unit_view}
 use Rattle.wc_text_bodies.specs.BodyViews.{IsCounted, position_view}
