@@ -1,5 +1,11 @@
 pub mod Quotients
 pub mod Moments
+pub mod SlotKinds
+pub mod FourBools
+pub mod BitRows
+pub mod BlockFields
+pub mod NamedPlaces
+pub mod LineParts
 pub mod Kept
 pub mod BlockCalls
 pub mod BlockSlots

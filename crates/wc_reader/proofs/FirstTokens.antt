@@ -1,14 +1,17 @@
 -- The first token of a line, if it is none of those that have a case of their own.
-use Rattle.std.proofs.Common.{◌≡◌, ℕ, Bool, false, List, refl}
+use Rattle.std.proofs.Common.{◌≡◌, ℕ, Bool, true, false, List, [], ◌∷◌, Some, None, refl, ap, sym, ◌∙◌}
+use Rattle.std.specs.Prelude.{slice_get}
 use Rattle.wc_laws_grammar.specs.LineMoves.{Start, line_move}
-use Rattle.wc_laws_grammar.specs.Moves.{started_line, body_move, inside_move}
+use Rattle.wc_laws_grammar.specs.Moves.{started_line, body_move, inside_move, is_colon, colon_next}
 use Rattle.wc_lexer.specs.Views.{shape_view}
 use Rattle.wc_lexer.specs.declared.shape.Shape.{Shape}
-use Rattle.wc_lexer.specs.declared.shape.Shape.TheVariants.{Identifier, Whole, Duration, Truth, Address, And, AndNot, Opening, Closing, Comma}
+use Rattle.wc_lexer.specs.declared.shape.Shape.TheVariants.{Identifier, Whole, Duration, Truth, Address, And, AndNot, Opening, Closing, Comma, Colon}
+use Rattle.wc_lexer.specs.declared.shape.Token.{Token}
 use Rattle.wc_model.specs.Text.Grammar.{InBody, InParentheses}
 use Rattle.wc_model.specs.Text.Positions as positions
 use Rattle.wc_model.specs.Text.Positions.{Position}
 use Rattle.wc_model.specs.Text.Reading.{symbol_of}
+use Rattle.wc_text_lines.specs.Words.{marks_of}
 
 -- in parentheses, other than a `)`
 pub inside-other : (p : Position) (o : positions.Opening) (outer : List positions.Opening) (line : ℕ) (shape : Shape) (bytes : List ℕ) → (shape ≡ Closing → ⊥) → inside_move p o outer (symbol_of (shape_view shape) bytes) line ≡ started_line p (line_move InParentheses Start (symbol_of (shape_view shape) bytes) line false)
@@ -29,3 +32,29 @@ pub body-other : (p : Position) (line : ℕ) (colon : Bool) (shape : Shape) (byt
 body-other p line colon Identifier bytes h = absurd (h refl)
 body-other p line colon (Whole value) bytes h = refl
 body-other p line colon another bytes h = refl
+
+-- whether a colon is first
+is_colon-other : (shape : Shape) (bytes : List ℕ) → (shape ≡ Colon → ⊥) → false ≡ is_colon (symbol_of (shape_view shape) bytes)
+is_colon-other Colon bytes h = absurd (h refl)
+is_colon-other Identifier bytes h = refl
+is_colon-other (Whole value) bytes h = refl
+is_colon-other (Duration value) bytes h = refl
+is_colon-other (Truth value) bytes h = refl
+is_colon-other another bytes h = refl
+
+pub colon_first : (tokens : List Token) (token : Token) → slice_get tokens 0 ≡ Some token → token.shape ≡ Colon → true ≡ colon_next (marks_of tokens) false
+colon_first [] token e h = absurd (cc (e))
+colon_first (t ∷ ts) token e h =
+    let same : t ≡ token = cc (e) in
+    let here : t.shape ≡ Colon = ap (λ u. u.shape) same ∙ h in
+    ap (λ shape. is_colon (symbol_of (shape_view shape) t.text.now)) (sym here)
+
+pub no_colon_first : (tokens : List Token) (token : Token) → slice_get tokens 0 ≡ Some token → (token.shape ≡ Colon → ⊥) → false ≡ colon_next (marks_of tokens) false
+no_colon_first [] token e h = absurd (cc (e))
+no_colon_first (t ∷ ts) token e h =
+    let same : t ≡ token = cc (e) in
+    is_colon-other t.shape t.text.now (λ here. h (ap (λ u. u.shape) (sym same) ∙ here))
+
+pub nothing_first : (tokens : List Token) → slice_get tokens 0 ≡ None → false ≡ colon_next (marks_of tokens) false
+nothing_first [] e = refl
+nothing_first (t ∷ ts) e = absurd (cc (e))

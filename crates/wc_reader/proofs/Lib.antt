@@ -1,5 +1,6 @@
 mod AnyProgram
 mod FirstTokens
 mod LastLines
+mod OpenParentheses
 mod ReadingSteps
 pub mod ReadTexts
