@@ -110,7 +110,12 @@ pub fn flat_body<'a>(
         let Some(last) = lines.get(index) else {
             continue;
         };
-        put_line(tables, unit, last, &mut labels, &mut flat)?;
+        if let Err(fault) = put_line(tables, unit, last, &mut labels, &mut flat) {
+            drop(labels);
+            drop(flat);
+            return Err(fault);
+        }
     }
+    drop(labels);
     Ok(flat)
 }

@@ -62,7 +62,10 @@ impl<'a, S: Store> Machine<'a, S> {
         let bound = loaded.bound(units - 1);
         let store = match first_store(alloc, loaded.kinds(), loaded.initials()) {
             Ok(store) => store,
-            Err(fault) => return Err(fault),
+            Err(fault) => {
+                drop(loaded);
+                return Err(fault);
+            }
         };
         Ok(Machine {
             loaded,
@@ -92,12 +95,16 @@ impl<'a, S: Store> Machine<'a, S> {
     {
         let first = match first_store(alloc, loaded.kinds(), loaded.initials()) {
             Ok(first) => first,
-            Err(fault) => return Err((self, fault)),
+            Err(fault) => {
+                drop(loaded);
+                return Err((self, fault));
+            }
         };
         let units = loaded.units();
         let bound = loaded.bound(units - 1);
         let store = carried_over(first, &loaded, &self.loaded, &self.store);
         let last = self.last;
+        drop(self);
         Ok(Machine {
             loaded,
             store,

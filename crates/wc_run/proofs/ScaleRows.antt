@@ -19,8 +19,8 @@ use Rattle.wc_machine.specs.declared.seen.SeenLine.{SeenLine}
 use Rattle.wc_record.specs.Views.{head_data_view, head_view}
 use Rattle.wc_record.specs.declared.last_scans.Record.{Record}
 use Rattle.wc_record.specs.declared.row_head.RowHead.{RowHead}
-use Rattle.wc_run.specs.Logics.{IsTaken, IsAt, logic_after}
-use Rattle.wc_run.specs.Observing.{AreItems, items_of}
+use Rattle.wc_run.specs.Logics.{IsTaken, IsAt, lines_of_row, logic_after}
+use Rattle.wc_run.specs.Observing.{AreItems, items_of, lines_of_scan}
 use Rattle.wc_run.specs.Outputs.{line_of_record}
 use Rattle.wc_run.specs.Representation.{IsNext, Represents, program_of}
 use Rattle.wc_run.specs.Taking.{row_at, Gives, GivesItems, RunsRow, StopsAtRow, TakesRow}
@@ -228,3 +228,21 @@ pub items_at : {S E : Type 0} (old : Scale S) (bytes : List ℕ) (row : RowHead)
 items_at old bytes row brings (Ok scan) is gives = λ plate logic past represents.
     subst (λ kind. IfSome scan (λ done. AreItems plate logic past (row_at row.number row.ms kind) (items_of done))) (sym is) (gives plate logic past row.number represents)
 items_at old bytes row brings (Err fault) is gives = tt
+
+-- its lines, which are none of a row that brings a sample, inputs or a change
+pub lines_at : {S : Type 0} (old : Scale S) (bytes : List ℕ) (row : RowHead) (brings : RowData) (answers given : List ℕ) (scan : Option ScanSeen) → head_data_view bytes row.kind ≡ brings → answers ≡ given → Gives old row.ms brings given scan →
+    (plate : PlateData) (logic : Option Logic) (past : Past) → Represents old plate logic past → lines_of_row plate logic past (head_view bytes row) ≡ answer_line row.ms answers ++ lines_of_scan scan
+lines_at old bytes row brings answers given scan is same gives plate logic past represents =
+    ap (λ kind. lines_of_row plate logic past (row_at row.number row.ms kind)) is ∙ gives plate logic past row.number represents ∙ ap (λ a. answer_line row.ms a ++ lines_of_scan scan) (sym same)
+
+pub gives_no_counts : {S : Type 0} (old : Scale S) (ms : ℕ) (counts : ℤ) → Gives old ms (Counts counts) [] None
+gives_no_counts old ms counts plate None past number represents = refl
+gives_no_counts old ms counts plate (Some logic) past number represents = refl
+
+pub gives_no_inputs : {S : Type 0} (old : Scale S) (ms inputs : ℕ) → Gives old ms (Inputs inputs) [] None
+gives_no_inputs old ms inputs plate None past number represents = refl
+gives_no_inputs old ms inputs plate (Some logic) past number represents = refl
+
+pub gives_no_change : {S : Type 0} (old : Scale S) (ms : ℕ) → Gives old ms Change [] None
+gives_no_change old ms plate None past number represents = refl
+gives_no_change old ms plate (Some logic) past number represents = refl

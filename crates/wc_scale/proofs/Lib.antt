@@ -1,4 +1,5 @@
 pub mod Answering
 pub mod Opened
 pub mod ReadValues
+pub mod RefusedScans
 pub mod Refusing

@@ -52,7 +52,10 @@ pub(crate) fn count_labels<'a>(alloc: Global, lines: &Vec<Line<'a>>) -> Result<L
 {
     let mut labels = Labels::new(alloc);
     for line in lines {
-        count(&mut labels, &line.label)?;
+        if let Err(fault) = count(&mut labels, &line.label) {
+            drop(labels);
+            return Err(fault);
+        }
     }
     Ok(labels)
 }

@@ -1,10 +1,14 @@
-use Rattle.std.proofs.Common.{◌≡◌, refl, sym, ap, ◌∙◌, arith, None, inl, inr}
+use Rattle.std.proofs.Common.{◌≡◌, ℕ, Global, Result, Vec, refl, sym, ap, ◌∙◌, arith, None, inl, inr}
+use Rattle.std.proofs.lemmas.List.{take_all}
 use Rattle.std.proofs.lemmas.Option.{slice_get_cases}
 use Rattle.std.specs.Option.{option_copied}
-use Rattle.std.specs.Prelude.{slice_get}
-use Rattle.wc_model.specs.Say.Report.{line_text}
+use Rattle.std.specs.Prelude.{IfOk, IsOkUnless, slice_get}
+use Rattle.wc_model.specs.Say.Report.{line_text, report_text}
 use Rattle.wc_run.proofs.Recording.{one_record_more}
-use Rattle.wc_run.specs.Outputs.{line_of_record}
+use Rattle.wc_run.specs.Outputs.{line_of_record, lines_of_records}
+use Rattle.wc_run.specs.declared.fault.RunFault.{RunFault}
+use Rattle.wc_run.specs.declared.fault.RunFault.TheVariants.{Memory}
+use Rattle.wc_run.proofs.HandedOn.{propagated}
 use Rattle.wc_run.proofs.scan_lines.last_text.Goals as goal
 
 pub loop-index-preserved : goal.loop-index-preserved
@@ -21,3 +25,24 @@ loop-index-preserved-in_default c =
       | inl there ↦ absurd (cc (missing, there.2))
       | inr past ↦ absurd (omega (arith, past.0))
     ]
+
+pub loop-index-init : goal.loop-index-init
+loop-index-init c = c.new-lines.ensures.items
+
+pub returns-in_err-put_record-clause-text : goal.returns-in_err-put_record-clause-text
+returns-in_err-put_record-clause-text c =
+    propagated (λ (r : Result (Vec ℕ Global) RunFault). IfOk r (λ text. text.items ≡ report_text (lines_of_records c.args.recorder.now.records))) c.in_err-put_record.field-0.0 c.from_residual.result c.from_residual.ensures tt
+
+pub returns-in_err-put_record-clause-memory : goal.returns-in_err-put_record-clause-memory
+returns-in_err-put_record-clause-memory c =
+    propagated (λ (r : Result (Vec ℕ Global) RunFault). IsOkUnless r Memory) c.in_err-put_record.field-0.0 c.from_residual.result c.from_residual.ensures c.in_err-put_record.ensures.memory
+
+pub returns-clause-text : goal.returns-clause-text
+returns-clause-text c =
+    let records = c.args.recorder.now.records in
+    let end = c.loop-index-test.false in
+    let count = c.len-index-end.ensures in
+    c.loop-index.invariant ∙ ap (λ some. report_text (lines_of_records some)) (take_all c.loop-index.index records (omega (arith, end, count)))
+
+pub returns-clause-memory : goal.returns-clause-memory
+returns-clause-memory c = tt

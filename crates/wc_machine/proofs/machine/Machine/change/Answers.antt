@@ -1,5 +1,6 @@
 -- A changed machine represents the store that is carried over.
 use Rattle.std.proofs.Common.{◌≡◌, ◌-◌, List, ℤ, length, ap, sym, ◌∙◌, subst, arith, rules, refl}
+use Rattle.std.proofs.lemmas.List.{length-map}
 use Rattle.wc_text_flat.specs.Contents.{AreContents, frame_of_text}
 use Rattle.wc_machine.proofs.Carrying.{before_later, contents_carried}
 use Rattle.wc_machine.proofs.FirstPlaces.{last_bound}
@@ -8,7 +9,7 @@ use Rattle.wc_machine.proofs.machine.Machine.change.Goals as goal
 use Rattle.wc_machine.specs.Carrying.{AreCarried}
 use Rattle.wc_machine.specs.Machines.{MachineState, text_of}
 use Rattle.wc_model.specs.Language.Carried.{carried}
-use Rattle.wc_model.specs.Language.Frames.{first_numbers}
+use Rattle.wc_model.specs.Language.Frames.{content_number, first_numbers, slot_kind_of}
 use Rattle.wc_model.specs.Language.Scans.{initial_of}
 use Rattle.wc_model.specs.Language.Store.{Store}
 use Rattle.wc_model.specs.Language.Tree.{Text}
@@ -22,6 +23,71 @@ use Rattle.wc_laws_soundness.specs.Typing.{SameSlots}
 held : (old new : Text) → IsProgramLast old → IsProgramLast new → (store : Store) → SameSlots (initial_of old) store → (numbers : List ℤ) → AreContents (frame_of_text old) store numbers → (first all : List ℤ) → first ≡ first_numbers (frame_of_text new) →
     AreCarried old new numbers first all → AreContents (frame_of_text new) (carried old store new) all
 held old new old_last new_last store same numbers contents first all is are = contents_carried old new old_last new_last store same numbers contents all (subst (λ ns. AreCarried old new numbers ns all) is are)
+
+pub first_store-requires-clause-count : goal.first_store-requires-clause-count
+first_store-requires-clause-count g c =
+    let frame = frame_of_text (text_view c.args.loaded.source) in
+    ap length c.initials.ensures.numbers ∙ length-map frame (λ entry. content_number entry.1) ∙ sym (ap length c.kinds.ensures.kinds ∙ length-map frame (λ entry. slot_kind_of entry.1))
+
+pub first_store-requires-clause-capacity : goal.first_store-requires-clause-capacity
+first_store-requires-clause-capacity g c = let few = c.kinds.ensures.few in omega (arith, few)
+
+pub returns-in-Err-clause-represents : goal.returns-in-Err-clause-represents
+returns-in-Err-clause-represents g c = λ text store represents. tt
+
+pub returns-in-Err-clause-text : goal.returns-in-Err-clause-text
+returns-in-Err-clause-text g c = tt
+
+pub returns-in-Err-clause-last : goal.returns-in-Err-clause-last
+returns-in-Err-clause-last g c = tt
+
+pub returns-in-Err-clause-unchanged : goal.returns-in-Err-clause-unchanged
+returns-in-Err-clause-unchanged g c = refl
+
+pub returns-in-Err-clause-memory : goal.returns-in-Err-clause-memory
+returns-in-Err-clause-memory g c = c.in-Err.ensures.memory
+
+pub overflow_sub-units : goal.overflow_sub-units
+overflow_sub-units g c =
+    let count = c.units-units.ensures.count in
+    let sound = c.units-units.ensures.sound in
+    let some = has_a_unit sound.read.0 (text_view c.args.loaded.source) sound.read.1 in
+    omega (arith, count, some)
+
+pub bound-bound-requires : goal.bound-bound-requires
+bound-bound-requires g c =
+    let count = c.units-units.ensures.count in
+    let codes = c.units-units.ensures.codes in
+    let sound = c.units-units.ensures.sound in
+    let some = has_a_unit sound.read.0 (text_view c.args.loaded.source) sound.read.1 in
+    omega (arith, count, codes, some)
+
+pub carried_over-store-requires-clause-kinds : goal.carried_over-store-requires-clause-kinds
+carried_over-store-requires-clause-kinds g c = c.in-Ok.ensures.kinds ∙ c.kinds.ensures.kinds
+
+pub carried_over-store-requires-clause-numbers : goal.carried_over-store-requires-clause-numbers
+carried_over-store-requires-clause-numbers g c = ap length (c.in-Ok.ensures.numbers ∙ c.initials.ensures.numbers) ∙ length-map (frame_of_text (text_view c.args.loaded.source)) (λ entry. content_number entry.1)
+
+pub carried_over-store-requires-clause-capacity : goal.carried_over-store-requires-clause-capacity
+carried_over-store-requires-clause-capacity g c =
+    let same = ap length c.in-Ok.ensures.kinds in
+    let few = c.kinds.ensures.few in
+    omega (arith, same, few)
+
+pub carried_over-store-requires-clause-old_kinds : goal.carried_over-store-requires-clause-old_kinds
+carried_over-store-requires-clause-old_kinds g c = c.self.invariant.kinds_are
+
+pub returns-clause-text : goal.returns-clause-text
+returns-clause-text g c = refl
+
+pub returns-clause-last : goal.returns-clause-last
+returns-clause-last g c = ap (λ (m : MachineState). m.last) c.self.view_is
+
+pub returns-clause-unchanged : goal.returns-clause-unchanged
+returns-clause-unchanged g c = tt
+
+pub returns-clause-memory : goal.returns-clause-memory
+returns-clause-memory g c = tt
 
 pub invariant_of-result : goal.invariant_of-result
 invariant_of-result g c =

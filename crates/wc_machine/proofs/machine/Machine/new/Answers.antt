@@ -1,10 +1,12 @@
 -- A new machine represents the store of the declarations.
-use Rattle.std.proofs.Common.{◌-◌, length, ap, sym, ◌∙◌, subst, arith, rules}
+use Rattle.std.proofs.Common.{◌-◌, length, refl, ap, sym, ◌∙◌, subst, arith, rules}
+use Rattle.std.proofs.lemmas.List.{length-map}
 use Rattle.wc_text_flat.proofs.Images.{first_numbers_are_contents}
 use Rattle.wc_text_flat.specs.Contents.{frame_of_text, AreContents}
 use Rattle.wc_machine.proofs.FirstPlaces.{last_bound}
 use Rattle.wc_machine.proofs.Scanning.{has_a_unit}
 use Rattle.wc_machine.proofs.machine.Machine.new.Goals as goal
+use Rattle.wc_model.specs.Language.Frames.{content_number, slot_kind_of}
 use Rattle.wc_model.specs.Language.Scans.{initial_of}
 use Rattle.wc_model.specs.Language.Views.{text_view}
 use Rattle.wc_laws_soundness.specs.FirstNumbers.{AreFirst}
@@ -15,6 +17,44 @@ first_held : (g : _) (c : goal.In-Ok g) → AreContents (frame_of_text (text_vie
 first_held g c =
     let text = text_view c.args.loaded.source in
     subst (λ ns. AreContents (frame_of_text text) (initial_of text) ns) (sym (c.in-Ok.ensures.numbers ∙ c.initials.ensures.numbers)) (first_numbers_are_contents text)
+
+pub overflow_sub-units : goal.overflow_sub-units
+overflow_sub-units g c =
+    let count = c.units-units.ensures.count in
+    let sound = c.units-units.ensures.sound in
+    let some = has_a_unit sound.read.0 (text_view c.args.loaded.source) sound.read.1 in
+    omega (arith, count, some)
+
+pub bound-bound-requires : goal.bound-bound-requires
+bound-bound-requires g c =
+    let count = c.units-units.ensures.count in
+    let codes = c.units-units.ensures.codes in
+    let sound = c.units-units.ensures.sound in
+    let some = has_a_unit sound.read.0 (text_view c.args.loaded.source) sound.read.1 in
+    omega (arith, count, codes, some)
+
+pub first_store-requires-clause-count : goal.first_store-requires-clause-count
+first_store-requires-clause-count g c =
+    let frame = frame_of_text (text_view c.args.loaded.source) in
+    ap length c.initials.ensures.numbers ∙ length-map frame (λ entry. content_number entry.1) ∙ sym (ap length c.kinds.ensures.kinds ∙ length-map frame (λ entry. slot_kind_of entry.1))
+
+pub first_store-requires-clause-capacity : goal.first_store-requires-clause-capacity
+first_store-requires-clause-capacity g c = let few = c.kinds.ensures.few in omega (arith, few)
+
+pub returns-in-Err-clause-represents : goal.returns-in-Err-clause-represents
+returns-in-Err-clause-represents g c = tt
+
+pub returns-in-Err-clause-last : goal.returns-in-Err-clause-last
+returns-in-Err-clause-last g c = tt
+
+pub returns-in-Err-clause-memory : goal.returns-in-Err-clause-memory
+returns-in-Err-clause-memory g c = c.in-Err.ensures.memory
+
+pub returns-clause-last : goal.returns-clause-last
+returns-clause-last g c = refl
+
+pub returns-clause-memory : goal.returns-clause-memory
+returns-clause-memory g c = tt
 
 pub invariant_of-result : goal.invariant_of-result
 invariant_of-result g c =
@@ -33,7 +73,7 @@ invariant_of-result g c =
 pub returns-clause-represents : goal.returns-clause-represents
 returns-clause-represents g c =
     let text = text_view c.args.loaded.source in
-    record { same_text = Rattle.std.proofs.Common.refl; slots = SameSlots-refl (initial_of text); contents = first_held g c }
+    record { same_text = refl; slots = SameSlots-refl (initial_of text); contents = first_held g c }
 
 pub first_store-requires-clause-first : goal.first_store-requires-clause-first
 first_store-requires-clause-first g c = subst (λ ks. AreFirst ks c.initials.result.now) (sym c.kinds.ensures.kinds) c.initials.ensures.first

@@ -1,5 +1,6 @@
 -- A scan is the run of the program's flat code, and what is shown of it is what is seen of the text.
 use Rattle.std.proofs.Common.{◌≡◌, ◌+◌, ◌-◌, ◌≤◌, length, refl, ap, sym, ◌∙◌, subst, arith}
+use Rattle.std.proofs.lemmas.List.{length-map}
 use Rattle.wc_text_flat.specs.Contents.{frame_of_text, AreContents}
 use Rattle.wc_machine.proofs.FirstPlaces.{AreFirst, first_places}
 use Rattle.wc_machine.proofs.Scanning.{has_a_unit, machine_runs, later, short_run, ran_is}
@@ -7,6 +8,7 @@ use Rattle.wc_machine.proofs.machine.Machine.observe_scan.Goals as goal
 use Rattle.wc_machine.proofs.SeenScans.{scan_is_seen}
 use Rattle.wc_machine.specs.Machines.{MachineState, Leaves, machine_view, text_of}
 use Rattle.wc_machine.specs.Seeing.{IsScanShown}
+use Rattle.wc_model.specs.Language.Frames.{slot_kind_of}
 use Rattle.wc_model.specs.Language.Paths.{IsProgramBound}
 use Rattle.wc_model.specs.Language.Scans.{initial_of, scan_of}
 use Rattle.wc_model.specs.Language.Views.{text_view}
@@ -16,6 +18,59 @@ pub copy_image-requires-clause-weights : goal.copy_image-requires-clause-weights
 copy_image-requires-clause-weights g c =
     let inv = c.self.invariant in
     (subst (λ k. AreFirst k) (sym inv.kinds_are) (first_places inv.sound.read.0 (text_view c.self.inside.loaded.source) inv.sound.read.1)).weights
+
+pub copy_image-requires-clause-inputs : goal.copy_image-requires-clause-inputs
+copy_image-requires-clause-inputs g c =
+    let inv = c.self.invariant in
+    (subst (λ k. AreFirst k) (sym inv.kinds_are) (first_places inv.sound.read.0 (text_view c.self.inside.loaded.source) inv.sound.read.1)).inputs
+
+pub copy_image-requires-clause-within : goal.copy_image-requires-clause-within
+copy_image-requires-clause-within g c =
+    let inv = c.self.invariant in
+    let text = text_view c.self.inside.loaded.source in
+    let many = (first_places inv.sound.read.0 text inv.sound.read.1).many in
+    let kinds = length-map (frame_of_text text) (λ entry. slot_kind_of entry.1) in
+    let count = inv.held.2.count in
+    omega (arith, many, kinds, count)
+
+pub copy_image-requires-clause-capacity : goal.copy_image-requires-clause-capacity
+copy_image-requires-clause-capacity g c = c.self.invariant.capacity
+
+pub overflow_sub-program : goal.overflow_sub-program
+overflow_sub-program g c =
+    let inv = c.self.invariant in
+    let count = c.units-program.ensures.count in
+    let some = has_a_unit inv.sound.read.0 (text_view c.self.inside.loaded.source) inv.sound.read.1 in
+    omega (arith, count, some)
+
+pub run-steps-requires-clause-unit : goal.run-steps-requires-clause-unit
+run-steps-requires-clause-unit g c =
+    let inv = c.self.invariant in
+    let count = c.units-program.ensures.count in
+    let codes = c.units-program.ensures.codes in
+    let some = has_a_unit inv.sound.read.0 (text_view c.self.inside.loaded.source) inv.sound.read.1 in
+    omega (arith, count, codes, some)
+
+pub run-steps-requires-clause-reach : goal.run-steps-requires-clause-reach
+run-steps-requires-clause-reach g c =
+    let count = c.units-program.ensures.count in
+    let few = c.self.invariant.sound.read.1.within_limits.units in
+    omega (arith, count, few)
+
+pub run-steps-requires-clause-depth : goal.run-steps-requires-clause-depth
+run-steps-requires-clause-depth g c =
+    let count = c.units-program.ensures.count in
+    let few = c.self.invariant.sound.read.1.within_limits.units in
+    omega (arith, count, few)
+
+pub run-steps-requires-clause-capacity : goal.run-steps-requires-clause-capacity
+run-steps-requires-clause-capacity g c = subst (λ k. length k ≤ 65536) (sym c.copy_image.ensures.kinds) c.self.invariant.capacity
+
+pub run-steps-requires-clause-moment : goal.run-steps-requires-clause-moment
+run-steps-requires-clause-moment g c = c.requires.in_range
+
+pub returns-clause-last : goal.returns-clause-last
+returns-clause-last g c = refl
 
 pub run-steps-requires-clause-there : goal.run-steps-requires-clause-there
 run-steps-requires-clause-there g c =

@@ -1,0 +1,51 @@
+-- A store of zeros is filled, and a zero is no moment that is ahead.
+use Rattle.std.proofs.Common.{◌≡◌, ◌≤◌, ℕ, zero, suc, List, length, replicate, ℤ, pos, Some, sym, ap, ◌∙◌, subst, arith}
+use Rattle.std.proofs.lemmas.List.{length-replicate}
+use Rattle.std.specs.Prelude.{slice_get}
+use Rattle.wc_execution.specs.Lines.{AreBefore}
+use Rattle.wc_laws_soundness.specs.FirstNumbers.{AreFirst}
+use Rattle.wc_machine.proofs.first.first_store.Goals as goal
+
+zero_found : (count place n : ℕ) → slice_get (replicate count (pos 0)) place ≡ Some (pos n) → n ≤ 0
+zero_found zero place n e = absurd (let f : ⊥ = cc in f)
+zero_found (suc count) zero n e = let same : n ≡ 0 = cc in omega (arith, same)
+zero_found (suc count) (suc place) n e = zero_found count place n e
+
+pub filled-requires-clause-first : goal.filled-requires-clause-first
+filled-requires-clause-first g c = subst (λ ks. AreFirst ks c.args.initials.now) (sym c.in-Ok.ensures.kinds) c.requires.first
+
+pub filled-requires-clause-numbers : goal.filled-requires-clause-numbers
+filled-requires-clause-numbers g c = ap length c.in-Ok.ensures.zero ∙ length-replicate (length c.args.kinds.now) (pos 0) ∙ sym c.requires.count
+
+pub filled-requires-clause-capacity : goal.filled-requires-clause-capacity
+filled-requires-clause-capacity g c =
+    let count = c.requires.count in
+    let few = c.requires.capacity in
+    omega (arith, count, few)
+
+pub filled-requires-clause-moments : goal.filled-requires-clause-moments
+filled-requires-clause-moments g c = subst (AreBefore 0 (g.S.Store.slot_kinds c.in-Ok.store)) (sym c.in-Ok.ensures.zero) (record { each = λ place n moment there. zero_found (length c.args.kinds.now) place n there })
+
+pub returns-in-Ok-clause-numbers : goal.returns-in-Ok-clause-numbers
+returns-in-Ok-clause-numbers g c = c.filled.ensures.numbers
+
+pub returns-in-Ok-clause-kinds : goal.returns-in-Ok-clause-kinds
+returns-in-Ok-clause-kinds g c = c.filled.ensures.kinds ∙ c.in-Ok.ensures.kinds
+
+pub returns-in-Ok-clause-moments : goal.returns-in-Ok-clause-moments
+returns-in-Ok-clause-moments g c = c.filled.ensures.moments
+
+pub returns-in-Ok-clause-memory : goal.returns-in-Ok-clause-memory
+returns-in-Ok-clause-memory g c = tt
+
+pub returns-in-Err-clause-numbers : goal.returns-in-Err-clause-numbers
+returns-in-Err-clause-numbers g c = tt
+
+pub returns-in-Err-clause-kinds : goal.returns-in-Err-clause-kinds
+returns-in-Err-clause-kinds g c = tt
+
+pub returns-in-Err-clause-moments : goal.returns-in-Err-clause-moments
+returns-in-Err-clause-moments g c = tt
+
+pub returns-in-Err-clause-memory : goal.returns-in-Err-clause-memory
+returns-in-Err-clause-memory g c = c.in-Err.ensures.memory
