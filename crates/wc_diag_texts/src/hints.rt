@@ -32,6 +32,16 @@ macro_rules! counting_seconds {
 pub fn hint_of(number: u16, case: Case) -> Option<&'static str>
     ensures { IsSome result → is_refusal number ≡ true }
 {
+    match hint_among(number, case) {
+        Some(text) => Some(*text),
+        None => None,
+    }
+}
+
+/// The same where it is in its table.
+fn hint_among(number: u16, case: Case) -> Option<&'static &'static str>
+    ensures { IsSome result → is_refusal number ≡ true }
+{
     match number {
         101..=106 => token_hint(number, case),
         201..=206 => reading_hint(number, case),
@@ -46,7 +56,7 @@ pub fn hint_of(number: u16, case: Case) -> Option<&'static str>
 }
 
 /// Of slices that are not tokens.
-fn token_hint(number: u16, case: Case) -> Option<&'static str> {
+fn token_hint(number: u16, case: Case) -> Option<&'static &'static str> {
     text_among! {
         number, case;
         101, Case::ByteOrderMark => "save the text as ASCII, or as UTF-8 without a byte order mark";
@@ -88,7 +98,7 @@ fn token_hint(number: u16, case: Case) -> Option<&'static str> {
 }
 
 /// Of tokens at which the reading stops.
-fn reading_hint(number: u16, case: Case) -> Option<&'static str> {
+fn reading_hint(number: u16, case: Case) -> Option<&'static &'static str> {
     text_among! {
         number, case;
         201, Case::SectionWord => "declarations go between VAR and END_VAR, before the first instruction";
@@ -158,7 +168,7 @@ fn reading_hint(number: u16, case: Case) -> Option<&'static str> {
 }
 
 /// Of declarations.
-fn declaration_hint(number: u16, case: Case) -> Option<&'static str> {
+fn declaration_hint(number: u16, case: Case) -> Option<&'static &'static str> {
     text_among! {
         number, case;
         302, Case::SmallInteger => "use DINT, the only integer type (32 bits, signed); single bits are BOOLs";
@@ -180,7 +190,7 @@ fn declaration_hint(number: u16, case: Case) -> Option<&'static str> {
 }
 
 /// Of a slice of an instruction.
-fn excerpt_hint(number: u16, case: Case) -> Option<&'static str> {
+fn excerpt_hint(number: u16, case: Case) -> Option<&'static &'static str> {
     text_among! {
         number, case;
         401, Case::Field => "before the dot comes an instance that VAR declares, after it an output, such as t.Q; there are no global variables";
@@ -204,20 +214,20 @@ fn excerpt_hint(number: u16, case: Case) -> Option<&'static str> {
 }
 
 /// What a standard block has.
-fn members_hint(block: StandardBlock) -> &'static str {
+fn members_hint(block: StandardBlock) -> &'static &'static str {
     match block {
-        StandardBlock::Ton => "TON has the inputs IN and PT (:=) and the outputs Q and ET (=>)",
-        StandardBlock::Tof => "TOF has the inputs IN and PT (:=) and the outputs Q and ET (=>)",
-        StandardBlock::Tp => "TP has the inputs IN and PT (:=) and the outputs Q and ET (=>)",
-        StandardBlock::Ctu => "CTU has the inputs CU, R and PV (:=) and the outputs Q and CV (=>)",
-        StandardBlock::RTrig => "R_TRIG has the input CLK (:=) and the output Q (=>)",
-        StandardBlock::Sr => "SR has the inputs S1 and R (:=) and the output Q1 (=>)",
-        StandardBlock::Rs => "RS has the inputs S and R1 (:=) and the output Q1 (=>)",
+        StandardBlock::Ton => &"TON has the inputs IN and PT (:=) and the outputs Q and ET (=>)",
+        StandardBlock::Tof => &"TOF has the inputs IN and PT (:=) and the outputs Q and ET (=>)",
+        StandardBlock::Tp => &"TP has the inputs IN and PT (:=) and the outputs Q and ET (=>)",
+        StandardBlock::Ctu => &"CTU has the inputs CU, R and PV (:=) and the outputs Q and CV (=>)",
+        StandardBlock::RTrig => &"R_TRIG has the input CLK (:=) and the output Q (=>)",
+        StandardBlock::Sr => &"SR has the inputs S1 and R (:=) and the output Q1 (=>)",
+        StandardBlock::Rs => &"RS has the inputs S and R1 (:=) and the output Q1 (=>)",
     }
 }
 
 /// Of a slice whose type does not match.
-fn kind_hint(number: u16, case: Case) -> Option<&'static str> {
+fn kind_hint(number: u16, case: Case) -> Option<&'static &'static str> {
     text_among! {
         number, case;
         402, Case::Instance => "name one of its outputs, such as t.Q";
