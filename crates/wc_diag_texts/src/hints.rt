@@ -2,7 +2,7 @@ ghost use Rattle.std.specs.Prelude.{◌≡◌, IsSome, true};
 ghost use Rattle.wc_diag_texts.specs.Numbers.{is_refusal};
 
 use crate::case::Case;
-use crate::sentences::text_among;
+use crate::sentences::{text_among, text_of};
 use wc_model::{Kind, StandardBlock};
 
 /// What to write for a CTD.
@@ -32,24 +32,14 @@ macro_rules! counting_seconds {
 pub fn hint_of(number: u16, case: Case) -> Option<&'static str>
     ensures { IsSome result → is_refusal number ≡ true }
 {
-    match hint_among(number, case) {
-        Some(text) => Some(*text),
-        None => None,
-    }
-}
-
-/// The same where it is in its table.
-fn hint_among(number: u16, case: Case) -> Option<&'static &'static str>
-    ensures { IsSome result → is_refusal number ≡ true }
-{
     match number {
-        101..=106 => token_hint(number, case),
-        201..=206 => reading_hint(number, case),
-        302..=308 => declaration_hint(number, case),
+        101..=106 => text_of(token_hint(number, case)),
+        201..=206 => text_of(reading_hint(number, case)),
+        302..=308 => text_of(declaration_hint(number, case)),
         401..=409 => match case {
             Case::NotOfBlock(block) => Some(members_hint(block)),
-            _ if number == 402 => kind_hint(number, case),
-            _ => excerpt_hint(number, case),
+            _ if number == 402 => text_of(kind_hint(number, case)),
+            _ => text_of(excerpt_hint(number, case)),
         },
         _ => None,
     }
@@ -214,15 +204,15 @@ fn excerpt_hint(number: u16, case: Case) -> Option<&'static &'static str> {
 }
 
 /// What a standard block has.
-fn members_hint(block: StandardBlock) -> &'static &'static str {
+fn members_hint(block: StandardBlock) -> &'static str {
     match block {
-        StandardBlock::Ton => &"TON has the inputs IN and PT (:=) and the outputs Q and ET (=>)",
-        StandardBlock::Tof => &"TOF has the inputs IN and PT (:=) and the outputs Q and ET (=>)",
-        StandardBlock::Tp => &"TP has the inputs IN and PT (:=) and the outputs Q and ET (=>)",
-        StandardBlock::Ctu => &"CTU has the inputs CU, R and PV (:=) and the outputs Q and CV (=>)",
-        StandardBlock::RTrig => &"R_TRIG has the input CLK (:=) and the output Q (=>)",
-        StandardBlock::Sr => &"SR has the inputs S1 and R (:=) and the output Q1 (=>)",
-        StandardBlock::Rs => &"RS has the inputs S and R1 (:=) and the output Q1 (=>)",
+        StandardBlock::Ton => "TON has the inputs IN and PT (:=) and the outputs Q and ET (=>)",
+        StandardBlock::Tof => "TOF has the inputs IN and PT (:=) and the outputs Q and ET (=>)",
+        StandardBlock::Tp => "TP has the inputs IN and PT (:=) and the outputs Q and ET (=>)",
+        StandardBlock::Ctu => "CTU has the inputs CU, R and PV (:=) and the outputs Q and CV (=>)",
+        StandardBlock::RTrig => "R_TRIG has the input CLK (:=) and the output Q (=>)",
+        StandardBlock::Sr => "SR has the inputs S1 and R (:=) and the output Q1 (=>)",
+        StandardBlock::Rs => "RS has the inputs S and R1 (:=) and the output Q1 (=>)",
     }
 }
 

@@ -16,30 +16,28 @@ macro_rules! text_among {
 
 pub(crate) use text_among;
 
-/// What is said of a refusal of that number in that case, mostly of the slice of text that is quoted before it; nothing if the
-/// number's own sentence says all.
-pub fn sentence_of(number: u16, case: Case) -> Option<&'static str>
-    ensures { IsSome result → is_refusal number ≡ true }
-{
-    match sentence_among(number, case) {
+/// That text itself.
+pub(crate) fn text_of(found: Option<&'static &'static str>) -> Option<&'static str> {
+    match found {
         Some(text) => Some(*text),
         None => None,
     }
 }
 
-/// The same where it is in its table.
-fn sentence_among(number: u16, case: Case) -> Option<&'static &'static str>
+/// What is said of a refusal of that number in that case, mostly of the slice of text that is quoted before it; nothing if the
+/// number's own sentence says all.
+pub fn sentence_of(number: u16, case: Case) -> Option<&'static str>
     ensures { IsSome result → is_refusal number ≡ true }
 {
     match (number, case) {
         (_, Case::Unknown) => None,
-        (101..=107, _) => token_sentence(number, case),
-        (201..=208, _) => reading_sentence(number, case),
-        (301..=308, _) => declaration_sentence(number, case),
-        (402, _) => kind_sentence(number, case),
-        (401..=411, _) => excerpt_sentence(number, case),
-        (501..=508, _) => plate_sentence(number, case),
-        (601..=609, _) => log_sentence(number, case),
+        (101..=107, _) => text_of(token_sentence(number, case)),
+        (201..=208, _) => text_of(reading_sentence(number, case)),
+        (301..=308, _) => text_of(declaration_sentence(number, case)),
+        (402, _) => text_of(kind_sentence(number, case)),
+        (401..=411, _) => text_of(excerpt_sentence(number, case)),
+        (501..=508, _) => text_of(plate_sentence(number, case)),
+        (601..=609, _) => text_of(log_sentence(number, case)),
         _ => None,
     }
 }
