@@ -79,9 +79,9 @@ const TIMER: &str = concat!(
 
 /// What to write for an operator of another tool or language; empty if a word is not one.
 pub(crate) fn foreign_advice(word: &[u8]) -> &'static str {
-    for (name, advice) in FOREIGN {
+    for (name, advice) in &FOREIGN {
         if is_word(name.as_bytes(), word) {
-            return advice;
+            return *advice;
         }
     }
     ""

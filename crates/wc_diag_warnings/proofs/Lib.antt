@@ -1,9 +1,11 @@
-pub mod Lists
-pub mod NameSets
+pub mod DeclaredLaws
 pub mod DeclaredViews
-pub mod RowLists
+pub mod EventLaws
 pub mod EventPlaces
 pub mod EventSteps
+pub mod Following
+pub mod Lists
+pub mod NameSets
+pub mod Putting
+pub mod RowLists
 pub mod WayLaws
-pub mod DeclaredLaws
-pub mod EventLaws

@@ -1,9 +1,10 @@
 -- Texts that are put together part by part.
-use Rattle.std.proofs.Common.{◌≡◌, ◌<◌, ◌+◌, ℕ, suc, ℤ, List, [], ◌∷◌, ◌++◌, length, take, get_or, Result, Ok, Err, OnOk, refl, sym, ap, ◌∙◌, arith, rules}
+use Rattle.std.proofs.Common.{◌≡◌, ◌<◌, ◌+◌, ◌==◌, ℕ, Bool, false, if◌then◌else◌, codes, suc, ℤ, List, [], ◌∷◌, ◌++◌, length, take, get_or, Result, Ok, Err, OnOk, refl, sym, ap, ◌∙◌, arith, rules}
 use Rattle.std.proofs.Math.Seq.{take-suc}
 use Rattle.std.proofs.lemmas.List.{append_assoc, append-nil}
+use Rattle.std.proofs.lemmas.Bool.{ne_eqb}
 use Rattle.std.specs.Fmt.{signed_decimal}
-use Rattle.wc_view_decode.specs.Formats.{answer_line, answer_lines, named_words, passed_byte, passed_on}
+use Rattle.wc_view_decode.specs.Formats.{answer_line, answer_lines, bit_columns, bits_row, bits_text, named_words, names_of_bits, passed_byte, passed_on}
 use Rattle.wc_view_decode.specs.declared.answer.Answer.{Answer}
 use Rattle.wc_view_decode.specs.declared.format.DecodeFormat.{DecodeFormat}
 
@@ -15,6 +16,21 @@ one_more old p q t u e f = f ∙ ap (λ x. x ++ q) e ∙ append_assoc old p q
 pub last_more : {E : Type 0} (r : Result Unit E) (old p q t u : List ℕ) → t ≡ old ++ p → OnOk r (u ≡ t ++ q) → OnOk r (u ≡ old ++ (p ++ q))
 last_more (Ok done) old p q t u e f = one_more old p q t u e f
 last_more (Err fault) old p q t u e f = tt
+
+if_false : (b : Bool) (p q : List ℕ) → b ≡ false → (if b then p else q) ≡ q
+if_false b p q e = rw e
+
+-- the names of all bits that are set, if one is
+pub all_names : (bits n : ℕ) (old text : List ℕ) → ¬ (bits ≡ 0) → n ≡ 16 → text ≡ old ++ names_of_bits bits n → text ≡ old ++ bits_text bits
+unfolding bits_text
+all_names bits n old text some all e =
+    let names : bits_text bits ≡ names_of_bits bits 16 = if_false (bits == 0) (codes " none") (names_of_bits bits 16) (ne_eqb bits 0 some) in
+    e ∙ ap (λ part. old ++ part) (ap (names_of_bits bits) all ∙ sym names)
+
+-- the columns of all bits
+pub all_columns : (bits n : ℕ) (old text : List ℕ) → n ≡ 16 → text ≡ old ++ bit_columns bits n → text ≡ old ++ bits_row bits
+unfolding bits_row
+all_columns bits n old text all e = e ∙ ap (λ k. old ++ bit_columns bits k) all
 
 -- four words, each after its name
 four_words : (old t1 t2 t3 t4 n1 n2 n3 n4 : List ℕ) (ws : List ℤ) (d : ℤ) → length ws ≡ 4

@@ -24,6 +24,31 @@ fn put_scan_prefix(text: &mut Vec<u8>, row: &ScanRow) -> Result<(), Fault>
     put_bits(text, row.outputs.bits)
 }
 
+/// Appends an answer to a text, for people.
+fn put_answer_line(text: &mut Vec<u8>, ms: u64, answer: &Answer) -> Result<(), Fault>
+    ensures answer { OnOk result (text.new.items
+        ≡ text.old.items ++ answer_line DecodeFormat.Text ms answer.now) }
+    ensures memory { IsOkUnless result Fault.Memory }
+{
+    put_bytes(text, b"L ")?;
+    put_number(text, ms)?;
+    put_bytes(text, b"  ")?;
+    put_answer(text, answer)?;
+    put_bytes(text, b"\n")
+}
+
+/// Appends an answer to a text, as a row of a table.
+fn put_answer_row(text: &mut Vec<u8>, ms: u64, answer: &Answer) -> Result<(), Fault>
+    ensures answer { OnOk result (text.new.items
+        ≡ text.old.items ++ answer_line DecodeFormat.Table ms answer.now) }
+    ensures memory { IsOkUnless result Fault.Memory }
+{
+    put_number(text, ms)?;
+    put_bytes(text, b",L,,,,,,,,,,,,,,,,,,,,,,\"")?;
+    put_answer(text, answer)?;
+    put_bytes(text, b"\"\n")
+}
+
 /// Appends an answer to a text.
 fn put_one_answer(
     text: &mut Vec<u8>,
@@ -36,19 +61,8 @@ fn put_one_answer(
     ensures memory { IsOkUnless result Fault.Memory }
 {
     match format {
-        DecodeFormat::Text => {
-            put_bytes(text, b"L ")?;
-            put_number(text, ms)?;
-            put_bytes(text, b"  ")?;
-            put_answer(text, answer)?;
-            put_bytes(text, b"\n")
-        }
-        DecodeFormat::Table => {
-            put_number(text, ms)?;
-            put_bytes(text, b",L,,,,,,,,,,,,,,,,,,,,,,\"")?;
-            put_answer(text, answer)?;
-            put_bytes(text, b"\"\n")
-        }
+        DecodeFormat::Text => put_answer_line(text, ms, answer),
+        DecodeFormat::Table => put_answer_row(text, ms, answer),
     }
 }
 
@@ -85,6 +99,31 @@ fn put_refusal(text: &mut Vec<u8>, format: DecodeFormat, row: &RefusalRow) -> Re
     put_bytes(text, b"\n")
 }
 
+/// Appends a scan to a text, for people.
+fn put_scan_line(text: &mut Vec<u8>, row: &ScanRow) -> Result<(), Fault>
+    ensures scan { OnOk result (text.new.items ≡ text.old.items
+        ++ scan_line DecodeFormat.Text row.now.ms row.now.steps.0 row.now.outputs) }
+    ensures memory { IsOkUnless result Fault.Memory }
+{
+    put_scan_prefix(text, row)?;
+    put_words(text, &row.outputs.words)?;
+    put_bytes(text, b"\n")
+}
+
+/// Appends a scan to a text, as a row of a table.
+fn put_scan_row(text: &mut Vec<u8>, row: &ScanRow) -> Result<(), Fault>
+    ensures scan { OnOk result (text.new.items ≡ text.old.items
+        ++ scan_line DecodeFormat.Table row.now.ms row.now.steps.0 row.now.outputs) }
+    ensures memory { IsOkUnless result Fault.Memory }
+{
+    put_number(text, row.ms)?;
+    put_bytes(text, b",S,")?;
+    put_number(text, u64::from(row.steps.0))?;
+    put_bit_columns(text, row.outputs.bits)?;
+    put_word_columns(text, &row.outputs.words)?;
+    put_bytes(text, b",\n")
+}
+
 /// Appends a scan to a text.
 fn put_scan(text: &mut Vec<u8>, format: DecodeFormat, row: &ScanRow) -> Result<(), Fault>
     ensures scan { OnOk result (text.new.items
@@ -92,19 +131,8 @@ fn put_scan(text: &mut Vec<u8>, format: DecodeFormat, row: &ScanRow) -> Result<(
     ensures memory { IsOkUnless result Fault.Memory }
 {
     match format {
-        DecodeFormat::Text => {
-            put_scan_prefix(text, row)?;
-            put_words(text, &row.outputs.words)?;
-            put_bytes(text, b"\n")
-        }
-        DecodeFormat::Table => {
-            put_number(text, row.ms)?;
-            put_bytes(text, b",S,")?;
-            put_number(text, u64::from(row.steps.0))?;
-            put_bit_columns(text, row.outputs.bits)?;
-            put_word_columns(text, &row.outputs.words)?;
-            put_bytes(text, b",\n")
-        }
+        DecodeFormat::Text => put_scan_line(text, row),
+        DecodeFormat::Table => put_scan_row(text, row),
     }
 }
 

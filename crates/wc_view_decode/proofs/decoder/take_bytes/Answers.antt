@@ -1,4 +1,5 @@
-use Rattle.std.proofs.Common.{◌∙◌, ◌++◌, take, subst}
+use Rattle.std.proofs.Common.{◌∙◌, ◌++◌, take, refl, sym, subst, arith}
+use Rattle.std.proofs.lemmas.List.{append-nil, take_all}
 use Rattle.wc_view_decode.proofs.Takings.{one_taken_more}
 use Rattle.wc_view_decode.specs.Representation.{Represents}
 use Rattle.wc_view_decode.proofs.decoder.take_bytes.Goals as goal
@@ -10,3 +11,15 @@ loop-byte-preserved c = record {
       subst (λ r. Represents c.take_byte.new.decoder r (text ++ c.take_byte.new.text.items)) (one_taken_more read c.args.bytes.now c.loop-byte.byte-index _ c.loop-byte-test.true)
       (c.in_ok-take_byte.ensures.takes (read ++ take c.loop-byte.byte-index c.args.bytes.now) text (c.loop-byte.invariant.takes read text represents));
 }
+
+pub loop-byte-init : goal.loop-byte-init
+loop-byte-init c = record {
+  format = refl;
+  takes = λ read text represents.
+      subst (λ r. Represents c.args.decoder.now r (text ++ c.args.text.now.items)) (sym (append-nil read)) represents;
+}
+
+pub returns-clause-takes : goal.returns-clause-takes
+returns-clause-takes c read text represents =
+    subst (λ bytes. Represents c.loop-byte.decoder (read ++ bytes) (text ++ c.loop-byte.text.items))
+    (take_all c.loop-byte.byte-index c.args.bytes.now (omega arith)) (c.loop-byte.invariant.takes read text represents)
