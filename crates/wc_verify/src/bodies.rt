@@ -117,14 +117,7 @@ pub(crate) fn validate_body<'a>(
     let mut labels = count_labels(alloc, lines)?;
     let mut above = Way::Agreed(None);
     for line in lines {
-        above = match validate_line(alloc, tables, unit, &mut labels, line, above) {
-            Ok(above) => above,
-            Err(fault) => {
-                drop(labels);
-                return Err(fault);
-            }
-        };
+        above = validate_line(alloc, tables, unit, &mut labels, line, above)?;
     }
-    drop(labels);
     Ok(())
 }

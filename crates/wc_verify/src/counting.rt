@@ -52,10 +52,7 @@ pub(crate) fn count_labels<'a>(alloc: Global, lines: &Vec<Line<'a>>) -> Result<L
 {
     let mut labels = Labels::new(alloc);
     for line in lines {
-        if let Err(fault) = count(&mut labels, &line.label) {
-            drop(labels);
-            return Err(fault);
-        }
+        count(&mut labels, &line.label)?;
     }
     Ok(labels)
 }

@@ -6,6 +6,7 @@ use Rattle.wc_model.specs.Language.Kinds.{lines_of}
 use Rattle.wc_model.specs.Language.Views.{lines_view}
 use Rattle.wc_verify.specs.Bodies.{GetsTo, asked_of}
 use Rattle.wc_verify.specs.Rows.{row_at}
+use Rattle.wc_names.proofs.HandedOn.{propagated}
 use Rattle.wc_verify.proofs.BodySteps.{body_fault, goes_further}
 use Rattle.wc_verify.proofs.InstrLines.{first_seen}
 use Rattle.wc_verify.proofs.bodies.validate_body.Goals as goal
@@ -20,17 +21,18 @@ loop-line-init c = λ scope is. record {
   };
 }
 
-pub returns-in-Err : goal.returns-in-Err
-returns-in-Err c = λ scope more is body.
+pub returns-in_err-above : goal.returns-in_err-above
+returns-in_err-above c = λ scope more is body.
     let items = c.deref-line-items.result.now in
     let i = c.loop-line.line-index in
     let all = lines_of (lines_view items) in
     let left = lines_view (drop (i + 1) items) in
     let cut = first_seen items i c.line-item.result c.loop-line-test.true c.line-item.is in
     let so_far = subst (λ ls. GetsTo scope [] all (lines_of ls) c.loop-line.labels c.loop-line.above) cut (c.loop-line.invariant scope is) in
-    subst (λ ls. Validates {X = Unit {0}} (first_broken (asked_of scope [] (lines_of ls) ++ more)) (first_broken more) (Err c.in-Err.fault)) (ap lines_view c.deref-line-items.ensures.value ∙ sym body)
-    (body_fault scope all (lines_of left) c.validate_line.new.labels more c.in-Err.fault
-    (goes_further scope [] all _ (lines_of left) c.loop-line.labels c.validate_line.new.labels c.loop-line.above (Err c.in-Err.fault) so_far (c.in-Err.ensures scope so_far.so_far left is so_far.represents)))
+    propagated (λ r. Validates {X = Unit {0}} (first_broken (asked_of scope [] (lines_of scope.unit.body) ++ more)) (first_broken more) r) c.in_err-above.field-0.0 c.from_residual-in_err-above.result c.from_residual-in_err-above.ensures
+    (subst (λ ls. Validates {X = Unit {0}} (first_broken (asked_of scope [] (lines_of ls) ++ more)) (first_broken more) (Err c.in_err-above.field-0.0)) (ap lines_view c.deref-line-items.ensures.value ∙ sym body)
+    (body_fault scope all (lines_of left) c.validate_line.new.labels more c.in_err-above.field-0.0
+    (goes_further scope [] all _ (lines_of left) c.loop-line.labels c.validate_line.new.labels c.loop-line.above (Err c.in_err-above.field-0.0) so_far (c.in_err-above.ensures scope so_far.so_far left is so_far.represents))))
 
 pub loop-line-preserved : goal.loop-line-preserved
 loop-line-preserved c = λ scope is.
@@ -40,7 +42,7 @@ loop-line-preserved c = λ scope is.
     let left = lines_view (drop (i + 1) items) in
     let cut = first_seen items i c.line-item.result c.loop-line-test.true c.line-item.is in
     let so_far = subst (λ ls. GetsTo scope [] all (lines_of ls) c.loop-line.labels c.loop-line.above) cut (c.loop-line.invariant scope is) in
-    goes_further scope [] all _ (lines_of left) c.loop-line.labels c.validate_line.new.labels c.loop-line.above (Ok c.in-Ok.above) so_far (c.in-Ok.ensures scope so_far.so_far left is so_far.represents)
+    goes_further scope [] all _ (lines_of left) c.loop-line.labels c.validate_line.new.labels c.loop-line.above (Ok c.in_ok-above.above) so_far (c.in_ok-above.ensures scope so_far.so_far left is so_far.represents)
 
 pub returns : goal.returns
 returns c = λ scope more is body.

@@ -13,7 +13,7 @@ loop-line-preserved c =
     let i = c.loop-line.line-index in
     one_counted (lines_of (lines_view items)) c.line-item.result (lines_view (drop (i + 1) items)) i c.loop-line.labels c.count.new.labels
     (subst (λ ls. AreCounted (lines_of (lines_view items)) (lines_of ls) i c.loop-line.labels) (first_seen items i c.line-item.result c.loop-line-test.true c.line-item.is) c.loop-line.invariant)
-    c.in_default.ensures.counted
+    c.in_ok-count.ensures.counted
 
 pub returns-clause-rows : goal.returns-clause-rows
 returns-clause-rows c = λ scope name.
