@@ -110,12 +110,7 @@ pub fn flat_body<'a>(
         let Some(last) = lines.get(index) else {
             continue;
         };
-        if let Err(fault) = put_line(tables, unit, last, &mut labels, &mut flat) {
-            drop(labels);
-            drop(flat);
-            return Err(fault);
-        }
+        put_line(tables, unit, last, &mut labels, &mut flat)?;
     }
-    drop(labels);
     Ok(flat)
 }

@@ -24,7 +24,7 @@ loop-index-preserved c = λ scope is may.
     let cut = from_index items i c.in-Some.last.now c.in-Some.ensures.lookup.3.0 c.in-Some.ensures.lookup.1 in
     let here = subst (λ xs. IsLowerable scope (lines_view xs)) cut (lowerable_from scope i items may) in
     let so_far = subst (λ k. IsKeptFlat scope (lines_view (drop k items)) c.loop-index.labels c.loop-index.flat) (sym next) (c.loop-index.invariant scope is may) in
-    subst (λ xs. IsKeptFlat scope (lines_view xs) c.put_line.new.labels c.put_line.new.flat) (sym cut) (c.in_default-put_line.ensures.put scope (lines_view (drop (i + 1) items)) is here so_far)
+    subst (λ xs. IsKeptFlat scope (lines_view xs) c.put_line.new.labels c.put_line.new.flat) (sym cut) (c.in_ok-put_line.ensures.put scope (lines_view (drop (i + 1) items)) is here so_far)
 
 pub returns-clause-lowered : goal.returns-clause-lowered
 returns-clause-lowered c = λ scope is may.
