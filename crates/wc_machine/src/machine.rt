@@ -63,7 +63,7 @@ impl<'a, S: Store> Machine<'a, S> {
         let store = match first_store(alloc, loaded.kinds(), loaded.initials()) {
             Ok(store) => store,
             Err(fault) => {
-                // By a call: dropped by the return, its fields one by one, it is dear to prove.
+                // A call drops it in one step; the return would drop each field, which is dear to prove.
                 drop(loaded);
                 return Err(fault);
             }
