@@ -5,6 +5,7 @@ use std::alloc::AllocError;
 
 /// Puts the line bytes that a text of hexadecimal digits writes into the buffer, if it writes at
 /// most 4096: whether it does. No memory is taken if the buffer is large enough.
+#[inline(never)]
 pub(crate) fn line_chunk(buffer: &mut Vec<u8>, text: &[u8]) -> Result<bool, AllocError>
     ensures chunk { IfOk result
         (λ found. (if found then Some buffer.new.items else None) ≡ line_chunk_of text.now) }

@@ -114,10 +114,24 @@ impl<'r, R: ByteIn> Rows<'r, R> {
         }
     }
 
-    /// The cause of a read that failed: the reader's if it failed in this call or as much
-    /// was read as may be, else memory.
+    /// Whether a read that failed has its cause in the reader: it failed in this call, or as much was
+    /// read as may be.
     #[cold]
     #[inline(never)]
+    fn has_cause(&self, failures_before: u64) -> bool
+        ensures yes { result ≡ true
+            → HasCauseIn R.failure_count R.spent_count failures_before self.now }
+        ensures no { result ≡ false
+            → ¬ HasCauseIn R.failure_count R.spent_count failures_before self.now }
+    {
+        let failures = self.records.failures();
+        failures > failures_before
+            || failures == u64::MAX
+            || is_exhausted(self.start, self.records.spent())
+    }
+
+    /// The cause of a read that failed: the reader's if there is one there, else memory.
+    #[inline(always)]
     fn cause(&self, failures_before: u64) -> LogFault
         ensures read { (result ≡ LogFault.Read)
             → HasCauseIn R.failure_count R.spent_count failures_before self.now }
@@ -125,11 +139,7 @@ impl<'r, R: ByteIn> Rows<'r, R> {
             → ¬ HasCauseIn R.failure_count R.spent_count failures_before self.now }
         ensures fault { (result ≡ LogFault.Read) ⊎ (result ≡ LogFault.Memory) }
     {
-        let failures = self.records.failures();
-        if failures > failures_before
-            || failures == u64::MAX
-            || is_exhausted(self.start, self.records.spent())
-        {
+        if self.has_cause(failures_before) {
             LogFault::Read
         } else {
             LogFault::Memory
@@ -244,6 +254,28 @@ impl<'r, R: ByteIn> Rows<'r, R> {
         }
     }
 
+    /// The next row, if no row was read yet. It is separate, so that a later row does not pay for the
+    /// space of the first one's answer.
+    #[inline(always)]
+    fn row_after_heading(&mut self) -> Result<Option<RowHead>, LogFault>
+        requires { rows_read self.old ≡ 0 }
+        ensures gives { (before left : List Record)
+            → IsAfterRecords R.bytes_left self.old before left
+            → GivesRecord R.bytes_left before left result self.new }
+        ensures row { IfOk result
+            (λ given.
+            IfSome given
+            (λ head. IsNext (suc (max 1 (rows_read self.old))) (last_ms self.old) self.new
+            (head_view (row_bytes self.new) head))) }
+        ensures no_device { IfErr result (λ raised. raised ≡ LogFault.Read → ⊥) }
+        ensures keeps { Keeps self.old self.new }
+    {
+        match self.first_row() {
+            Ok(()) => self.later_row(),
+            Err(fault) => Err(fault),
+        }
+    }
+
     /// The next row, if nothing has ended the log.
     #[inline(always)]
     fn next_row(&mut self) -> Result<Option<RowHead>, LogFault>
@@ -259,10 +291,7 @@ impl<'r, R: ByteIn> Rows<'r, R> {
         ensures keeps { Keeps self.old self.new }
     {
         if self.number == 0 {
-            match self.first_row() {
-                Ok(()) => self.later_row(),
-                Err(fault) => Err(fault),
-            }
+            self.row_after_heading()
         } else {
             self.later_row()
         }

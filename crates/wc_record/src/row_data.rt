@@ -40,6 +40,7 @@ fn sample(text: &[u8]) -> Result<HeadKind, RowFault>
 }
 
 /// Bytes on the line, which are in the buffer then.
+#[inline(always)]
 fn line_bytes(buffer: &mut Vec<u8>, text: &[u8]) -> Result<HeadKind, RowFault>
     ensures says { SaysData buffer.new.items result
         (log.brings_or 606 rows.Bytes (log.line_chunk_of text.now)) }
@@ -81,6 +82,7 @@ fn scan(text: &[u8]) -> Result<HeadKind, RowFault>
 }
 
 /// A change of the program, which has no data either.
+#[inline(always)]
 fn change(text: &[u8]) -> Result<HeadKind, RowFault>
     ensures says { (bytes : List ℕ) → SaysData bytes result (log.change_of_data text.now) }
     ensures range { (bytes : List ℕ)

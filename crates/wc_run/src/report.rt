@@ -13,6 +13,18 @@ use wc_model::ByteOut;
 use wc_report::put_answer_line;
 use wc_store::Store;
 
+/// Appends the line of an answer of some bytes to a text. It is separate, so that a row without an answer does not pay for
+/// the space of its fault.
+#[inline(always)]
+fn put_bytes_answered(text: &mut Vec<u8>, ms: u64, answer: &[u8]) -> Result<(), RunFault>
+    ensures text { OnOk result
+        (text.new.items ≡ text.old.items ++ line_text (AnswerLine ms answer.now)) }
+    ensures memory { IsOkUnless result RunFault.Memory }
+{
+    put_answer_line(text, ms, answer)?;
+    Ok(())
+}
+
 /// Appends the line of an answer to a text, and nothing of an empty one.
 #[inline(always)]
 pub fn put_answer(text: &mut Vec<u8>, seen: &RowSeen<'_>) -> Result<(), RunFault>
@@ -23,8 +35,7 @@ pub fn put_answer(text: &mut Vec<u8>, seen: &RowSeen<'_>) -> Result<(), RunFault
     if seen.answer.is_empty() {
         return Ok(());
     }
-    put_answer_line(text, seen.row.ms, seen.answer)?;
-    Ok(())
+    put_bytes_answered(text, seen.row.ms, seen.answer)
 }
 
 /// Appends the line of a scan, if there is one, to a text.

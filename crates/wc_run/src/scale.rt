@@ -123,10 +123,7 @@ impl<'a, S: Store> Scale<'a, S> {
                 Ok(None)
             }
             HeadKind::Scan => self.take_scan(looks, row.ms),
-            HeadKind::Change => {
-                self.take_change(row.number)?;
-                Ok(None)
-            }
+            HeadKind::Change => self.take_next_program(row.number),
         }
     }
 
@@ -213,6 +210,15 @@ impl<'a, S: Store> Scale<'a, S> {
             }
             None => Ok(None),
         }
+    }
+
+    /// Takes the next program if there is a machine; no scan is given. It is separate, so that a row of another kind does not
+    /// pay for the space of its fault.
+    #[inline(always)]
+    fn take_next_program(&mut self, number: u32) -> Result<Option<ScanSeen>, RunFault>
+    {
+        self.take_change(number)?;
+        Ok(None)
     }
 
     /// Takes the next program if there is a machine.

@@ -1,7 +1,7 @@
 -- After the first row are the same log and the same records.
 use Rattle.std.proofs.Common.{◌≡◌, [], ◌∷◌, subst, sym, arith}
 use Rattle.wc_record.proofs.LogSteps.{gives_as, none_read}
-use Rattle.wc_record.proofs.log.Rows.next_row.Goals as goal
+use Rattle.wc_record.proofs.log.Rows.row_after_heading.Goals as goal
 use Rattle.wc_record.specs.Left.{IsAfterRecords}
 use Rattle.wc_record.specs.Steps.{GivesRecord}
 
