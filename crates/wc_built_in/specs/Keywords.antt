@@ -42,11 +42,11 @@ keywords =
     ∷ applied operators.Add ∷ applied operators.Sub ∷ applied operators.Mul ∷ applied operators.Div
     ∷ applied operators.Mod ∷ (jump_word Always, Jump Always) ∷ (call_word Always, Call Always)
     ∷ (return_word Always, Return Always) ∷ (section_word sections.Own, SectionStart sections.Own)
-    ∷ standard blocks.Ton ∷ standard blocks.Tof ∷ standard blocks.Ctu ∷ applied operators.Andn
-    ∷ applied operators.Xorn ∷ (jump_word IfTrue, Jump IfTrue) ∷ (call_word IfTrue, Call IfTrue)
-    ∷ (return_word IfTrue, Return IfTrue) ∷ (truth_word true, Truth true) ∷ elementary kinds.Bool
-    ∷ elementary kinds.Dint ∷ elementary kinds.Time ∷ (jump_word IfFalse, Jump IfFalse)
-    ∷ (call_word IfFalse, Call IfFalse) ∷ (return_word IfFalse, Return IfFalse) ∷ (truth_word false, Truth false)
+    ∷ standard blocks.Ton ∷ standard blocks.Tof ∷ standard blocks.Ctu ∷ elementary kinds.Dint ∷ elementary kinds.Bool
+    ∷ elementary kinds.Time ∷ applied operators.Andn ∷ applied operators.Xorn ∷ (jump_word IfTrue, Jump IfTrue)
+    ∷ (call_word IfTrue, Call IfTrue) ∷ (return_word IfTrue, Return IfTrue) ∷ (truth_word true, Truth true)
+    ∷ (jump_word IfFalse, Jump IfFalse) ∷ (call_word IfFalse, Call IfFalse) ∷ (return_word IfFalse, Return IfFalse)
+    ∷ (truth_word false, Truth false)
     ∷ (end_var, SectionEnd) ∷ (section_word sections.Input, SectionStart sections.Input)
     ∷ (section_word sections.Output, SectionStart sections.Output)
     ∷ (unit_word units.FunctionBlock, UnitStart units.FunctionBlock)

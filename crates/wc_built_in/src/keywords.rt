@@ -80,20 +80,20 @@ fn words_of_three_letters() -> &'static [KeywordRow]
     }
 }
 
-/// The reserved words of four letters.
+/// The reserved words of four letters, the most frequent first: each declaration has a type.
 fn words_of_four_letters() -> &'static [KeywordRow]
     ensures { map keyword_row result.now ≡ of_length 4 keywords }
 {
     words! {
+        b"dint" Keyword::Elementary(Kind::Dint);
+        b"bool" Keyword::Elementary(Kind::Bool);
+        b"time" Keyword::Elementary(Kind::Time);
         b"andn" Keyword::Apply(Operator::Andn);
         b"xorn" Keyword::Apply(Operator::Xorn);
         b"jmpc" Keyword::Jump(Condition::IfTrue);
         b"calc" Keyword::Call(Condition::IfTrue);
         b"retc" Keyword::Return(Condition::IfTrue);
         TRUE Keyword::Truth(true);
-        b"bool" Keyword::Elementary(Kind::Bool);
-        b"dint" Keyword::Elementary(Kind::Dint);
-        b"time" Keyword::Elementary(Kind::Time);
     }
 }
 

@@ -254,8 +254,8 @@ impl<'r, R: ByteIn> Rows<'r, R> {
         }
     }
 
-    /// The next row, if no row was read yet. It is separate, so that a later row does not pay for the
-    /// space of the first one's answer.
+    /// The next row, if no row was read yet. It is separate, so that a later row clears no space for
+    /// the answer of the first.
     #[inline(always)]
     fn row_after_heading(&mut self) -> Result<Option<RowHead>, LogFault>
         requires { rows_read self.old ≡ 0 }

@@ -1,5 +1,5 @@
 ghost use Rattle.std.specs.Prelude.{◌≡◌, ◌++◌, IsOkUnless, OnOk};
-ghost use Rattle.wc_model.specs.Say.Report.{answer_line, report_text};
+ghost use Rattle.wc_model.specs.Say.Report.{AnswerLine, answer_line, line_text, report_text};
 ghost use Rattle.wc_run.specs.Observing.{lines_of_scan, lines_of_seen};
 
 use crate::fault::RunFault;
@@ -13,10 +13,9 @@ use wc_model::ByteOut;
 use wc_report::put_answer_line;
 use wc_store::Store;
 
-/// Appends the line of an answer of some bytes to a text. It is separate, so that a row without an answer does not pay for
-/// the space of its fault.
+/// Appends the line of an answer to a text. It is separate, so that a row without an answer clears no space for a fault.
 #[inline(always)]
-fn put_bytes_answered(text: &mut Vec<u8>, ms: u64, answer: &[u8]) -> Result<(), RunFault>
+fn put_line_of_answer(text: &mut Vec<u8>, ms: u64, answer: &[u8]) -> Result<(), RunFault>
     ensures text { OnOk result
         (text.new.items ≡ text.old.items ++ line_text (AnswerLine ms answer.now)) }
     ensures memory { IsOkUnless result RunFault.Memory }
@@ -35,7 +34,7 @@ pub fn put_answer(text: &mut Vec<u8>, seen: &RowSeen<'_>) -> Result<(), RunFault
     if seen.answer.is_empty() {
         return Ok(());
     }
-    put_bytes_answered(text, seen.row.ms, seen.answer)
+    put_line_of_answer(text, seen.row.ms, seen.answer)
 }
 
 /// Appends the line of a scan, if there is one, to a text.

@@ -123,7 +123,10 @@ impl<'a, S: Store> Scale<'a, S> {
                 Ok(None)
             }
             HeadKind::Scan => self.take_scan(looks, row.ms),
-            HeadKind::Change => self.take_next_program(row.number),
+            HeadKind::Change => {
+                self.take_change(row.number)?;
+                Ok(None)
+            }
         }
     }
 
@@ -212,19 +215,28 @@ impl<'a, S: Store> Scale<'a, S> {
         }
     }
 
-    /// Takes the next program if there is a machine; no scan is given. It is separate, so that a row of another kind does not
-    /// pay for the space of its fault.
+    /// Takes the next program if there is a machine. The answer is copied here, so that a row of
+    /// another kind clears no space for it.
     #[inline(always)]
-    fn take_next_program(&mut self, number: u32) -> Result<Option<ScanSeen>, RunFault>
+    fn take_change(&mut self, number: u32) -> Result<(), RunFault>
+        ensures represents { OnOk result ((ms : ℕ) → TakesRow self.old self.new ms Change) }
+        ensures runs { OnOk result ((ms : ℕ) → RunsRow self.old (row_at number ms Change)) }
+        ensures place { IfErr result (IsFaultAt number) }
+        ensures stops { IfErr result
+            (λ fault. (ms : ℕ) → StopsAtRow self.old (row_at number ms Change) fault) }
+        ensures in_order { OnOk result
+            ((ms : ℕ) → IsNotAfter self.old ms → IsNotAfter self.new ms) }
     {
-        self.take_change(number)?;
-        Ok(None)
+        match self.change_program(number) {
+            Ok(()) => Ok(()),
+            Err(fault) => Err(fault),
+        }
     }
 
     /// Takes the next program if there is a machine.
     #[cold]
     #[inline(never)]
-    fn take_change(&mut self, number: u32) -> Result<(), RunFault>
+    fn change_program(&mut self, number: u32) -> Result<(), RunFault>
         ensures represents { OnOk result ((ms : ℕ) → TakesRow self.old self.new ms Change) }
         ensures runs { OnOk result ((ms : ℕ) → RunsRow self.old (row_at number ms Change)) }
         ensures place { IfErr result (IsFaultAt number) }

@@ -3,7 +3,7 @@ use Rattle.wc_model.specs.Run.Rows.{Change}
 use Rattle.wc_run.proofs.ProgramChanges.{runs_change, runs_past, stops_change, takes_change}
 use Rattle.wc_run.proofs.ScaleRows.{passes_change}
 use Rattle.wc_run.specs.Taking.{TakesRow}
-use Rattle.wc_run.proofs.scale.Scale.take_change.Goals as goal
+use Rattle.wc_run.proofs.scale.Scale.change_program.Goals as goal
 
 pub returns-then-not-has_program-clause-represents : goal.returns-then-not-has_program-clause-represents
 returns-then-not-has_program-clause-represents g c = λ ms. passes_change c.args.self.now ms (sym c.has_program.ensures ∙ c.if-not-has_program.true)
