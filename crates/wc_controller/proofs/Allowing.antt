@@ -4,7 +4,7 @@ use Rattle.std.proofs.Common.{◌≡◌, ℕ, ◌<◌, ◌≤◌, List, length, 
 use Rattle.std.proofs.KnownBytes.{Keeps-refl}
 use Rattle.std.specs.Prelude.{◌⊎◌, Option, Some, None, IfOk, IfSome, Result}
 use Rattle.wc_controller.proofs.Givings.{only_refused, upto_more}
-use Rattle.wc_controller.specs.Endings.{RefusesPlate, RefusesLength, WritesUpTo}
+use Rattle.wc_endings.specs.Endings.{RefusesPlate, RefusesLength, WritesUpTo}
 use Rattle.wc_controller.specs.Files.{AnswersFile, AnswersPlateFile, AnswersWithPlate, too_long, whole}
 use Rattle.wc_controller.specs.Jobs.{AllowsSections}
 use Rattle.wc_controller.specs.InputStates.{Reader}

@@ -2,13 +2,13 @@
 use Rattle.std.proofs.Common.{◌≡◌, ℕ, List, Result, Ok, Err, refl, sym, subst}
 use Rattle.std.specs.Prelude.{Option, Some, None, is_some}
 use Rattle.wc_controller.specs.Blames.{BlamesPart, IsNextUnloaded, IsUnloaded, RefusesLog, RefusesPart, StopsAsPart, StopsForPart}
-use Rattle.wc_controller.specs.Endings.{EndsAfter, EndsAfterFault, EndsRefused, fault_in_memory}
+use Rattle.wc_endings.specs.Endings.{EndsAfter, EndsAfterFault, EndsRefused, fault_in_memory}
 use Rattle.wc_controller.specs.TakenLogs.{log_alongside}
-use Rattle.wc_controller.specs.declared.ending.Ending.{Ending}
-use Rattle.wc_controller.specs.declared.ending.Ending.TheVariants as ended
-use Rattle.wc_controller.specs.declared.input.Input.{Input}
-use Rattle.wc_controller.specs.declared.input.Input.TheVariants as input
-use Rattle.wc_controller.specs.declared.input.Stopped.{Stopped}
+use Rattle.wc_endings.specs.declared.ending.Ending.{Ending}
+use Rattle.wc_endings.specs.declared.ending.Ending.TheVariants as ended
+use Rattle.wc_endings.specs.declared.input.Input.{Input}
+use Rattle.wc_endings.specs.declared.input.Input.TheVariants as input
+use Rattle.wc_endings.specs.declared.input.Stopped.{Stopped}
 use Rattle.wc_model.specs.Instrument.PlateTable.{plate_of}
 use Rattle.wc_model.specs.Language.Loading.{IsRefused}
 use Rattle.wc_model.specs.Run.JobSections.{Sections}

@@ -4,7 +4,7 @@ use Rattle.std.specs.Prelude.{Option, Some, None, IfSome, IsSome}
 use Rattle.wc_controller.proofs.Allowing.{file_not_read, file_read, known_each, known_more, of_known, on_each, on_known, plate_not_read, plate_read, too_long_file}
 use Rattle.wc_controller.proofs.Givings.{unloaded, upto_more}
 use Rattle.wc_controller.specs.Blames.{IsUnloaded}
-use Rattle.wc_controller.specs.Endings.{RefusesLength, RefusesPlate, WritesUpTo}
+use Rattle.wc_endings.specs.Endings.{RefusesLength, RefusesPlate, WritesUpTo}
 use Rattle.wc_controller.specs.Files.{AnswersFile, AnswersNextFile, AnswersPrinting, AnswersRun, AnswersText, Observed}
 use Rattle.wc_controller.specs.InputStates.{Reader}
 use Rattle.wc_controller.specs.TakenLogs.{AreReadOf, IfKnown, known_of}

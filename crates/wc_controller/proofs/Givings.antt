@@ -5,7 +5,7 @@ use Rattle.std.specs.Prelude.{Bool, true, false, Option, Some, None, ifâ—Œthenâ—
 use Rattle.std.specs.Io.KnownBytes.{Appends, Keeps}
 use Rattle.wc_controller.specs.Blames.{IsNextUnloaded, IsUnloaded}
 use Rattle.wc_controller.specs.Checking.{Checks}
-use Rattle.wc_controller.specs.Endings.{IsAt, IsReadFaultAt, EndsAs, EndsAfter, EndsAfterFault, EndsRefused, WritesPrefix, WritesUpTo, answered, failed, fault_in_memory, fault_raised, raised, status_of}
+use Rattle.wc_endings.specs.Endings.{IsAt, IsReadFaultAt, EndsAs, EndsAfter, EndsAfterFault, EndsRefused, WritesPrefix, WritesUpTo, answered, failed, fault_in_memory, fault_raised, raised, status_of}
 use Rattle.wc_controller.specs.Files.{AnswersCheck, AnswersLog, AnswersPrinting, IsAnswer, Observed, answer_written, refuses_text, reports_units}
 use Rattle.wc_controller.specs.Jobs as jobs
 use Rattle.wc_controller.specs.Jobs.{Gives}
@@ -13,10 +13,10 @@ use Rattle.wc_controller.specs.Loads.{IsRefusedLoad}
 use Rattle.wc_controller.specs.TakenLogs.{IsNextLoadedOf}
 use Rattle.wc_cost.specs.LoadedTexts.{LoadedText}
 use Rattle.wc_model.specs.Language.Views.{text_view}
-use Rattle.wc_controller.specs.declared.ending.Ending.{Ending}
-use Rattle.wc_controller.specs.declared.ending.Ending.TheVariants as ended
-use Rattle.wc_controller.specs.declared.input.Input.{Input}
-use Rattle.wc_controller.specs.declared.input.Stopped.{Stopped}
+use Rattle.wc_endings.specs.declared.ending.Ending.{Ending}
+use Rattle.wc_endings.specs.declared.ending.Ending.TheVariants as ended
+use Rattle.wc_endings.specs.declared.input.Input.{Input}
+use Rattle.wc_endings.specs.declared.input.Stopped.{Stopped}
 use Rattle.wc_model.specs.Instrument.Plates.{PlateData}
 use Rattle.wc_model.specs.Run.Log.{LogOf, LogRefusal}
 use Rattle.wc_model.specs.Language.Tree.{Text}

@@ -2,7 +2,6 @@ pub mod ScanEndings
 pub mod ManyChanges
 pub mod LoadedTexts
 pub mod Refusals
-pub mod UnitReports
 pub mod Givings
 pub mod Allowing
 pub mod FileRuns

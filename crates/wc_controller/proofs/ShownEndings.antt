@@ -3,15 +3,15 @@ use Rattle.std.proofs.Common.{◌≡◌, List, ℕ, inl, inr, refl, subst, sym, 
 use Rattle.std.specs.Prelude.{Option, Some, None}
 use Rattle.wc_controller.proofs.Allowing.{known_more, on_known}
 use Rattle.wc_controller.proofs.StoppedInputs.{no_read_fault}
-use Rattle.wc_controller.specs.Endings.{EndsRefused}
+use Rattle.wc_endings.specs.Endings.{EndsRefused}
 use Rattle.wc_controller.specs.Files.{AnswersLine, AnswersRun, Observed}
 use Rattle.wc_controller.specs.InputRuns.{OfAnswersTo, ReadsInOrder}
 use Rattle.wc_controller.specs.InputStates.{InputStates, Reader}
 use Rattle.wc_controller.specs.Shown.{IsEndedBy, IsFaulty}
-use Rattle.wc_controller.specs.declared.ending.Ending.{Ending}
-use Rattle.wc_controller.specs.declared.ending.Ending.TheVariants as ended
-use Rattle.wc_controller.specs.declared.input.Input.{Input}
-use Rattle.wc_controller.specs.declared.input.Input.TheVariants as input
+use Rattle.wc_endings.specs.declared.ending.Ending.{Ending}
+use Rattle.wc_endings.specs.declared.ending.Ending.TheVariants as ended
+use Rattle.wc_endings.specs.declared.input.Input.{Input}
+use Rattle.wc_endings.specs.declared.input.Input.TheVariants as input
 use Rattle.wc_model.specs.Run.Log.{Record}
 use Rattle.wc_model.specs.Say.Job.{JobAnswer}
 

@@ -3,15 +3,15 @@ use Rattle.std.proofs.Common.{◌≡◌, ℕ, ◌≤◌, Bool, List, length, Opt
 use Rattle.std.specs.Io.KnownBytes.{Appends}
 use Rattle.std.specs.Prelude.{IfSome}
 use Rattle.wc_controller.proofs.Allowing.{of_known, on_known}
-use Rattle.wc_controller.specs.Endings.{EndsAfter, EndsAfterFault, EndsRefused, begin_fault_input, fault_raised, raised}
+use Rattle.wc_endings.specs.Endings.{EndsAfter, EndsAfterFault, EndsRefused, begin_fault_input, fault_raised, raised}
 use Rattle.wc_controller.specs.InputStates.{InputStates, Reader}
 use Rattle.wc_controller.specs.TakenLogs.{AreReadOf, IfKnown, IsNextLoadedOf, OfLogic, log_by}
 use Rattle.wc_controller.specs.WrittenRuns.{EndsSaying, OfRun, OfStart, OnEnd, OnRefusal, says_of}
-use Rattle.wc_controller.specs.declared.ending.Ending.{Ending}
-use Rattle.wc_controller.specs.declared.ending.Ending.TheVariants as ended
-use Rattle.wc_controller.specs.declared.input.Input.{Input}
-use Rattle.wc_controller.specs.declared.input.Input.TheVariants as input
-use Rattle.wc_controller.specs.declared.input.Stopped.{Stopped}
+use Rattle.wc_endings.specs.declared.ending.Ending.{Ending}
+use Rattle.wc_endings.specs.declared.ending.Ending.TheVariants as ended
+use Rattle.wc_endings.specs.declared.input.Input.{Input}
+use Rattle.wc_endings.specs.declared.input.Input.TheVariants as input
+use Rattle.wc_endings.specs.declared.input.Stopped.{Stopped}
 use Rattle.wc_cost.specs.LoadedTexts.{LoadedText}
 use Rattle.wc_model.specs.Instrument.PlateTable.{plate_of}
 use Rattle.wc_model.specs.Instrument.Plates.{PlateData}

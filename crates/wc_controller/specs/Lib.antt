@@ -1,12 +1,10 @@
 pub mod Headline
 pub mod Loads
-pub mod UnitLines
 pub mod Checking
 pub mod Jobs
 pub mod InputStates
 pub mod TakenLogs
 pub mod Files
-pub mod Endings
 pub mod Blames
 pub mod Shown
 pub mod InputRuns

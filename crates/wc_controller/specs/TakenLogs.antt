@@ -1,9 +1,9 @@
 -- The log as a command takes it, and the inputs that it may go without. (The profile's own.)
 use Rattle.std.specs.Prelude.{⊤, Bool, true, false, ℕ, List, Option, Some, None, IfSome, Result, is_some}
-use Rattle.wc_controller.specs.Endings.{StopsAt}
+use Rattle.wc_endings.specs.Endings.{StopsAt}
 use Rattle.wc_controller.specs.InputStates.{InputStates, Reader}
-use Rattle.wc_controller.specs.declared.input.Input.TheVariants as input
-use Rattle.wc_controller.specs.declared.input.Stopped.{Stopped}
+use Rattle.wc_endings.specs.declared.input.Input.TheVariants as input
+use Rattle.wc_endings.specs.declared.input.Stopped.{Stopped}
 use Rattle.wc_cost.specs.LoadedTexts.{LoadedText}
 use Rattle.wc_job.specs.Reads.{IsWhole}
 use Rattle.wc_model.specs.Language.Loading.{IsLoaded}

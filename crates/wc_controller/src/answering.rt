@@ -1,6 +1,6 @@
 ghost use Rattle.std.specs.Prelude.{◌≡◌, ◌⊎◌, Some, IfErr, IfSome, Ok, is_some, option_map};
 ghost use Rattle.wc_controller.specs.Blames.{BlamesPart, IsNextUnloaded, RefusesLog, StopsForPart};
-ghost use Rattle.wc_controller.specs.Endings.{EndsAs, IsReadFaultAt, StopsAt, TakesInput, ReportsFailures, ReportsReadEndings, ReportsReadFaults, ReportsWriteFaults, WritesUpTo, fault_in_memory, raised};
+ghost use Rattle.wc_endings.specs.Endings.{EndsAs, IsReadFaultAt, StopsAt, TakesInput, ReportsFailures, ReportsReadEndings, ReportsReadFaults, ReportsWriteFaults, WritesUpTo, fault_in_memory, raised};
 ghost use Rattle.wc_controller.specs.Files.{AnswersLog};
 ghost use Rattle.wc_controller.specs.Jobs.{Allows, AllowsSections, Gives, IsStatus};
 ghost use Rattle.wc_controller.specs.TakenLogs.{IsLater, log_alongside};
@@ -13,11 +13,10 @@ ghost use Rattle.wc_model.specs.Say.Job.{AnswersNext};
 ghost use Rattle.wc_record.specs.Reading.{records_of};
 ghost use Rattle.wc_record.specs.Reported.{fields_reported};
 
-use crate::ending::{Ending, end};
-use crate::input::{Input, Stopped};
 use crate::loaded::{RunPrograms, load_input, run_loaded};
 use crate::reading::read_input;
 use std::alloc::Global;
+use wc_endings::{Ending, Input, Stopped, end};
 use wc_job::{Sections, sections};
 use wc_model::{ByteIn, ByteOut, Device};
 use wc_plate::plate;

@@ -1,36 +1,16 @@
 ghost use Rattle.std.specs.Prelude.{◌≡◌, IfErr, IfSome};
-ghost use Rattle.wc_controller.specs.Checking.{Checks, WritesReport};
-ghost use Rattle.wc_controller.specs.Endings.{EndsAs, IsAt, TakesInput, ReportsFailures, ReportsReadEndings, ReportsReadFaults, ReportsWriteFaults, WritesUpTo, raised};
+ghost use Rattle.wc_controller.specs.Checking.{Checks};
+ghost use Rattle.wc_endings.specs.Endings.{EndsAs, IsAt, TakesInput, ReportsFailures, ReportsReadEndings, ReportsReadFaults, ReportsWriteFaults, WritesUpTo, raised};
 ghost use Rattle.wc_controller.specs.Files.{AnswersCheckFile};
 ghost use Rattle.wc_model.specs.Language.Views.{text_view};
 ghost use Rattle.wc_run.specs.Runs.{ReportsWrites};
 
-use crate::ending::{Ending, end};
-use crate::input::{Input, Stopped};
 use crate::loading::load;
 use crate::reading::read_input;
-use crate::unit_lines::text_of_units;
 use std::alloc::Global;
-use wc_cost::Loaded;
-use wc_model::{ByteIn, ByteOut, write_whole};
+use wc_endings::{Ending, Input, Stopped, end, write_units};
+use wc_model::{ByteIn, ByteOut};
 use wc_run::RunFault;
-
-/// Writes the report of the units.
-fn write_report<W: ByteOut>(
-    alloc: Global,
-    loaded: &Loaded<'_>,
-    paths: bool,
-    writer: &mut W,
-) -> Result<(), RunFault>
-    ensures report { WritesReport paths (text_view loaded.now.source) result
-        (W.bytes_taken writer.old) (W.bytes_taken writer.new) }
-    ensures failures { ReportsWrites result (W.failure_count writer.old)
-        (W.failure_count writer.new) }
-{
-    let lines = text_of_units(alloc, loaded, paths)?;
-    write_whole(writer, &lines)?;
-    Ok(())
-}
 
 /// Checks a program text, and writes for each unit, in the text's order, a line with its name and
 /// the number of steps that it takes at most; with `paths` the lines of its worst path after it.
@@ -49,7 +29,7 @@ pub fn check<W: ByteOut>(
         (W.failure_count writer.new) }
 {
     let loaded = load(alloc, text)?;
-    write_report(alloc, &loaded, paths, writer)
+    write_units(alloc, &loaded, paths, writer)
 }
 
 /// Reads and checks a program, up to its refusal.

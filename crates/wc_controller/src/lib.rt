@@ -4,26 +4,21 @@
 
 mod answering;
 mod checking;
-mod ending;
 mod headline;
-mod input;
 mod inputs;
 mod loaded;
 mod loading;
 mod log_runs;
 mod reading;
 mod running;
-mod unit_lines;
 
 pub use answering::{answer_job, job};
 pub use checking::{check, check_file};
-pub use ending::{Ending, end};
 pub use headline::the_headline;
-pub use input::{Input, Stopped};
 pub use inputs::RunInputs;
 pub use loading::load;
 pub use log_runs::{run, run_last};
 pub use reading::read_input;
 pub use running::{last_files, report_files, run_files, run_inputs};
-pub use unit_lines::text_of_units;
+pub use wc_endings::{Ending, Input, Stopped, end, text_of_units};
 pub use wc_run::{RefusedRow, RunFault};

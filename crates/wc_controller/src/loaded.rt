@@ -1,6 +1,6 @@
 ghost use Rattle.std.specs.Prelude.{◌≡◌, [], ℕ, List, true, false, Some, None, Option, IfErr, IfOk, IfSome, IsOkUnless, OnOk, IsErrOf, is_some, option_map};
 ghost use Rattle.wc_controller.specs.Blames.{IsNextUnloaded, IsUnloaded, RefusesLog, StopsFor};
-ghost use Rattle.wc_controller.specs.Endings.{HasNotFailedAt, IsReadFaultAt, StopsAt, ReportsMemory, ReportsWriteFaults, WritesUpTo, begin_fault_input, fault_raised, raised};
+ghost use Rattle.wc_endings.specs.Endings.{HasNotFailedAt, IsReadFaultAt, StopsAt, ReportsMemory, ReportsWriteFaults, WritesUpTo, begin_fault_input, fault_raised, raised};
 ghost use Rattle.wc_controller.specs.Files.{AnswersPrinting, IsLineAnswer};
 ghost use Rattle.wc_controller.specs.InputStates.{observed_by, reader_of};
 ghost use Rattle.wc_controller.specs.WrittenRuns.{OnEnd, says_of};
@@ -20,10 +20,10 @@ ghost use Rattle.wc_run.specs.Runs.{HasNotFailed, ReportsRefused, ReportsWrites}
 ghost use Rattle.wc_run.specs.Observing.{Plan, RefusesToBegin, bytes_of, loaded_of, logic_of, said, start_of, start_with};
 ghost use Rattle.wc_run.specs.Representation.{IsNotAfter, Represents};
 
-use crate::input::{Input, Stopped};
 use crate::loading::load;
 use std::alloc::Global;
 use wc_cost::Loaded;
+use wc_endings::{Input, Stopped};
 use wc_machine::Machine;
 use wc_model::{ByteIn, ByteOut};
 use wc_plate::Plate;

@@ -1,5 +1,5 @@
 ghost use Rattle.std.specs.Prelude.{◌≡◌, ◌≤◌, false};
-ghost use Rattle.wc_controller.specs.Endings.{IsAt, StopsAt};
+ghost use Rattle.wc_endings.specs.Endings.{IsAt, StopsAt};
 ghost use Rattle.wc_controller.specs.Files.{report_observed};
 ghost use Rattle.wc_controller.specs.InputRuns.{RunsAs, RunsUpTo};
 ghost use Rattle.wc_controller.specs.InputStates.{observed_by, writer_of};
@@ -8,12 +8,11 @@ ghost use Rattle.wc_controller.specs.WrittenRuns.{EndsSaying, OfRun, OnEnd, says
 ghost use Rattle.wc_record.specs.Reported.{fields_reported};
 ghost use Rattle.wc_run.specs.Observing.{said_by};
 
-use crate::ending::{Ending, end};
-use crate::input::{Input, Stopped};
 use crate::inputs::RunInputs;
 use crate::loaded::{RunPrograms, load_input, run_alone, run_loaded};
 use crate::reading::{borrowed, read_optional, read_plate};
 use std::alloc::Global;
+use wc_endings::{Ending, Input, Stopped, end};
 use wc_model::{ByteIn, ByteOut};
 use wc_record::RefusedRow;
 use wc_run::{LastScans, Observer, Report};

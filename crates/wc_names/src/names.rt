@@ -1,4 +1,4 @@
-ghost use Rattle.std.specs.Prelude.{◌≡◌, [], ◌∷◌, ◌++◌, List, IfOk, IsOk, OnErr, IsOkUnless, false, not, if◌then◌else◌, option_map, slice_get};
+ghost use Rattle.std.specs.Prelude.{◌≡◌, [], ◌∷◌, ◌++◌, List, IfOk, OnErr, IsOkUnless, false, not, if◌then◌else◌, option_map, slice_get};
 ghost use Rattle.std.specs.List.{position_from};
 ghost use Rattle.wc_model.specs.Language.DeclarationRules.{is_among};
 ghost use Rattle.wc_model.specs.Language.Declarations.{same_name};
@@ -30,18 +30,6 @@ impl<'a> Names<'a> {
     {
         Names {
             keys: IndexSet::new(alloc),
-        }
-    }
-
-    /// No names, with space for n. Its only fault is `Fault::Memory`, which does not come if n is 0.
-    pub fn with_capacity(alloc: Global, n: usize) -> Result<Names<'a>, Fault>
-        ensures empty { IfOk result (λ names. names ≡ []) }
-        ensures memory { IsOkUnless result Fault.Memory }
-        ensures succeeds { n ≡ 0 → IsOk result }
-    {
-        match IndexSet::with_capacity(alloc, n) {
-            Ok(keys) => Ok(Names { keys }),
-            Err(_) => Err(Fault::Memory),
         }
     }
 

@@ -27,21 +27,7 @@ fn are_numbered(alloc: Global) -> bool {
     are_added(&mut Names::new(alloc))
 }
 
-/// Likewise with space for n names.
-fn are_numbered_in_space(alloc: Global, n: usize) -> bool {
-    match Names::with_capacity(alloc, n) {
-        Ok(mut names) => are_added(&mut names),
-        Err(_) => false,
-    }
-}
-
 #[test]
 fn names_are_numbered(rt: HostRuntime) {
     assert!(rt; are_numbered(rt.alloc()));
-}
-
-#[test]
-fn names_are_numbered_whatever_the_space(rt: HostRuntime) {
-    assert!(rt; are_numbered_in_space(rt.alloc(), 3));
-    assert!(rt; are_numbered_in_space(rt.alloc(), 1));
 }

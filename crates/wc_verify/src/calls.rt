@@ -156,7 +156,7 @@ fn validate_arguments<'a>(
     // With an empty list no memory is taken.
     ensures memory { IfErr result (λ fault. fault ≡ Fault.Memory → 0 < length arguments.now) }
 {
-    let mut names = Names::with_capacity(alloc, arguments.len())?;
+    let mut names = Names::new(alloc);
     validate_each(tables, unit, declared, &mut names, arguments, line)
 }
 

@@ -1,12 +1,12 @@
 -- How a run ends of whose bytes nothing is said, if no line of a refusal is written.
 use Rattle.std.proofs.Common.{ℕ, Ok, Err, Some, None, Result, ap, arith, refl}
 use Rattle.wc_controller.proofs.EndedRuns.{run_ended}
-use Rattle.wc_controller.specs.Endings.{EndsAfter, EndsAfterFault, ReportsFailures, ReportsWriteFaults, ending_of, fault_ending, raised, status_of}
+use Rattle.wc_endings.specs.Endings.{EndsAfter, EndsAfterFault, ReportsFailures, ReportsWriteFaults, ending_of, fault_ending, raised, status_of}
 use Rattle.wc_controller.specs.Files.{Observed}
 use Rattle.wc_controller.specs.InputRuns.{RunsAs, RunsUpTo}
 use Rattle.wc_controller.specs.InputStates.{InputStates, Writer}
-use Rattle.wc_controller.specs.declared.input.Input.{Input}
-use Rattle.wc_controller.specs.declared.input.Stopped.{Stopped}
+use Rattle.wc_endings.specs.declared.input.Input.{Input}
+use Rattle.wc_endings.specs.declared.input.Stopped.{Stopped}
 use Rattle.wc_model.specs.Run.Log.{Record}
 use Rattle.wc_run.specs.declared.fault.RunFault.{RunFault}
 use Rattle.wc_run.specs.declared.fault.RunFault.TheVariants.{Refused, Read, Write, Memory}

@@ -1,5 +1,5 @@
 ghost use Rattle.std.specs.Prelude.{◌≡◌, ◌≤◌, ◌+◌, true, false, length, IfErr, IfOk, IfSome};
-ghost use Rattle.wc_controller.specs.Endings.{IsAt};
+ghost use Rattle.wc_endings.specs.Endings.{IsAt};
 ghost use Rattle.wc_controller.specs.InputRuns.{RunsAs, TakesInputs};
 ghost use Rattle.wc_controller.specs.InputStates.{writer_of};
 ghost use Rattle.wc_controller.specs.TakenLogs.{OfPrograms};

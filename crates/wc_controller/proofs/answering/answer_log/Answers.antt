@@ -4,10 +4,10 @@ use Rattle.wc_controller.proofs.Blaming.{stops_known}
 use Rattle.wc_controller.proofs.Givings.{logged}
 use Rattle.wc_controller.proofs.answering.answer_log.Goals as goal
 use Rattle.wc_controller.specs.Blames.{RefusesLog}
-use Rattle.wc_controller.specs.Endings.{WritesUpTo, raised}
+use Rattle.wc_endings.specs.Endings.{WritesUpTo, raised}
 use Rattle.wc_controller.specs.Files.{AnswersPrinting}
 use Rattle.wc_controller.specs.TakenLogs.{log_alongside}
-use Rattle.wc_controller.specs.declared.input.Input.TheVariants as input
+use Rattle.wc_endings.specs.declared.input.Input.TheVariants as input
 use Rattle.wc_model.specs.Language.Views.{text_view}
 use Rattle.wc_model.specs.Run.Log.{log_of}
 use Rattle.wc_model.specs.Say.Job.{AnswersNext}

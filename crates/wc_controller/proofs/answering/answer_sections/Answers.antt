@@ -5,10 +5,10 @@ use Rattle.wc_controller.proofs.BlamingParts.{plate_part, program_part, run_part
 use Rattle.wc_controller.proofs.Givings.{in_memory, unloaded, upto_more}
 use Rattle.wc_controller.proofs.answering.answer_sections.Goals as goal
 use Rattle.wc_controller.specs.Blames.{StopsAsPart}
-use Rattle.wc_controller.specs.Endings.{WritesUpTo}
+use Rattle.wc_endings.specs.Endings.{WritesUpTo}
 use Rattle.wc_controller.specs.Files.{AnswersLog}
 use Rattle.wc_controller.specs.Jobs.{AllowsSections}
-use Rattle.wc_controller.specs.declared.input.Input.TheVariants as input
+use Rattle.wc_endings.specs.declared.input.Input.TheVariants as input
 use Rattle.wc_job.specs.Views.{sections_view}
 use Rattle.wc_model.specs.Language.Views.{text_view}
 use Rattle.wc_model.specs.Run.Log.{log_of}

@@ -4,7 +4,7 @@ use Rattle.wc_controller.proofs.Givings.{answered_so, not_started, written_by}
 use Rattle.wc_controller.proofs.RefusedNames.{refused_at_names}
 use Rattle.wc_controller.proofs.WrittenRuns.{not_begun, run_ended}
 use Rattle.wc_controller.proofs.loaded.run_alone.Goals as goal
-use Rattle.wc_controller.specs.Endings.{WritesUpTo, of_no_cause, raised}
+use Rattle.wc_endings.specs.Endings.{WritesUpTo, of_no_cause, raised}
 use Rattle.wc_controller.specs.Files.{answer_written}
 use Rattle.wc_controller.specs.InputStates.{observed_by}
 use Rattle.wc_controller.specs.TakenLogs.{log_by}

@@ -1,7 +1,7 @@
 use Rattle.std.proofs.Common.{subst, sym}
 use Rattle.std.specs.Prelude.{true}
 use Rattle.wc_controller.specs.InputRuns.{RunsUnsaid}
-use Rattle.wc_controller.specs.declared.ending.Ending.{Ending}
+use Rattle.wc_endings.specs.declared.ending.Ending.{Ending}
 use Rattle.wc_view_picture.proofs.Unrefused.{run_unrefused}
 use Rattle.wc_view_picture.proofs.showing.show_files.Goals as goal
 use Rattle.wc_record.specs.Reported.{fields_reported}

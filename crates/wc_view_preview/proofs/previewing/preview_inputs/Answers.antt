@@ -5,10 +5,10 @@ use Rattle.wc_controller.proofs.Allowing.{file_not_read, file_read, of_known, on
 use Rattle.wc_controller.proofs.Blaming.{load_refused, program_read}
 use Rattle.wc_controller.proofs.Givings.{not_loaded, upto_more}
 use Rattle.wc_controller.specs.Blames.{RefusesText}
-use Rattle.wc_controller.specs.Endings.{WritesUpTo, raised}
+use Rattle.wc_endings.specs.Endings.{WritesUpTo, raised}
 use Rattle.wc_controller.specs.Files.{AnswersFile}
 use Rattle.wc_controller.specs.Loads.{IsRefusedLoad}
-use Rattle.wc_controller.specs.declared.input.Input.TheVariants as input
+use Rattle.wc_endings.specs.declared.input.Input.TheVariants as input
 use Rattle.wc_model.specs.Language.Loading.{IsLoaded}
 use Rattle.wc_model.specs.Language.Tree.{Text}
 use Rattle.wc_model.specs.Language.Views.{text_view}

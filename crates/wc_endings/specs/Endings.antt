@@ -1,11 +1,11 @@
 -- How far an answer was written when a command stopped, and how it ended. (The profile's own.)
 use Rattle.std.specs.Prelude.{◌≡◌, ⊤, ℕ, ◌+◌, ◌<◌, ◌≤◌, ◌⊎◌, List, ◌++◌, length, Option, Some, None, IfSome, IsSome, Result, Ok, Err}
 use Rattle.std.specs.Io.KnownBytes.{Appends, Keeps}
-use Rattle.wc_controller.specs.declared.ending.Ending.{Ending}
-use Rattle.wc_controller.specs.declared.ending.Ending.TheVariants as ended
-use Rattle.wc_controller.specs.declared.input.Input.{Input}
-use Rattle.wc_controller.specs.declared.input.Input.TheVariants as input
-use Rattle.wc_controller.specs.declared.input.Stopped.{Stopped}
+use Rattle.wc_endings.specs.declared.ending.Ending.{Ending}
+use Rattle.wc_endings.specs.declared.ending.Ending.TheVariants as ended
+use Rattle.wc_endings.specs.declared.input.Input.{Input}
+use Rattle.wc_endings.specs.declared.input.Input.TheVariants as input
+use Rattle.wc_endings.specs.declared.input.Stopped.{Stopped}
 use Rattle.wc_job.specs.Reads.{TakesAtMost}
 use Rattle.wc_job.specs.declared.reading.ReadFault.{ReadFault}
 use Rattle.wc_job.specs.declared.reading.ReadFault.TheVariants as unread

@@ -1,5 +1,5 @@
 ghost use Rattle.std.specs.Prelude.{◌≡◌, ℕ};
-ghost use Rattle.wc_controller.specs.Endings.{EndsAfter, EndsRefused, ReportsFailures, ReportsWriteFaults, ending_of, raised, status_of};
+ghost use Rattle.wc_endings.specs.Endings.{EndsAfter, EndsRefused, ReportsFailures, ReportsWriteFaults, ending_of, raised, status_of};
 
 use crate::input::{Input, Stopped};
 use std::alloc::Global;

@@ -1,5 +1,5 @@
-use Rattle.wc_controller.proofs.UnitReports.{Begins}
-use Rattle.wc_controller.proofs.unit_lines.text_of_units.Given as goal
+use Rattle.wc_endings.proofs.UnitReports.{Begins}
+use Rattle.wc_endings.proofs.unit_lines.text_of_units.Given as goal
 use Rattle.wc_model.specs.Language.Views.{text_view}
 
 -- the lines of the units so far begin the report

@@ -1,6 +1,6 @@
 use Rattle.std.proofs.Common.{◌+◌, ◌++◌, List, ℕ, ap, sym, ◌∙◌, subst, arith}
-use Rattle.wc_controller.proofs.UnitReports.{Begins, begins_on, begins_to_end}
-use Rattle.wc_controller.proofs.unit_lines.text_of_units.Goals as goal
+use Rattle.wc_endings.proofs.UnitReports.{Begins, begins_on, begins_to_end}
+use Rattle.wc_endings.proofs.unit_lines.text_of_units.Goals as goal
 use Rattle.wc_model.specs.Language.Views.{text_view}
 
 pub loop-unit-preserved : goal.loop-unit-preserved

@@ -2,7 +2,7 @@
 use Rattle.std.proofs.Common.{◌≡◌, ℕ, zero, suc, Bool, ◌+◌, ◌≤◌, List, [], ◌∷◌, ◌++◌, map, length, drop, refl, ap, sym, ◌∙◌, subst, append_assoc, append-nil, arith}
 use Rattle.std.proofs.lemmas.Option.{none-some, same_Some}
 use Rattle.std.specs.Prelude.{Some, IfSome, option_map, slice_get}
-use Rattle.wc_controller.specs.UnitLines.{AreLinesAt}
+use Rattle.wc_endings.specs.UnitLines.{AreLinesAt}
 use Rattle.wc_model.specs.Language.Checks.{Position, positions_after, positions_of}
 use Rattle.wc_model.specs.Language.Tree.{ProgramUnit, Text}
 use Rattle.wc_model.specs.Say.UnitReport.{AreUnitLines, IsBoundOf, IsPathPart, IsUnitReport, unit_line}

@@ -1,5 +1,5 @@
 ghost use Rattle.std.specs.Prelude.{◌<◌, length, IfOk, IsOkUnless};
-ghost use Rattle.wc_controller.specs.UnitLines.{AreLinesAt, IsPathPartAt};
+ghost use Rattle.wc_endings.specs.UnitLines.{AreLinesAt, IsPathPartAt};
 ghost use Rattle.wc_model.specs.Language.Views.{text_view};
 ghost use Rattle.wc_model.specs.Say.UnitReport.{IsUnitReport};
 
