@@ -2,7 +2,6 @@ ghost use Rattle.std.specs.Prelude.{◌≡◌, IfErr, IfSome};
 ghost use Rattle.wc_controller.specs.Checking.{Checks};
 ghost use Rattle.wc_endings.specs.Endings.{EndsAs, IsAt, TakesInput, ReportsFailures, ReportsReadEndings, ReportsReadFaults, ReportsWriteFaults, WritesUpTo, raised};
 ghost use Rattle.wc_controller.specs.Files.{AnswersCheckFile};
-ghost use Rattle.wc_model.specs.Language.Views.{text_view};
 ghost use Rattle.wc_run.specs.Runs.{ReportsWrites};
 
 use crate::loading::load;

@@ -6,8 +6,8 @@ macro_rules! with_constants {
         $macro!(
             "0.1.0",
             "rattle-kit-13 logic dac8208d650f15bf",
-            "734ab92aaaac09ad787229193f5c88ceca5afb5eac7a1edff88c8575f05a8739",
-            "b026a39b923230de1c7d8dc93db8445a1ddfc74897fcc0facac1c71b87455b10"
+            "7c9028a977251cb465e25c6f6d4ef787668695fc07d170105c9819b8a4d2e216",
+            "522c603dc168d283471cfb675b168d04fbfd0efba7fb29e2af96a865e72dee9f"
         )
     };
 }
