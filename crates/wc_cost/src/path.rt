@@ -37,7 +37,9 @@ fn list(lines: &mut Vec<u32>, line: &Code, source: u32) -> Result<(), Fault>
     if !is_own(line) {
         return Ok(());
     }
-    lines.push(source).map_err(|_| Fault::Memory)?;
+    let Ok(()) = lines.push(source) else {
+        return Err(Fault::Memory);
+    };
     Ok(())
 }
 

@@ -85,7 +85,9 @@ pub(crate) fn lower_units<'a>(
     let mut units = Vec::new(alloc);
     for (number, unit) in source.units.iter().enumerate() {
         let lowered = lower_unit(alloc, tables, number, unit, &units)?;
-        units.push(lowered).map_err(|_| Fault::Memory)?;
+        let Ok(()) = units.push(lowered) else {
+            return Err(Fault::Memory);
+        };
     }
     Ok(units)
 }

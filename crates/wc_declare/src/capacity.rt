@@ -46,7 +46,9 @@ fn push_field<'a>(
         kind,
         place: Place(variable.first),
     };
-    fields.push(field).map_err(|_| Fault::Memory)?;
+    let Ok(()) = fields.push(field) else {
+        return Err(Fault::Memory);
+    };
     Ok(())
 }
 
@@ -79,7 +81,9 @@ pub(crate) fn add_variable<'a>(
     let Some(end) = capacity(table.rows.len(), table.size, width) else {
         return Err(refusal(306, word.line));
     };
-    table.rows.push(variable).map_err(|_| Fault::Memory)?;
+    let Ok(()) = table.rows.push(variable) else {
+        return Err(Fault::Memory);
+    };
     push_field(&mut table.fields, word, variable)?;
     table.size = end;
     Ok(())

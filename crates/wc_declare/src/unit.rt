@@ -69,9 +69,19 @@ pub(crate) fn validate_unit<'a>(
     validate_name(&units.names, unit.name)?;
     let in_block = is_block(unit);
     let mut table = UnitTable::new(alloc, in_block);
-    validate_declarations(units, &mut table, unit)?;
-    validate_body(in_block, &unit.body)?;
-    Ok(table)
+    match validate_declarations(units, &mut table, unit) {
+        Ok(()) => match validate_body(in_block, &unit.body) {
+            Ok(()) => Ok(table),
+            Err(fault) => {
+                drop(table);
+                Err(fault)
+            }
+        },
+        Err(fault) => {
+            drop(table);
+            Err(fault)
+        }
+    }
 }
 
 /// Adds a unit, whose name is new, after those so far.
@@ -89,7 +99,14 @@ pub(crate) fn add_unit<'a>(
         (units.new.tables.items ≡ units.old.tables.items ++ table.entry ∷ []) }
     ensures memory { IsOkUnless result Fault.Memory }
 {
-    units.names.add(name.text)?;
-    units.tables.push(table).map_err(|_| Fault::Memory)?;
-    Ok(())
+    match units.tables.push(table) {
+        Ok(()) => {
+            units.names.add(name.text)?;
+            Ok(())
+        }
+        Err(refused) => {
+            drop(refused);
+            Err(Fault::Memory)
+        }
+    }
 }

@@ -42,8 +42,12 @@ impl Flat {
         ensures put { OnOk result (self.new ≡ put_line line source self.old) }
         ensures memory { IsOkUnless result Fault.Memory }
     {
-        self.code.push(line).map_err(|_| Fault::Memory)?;
-        self.sources.push(source).map_err(|_| Fault::Memory)?;
+        let Ok(()) = self.code.push(line) else {
+            return Err(Fault::Memory);
+        };
+        let Ok(()) = self.sources.push(source) else {
+            return Err(Fault::Memory);
+        };
         Ok(())
     }
 

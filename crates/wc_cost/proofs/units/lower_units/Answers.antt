@@ -79,9 +79,3 @@ returns c = λ tables faultless.
     let split : onto h.0 [] ≡ text = ap (λ (xs : List CodeUnit). onto h.0 (map unit_view xs)) (sym end) ∙ h.1 in
     subst (λ (t : Text). AreLoaded t c.loop-number.units.items) (sym same)
     (all_loaded text h.0 c.loop-number.units.items split (h.3 (subst (λ (t : Text). AreTables c.args.tables.now t) same tables) (subst IsFaultless same faultless)))
-
-pub returns-in_err-map_err : goal.returns-in_err-map_err
-returns-in_err-map_err c = λ tables faultless.
-    let memory : c.in_err-map_err.field-0.0 ≡ Memory = search rules in
-    propagated (LoadsUnits (text_view c.args.source.now)) c.in_err-map_err.field-0.0 c.from_residual-in_err-map_err.result c.from_residual-in_err-map_err.ensures
-    (subst (λ (f : Fault). LoadsUnits (text_view c.args.source.now) (Err f)) (sym memory) tt)
