@@ -59,13 +59,18 @@ fn has_kept(kept: Option<&[u8]>, wanted: &[u8]) -> bool {
     }
 }
 
+/// Whether the next read into two bytes gives this many.
+fn reads(reader: &mut TeeReader<&[u8]>, count: usize) -> bool {
+    let mut buffer = [0_u8; 2];
+    moved(reader.read(&mut buffer)) == Some(count)
+}
+
 /// Whether a reader of three bytes keeps what it reads.
 fn keeps_what_it_reads(reader: &mut TeeReader<&[u8]>) -> bool {
-    let mut buffer = [0_u8; 2];
     has_kept(reader.bytes_read(), b"")
-        && moved(reader.read(&mut buffer)) == Some(2)
-        && moved(reader.read(&mut buffer)) == Some(1)
-        && moved(reader.read(&mut buffer)) == Some(0)
+        && reads(reader, 2)
+        && reads(reader, 1)
+        && reads(reader, 0)
         && has_kept(reader.bytes_read(), b"abc")
         && reader.get_ref().is_empty()
 }

@@ -61,25 +61,25 @@ fn an_on_delay(rt: HostRuntime) {
     }
 }
 
-/// Likewise over all moments.
-const ON_DELAY_OVER_ALL: [(u64, bool, i32, bool, i32); 7] = [
-    (0, true, 2147483647, false, 0),
-    (2147483646, true, 2147483647, false, 2147483646),
-    (2147483647, true, 2147483647, true, 2147483647),
-    (1099511627775, true, 2147483647, true, 2147483647),
-    (1099511627775, false, 2147483647, false, 0),
-    (1099511627775, true, 1, false, 0),
-    (1099511627775, true, 0, true, 0),
+/// Likewise over all moments, and after them at moments that are none to call at.
+const ON_DELAY_OVER_ALL: [(u64, bool, i32, Option<(bool, i32)>); 9] = [
+    (0, true, 2147483647, Some((false, 0))),
+    (2147483646, true, 2147483647, Some((false, 2147483646))),
+    (2147483647, true, 2147483647, Some((true, 2147483647))),
+    (1099511627775, true, 2147483647, Some((true, 2147483647))),
+    (1099511627775, false, 2147483647, Some((false, 0))),
+    (1099511627775, true, 1, Some((false, 0))),
+    (1099511627775, true, 0, Some((true, 0))),
+    (1099511627776, true, 0, None),
+    (1099511627774, true, 0, None),
 ];
 
 #[test]
 fn an_on_delay_over_all_moments(rt: HostRuntime) {
     let mut block = Ton::new();
-    for (now, input, pt, q, et) in &ON_DELAY_OVER_ALL {
-        assert!(rt; ton_at(&mut block, *now, *input, *pt) == Some((*q, *et)));
+    for (now, input, pt, after) in &ON_DELAY_OVER_ALL {
+        assert!(rt; ton_at(&mut block, *now, *input, *pt) == *after);
     }
-    assert!(rt; ton_at(&mut block, 1099511627776, true, 0) == None);
-    assert!(rt; ton_at(&mut block, 1099511627774, true, 0) == None);
 }
 
 /// Likewise for a TOF.
@@ -108,26 +108,26 @@ fn an_off_delay(rt: HostRuntime) {
     }
 }
 
-/// Likewise over all moments.
-const OFF_DELAY_OVER_ALL: [(u64, bool, i32, bool, i32); 8] = [
-    (0, true, 2147483647, true, 0),
-    (0, false, 2147483647, true, 0),
-    (2147483646, false, 2147483647, true, 2147483646),
-    (2147483647, false, 2147483647, false, 2147483647),
-    (1099511627775, false, 2147483647, false, 2147483647),
-    (1099511627775, true, 2147483647, true, 0),
-    (1099511627775, false, 1, true, 0),
-    (1099511627775, false, 0, false, 0),
+/// Likewise over all moments, and after them at moments that are none to call at.
+const OFF_DELAY_OVER_ALL: [(u64, bool, i32, Option<(bool, i32)>); 10] = [
+    (0, true, 2147483647, Some((true, 0))),
+    (0, false, 2147483647, Some((true, 0))),
+    (2147483646, false, 2147483647, Some((true, 2147483646))),
+    (2147483647, false, 2147483647, Some((false, 2147483647))),
+    (1099511627775, false, 2147483647, Some((false, 2147483647))),
+    (1099511627775, true, 2147483647, Some((true, 0))),
+    (1099511627775, false, 1, Some((true, 0))),
+    (1099511627775, false, 0, Some((false, 0))),
+    (1099511627776, false, 0, None),
+    (1099511627774, false, 0, None),
 ];
 
 #[test]
 fn an_off_delay_over_all_moments(rt: HostRuntime) {
     let mut block = Tof::new();
-    for (now, input, pt, q, et) in &OFF_DELAY_OVER_ALL {
-        assert!(rt; tof_at(&mut block, *now, *input, *pt) == Some((*q, *et)));
+    for (now, input, pt, after) in &OFF_DELAY_OVER_ALL {
+        assert!(rt; tof_at(&mut block, *now, *input, *pt) == *after);
     }
-    assert!(rt; tof_at(&mut block, 1099511627776, false, 0) == None);
-    assert!(rt; tof_at(&mut block, 1099511627774, false, 0) == None);
     let mut fresh = Tof::new();
     assert!(rt; tof_at(&mut fresh, 1099511627775, false, 100) == Some((false, 0)));
 }
@@ -161,25 +161,25 @@ fn a_pulse(rt: HostRuntime) {
     }
 }
 
-/// Likewise over all moments.
-const PULSE_OVER_ALL: [(u64, bool, i32, bool, i32); 7] = [
-    (0, true, 2147483647, true, 0),
-    (2147483646, false, 2147483647, true, 2147483646),
-    (2147483647, true, 2147483647, false, 2147483647),
-    (1099511627775, true, 2147483647, false, 2147483647),
-    (1099511627775, false, 2147483647, false, 0),
-    (1099511627775, true, 1, true, 0),
-    (1099511627775, true, 0, false, 0),
+/// Likewise over all moments, and after them at moments that are none to call at.
+const PULSE_OVER_ALL: [(u64, bool, i32, Option<(bool, i32)>); 9] = [
+    (0, true, 2147483647, Some((true, 0))),
+    (2147483646, false, 2147483647, Some((true, 2147483646))),
+    (2147483647, true, 2147483647, Some((false, 2147483647))),
+    (1099511627775, true, 2147483647, Some((false, 2147483647))),
+    (1099511627775, false, 2147483647, Some((false, 0))),
+    (1099511627775, true, 1, Some((true, 0))),
+    (1099511627775, true, 0, Some((false, 0))),
+    (1099511627776, true, 0, None),
+    (1099511627774, true, 0, None),
 ];
 
 #[test]
 fn a_pulse_over_all_moments(rt: HostRuntime) {
     let mut block = Tp::new();
-    for (now, input, pt, q, et) in &PULSE_OVER_ALL {
-        assert!(rt; tp_at(&mut block, *now, *input, *pt) == Some((*q, *et)));
+    for (now, input, pt, after) in &PULSE_OVER_ALL {
+        assert!(rt; tp_at(&mut block, *now, *input, *pt) == *after);
     }
-    assert!(rt; tp_at(&mut block, 1099511627776, true, 0) == None);
-    assert!(rt; tp_at(&mut block, 1099511627774, true, 0) == None);
 }
 
 /// Inputs of a CTU one after another, each with the Q and the CV that it then has.

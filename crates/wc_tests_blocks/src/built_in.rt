@@ -23,19 +23,33 @@ fn are_other_words() -> bool {
     ) && matches!(keyword_named(b"VAR_IN_OUT"), Some(Keyword::Kept))
 }
 
+/// Words that are none of these represent nothing, and a word that is reserved need not represent anything.
+fn are_no_others_reserved() -> bool {
+    matches!(keyword_named(b"ld1"), None)
+        && matches!(keyword_named(b""), None)
+        && is_reserved(b"At")
+        && !is_reserved(b"att")
+}
+
 #[test]
 fn reserved_words_represent_what_they_are(rt: HostRuntime) {
-    assert!(rt; are_instructions());
-    assert!(rt; are_other_words());
-    assert!(rt; keyword_named(b"ld1").is_none() && keyword_named(b"").is_none());
-    assert!(rt; is_reserved(b"At") && !is_reserved(b"att"));
+    assert!(rt; are_instructions() && are_other_words() && are_no_others_reserved());
+}
+
+/// Words of types are those, without letter case.
+fn are_type_words() -> bool {
+    matches!(elementary_type(b"Time"), Some(Kind::Time))
+        && matches!(elementary_type(b"ton"), None)
+        && matches!(standard_block(b"Rs"), Some(StandardBlock::Rs))
+        && matches!(standard_block(b"r"), None)
+        && is_type_word(b"DINT")
+        && is_type_word(b"tp")
+        && !is_type_word(b"true")
 }
 
 #[test]
 fn type_words_represent_types(rt: HostRuntime) {
-    assert!(rt; elementary_type(b"Time") == Some(Kind::Time) && elementary_type(b"ton").is_none());
-    assert!(rt; standard_block(b"Rs") == Some(StandardBlock::Rs) && standard_block(b"r").is_none());
-    assert!(rt; is_type_word(b"DINT") && is_type_word(b"tp") && !is_type_word(b"true"));
+    assert!(rt; are_type_words());
 }
 
 /// The count of a CTU has its number, its section and its kind.
@@ -49,11 +63,20 @@ fn is_count_a_field() -> bool {
     }
 }
 
+/// Addresses have the numbers of their variables.
+fn are_addresses() -> bool {
+    matches!(variable_at(b"%ix0.15"), Some(15))
+        && matches!(variable_at(b"%QD3"), Some(44))
+        && matches!(variable_at(b"%IX0.16"), None)
+}
+
+/// Whether a standard block has a field of this name.
+fn has_field(block: StandardBlock, name: &[u8]) -> bool {
+    field_named(block, name).is_some()
+}
+
 #[test]
 fn addresses_and_fields_have_their_numbers(rt: HostRuntime) {
-    assert!(rt; variable_at(b"%ix0.15") == Some(15) && variable_at(b"%QD3") == Some(44));
-    assert!(rt; variable_at(b"%IX0.16").is_none());
-    assert!(rt; is_count_a_field());
-    assert!(rt; field_named(StandardBlock::Sr, b"q").is_none());
+    assert!(rt; are_addresses() && is_count_a_field() && !has_field(StandardBlock::Sr, b"q"));
     assert!(rt; standard_fields(StandardBlock::Tp).len() == 6);
 }

@@ -120,20 +120,16 @@ fn faults_say_what_they_are(rt: HostRuntime) {
 
 #[test]
 fn numbers_wrap(rt: HostRuntime) {
-    assert!(rt; wrap32(2147483647) == 2147483647);
-    assert!(rt; wrap32(2147483648) == -2147483648);
-    assert!(rt; wrap32(-2147483649) == 2147483647);
-    assert!(rt; wrap32(1 << 40) == 0);
-    assert!(rt; wrap32(-7) == -7);
+    assert!(rt; wrap32(2147483647) == 2147483647 && wrap32(2147483648) == -2147483648);
+    assert!(rt; wrap32(-2147483649) == 2147483647 && wrap32(1 << 40) == 0 && wrap32(-7) == -7);
 }
 
 #[test]
 fn words_have_no_letter_case(rt: HostRuntime) {
-    assert!(rt; is_word(b"End_Var", b"END_VAR"));
-    assert!(rt; is_word(b"", b""));
-    assert!(rt; !is_word(b"END_VA", b"END_VAR"));
-    assert!(rt; !is_word(b"END-VAR", b"END_VAR"));
-    assert!(rt; !is_word(b"@", b"`"));
+    assert!(rt; is_word(b"End_Var", b"END_VAR") && is_word(b"", b""));
+    assert!(rt;
+        !is_word(b"END_VA", b"END_VAR") && !is_word(b"END-VAR", b"END_VAR") && !is_word(b"@", b"`")
+    );
 }
 
 #[test]

@@ -22,13 +22,19 @@ fn is_reported(alloc: Global, text: &[u8], line: u32, count: usize, last: &[u8])
     reported.line() == line && reported.len() == count && field == last
 }
 
+/// Logs, each with the line, the number of fields and the last field of the row at which it ends.
+const REPORTED: [(&[u8], u32, usize, &[u8]); 6] = [
+    (b"", 1, 0, b""),
+    (b"ms,kind,data\n\n0,S\n", 3, 2, b"S"),
+    (b"ms,kind,data\r\n\r\n0,S,x\r\n1,S,\r\n", 3, 3, b"x"),
+    (b"ms,kind,data\n0,S,\"x\ny\"\n", 2, 3, b"x\ny"),
+    (b"ms,kind,data\n0,S,\"x\n", 2, 3, b"x\n"),
+    (b"ms,kind,data\n0,X,", 2, 3, b""),
+];
+
 #[test]
 fn a_refused_row_is_reported(rt: HostRuntime) {
-    let alloc = rt.alloc();
-    assert!(rt; is_reported(alloc, b"", 1, 0, b""));
-    assert!(rt; is_reported(alloc, b"ms,kind,data\n\n0,S\n", 3, 2, b"S"));
-    assert!(rt; is_reported(alloc, b"ms,kind,data\r\n\r\n0,S,x\r\n1,S,\r\n", 3, 3, b"x"));
-    assert!(rt; is_reported(alloc, b"ms,kind,data\n0,S,\"x\ny\"\n", 2, 3, b"x\ny"));
-    assert!(rt; is_reported(alloc, b"ms,kind,data\n0,S,\"x\n", 2, 3, b"x\n"));
-    assert!(rt; is_reported(alloc, b"ms,kind,data\n0,X,", 2, 3, b""));
+    for (text, line, count, last) in &REPORTED {
+        assert!(rt; is_reported(rt.alloc(), text, *line, *count, last));
+    }
 }

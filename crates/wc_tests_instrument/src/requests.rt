@@ -109,30 +109,16 @@ fn streams_are_cut_anywhere(rt: HostRuntime) {
     assert!(rt; are_all_cuts_alike(rt.alloc()));
 }
 
+/// Answers, each after the mode and what is asked for.
+const ANSWERS: [(Mode, Asked, &[u8; 20]); 3] = [
+    (Mode::Shown, Asked::Plain, b"\n 1G       1.250kg \r"),
+    (Mode::Tare, Asked::ZeroRefused, b"\nE1T       0.000kg \r"),
+    (Mode::Shown, Asked::TareRefused, b"\nT1G       1.250kg \r"),
+];
+
 #[test]
 fn one_answer(rt: HostRuntime) {
-    assert!(rt;
-        is_answer(
-            rt.alloc(),
-            Mode::Shown,
-            Asked::Plain,
-            b"\n 1G       1.250kg \r"
-        )
-    );
-    assert!(rt;
-        is_answer(
-            rt.alloc(),
-            Mode::Tare,
-            Asked::ZeroRefused,
-            b"\nE1T       0.000kg \r"
-        )
-    );
-    assert!(rt;
-        is_answer(
-            rt.alloc(),
-            Mode::Shown,
-            Asked::TareRefused,
-            b"\nT1G       1.250kg \r"
-        )
-    );
+    for (mode, asked, wanted) in &ANSWERS {
+        assert!(rt; is_answer(rt.alloc(), *mode, *asked, wanted));
+    }
 }

@@ -34,18 +34,17 @@ fn are_held(alloc: Global, number: u16, scans: u64, first: u64) -> bool {
     ms == scans.saturating_add(1) && recorder.get(recorder.len()).is_none()
 }
 
+/// Numbers of scans, each with the moment of the first that a recorder of three holds then.
+const HELD: [(u64, u64); 5] = [(0, 1), (2, 1), (3, 1), (4, 2), (1000, 998)];
+
 #[test]
 fn a_recorder_holds_the_last_scans(rt: HostRuntime) {
-    let alloc = rt.alloc();
-    assert!(rt; are_held(alloc, 3, 0, 1));
-    assert!(rt; are_held(alloc, 3, 2, 1));
-    assert!(rt; are_held(alloc, 3, 3, 1));
-    assert!(rt; are_held(alloc, 3, 4, 2));
-    assert!(rt; are_held(alloc, 3, 1000, 998));
+    for (scans, first) in &HELD {
+        assert!(rt; are_held(rt.alloc(), 3, *scans, *first));
+    }
 }
 
 #[test]
 fn a_recorder_may_hold_one_scan_or_a_thousand(rt: HostRuntime) {
-    assert!(rt; are_held(rt.alloc(), 1, 2, 2));
-    assert!(rt; are_held(rt.alloc(), 1000, 1500, 501));
+    assert!(rt; are_held(rt.alloc(), 1, 2, 2) && are_held(rt.alloc(), 1000, 1500, 501));
 }

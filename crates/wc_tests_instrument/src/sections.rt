@@ -73,40 +73,61 @@ fn refuses(
     }
 }
 
+/// Bytes that are read as they are.
+const KNOWN: [&[u8]; 3] = [b"", b"@plate\n", b"\0\r\n\xff"];
+
 #[test]
 fn known_bytes(rt: HostRuntime) {
-    assert!(rt; is_read(rt.alloc(), b""));
-    assert!(rt; is_read(rt.alloc(), b"@plate\n"));
-    assert!(rt; is_read(rt.alloc(), b"\0\r\n\xff"));
+    for text in &KNOWN {
+        assert!(rt; is_read(rt.alloc(), text));
+    }
 }
+
+/// Readers of letters that end, each with the number of bytes that are read.
+const CHUNKS: [(usize, usize, u32, usize); 3] = [
+    (4, 7, 1428, 10000),
+    (0, 5000, 2, 10000),
+    (3576, 5000, 209, 1048576),
+];
 
 #[test]
 fn chunks_up_to_the_longest(rt: HostRuntime) {
-    assert!(rt; reads(rt.alloc(), letters(4, 7, 1428, false), 10000));
-    assert!(rt; reads(rt.alloc(), letters(0, 5000, 2, false), 10000));
-    assert!(rt; reads(rt.alloc(), letters(3576, 5000, 209, false), 1048576));
+    for (head, chunk, times, count) in &CHUNKS {
+        assert!(rt; reads(rt.alloc(), letters(*head, *chunk, *times, false), *count));
+    }
 }
+
+/// Readers of more letters than a job may have, each with whether it fails then and the number of bytes that are left.
+const TOO_LONG: [(usize, usize, u32, bool, usize); 3] = [
+    (3577, 5000, 209, false, 0),
+    (580, 4000, 262, false, 3),
+    (577, 4000, 262, true, 0),
+];
 
 #[test]
 fn a_job_that_is_too_long_is_read_no_further(rt: HostRuntime) {
-    assert!(rt;
-        refuses(
-            rt.alloc(),
-            letters(3577, 5000, 209, false),
-            "too long",
-            0,
-            0
-        )
-    );
-    assert!(rt; refuses(rt.alloc(), letters(580, 4000, 262, false), "too long", 0, 3));
-    assert!(rt; refuses(rt.alloc(), letters(577, 4000, 262, true), "too long", 0, 0));
+    for (head, chunk, times, fails, following) in &TOO_LONG {
+        let reader = letters(*head, *chunk, *times, *fails);
+        assert!(rt; refuses(rt.alloc(), reader, "too long", 0, *following));
+    }
 }
+
+/// Readers of letters that fail after them.
+const FAILING: [(usize, usize, u32); 3] = [(0, 5, 1000), (0, 0, 0), (576, 4000, 262)];
 
 #[test]
 fn a_reader_of_a_job_that_fails(rt: HostRuntime) {
-    assert!(rt; refuses(rt.alloc(), letters(0, 5, 1000, true), "read", 1, 0));
-    assert!(rt; refuses(rt.alloc(), letters(0, 0, 0, true), "read", 1, 0));
-    assert!(rt; refuses(rt.alloc(), letters(576, 4000, 262, true), "read", 1, 0));
+    for (head, chunk, times) in &FAILING {
+        assert!(rt;
+            refuses(
+                rt.alloc(),
+                letters(*head, *chunk, *times, true),
+                "read",
+                1,
+                0
+            )
+        );
+    }
 }
 
 /// The job has these sections.
@@ -117,24 +138,40 @@ fn are_sections(job: &[u8], plate: &[u8], program: &[u8], log: &[u8]) -> bool {
     }
 }
 
+/// Jobs, each with its plate, its program and its log.
+const JOBS: [(&[u8], &[u8], &[u8], &[u8]); 5] = [
+    (
+        b"@plate\na = 1\n@program\nP\n@log\nms\n0\n",
+        b"a = 1\n",
+        b"P\n",
+        b"ms\n0\n",
+    ),
+    (
+        b"@plate\r\na\r\n@program\r\nP\r\n@log\r\nms\r\n0",
+        b"a\r\n",
+        b"P\r\n",
+        b"ms\r\n0",
+    ),
+    (
+        b"@plate\n@log\n@plate\n@program\r\n@program\n@log\n@log\n@program\n",
+        b"@log\n@plate\n",
+        b"@program\n",
+        b"@log\n@program\n",
+    ),
+    (b"@plate\n@program\n@log\n", b"", b"", b""),
+    (
+        b"@plate\n @program\n@program \n@program\r\r\n@program\n\n@log\n@log",
+        b" @program\n@program \n@program\r\r\n",
+        b"\n",
+        b"@log",
+    ),
+];
+
 #[test]
 fn three_sections(rt: HostRuntime) {
-    let plain = b"@plate\na = 1\n@program\nP\n@log\nms\n0\n";
-    assert!(rt; are_sections(plain, b"a = 1\n", b"P\n", b"ms\n0\n"));
-    let returns = b"@plate\r\na\r\n@program\r\nP\r\n@log\r\nms\r\n0";
-    assert!(rt; are_sections(returns, b"a\r\n", b"P\r\n", b"ms\r\n0"));
-    let again = b"@plate\n@log\n@plate\n@program\r\n@program\n@log\n@log\n@program\n";
-    assert!(rt; are_sections(again, b"@log\n@plate\n", b"@program\n", b"@log\n@program\n"));
-    assert!(rt; are_sections(b"@plate\n@program\n@log\n", b"", b"", b""));
-    let alongside = b"@plate\n @program\n@program \n@program\r\r\n@program\n\n@log\n@log";
-    assert!(rt;
-        are_sections(
-            alongside,
-            b" @program\n@program \n@program\r\r\n",
-            b"\n",
-            b"@log"
-        )
-    );
+    for (job, plate, program, log) in &JOBS {
+        assert!(rt; are_sections(job, plate, program, log));
+    }
 }
 
 /// The job has these two programs, and this log.

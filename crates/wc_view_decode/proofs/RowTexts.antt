@@ -12,6 +12,14 @@ use Rattle.wc_view_decode.specs.declared.format.DecodeFormat.{DecodeFormat}
 pub one_more : (old p q t u : List ℕ) → t ≡ old ++ p → u ≡ t ++ q → u ≡ old ++ (p ++ q)
 one_more old p q t u e f = f ∙ ap (λ x. x ++ q) e ∙ append_assoc old p q
 
+-- two parts more
+pub two_more : (old p q r t u : List ℕ) → t ≡ old ++ p → u ≡ t ++ q ++ r → u ≡ old ++ (p ++ q ++ r)
+two_more old p q r t u e f = one_more old (p ++ q) r (t ++ q) u (one_more old p q t (t ++ q) e refl) f
+
+-- a part more, under another name
+pub named_more : (old p q s t u : List ℕ) → t ≡ old ++ p → u ≡ t ++ s → s ≡ q → u ≡ old ++ (p ++ q)
+named_more old p q s t u e f g = one_more old p q t u e (f ∙ ap (λ x. t ++ x) g)
+
 -- the last part
 pub last_more : {E : Type 0} (r : Result Unit E) (old p q t u : List ℕ) → t ≡ old ++ p → OnOk r (u ≡ t ++ q) → OnOk r (u ≡ old ++ (p ++ q))
 last_more (Ok done) old p q t u e f = one_more old p q t u e f

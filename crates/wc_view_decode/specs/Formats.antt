@@ -74,6 +74,11 @@ abbrev pub answer_lines : DecodeFormat → ℕ → List Answer → List ℕ
 answer_lines format ms [] = []
 answer_lines format ms (answer ∷ answers) = answer_line format ms answer ++ answer_lines format ms answers
 
+-- what precedes the number of a refusal
+abbrev pub refusal_mark : DecodeFormat → List ℕ
+refusal_mark Text = codes "refused "
+refusal_mark Table = codes ",refused,,,,,,,,,,,,,,,,,,,,,,"
+
 -- the line of a refusal
 abbrev pub refusal_line : DecodeFormat → ℕ → ℕ → List ℕ
 refusal_line Text number place = refused_text number place

@@ -39,7 +39,11 @@ fn length_before_end(line: &[u8]) -> usize
     ensures before { result ≡ position_or_len (λ byte. byte == 10) line.now }
     ensures within { result ≤ length line.now }
 {
-    line.iter().take_while(|byte| **byte != b'\n').count()
+    let mut count = 0;
+    'line: while count < line.len() && line[count] != b'\n' {
+        count += 1;
+    }
+    count
 }
 
 /// A line without its line feed.

@@ -1,12 +1,14 @@
 ghost use Rattle.std.specs.Prelude.{◌≡◌, ◌++◌, IsOkUnless, OnOk};
 ghost use Rattle.wc_view_decode.specs.Entries.{entry_content};
-ghost use Rattle.wc_view_decode.specs.Formats.{answer_line, answer_lines, decoded, refusal_line, scan_line, scan_prefix};
+ghost use Rattle.wc_view_decode.specs.Formats.{answer_line, answer_lines, decoded, refusal_line, refusal_mark, scan_line, scan_prefix};
 
 use crate::answer::Answer;
 use crate::answer_texts::put_answer;
 use crate::entry::{RefusalRow, ReportEntry, ScanRow};
 use crate::format::DecodeFormat;
-use crate::row_formats::{put_bit_columns, put_bits, put_word_columns, put_words};
+use crate::row_formats::{
+    put_bit_columns, put_bits, put_number_after, put_word_columns, put_words,
+};
 use wc_model::{Fault, put_bytes};
 use wc_report::put_number;
 
@@ -16,10 +18,8 @@ fn put_scan_prefix(text: &mut Vec<u8>, row: &ScanRow) -> Result<(), Fault>
         ≡ text.old.items ++ scan_prefix row.now.ms row.now.steps.0 row.now.outputs) }
     ensures memory { IsOkUnless result Fault.Memory }
 {
-    put_bytes(text, b"S ")?;
-    put_number(text, row.ms)?;
-    put_bytes(text, b"  ")?;
-    put_number(text, u64::from(row.steps.0))?;
+    put_number_after(text, b"S ", row.ms)?;
+    put_number_after(text, b"  ", u64::from(row.steps.0))?;
     put_bytes(text, b" steps  on:")?;
     put_bits(text, row.outputs.bits)
 }
@@ -30,8 +30,7 @@ fn put_answer_line(text: &mut Vec<u8>, ms: u64, answer: &Answer) -> Result<(), F
         ≡ text.old.items ++ answer_line DecodeFormat.Text ms answer.now) }
     ensures memory { IsOkUnless result Fault.Memory }
 {
-    put_bytes(text, b"L ")?;
-    put_number(text, ms)?;
+    put_number_after(text, b"L ", ms)?;
     put_bytes(text, b"  ")?;
     put_answer(text, answer)?;
     put_bytes(text, b"\n")
@@ -83,19 +82,24 @@ fn put_answers(
     Ok(())
 }
 
+/// What precedes the number of a refusal.
+fn refusal_mark(format: DecodeFormat) -> &'static [u8]
+    ensures { result.now ≡ refusal_mark format }
+{
+    match format {
+        DecodeFormat::Text => b"refused ",
+        DecodeFormat::Table => b",refused,,,,,,,,,,,,,,,,,,,,,,",
+    }
+}
+
 /// Appends a refusal to a text.
 fn put_refusal(text: &mut Vec<u8>, format: DecodeFormat, row: &RefusalRow) -> Result<(), Fault>
     ensures refusal { OnOk result (text.new.items
         ≡ text.old.items ++ refusal_line format row.now.number row.now.place) }
     ensures memory { IsOkUnless result Fault.Memory }
 {
-    match format {
-        DecodeFormat::Text => put_bytes(text, b"refused ")?,
-        DecodeFormat::Table => put_bytes(text, b",refused,,,,,,,,,,,,,,,,,,,,,,")?,
-    }
-    put_number(text, u64::from(row.number))?;
-    put_bytes(text, b" ")?;
-    put_number(text, u64::from(row.place))?;
+    put_number_after(text, refusal_mark(format), u64::from(row.number))?;
+    put_number_after(text, b" ", u64::from(row.place))?;
     put_bytes(text, b"\n")
 }
 
@@ -117,8 +121,7 @@ fn put_scan_row(text: &mut Vec<u8>, row: &ScanRow) -> Result<(), Fault>
     ensures memory { IsOkUnless result Fault.Memory }
 {
     put_number(text, row.ms)?;
-    put_bytes(text, b",S,")?;
-    put_number(text, u64::from(row.steps.0))?;
+    put_number_after(text, b",S,", u64::from(row.steps.0))?;
     put_bit_columns(text, row.outputs.bits)?;
     put_word_columns(text, &row.outputs.words)?;
     put_bytes(text, b",\n")

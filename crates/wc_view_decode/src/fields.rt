@@ -13,7 +13,11 @@ fn field_length(text: &[u8]) -> usize
     ensures first { result ≡ prefix_len (λ byte. nat_lt 32 byte) text.now }
     ensures within { result ≤ length text.now }
 {
-    text.iter().take_while(|byte| **byte > b' ').count()
+    let mut count = 0;
+    'field: while count < text.len() && text[count] > b' ' {
+        count += 1;
+    }
+    count
 }
 
 /// What follows the first byte.

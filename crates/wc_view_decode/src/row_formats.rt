@@ -1,10 +1,20 @@
-ghost use Rattle.std.specs.Prelude.{◌≡◌, ◌<◌, ◌++◌, IsOkUnless, OnOk};
+ghost use Rattle.std.specs.Prelude.{◌≡◌, ◌<◌, ◌++◌, decimal, IsOkUnless, OnOk};
 ghost use Rattle.std.specs.Fmt.{signed_decimal};
 ghost use Rattle.wc_view_decode.specs.declared.format.DecodeFormat.TheVariants.{Table, Text};
 ghost use Rattle.wc_view_decode.specs.Formats.{bit_column, bit_name, bits_row, bits_text, is_bit_on, named_words, word_names};
 
 use wc_model::{Fault, put_bytes};
 use wc_report::{put_number, put_signed};
+
+/// Appends a number after its label to a text.
+pub(crate) fn put_number_after(text: &mut Vec<u8>, label: &[u8], number: u64) -> Result<(), Fault>
+    ensures number { OnOk result (text.new.items
+        ≡ text.old.items ++ label.now ++ decimal number) }
+    ensures memory { IsOkUnless result Fault.Memory }
+{
+    put_bytes(text, label)?;
+    put_number(text, number)
+}
 
 /// Whether a bit is set.
 fn is_bit_on(bits: u16, index: u16) -> bool
@@ -21,8 +31,7 @@ fn put_bit_name(text: &mut Vec<u8>, bits: u16, index: u16) -> Result<(), Fault>
     ensures memory { IsOkUnless result Fault.Memory }
 {
     if is_bit_on(bits, index) {
-        put_bytes(text, b" %QX0.")?;
-        return put_number(text, u64::from(index));
+        return put_number_after(text, b" %QX0.", u64::from(index));
     }
     Ok(())
 }
