@@ -26,26 +26,13 @@ pub fn measure<'a>(alloc: Global, source: &Source<'a>, tables: &Tables<'a>) -> R
 pub fn cost<'a>(alloc: Global, checked: Checked<'a>) -> Result<Loaded<'a>, Fault>
     ensures { IsCosted (text_view checked.entry.source) checked.entry.source result }
 {
-    match lower_units(alloc, checked.tables(), checked.source()) {
-        Ok(units) => {
-            let last = units.len().saturating_sub(1);
-            match checked.tables().frame(alloc, last) {
-                Ok(frame) => Ok(Loaded {
-                    checked,
-                    units,
-                    kinds: frame.kinds,
-                    initials: frame.initials,
-                }),
-                Err(fault) => {
-                    drop(checked);
-                    drop(units);
-                    Err(fault)
-                }
-            }
-        }
-        Err(fault) => {
-            drop(checked);
-            Err(fault)
-        }
-    }
+    let units = lower_units(alloc, checked.tables(), checked.source())?;
+    let last = units.len().saturating_sub(1);
+    let frame = checked.tables().frame(alloc, last)?;
+    Ok(Loaded {
+        checked,
+        units,
+        kinds: frame.kinds,
+        initials: frame.initials,
+    })
 }

@@ -40,12 +40,6 @@ pub fn verify<'a>(
     ensures tables { IfOk result (λ checked. checked.tables ≡ tables.entry) }
     ensures validated { Validates (body_fault (text_view source.entry)) None result }
 {
-    match validate_bodies(alloc, &source, &tables) {
-        Ok(()) => Ok(Checked { source, tables }),
-        Err(fault) => {
-            drop(source);
-            drop(tables);
-            Err(fault)
-        }
-    }
+    validate_bodies(alloc, &source, &tables)?;
+    Ok(Checked { source, tables })
 }
