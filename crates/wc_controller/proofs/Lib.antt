@@ -15,3 +15,4 @@ pub mod ShownEndings
 pub mod EndedRuns
 pub mod RefusedNames
 pub mod WrittenRuns
+pub mod Unbegun
