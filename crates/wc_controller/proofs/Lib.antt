@@ -14,3 +14,4 @@ pub mod ShownEndings
 pub mod EndedRuns
 pub mod RefusedNames
 pub mod WrittenRuns
+pub mod Unbegun

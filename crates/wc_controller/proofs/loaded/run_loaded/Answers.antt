@@ -1,16 +1,17 @@
-use Rattle.std.proofs.Common.{◌≡◌, ◌∙◌, [], Some, subst, sym, true}
-use Rattle.std.specs.Prelude.{IfSome, option_map}
+use Rattle.std.proofs.Common.{◌≡◌, ◌∙◌, [], Some, refl, subst, sym, true}
+use Rattle.std.specs.Prelude.{IfSome, is_some, option_map}
 use Rattle.wc_controller.proofs.Allowing.{on_each, on_known}
 use Rattle.wc_controller.proofs.Blaming.{taken_alongside}
 use Rattle.wc_controller.proofs.Givings.{answered_so, next_loaded, next_unloaded, not_started, written_by}
 use Rattle.wc_controller.proofs.RefusedNames.{next_refused}
+use Rattle.wc_controller.proofs.Unbegun.{elsewhere, not_by_reader, reader_kept, unblamed, writer_kept}
 use Rattle.wc_controller.proofs.WrittenRuns.{end_more, next_logic, not_begun, run_ended}
 use Rattle.wc_controller.proofs.loaded.run_loaded.Goals as goal
 use Rattle.wc_controller.proofs.Blaming.{one_input}
-use Rattle.wc_controller.specs.TakenLogs.{log_by}
+use Rattle.wc_controller.specs.TakenLogs.{log_alongside, log_by}
 use Rattle.wc_controller.specs.WrittenRuns.{says_of}
 use Rattle.wc_controller.specs.Blames.{RefusesLog, StopsFor}
-use Rattle.wc_endings.specs.Endings.{WritesUpTo, raised, of_no_cause}
+use Rattle.wc_endings.specs.Endings.{WritesUpTo, raised, of_no_cause, of_unread_log}
 use Rattle.wc_controller.specs.Files.{AnswersPrinting, answer_written}
 use Rattle.wc_controller.specs.InputStates.{observed_by}
 use Rattle.wc_endings.specs.declared.input.Input.TheVariants as input
@@ -147,3 +148,60 @@ returns-in-Ok-scale_of-clause-ended g c =
     (λ bytes says. subst (λ settings. EndsWhole (o.has_ended settings) start plate (Some logic) (log_by (Some logic) bytes) c.run.result taken) c.begin.ensures.settings
     (says start plate (Some logic) c.in-Ok-scale_of.ensures.represents (seen, written)))
     c.run.ensures.ended))
+
+pub returns-in-Err-clause-blames_next : goal.returns-in-Err-clause-blames_next
+returns-in-Err-clause-blames_next g c = λ at. c.in-Err.ensures.refused
+
+pub returns-in-Err-clause-blames_log : goal.returns-in-Err-clause-blames_log
+returns-in-Err-clause-blames_log g c = λ at. absurd (one_input input.Next input.Log c.in-Err.stopped.input c.in-Err.ensures.input at)
+
+pub returns-in-Err-clause-unread : goal.returns-in-Err-clause-unread
+returns-in-Err-clause-unread g c = λ at. refl
+
+pub returns-in-Err-clause-names : goal.returns-in-Err-clause-names
+returns-in-Err-clause-names g c = λ at. refl
+
+pub returns-in-Err-clause-refused : goal.returns-in-Err-clause-refused
+returns-in-Err-clause-refused g c = λ at. absurd (one_input input.Next input.Names c.in-Err.stopped.input c.in-Err.ensures.input at)
+
+pub returns-in-Err-clause-read : goal.returns-in-Err-clause-read
+returns-in-Err-clause-read g c = λ at. absurd (one_input input.Next input.Log c.in-Err.stopped.input c.in-Err.ensures.input at.0)
+
+pub returns-in-Err-clause-memory : goal.returns-in-Err-clause-memory
+returns-in-Err-clause-memory g c = λ e. of_unread_log refl
+
+pub returns-in-Err-clause-reader : goal.returns-in-Err-clause-reader
+returns-in-Err-clause-reader g c = λ at. absurd (one_input input.Next input.Log c.in-Err.stopped.input c.in-Err.ensures.input at)
+
+pub returns-in-Err-clause-failures : goal.returns-in-Err-clause-failures
+returns-in-Err-clause-failures g c = c.in-Err.ensures.silent (g.W.ByteOut.failure_count c.args.writer.now)
+
+pub returns-in-Err-begin-clause-blames_next : goal.returns-in-Err-begin-clause-blames_next
+returns-in-Err-begin-clause-blames_next g c = λ at.
+    absurd (elsewhere c.in-Err-begin.stopped.fault input.Next (λ no. no) (λ no. no) (sym c.in-Err-begin.ensures.input ∙ at))
+
+pub returns-in-Err-begin-clause-blames_log : goal.returns-in-Err-begin-clause-blames_log
+returns-in-Err-begin-clause-blames_log g c = λ at.
+    unblamed c.in-Err-begin.stopped.fault _ _ (log_alongside (is_some (option_map (λ text. text.now) c.args.programs.next))) (fields_reported c.args.reported.now) (g.L.ByteIn.bytes_left c.args.log.now)
+    c.in-Err-begin.ensures.refused (sym c.in-Err-begin.ensures.input ∙ at)
+
+pub returns-in-Err-begin-clause-unread : goal.returns-in-Err-begin-clause-unread
+returns-in-Err-begin-clause-unread g c = λ at. refl
+
+pub returns-in-Err-begin-clause-names : goal.returns-in-Err-begin-clause-names
+returns-in-Err-begin-clause-names g c = λ at. refl
+
+pub returns-in-Err-begin-clause-read : goal.returns-in-Err-begin-clause-read
+returns-in-Err-begin-clause-read g c = λ at. absurd (not_by_reader c.in-Err-begin.stopped.fault _ _ c.in-Err-begin.ensures.refused at.1)
+
+pub returns-in-Err-begin-clause-held : goal.returns-in-Err-begin-clause-held
+returns-in-Err-begin-clause-held g c = λ at. not_by_reader c.in-Err-begin.stopped.fault _ _ c.in-Err-begin.ensures.refused at.1
+
+pub returns-in-Err-begin-clause-memory : goal.returns-in-Err-begin-clause-memory
+returns-in-Err-begin-clause-memory g c = λ e. of_unread_log refl
+
+pub returns-in-Err-begin-clause-reader : goal.returns-in-Err-begin-clause-reader
+returns-in-Err-begin-clause-reader g c = λ at. reader_kept c.in-Err-begin.stopped.fault (g.L.ByteIn.failure_count c.args.log.now)
+
+pub returns-in-Err-begin-clause-failures : goal.returns-in-Err-begin-clause-failures
+returns-in-Err-begin-clause-failures g c = writer_kept c.in-Err-begin.stopped.fault _ _ c.in-Err-begin.ensures.refused (g.W.ByteOut.failure_count c.args.writer.now)
