@@ -21,8 +21,8 @@ pub struct Entry {
 /// The entry of a number among these, if there is one: a number without a row has no entry.
 macro_rules! entry_among {
     ($among:expr; $($number:literal $pass:literal: $sentence:literal at $place:literal, $input:literal => $answer:literal, help $hint:literal;)*) => {
-        match $among {
-            $($number => Some(&Entry {
+        Some(match $among {
+            $($number => &Entry {
                 number: $number,
                 pass: $pass,
                 sentence: $sentence,
@@ -30,9 +30,9 @@ macro_rules! entry_among {
                 input: $input,
                 answer: $answer,
                 hint: $hint,
-            }),)*
-            _ => None,
-        }
+            },)*
+            _ => return None,
+        })
     };
 }
 

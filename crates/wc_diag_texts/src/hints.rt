@@ -2,7 +2,7 @@ ghost use Rattle.std.specs.Prelude.{◌≡◌, IsSome, true};
 ghost use Rattle.wc_diag_texts.specs.Numbers.{is_refusal};
 
 use crate::case::Case;
-use crate::sentences::{text_among, text_of};
+use crate::sentences::text_among;
 use wc_model::{Kind, StandardBlock};
 
 /// What to write for a CTD.
@@ -33,20 +33,20 @@ pub fn hint_of(number: u16, case: Case) -> Option<&'static str>
     ensures { IsSome result → is_refusal number ≡ true }
 {
     match number {
-        101..=106 => text_of(token_hint(number, case)),
-        201..=206 => text_of(reading_hint(number, case)),
-        302..=308 => text_of(declaration_hint(number, case)),
+        101..=106 => token_hint(number, case),
+        201..=206 => reading_hint(number, case),
+        302..=308 => declaration_hint(number, case),
         401..=409 => match case {
             Case::NotOfBlock(block) => Some(members_hint(block)),
-            _ if number == 402 => text_of(kind_hint(number, case)),
-            _ => text_of(excerpt_hint(number, case)),
+            _ if number == 402 => kind_hint(number, case),
+            _ => excerpt_hint(number, case),
         },
         _ => None,
     }
 }
 
 /// Of slices that are not tokens.
-fn token_hint(number: u16, case: Case) -> Option<&'static &'static str> {
+fn token_hint(number: u16, case: Case) -> Option<&'static str> {
     text_among! {
         number, case;
         101, Case::ByteOrderMark => "save the text as ASCII, or as UTF-8 without a byte order mark";
@@ -88,7 +88,7 @@ fn token_hint(number: u16, case: Case) -> Option<&'static &'static str> {
 }
 
 /// Of tokens at which the reading stops.
-fn reading_hint(number: u16, case: Case) -> Option<&'static &'static str> {
+fn reading_hint(number: u16, case: Case) -> Option<&'static str> {
     text_among! {
         number, case;
         201, Case::SectionWord => "declarations go between VAR and END_VAR, before the first instruction";
@@ -158,7 +158,7 @@ fn reading_hint(number: u16, case: Case) -> Option<&'static &'static str> {
 }
 
 /// Of declarations.
-fn declaration_hint(number: u16, case: Case) -> Option<&'static &'static str> {
+fn declaration_hint(number: u16, case: Case) -> Option<&'static str> {
     text_among! {
         number, case;
         302, Case::SmallInteger => "use DINT, the only integer type (32 bits, signed); single bits are BOOLs";
@@ -180,7 +180,7 @@ fn declaration_hint(number: u16, case: Case) -> Option<&'static &'static str> {
 }
 
 /// Of a slice of an instruction.
-fn excerpt_hint(number: u16, case: Case) -> Option<&'static &'static str> {
+fn excerpt_hint(number: u16, case: Case) -> Option<&'static str> {
     text_among! {
         number, case;
         401, Case::Field => "before the dot comes an instance that VAR declares, after it an output, such as t.Q; there are no global variables";
@@ -217,7 +217,7 @@ fn members_hint(block: StandardBlock) -> &'static str {
 }
 
 /// Of a slice whose type does not match.
-fn kind_hint(number: u16, case: Case) -> Option<&'static &'static str> {
+fn kind_hint(number: u16, case: Case) -> Option<&'static str> {
     text_among! {
         number, case;
         402, Case::Instance => "name one of its outputs, such as t.Q";

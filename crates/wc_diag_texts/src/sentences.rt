@@ -4,25 +4,17 @@ ghost use Rattle.wc_diag_texts.specs.Numbers.{is_refusal};
 use crate::case::Case;
 use wc_model::Kind;
 
-/// The text of a number in a case among these, if there is one. It is by reference: by value its proof takes twice as long.
+/// The text of a number in a case among these, if there is one. They are chosen by reference: by value the proof takes twice as long.
 macro_rules! text_among {
     ($number:expr, $case:expr; $($row:pat, $which:pat => $text:expr;)*) => {
-        match ($number, $case) {
-            $(($row, $which) => Some(&$text),)*
-            _ => None,
-        }
+        Some(*match ($number, $case) {
+            $(($row, $which) => &$text,)*
+            _ => return None,
+        })
     };
 }
 
 pub(crate) use text_among;
-
-/// That text itself.
-pub(crate) fn text_of(found: Option<&'static &'static str>) -> Option<&'static str> {
-    match found {
-        Some(text) => Some(*text),
-        None => None,
-    }
-}
 
 /// What is said of a refusal of that number in that case, mostly of the slice of text that is quoted before it; nothing if the
 /// number's own sentence says all.
@@ -31,19 +23,19 @@ pub fn sentence_of(number: u16, case: Case) -> Option<&'static str>
 {
     match (number, case) {
         (_, Case::Unknown) => None,
-        (101..=107, _) => text_of(token_sentence(number, case)),
-        (201..=208, _) => text_of(reading_sentence(number, case)),
-        (301..=308, _) => text_of(declaration_sentence(number, case)),
-        (402, _) => text_of(kind_sentence(number, case)),
-        (401..=411, _) => text_of(excerpt_sentence(number, case)),
-        (501..=508, _) => text_of(plate_sentence(number, case)),
-        (601..=609, _) => text_of(log_sentence(number, case)),
+        (101..=107, _) => token_sentence(number, case),
+        (201..=208, _) => reading_sentence(number, case),
+        (301..=308, _) => declaration_sentence(number, case),
+        (402, _) => kind_sentence(number, case),
+        (401..=411, _) => excerpt_sentence(number, case),
+        (501..=508, _) => plate_sentence(number, case),
+        (601..=609, _) => log_sentence(number, case),
         _ => None,
     }
 }
 
 /// Of slices that are not tokens.
-fn token_sentence(number: u16, case: Case) -> Option<&'static &'static str> {
+fn token_sentence(number: u16, case: Case) -> Option<&'static str> {
     text_among! {
         number, case;
         101, Case::ByteOrderMark => "is a byte order mark, which is not allowed";
@@ -70,7 +62,7 @@ fn token_sentence(number: u16, case: Case) -> Option<&'static &'static str> {
 }
 
 /// Of tokens at which the reading stops.
-fn reading_sentence(number: u16, case: Case) -> Option<&'static &'static str> {
+fn reading_sentence(number: u16, case: Case) -> Option<&'static str> {
     text_among! {
         number, case;
         201, Case::LeftOut => "is not supported";
@@ -95,7 +87,7 @@ fn reading_sentence(number: u16, case: Case) -> Option<&'static &'static str> {
 }
 
 /// Of declarations.
-fn declaration_sentence(number: u16, case: Case) -> Option<&'static &'static str> {
+fn declaration_sentence(number: u16, case: Case) -> Option<&'static str> {
     text_among! {
         number, case;
         301, _ => "is declared twice";
@@ -116,7 +108,7 @@ fn declaration_sentence(number: u16, case: Case) -> Option<&'static &'static str
 }
 
 /// Of a slice of an instruction.
-fn excerpt_sentence(number: u16, case: Case) -> Option<&'static &'static str> {
+fn excerpt_sentence(number: u16, case: Case) -> Option<&'static str> {
     text_among! {
         number, case;
         401, Case::Field => "is not an input or output of a declared instance";
@@ -142,7 +134,7 @@ fn excerpt_sentence(number: u16, case: Case) -> Option<&'static &'static str> {
 }
 
 /// Of a slice whose type does not match.
-fn kind_sentence(number: u16, case: Case) -> Option<&'static &'static str> {
+fn kind_sentence(number: u16, case: Case) -> Option<&'static str> {
     text_among! {
         number, case;
         402, Case::Instance => "is an instance, and has no value of its own";
@@ -165,7 +157,7 @@ fn kind_sentence(number: u16, case: Case) -> Option<&'static &'static str> {
 }
 
 /// Of keys of a plate and of their values.
-fn plate_sentence(number: u16, case: Case) -> Option<&'static &'static str> {
+fn plate_sentence(number: u16, case: Case) -> Option<&'static str> {
     text_among! {
         number, case;
         502, Case::UnknownKey => "is not a key of a plate";
@@ -178,7 +170,7 @@ fn plate_sentence(number: u16, case: Case) -> Option<&'static &'static str> {
 }
 
 /// Of rows of a log and of their fields.
-fn log_sentence(number: u16, case: Case) -> Option<&'static &'static str> {
+fn log_sentence(number: u16, case: Case) -> Option<&'static str> {
     text_among! {
         number, case;
         601, Case::EmptyLog => "the log is empty: its first row ms,kind,data is missing";
