@@ -58,11 +58,13 @@ pub(crate) fn block_in(
 
 /// The bytes of some tokens, if there are any.
 pub(crate) fn slice_of(excerpt: &[Token<'_>]) -> Option<Slice> {
-    let line = line_at(Some(excerpt.first()?));
+    if excerpt.is_empty() {
+        return None;
+    }
     let (start, length) = span_of(excerpt);
     Some(Slice {
         start,
         length,
-        line,
+        line: line_at(excerpt.first()),
     })
 }

@@ -199,14 +199,14 @@ fn line_ends(tokens: &[Token<'_>]) -> usize {
 
 /// The label at the end of some tokens, line ends apart, and the number of tokens before it.
 fn label_at_end<'a, 't>(tokens: &'t [Token<'a>]) -> Option<(usize, &'t Token<'a>)> {
-    let colon = tokens
-        .len()
-        .checked_sub(line_ends(tokens).saturating_add(1))?;
-    if !matches!(tokens.get(colon)?.shape, Shape::Colon) {
-        return None;
+    let end = tokens.len().saturating_sub(line_ends(tokens));
+    let index = end.saturating_sub(2);
+    match (tokens.get(index), tokens.get(end.saturating_sub(1))) {
+        (Some(label), Some(colon)) if end > 1 && matches!(colon.shape, Shape::Colon) => {
+            Some((index, label))
+        }
+        _ => None,
     }
-    let index = colon.checked_sub(1)?;
-    Some((index, tokens.get(index)?))
 }
 
 /// The paths to the label right before the instruction at which these tokens begin, if there is one.
@@ -216,18 +216,24 @@ pub(crate) fn paths_to_label<'a>(
     unit: usize,
     tokens: &[Token<'_>],
 ) -> Option<LabelPaths> {
-    let all = &spanned_source.tokens;
-    let source = spanned_source.source.units.get(unit)?;
+    let all: &[Token<'a>] = &spanned_source.tokens;
     let before = all.len().saturating_sub(tokens.len());
-    let (index, label) = label_at_end(tokens_at(all, 0, before))?;
-    let begin = all
-        .len()
-        .saturating_sub(tokens_from(all, source.line).len());
-    let above = Above {
-        tables,
-        unit,
-        tokens: tokens_at(all, begin, index.saturating_sub(begin)),
-        first_label: first_label(source),
-    };
-    paths_from(&above, label.text)
+    match (
+        spanned_source.source.units.get(unit),
+        label_at_end(tokens_at(all, 0, before)),
+    ) {
+        (Some(source), Some((index, label))) => {
+            let begin = all
+                .len()
+                .saturating_sub(tokens_from(all, source.line).len());
+            let above = Above {
+                tables,
+                unit,
+                tokens: tokens_at(all, begin, index.saturating_sub(begin)),
+                first_label: first_label(source),
+            };
+            paths_from(&above, label.text)
+        }
+        _ => None,
+    }
 }

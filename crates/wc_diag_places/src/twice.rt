@@ -113,11 +113,10 @@ pub(crate) fn first_of_two(
     name: &[u8],
     place: u32,
 ) -> Option<u32> {
-    let unit = source.units.get(unit_at(source, place))?;
-    match number {
-        301 if unit.name.line == place => unit_before(source, name, place),
-        301 => variable_before(unit, name, place),
-        406 | 407 => label_before(unit, name, place),
+    match (number, source.units.get(unit_at(source, place))) {
+        (301, Some(unit)) if unit.name.line == place => unit_before(source, name, place),
+        (301, Some(unit)) => variable_before(unit, name, place),
+        (406 | 407, Some(unit)) => label_before(unit, name, place),
         _ => None,
     }
 }
