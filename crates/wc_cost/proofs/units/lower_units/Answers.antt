@@ -4,8 +4,6 @@ use Rattle.wc_names.specs.RepresentsText.{AreTables, onto}
 use Rattle.wc_model.specs.Language.Scopes.{Scope}
 use Rattle.wc_model.specs.Language.Tree.{Text}
 use Rattle.wc_model.specs.Language.Views.{text_view, unit_view}
-use Rattle.wc_model.specs.declared.fault.Fault.{Fault}
-use Rattle.wc_model.specs.declared.fault.Fault.TheVariants.{Memory}
 use Rattle.wc_model.specs.declared.source.Unit.{Unit as CodeUnit}
 use Rattle.wc_cost.specs.Faultless.{AreLoaded, IsFaultless, IsMeasured, LoadsUnits, MeasuresUnit}
 use Rattle.wc_cost.specs.LoadedInside.{bounds_of}
