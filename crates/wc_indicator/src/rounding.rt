@@ -1,17 +1,5 @@
-ghost use Rattle.std.specs.Prelude.{◌≡◌, ◌≤◌, ◌^◌, ◌<◌, ◌*ℤ◌, ◌*◌, ◌/◌, pos, unsigned_abs};
+ghost use Rattle.std.specs.Prelude.{◌≡◌, ◌≤◌, ◌^◌, ◌<◌, ◌*ℤ◌, ◌*◌, pos, unsigned_abs};
 ghost use Rattle.wc_model.specs.Instrument.Rounding.{nearest, nearest_above_zero};
-
-/// The quotient of two numbers, rounded down. Most fit in 32 bits, and those a processor divides in less time.
-#[inline(always)]
-fn quotient(dividend: u64, divisor: u64) -> u64
-    requires { 0 < divisor }
-    ensures { result ≡ dividend / divisor }
-{
-    match (u32::try_from(dividend), u32::try_from(divisor)) {
-        (Ok(dividend), Ok(divisor)) => u64::from(dividend / divisor),
-        _ => dividend / divisor,
-    }
-}
 
 /// The number of spans `amount` comes to, to the nearest, a tie upward.
 fn nearest_above_zero(amount: u64, span: u32) -> u64
@@ -20,7 +8,7 @@ fn nearest_above_zero(amount: u64, span: u32) -> u64
     ensures { result ≡ nearest_above_zero amount span }
 {
     let span = u64::from(span);
-    quotient(2 * amount + span, 2 * span)
+    (2 * amount + span) / (2 * span)
 }
 
 /// Counts as a whole number of intervals, of which the span has n: the nearest, a tie away from zero.
