@@ -6,7 +6,7 @@ macro_rules! with_constants {
         $macro!(
             "0.1.0",
             "rattle-kit-13 logic dac8208d650f15bf",
-            "7c9028a977251cb465e25c6f6d4ef787668695fc07d170105c9819b8a4d2e216",
+            "1dde7c72ae67ac2419322ceddbf2693e62cd12cf6f95026a93509e8e4b8929ca",
             "522c603dc168d283471cfb675b168d04fbfd0efba7fb29e2af96a865e72dee9f"
         )
     };
