@@ -24,7 +24,7 @@ use files::RunPaths;
 use output::shared_output;
 use reporting::{report_write_fault, without_memory};
 use session::Session;
-use std::fs::File;
+use std::fs::metadata;
 use std::io::Write;
 use std::process::ExitCode;
 use std::{env, io};
@@ -74,11 +74,19 @@ fn report_call(
     rt.eprintln("")
 }
 
+/// Whether a path leads to something that can be read and is no folder. Nothing is opened: opening a pipe would wait for its writer.
+fn is_readable(rt: &HostRuntime, path: &str) -> bool {
+    match metadata(rt, path) {
+        Ok(found) => !found.is_dir(),
+        Err(_) => false,
+    }
+}
+
 /// Says what may be intended by an unknown first argument: which word takes a program, or how a job is read.
 fn suggest_command(rt: &HostRuntime, words: &[String]) -> io::Result<()> {
     let job = "help: a job is read from standard input: ";
     match words.get(1) {
-        Some(path) if File::open(rt, path).is_ok() => {
+        Some(path) if is_readable(rt, path) => {
             if path.as_str().ends_with(".il") {
                 report_call(
                     rt,
@@ -111,13 +119,32 @@ fn report_taken(rt: &HostRuntime, words: &[String]) -> io::Result<()> {
     }
 }
 
+/// Whether an argument is the command `run`, whose one number is that of last scans.
+fn asks_for_run(words: &[String]) -> bool {
+    words.iter().any(|word| word.as_str() == "run")
+}
+
 /// Says what helps if arguments are wrong.
 fn report_help(rt: &HostRuntime, kind: ErrorKind, words: &[String]) -> io::Result<()> {
     match kind {
         ErrorKind::InvalidSubcommand => suggest_command(rt, words),
         ErrorKind::UnknownArgument => report_taken(rt, words),
+        ErrorKind::ValueValidation if asks_for_run(words) => {
+            rt.eprintln("help: --last takes a number of scans from 1 to 1000")
+        }
         _ => Ok(()),
     }
+}
+
+/// Prints what is wrong with the arguments, line by line, without the control characters that an argument may have.
+fn report_error(rt: &HostRuntime, error: &Error) -> io::Result<()> {
+    let text = format!(in rt.alloc(); "{error}")?;
+    for line in text.as_str().lines() {
+        let line = shown(rt.alloc(), line.as_bytes())?;
+        rt.stderr().write_all(line.as_bytes())?;
+        rt.eprintln("")?;
+    }
+    Ok(())
 }
 
 /// Says why a page or help was not printed: the exit status.
@@ -134,7 +161,12 @@ fn show(rt: &HostRuntime, error: &Error, words: &[String]) -> u8 {
     if error.kind() == ErrorKind::OutOfMemory {
         return without_memory(rt);
     }
-    match error.print(rt) {
+    let printed = if error.use_stderr() {
+        report_error(rt, error)
+    } else {
+        error.print(rt)
+    };
+    match printed {
         Ok(()) => {
             let _reported = report_help(rt, error.kind(), words);
             error.exit_code() as u8
@@ -151,7 +183,7 @@ fn report_no_page(rt: &HostRuntime, number: &str) -> io::Result<()> {
     rt.eprintln("")
 }
 
-/// Prints the page of a refusal or of a warning: the exit status. A number that there is not is a wrong word.
+/// Prints the page of a refusal or of a warning: the exit status. An unknown number is a usage error.
 fn show_page(rt: &HostRuntime, _words: &[String], number: &str) -> u8
     requires { asked (texts_of _words.now) ≡ explain_asked number.now }
 {

@@ -254,10 +254,17 @@ fn report_read_fault(
     input: Input,
     cause: Option<io::Error>,
 ) -> io::Result<()> {
-    rt.eprintln("device fault")?;
     let name = sources.path(input).unwrap_or(section(input));
     let name = shown(rt.alloc(), name.as_bytes())?;
     let name = str::from_utf8(name.as_bytes()).unwrap_or("the input");
+    match cause {
+        Some(error) if error.kind() == io::ErrorKind::NotFound => {
+            // no device failed: most often the name is mistyped, so that is said first
+            eprintln!(rt; "error: there is no file {name}")?;
+            return rt.eprintln("device fault");
+        }
+        _ => rt.eprintln("device fault")?,
+    }
     match cause {
         Some(error) => eprintln!(rt; "error: {name} can't be read: {error}"),
         None => {

@@ -280,7 +280,7 @@ pub(crate) const WORDS: [WordRow<'static>; 8] = [
     },
     WordRow {
         name: "cut",
-        about: "Write the rest of a log, with a prelude that restores the state at the cut",
+        about: "Write the rest of a log, with a prelude that restores the scale (a program starts over)",
         options: &[
             PLATE,
             LOG,

@@ -39,7 +39,7 @@ scan, and `L <ms> <hex>` for each row of line bytes that was answered. A refusal
 last line, `refused <number> <place>`; standard error says why, with --message short on
 one line, with --message json as a JSON object.
 
-Exit status: 0 success, 1 refused, 2 usage error, 3 a device failed, 4 out of memory"
+Exit status: 0 success, 1 refused, 2 usage error, 3 a file or device failed, 4 out of memory"
         )
     };
 }

