@@ -21,6 +21,7 @@ CRATES = TOP / "crates"
 PROGRAM = CRATES / "wc" / "out" / "wc"
 BOTH_STORES = CRATES / "wc_tests_both_stores" / "out" / "wc_tests_both_stores"
 LIBRARY = CRATES / "narbeddo" / "out" / "libnarbeddo.a"
+ARM_LIBRARY = LIBRARY.with_name("libnarbeddo-aarch64.a")
 HEADER = TOP / "include" / "narbeddo.h"
 BUILT_BY = {
     PROGRAM: "`rt ci`, or in crates/wc `rt run < ../../examples/first/job.txt`",
@@ -76,6 +77,18 @@ def need(*files):
             what = f"is not built: run {BUILT_BY[file]}" if file in BUILT_BY else "is missing"
             print(f"{Path(sys.argv[0]).name}: {file} {what}", file=sys.stderr)
             sys.exit(2)
+
+
+def not_tried(what):
+    """Prints what a check leaves out, on a line that the gate prints again at its end and that the dossier has."""
+    print(f"not tried: {what}")
+
+
+def elf_machine(file):
+    """The number of the processor that the first object in a file is for, as its head has it: 62 is x86-64, 183 aarch64; None if there is none."""
+    content = file.read_bytes() if file.is_file() else b""
+    at = content.find(b"\x7fELF")
+    return int.from_bytes(content[at + 18 : at + 20], "little") if at >= 0 else None
 
 
 def untried(counts):
