@@ -27,6 +27,14 @@
 #include <stddef.h>
 #include <stdint.h>
 
+/* The library is for processors whose pointers have 64 bits: its structs would lie otherwise in memory on others (docs/EMBEDDING.md, section 1). */
+#if UINTPTR_MAX != UINT64_MAX
+#error "narbeddo is for pointers of 64 bits"
+#endif
+
+/* The version of this header. narbeddo_identify returns that of the library: both are of one release. */
+#define NARBEDDO_VERSION "0.1.0"
+
 #ifdef __cplusplus
 extern "C" {
 #endif

@@ -1,7 +1,9 @@
-/* Prints what identifies the library, as `wc --version` does of the program. A device shows it on its display. */
+/* Prints what identifies the library, as `wc --version` does of the program. A device shows it on its display. The library and the header
+ * have to be of one release: else the status is 1. */
 #include "narbeddo.h"
 
 #include <stdio.h>
+#include <string.h>
 
 int main(void)
 {
@@ -10,5 +12,5 @@ int main(void)
     printf("toolchain %s\n", identity.toolchain);
     printf("legal part sha256 %s\n", identity.legal_part);
     printf("data path sha256 %s\n", identity.data_path);
-    return 0;
+    return strcmp((const char *)identity.version, NARBEDDO_VERSION) == 0 ? 0 : 1;
 }

@@ -6,8 +6,10 @@
 list=$1
 size=$2
 first=$(((SLURM_ARRAY_TASK_ID - 1) * size + 1))
-failed=0
-for job in $(sed -n "$first,$((first + size - 1))p" "$list"); do
-    ./run_job "$job" || failed=1
-done
-exit "$failed"
+sed -n "$first,$((first + size - 1))p" "$list" | {
+    failed=0
+    while IFS= read -r job; do
+        ./run_job "$job" || failed=1
+    done
+    exit "$failed"
+}
