@@ -7,7 +7,7 @@
  *   READ_CHUNK=N           a read gives at most N bytes
  *   WRITE_LIMIT=N          standard output takes N bytes in all, and then each write fails
  *   WRITE_CHUNK=N          a write to standard output takes at most N bytes
- *   INTERRUPTED=N          each Nth read or write is interrupted first
+ *   INTERRUPTED=N          each Nth call that opens, reads or writes is interrupted first
  *   COUNTS=FILE            at the end the number of allocations is written to this file, and 1 if the allocation after the refused
  *                          one was a retry of no more bytes, else 0
  */
@@ -15,6 +15,7 @@
 #include <dlfcn.h>
 #include <errno.h>
 #include <fcntl.h>
+#include <stdarg.h>
 #include <stdio.h>
 #include <stdlib.h>
 #include <sys/types.h>
@@ -24,6 +25,7 @@ static long allocations, transfers, refused, was_retried, read_left = -1, read_c
 static size_t refused_size;
 static int read_error = EIO;
 
+static int (*real_open)(const char *, int, ...);
 static ssize_t (*real_read)(int, void *, size_t);
 static ssize_t (*real_write)(int, const void *, size_t);
 
@@ -35,6 +37,7 @@ static long number(const char *name, long fallback)
 
 __attribute__((constructor)) static void begin(void)
 {
+    *(void **)&real_open = dlsym(RTLD_NEXT, "open");
     *(void **)&real_read = dlsym(RTLD_NEXT, "read");
     *(void **)&real_write = dlsym(RTLD_NEXT, "write");
     refused = number("REFUSED_ALLOCATION", 0);
@@ -114,6 +117,18 @@ static ssize_t allowed(long *left, long chunk, size_t requested)
     if (chunk > 0 && requested > (size_t)chunk)
         requested = (size_t)chunk;
     return (ssize_t)requested;
+}
+
+int open(const char *path, int flags, ...)
+{
+    va_list more;
+    mode_t mode = 0;
+    if (flags & O_CREAT) {
+        va_start(more, flags);
+        mode = (mode_t)va_arg(more, int);
+        va_end(more);
+    }
+    return is_interrupted() ? -1 : real_open(path, flags, mode);
 }
 
 ssize_t read(int file, void *buffer, size_t size)

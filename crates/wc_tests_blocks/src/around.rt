@@ -31,7 +31,7 @@ impl Write for Interrupted {
     }
 
     fn flush(&mut self) -> io::Result<()> {
-        Ok(())
+        Err(next_error(self))
     }
 }
 
@@ -105,6 +105,17 @@ fn calls_are_tried_again(rt: HostRuntime) {
 /// Whether the next read fails, by the error of the last call or by another.
 fn fails_by_the_last(calls: &mut RetryReader<Interrupted>, last: bool) -> bool {
     fails_to_read(calls) && is_broken(calls.cause()) == last
+}
+
+/// Whether a flush fails, and the cause is then that of the last call.
+fn fails_to_flush(calls: &mut RetryReader<Interrupted>) -> bool {
+    calls.flush().is_err() && is_broken(calls.cause())
+}
+
+#[test]
+fn an_interrupted_flush_is_tried_again(rt: HostRuntime) {
+    let mut calls = RetryReader::new(Interrupted { left: 3 });
+    assert!(rt; fails_to_flush(&mut calls));
 }
 
 #[test]
