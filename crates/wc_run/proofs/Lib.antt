@@ -11,3 +11,4 @@ pub mod LeftLines
 pub mod ReaderFailures
 pub mod ReportedRows
 pub mod Silence
+pub mod CutLines

@@ -59,13 +59,18 @@ AppendsLine plate rows old new = (text : List ℕ) × Appends old new text × (w
 abbrev pub AppendsLineOfFirst : PlateData → List LogRow → Option (List ℕ) → Option (List ℕ) → Type 0
 AppendsLineOfFirst plate rows old new = (first : List LogRow) × (left : List LogRow) × (rows ≡ first ++ left) × AppendsLine plate first old new
 
+-- What was written is a prefix of the line's answers to the rows, once the lines that begin with an S
+-- are taken out of it: the last line may be cut, and one of a scan still begins with an S then.
+abbrev pub AppendsLinePrefix : PlateData → List LogRow → Option (List ℕ) → Option (List ℕ) → Type 0
+AppendsLinePrefix plate rows old new = (text : List ℕ) × (rest : List ℕ) × Appends old new text × (line_report plate rows ≡ without_scan_lines text ++ rest)
+
 -- Whatever the program, what is left of the bytes that a run writes without its lines of scans is
 -- what a run with no program writes: of all rows, of those before the refused one, or, after a read
--- fault or out of memory, of the first of them. After a write fault it is a prefix of such a text.
+-- fault or out of memory, of the first of them. After a write fault it is a prefix of that of all rows.
 abbrev pub LeavesLine : PlateData → LogOf → Result ℕ RunFault → Option (List ℕ) → Option (List ℕ) → Type 0
 LeavesLine plate log (Ok count) old new = AppendsLine plate log.rows old new
 LeavesLine plate log (Err (Refused number place)) old new = AppendsLine plate log.rows old new
-LeavesLine plate log (Err Write) old new = Unit {0}
+LeavesLine plate log (Err Write) old new = AppendsLinePrefix plate log.rows old new
 LeavesLine plate log (Err fault) old new = AppendsLineOfFirst plate log.rows old new
 
 -- The log's reader has not failed if a run came to the log's end or to a refused row.
