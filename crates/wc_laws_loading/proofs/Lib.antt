@@ -2,3 +2,4 @@ pub mod Costs
 pub mod ReadOnce
 pub mod Reasons
 pub mod LoadLaws
+pub mod JobLaws

@@ -2,7 +2,7 @@
 //! an empty body: its clause is the law.
 #![tactic(auto)]
 
-ghost use Rattle.wc_laws_loading.specs.Laws.{LoadedOrRefused, NeverBoth, OneRefusal, OneText};
+ghost use Rattle.wc_laws_loading.specs.Laws.{LoadedOrRefused, NeverBoth, OneAnswer, OneRefusal, OneText};
 
 /// Any bytes are loaded as a text, or refused with a number and a line.
 pub fn bytes_are_loaded_or_refused()
@@ -22,4 +22,10 @@ pub fn one_refusal()
 /// Bytes are loaded as one text at most.
 pub fn one_loaded_text()
     ensures { OneText }
+{}
+
+/// A job of any bytes has one answer: so two runs of it in which no device and no growth of memory failed write the same bytes, on
+/// whatever machine.
+pub fn a_job_has_one_answer()
+    ensures { OneAnswer }
 {}
