@@ -5,6 +5,7 @@ ghost use Rattle.wc_controller.specs.Files.{AnswersLog};
 ghost use Rattle.wc_controller.specs.Jobs.{Allows, AllowsSections, Gives, IsStatus};
 ghost use Rattle.wc_controller.specs.TakenLogs.{IsLater, log_alongside};
 ghost use Rattle.wc_job.specs.Views.{sections_view};
+ghost use Rattle.wc_laws_loading.specs.Laws.{HasOne};
 ghost use Rattle.wc_model.specs.Language.Views.{text_view};
 ghost use Rattle.wc_model.specs.Run.JobSections.{sections_of};
 ghost use Rattle.wc_model.specs.Run.Log.{log_of};
@@ -195,6 +196,8 @@ pub fn job<R: ByteIn, W: ByteOut>(alloc: Global, reader: &mut R, writer: &mut W)
         → (R.failure_count reader.new ≡ R.failure_count reader.old)
         × (W.failure_count writer.new ≡ W.failure_count writer.old) }
     ensures taken { TakesInput (R.bytes_left reader.old) (R.bytes_left reader.new) }
+    // There is one such answer: a job that is run again, without a fault, writes the same bytes.
+    ensures replay { (bytes : List ℕ) → HasOne (Allows bytes) }
 {
     let mut reported = RefusedRow::new(alloc);
     answer_job(alloc, reader, writer, &mut reported).status()
