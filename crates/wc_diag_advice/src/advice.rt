@@ -1,17 +1,20 @@
 use crate::fields::{input_advice, number_advice, point_advice};
-use crate::members::member_advice;
-use crate::near::{advice_for, has_word, label_advice, operator_advice, type_advice, unit_advice};
+use crate::members::{hidden_advice, input_of, member_advice};
+use crate::near::{
+    Wanted, advice_for, has_word, instance_advice, label_advice, operator_advice, type_advice,
+    unit_advice,
+};
 use std::alloc::{AllocError, Global};
-use wc_built_in::variable_at;
+use wc_built_in::{Keyword, keyword_named, variable_at};
 use wc_diag_mistakes::{
-    block_of, excerpt, first_word, following, follows_leaving, is_near, line_of, prefix,
+    block_of, excerpt, first_word, following, follows_leaving, is_near, line_of, prefix, sets,
     word_before, words_at,
 };
 use wc_diag_stops::{Brought, RefusalSpan};
 use wc_diag_texts::{
     Case, InstructionValues, NameValues, empty_path_advice, hint_of, instruction_text, name_text,
 };
-use wc_model::is_word;
+use wc_model::{Kind, is_word};
 
 /// Text that is longer than a name is not printed in an advice.
 const LONGEST_NAME: usize = 32;
@@ -158,13 +161,21 @@ fn field_advice(alloc: Global, text: &[u8], span: &RefusalSpan) -> Result<String
     let instance = first_word(word);
     let dot = instance.len().saturating_add(1);
     let before = excerpt(word, 0, dot);
+    let name = field_of(word);
     member_advice(
         alloc,
         text,
         block.as_bytes(),
+        sets(text, span),
         before,
-        following(word, dot).trim_ascii(),
+        name,
     )
+}
+
+/// The name after the point of a field.
+fn field_of(word: &[u8]) -> &[u8] {
+    let rest = following(word, first_word(word).len()).trim_ascii_start();
+    following(rest, 1).trim_ascii()
 }
 
 /// What to write for a name in the list of a call that the block does not have.
@@ -173,7 +184,8 @@ fn formal_advice(alloc: Global, text: &[u8], span: &RefusalSpan) -> Result<Strin
     if block.is_empty() {
         return Ok(String::new(alloc));
     }
-    member_advice(alloc, text, block.as_bytes(), b"", offending_at(text, span))
+    let name = offending_at(text, span);
+    member_advice(alloc, text, block.as_bytes(), span.is_passed, b"", name)
 }
 
 /// The offending slice, also if it is on a line below.
@@ -182,6 +194,61 @@ fn offending_at<'a>(text: &'a [u8], span: &RefusalSpan) -> &'a [u8] {
         Some(below) => words_at(text, Some(below)).as_bytes(),
         None => excerpt(text, span.start, span.length),
     }
+}
+
+/// What to write for a field in a VAR of a block of the text, which nothing outside reads or sets; empty if it is none.
+fn unseen_advice(alloc: Global, text: &[u8], span: &RefusalSpan) -> Result<String, AllocError> {
+    let (block, name) = (block_of(text, span), field_of(offending_at(text, span)));
+    if block.is_empty() || name.is_empty() || span.formal.is_some() {
+        return Ok(String::new(alloc));
+    }
+    hidden_advice(alloc, text, block.as_bytes(), name, sets(text, span))
+}
+
+/// What to write for an instance that is a target: one of its inputs.
+fn target_advice(alloc: Global, text: &[u8], span: &RefusalSpan) -> Result<String, AllocError> {
+    let instance = short_words(offending_at(text, span));
+    let block = words_at(text, span.block).as_bytes();
+    let input = input_of(alloc, text, block)?;
+    if input.is_empty() {
+        return member_advice(alloc, text, block, true, b"", b"");
+    }
+    name_text(alloc, NameValues::Input(instance, &input))
+}
+
+/// What to write for a name that is not declared, by what it is used for.
+fn undeclared_advice(alloc: Global, text: &[u8], span: &RefusalSpan) -> Result<String, AllocError> {
+    let wanted = match keyword_named(word_before(text, span.start)) {
+        _ if sets(text, span) => Wanted::Target,
+        Some(Keyword::Call(_)) if span.formal.is_none() => Wanted::Instance,
+        _ => Wanted::Value,
+    };
+    advice_for(alloc, text, offending_at(text, span), span.start, wanted)
+}
+
+/// What to write for a declaration with its type before its name.
+fn declaration_advice(
+    alloc: Global,
+    text: &[u8],
+    span: &RefusalSpan,
+) -> Result<String, AllocError> {
+    let name = short_words(excerpt(text, span.start, span.length));
+    let kind = short_words(word_before(text, span.start));
+    instruction_text(alloc, InstructionValues::TypeFirst(name, kind))
+}
+
+/// What to write for a name between quotation marks.
+fn unquoted_advice(alloc: Global, text: &[u8], span: &RefusalSpan) -> Result<String, AllocError> {
+    let name = short_words(first_word(following(text, span.start.saturating_add(1))));
+    instruction_text(alloc, InstructionValues::Unquoted(name))
+}
+
+/// What to write for a number that is passed to a TIME; empty if it is more than its digits.
+fn duration_advice(alloc: Global, word: &[u8]) -> Result<String, AllocError> {
+    if word.is_empty() || word.iter().any(|byte| !byte.is_ascii_digit()) {
+        return Ok(String::new(alloc));
+    }
+    instruction_text(alloc, InstructionValues::Duration(short_words(word)))
 }
 
 /// What to write instead at a token (up to 304), with the available values; empty: nothing beyond the hint.
@@ -200,10 +267,13 @@ fn advice_of_token(
         (201, Case::ConditionSpelling) => exchanged_advice(alloc, word),
         (201, Case::InputOperator) => setting_advice(alloc, text, span),
         (201, Case::OpenSection) => section_advice(alloc, text, span),
+        (101, Case::QuotedName) => unquoted_advice(alloc, text, span),
+        (201, Case::TypeFirst) => declaration_advice(alloc, text, span),
         (201, Case::BareInputs) => input_advice(alloc, text, span),
         (201, Case::NoAddress) => number_advice(alloc, text, span),
-        (101, Case::StatementAssign) | (105, Case::StatementAddress) | (201, Case::StatementList) =>
-            { frame_advice(alloc, text, number, span, mistake) }
+        (101, Case::StatementAssign | Case::StatementComparison)
+        | (105, Case::StatementAddress)
+        | (201, Case::StatementList) => { frame_advice(alloc, text, number, span, mistake) }
         (302, Case::Plain) => type_advice(alloc, text, word, span.start),
         (304, Case::NoSuchBit) => bit_advice(alloc, word),
         _ => Ok(String::new(alloc)),
@@ -221,7 +291,11 @@ pub fn advice_at(
     let word = offending_at(text, span);
     match (number, mistake) {
         (403, Case::AtLabel) => path_advice(alloc, text, span),
-        (401, Case::Plain) => advice_for(alloc, text, word, span.start),
+        (401, Case::Plain) => undeclared_advice(alloc, text, span),
+        (401, Case::BlockType) => instance_advice(alloc, text, word, span.start),
+        (402, Case::InstanceTarget) => target_advice(alloc, text, span),
+        (402, Case::Unpassed(Kind::Dint, Kind::Time)) => duration_advice(alloc, word),
+        (404 | 405, _) => unseen_advice(alloc, text, span),
         (401, Case::Field) => field_advice(alloc, text, span),
         (406, Case::Plain) => label_advice(alloc, text, word, span.start),
         (409, Case::NotOfBlock(_) | Case::NotOfOwnBlock) => formal_advice(alloc, text, span),

@@ -1,5 +1,5 @@
 use crate::advice::short_words;
-use crate::near::{has_word, near_name};
+use crate::near::{Wanted, has_word, near_name};
 use std::alloc::{AllocError, Global};
 use wc_built_in::variable_at;
 use wc_diag_mistakes::{excerpt, first_word, following, prefix, word_before, words_at};
@@ -35,7 +35,9 @@ fn undeclared_advice(
     name: &str,
     field: &str,
 ) -> Result<String, AllocError> {
-    let near = str::from_utf8(near_name(text, name.as_bytes(), place, true)).unwrap_or("");
+    let near = str::from_utf8(near_name(text, name.as_bytes(), place, Wanted::Instance)).unwrap_or(
+        "",
+    );
     if !near.is_empty() {
         let full = format!(in alloc; "{near}.{field}")?;
         return name_text(alloc, NameValues::Near(&full));
@@ -44,7 +46,7 @@ fn undeclared_advice(
     if block.is_empty() {
         return name_text(alloc, NameValues::NoGlobal(name, field));
     }
-    match str::from_utf8(near_name(text, name.as_bytes(), place, false)) {
+    match str::from_utf8(near_name(text, name.as_bytes(), place, Wanted::Value)) {
         Ok(near) if !near.is_empty() => {
             name_text(alloc, NameValues::NearOrInstance(near, field, name, block))
         }

@@ -2,11 +2,9 @@ use wc_model::is_word;
 
 /// Operators of other tools and languages, with what to write for each. Without this list a name that is spelled almost as one of them,
 /// and does something else, would be suggested.
-const FOREIGN: [(&str, &str); 41] = [
-    ("LDI", "did you mean `LDN`?"),
-    ("LDNOT", "did you mean `LDN`?"),
-    ("ANI", "did you mean `ANDN`?"),
-    ("ANDI", "did you mean `ANDN`?"),
+const FOREIGN: [(&str, &str); 27] = [
+    ("LDI LDNOT", "did you mean `LDN`?"),
+    ("ANI ANDI", "did you mean `ANDN`?"),
     ("ORI", "did you mean `ORN`?"),
     (
         "NAND",
@@ -17,8 +15,7 @@ const FOREIGN: [(&str, &str); 41] = [
         "XNOR",
         "write XOR and its operand, and NOT on the next line",
     ),
-    ("JMPN", "did you mean `JMPCN`?"),
-    ("JCN", "did you mean `JMPCN`?"),
+    ("JMPN JCN", "did you mean `JMPCN`?"),
     ("RETN", "did you mean `RETCN`?"),
     ("CALN", "did you mean `CALCN`?"),
     ("UC", "did you mean `CAL`?"),
@@ -30,11 +27,7 @@ const FOREIGN: [(&str, &str); 41] = [
     ("RST", "did you mean `R`?"),
     ("CLR", "write LD FALSE"),
     (
-        "SN",
-        "S and R have no N: negate the result with NOT on the line before",
-    ),
-    (
-        "RN",
+        "SN RN",
         "S and R have no N: negate the result with NOT on the line before",
     ),
     ("OUT", "did you mean `ST`?"),
@@ -42,6 +35,7 @@ const FOREIGN: [(&str, &str); 41] = [
         "MOV",
         "LD loads the value, ST on the next line names where it goes",
     ),
+    ("GTN GEN EQN NEN LTN", COMPARED),
     ("GTE", "did you mean `GE`?"),
     ("LTE", "did you mean `LE`?"),
     ("NEQ", "did you mean `NE`?"),
@@ -53,22 +47,15 @@ const FOREIGN: [(&str, &str); 41] = [
         "DEC",
         "write LD n, on the next line SUB 1, on the next ST n",
     ),
-    ("END", "did you mean `END_PROGRAM`?"),
-    ("BE", "did you mean `END_PROGRAM`?"),
-    ("BEA", "did you mean `RET`?"),
-    ("BEU", "did you mean `RET`?"),
-    ("BEB", "did you mean `RETC`?"),
-    ("BEC", "did you mean `RETC`?"),
-    ("SE", TIMER),
-    ("SD", TIMER),
-    ("SI", TIMER),
-    ("SP", TIMER),
-    ("SA", TIMER),
-    ("SF", TIMER),
-    ("SV", TIMER),
-    ("SS", TIMER),
-    ("TIM", TIMER),
+    ("END BE", "did you mean `END_PROGRAM`?"),
+    ("BEA BEU", "did you mean `RET`?"),
+    ("BEB BEC", "did you mean `RETC`?"),
+    ("SE SD SI SP SA SF SV SS TIM", TIMER),
 ];
+
+/// What to write for a comparison that is negated.
+const COMPARED: &str =
+    "comparisons have no N: write the comparison without it, and NOT on the next line";
 
 /// What to write for the start of a timer.
 const TIMER: &str = concat!(
@@ -79,8 +66,12 @@ const TIMER: &str = concat!(
 
 /// What to write for an operator of another tool or language; empty if a word is not one.
 pub(crate) fn foreign_advice(word: &[u8]) -> &'static str {
-    for (name, advice) in &FOREIGN {
-        if is_word(name.as_bytes(), word) {
+    for (names, advice) in &FOREIGN {
+        if names
+            .as_bytes()
+            .split(|byte| *byte == b' ')
+            .any(|name| is_word(name, word))
+        {
             return *advice;
         }
     }

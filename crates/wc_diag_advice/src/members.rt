@@ -1,4 +1,5 @@
-use crate::near::{ends_section, keyword_on};
+use crate::advice::short_words;
+use crate::near::{ends_section, has_word, keyword_on};
 use memchr::memchr;
 use std::alloc::{AllocError, Global};
 use wc_built_in::{Keyword, standard_block};
@@ -6,31 +7,21 @@ use wc_diag_mistakes::{first_word, prefix};
 use wc_diag_texts::{Case, NameValues, hint_of, name_text};
 use wc_model::{Section, StandardBlock};
 
-/// The inputs and outputs of a timer.
-const TIMER: [&str; 4] = ["IN", "PT", "Q", "ET"];
-
-/// Those of the counter.
-const COUNTER: [&str; 5] = ["CU", "R", "PV", "Q", "CV"];
-
-/// Those of the edge.
-const EDGE: [&str; 2] = ["CLK", "Q"];
-
-/// Those of the memories.
-const SET_FIRST: [&str; 3] = ["S1", "R", "Q1"];
-
-const RESET_FIRST: [&str; 3] = ["S", "R1", "Q1"];
-
 /// This number of bytes of a list of names is printed at most.
 const LONGEST_LIST: usize = 40;
 
-/// The inputs and outputs of a standard block.
-fn members_of(block: StandardBlock) -> &'static [&'static str] {
-    match block {
-        StandardBlock::Ton | StandardBlock::Tof | StandardBlock::Tp => &TIMER,
-        StandardBlock::Ctu => &COUNTER,
-        StandardBlock::RTrig => &EDGE,
-        StandardBlock::Sr => &SET_FIRST,
-        StandardBlock::Rs => &RESET_FIRST,
+/// The inputs of a standard block, or its outputs.
+fn members_of(block: StandardBlock, is_input: bool) -> &'static [&'static str] {
+    match (block, is_input) {
+        (StandardBlock::Ton | StandardBlock::Tof | StandardBlock::Tp, true) => &["IN", "PT"],
+        (StandardBlock::Ton | StandardBlock::Tof | StandardBlock::Tp, false) => &["Q", "ET"],
+        (StandardBlock::Ctu, true) => &["CU", "R", "PV"],
+        (StandardBlock::Ctu, false) => &["Q", "CV"],
+        (StandardBlock::RTrig, true) => &["CLK"],
+        (StandardBlock::RTrig, false) => &["Q"],
+        (StandardBlock::Sr, true) => &["S1", "R"],
+        (StandardBlock::Rs, true) => &["S", "R1"],
+        (StandardBlock::Sr | StandardBlock::Rs, false) => &["Q1"],
     }
 }
 
@@ -46,9 +37,9 @@ fn is_near_member(member: &[u8], name: &[u8]) -> bool {
     longer > 1 && longer.saturating_sub(shorter) <= 1 && longer.saturating_sub(same) <= 1
 }
 
-/// The input or output of a standard block that is spelled almost as this name; empty if none is.
-fn near_member(block: StandardBlock, name: &[u8]) -> &'static str {
-    for member in members_of(block) {
+/// The input of a standard block, or the output, that is spelled almost as this name; empty if none is.
+fn near_member(block: StandardBlock, is_input: bool, name: &[u8]) -> &'static str {
+    for member in members_of(block, is_input) {
         if is_near_member(member.as_bytes(), name) {
             return member;
         }
@@ -57,9 +48,9 @@ fn near_member(block: StandardBlock, name: &[u8]) -> &'static str {
 }
 
 /// Adds a name to a list that is not too long yet.
-fn add_name(list: &mut String, name: &[u8]) -> Result<(), AllocError> {
+fn add_name(list: &mut String, name: &[u8], most: usize) -> Result<(), AllocError> {
     let name = str::from_utf8(name).unwrap_or("");
-    if list.len() > LONGEST_LIST || name.is_empty() {
+    if list.len() > most || name.is_empty() {
         return Ok(());
     }
     if !list.is_empty() {
@@ -69,20 +60,20 @@ fn add_name(list: &mut String, name: &[u8]) -> Result<(), AllocError> {
 }
 
 /// Adds the names of a declaration.
-fn add_declared(list: &mut String, declaration: &[u8]) -> Result<(), AllocError> {
+fn add_declared(list: &mut String, declaration: &[u8], most: usize) -> Result<(), AllocError> {
     let Some(colon) = memchr(b':', declaration) else {
         return Ok(());
     };
     for name in prefix(declaration, colon).split(|byte| *byte == b',') {
-        add_name(list, name.trim_ascii())?;
+        add_name(list, name.trim_ascii(), most)?;
     }
     Ok(())
 }
 
 /// Adds the names of the declarations of a line.
-fn add_line(list: &mut String, line: &[u8]) -> Result<(), AllocError> {
+fn add_line(list: &mut String, line: &[u8], most: usize) -> Result<(), AllocError> {
     for declaration in line.split(|byte| *byte == b';') {
-        add_declared(list, declaration)?;
+        add_declared(list, declaration, most)?;
     }
     Ok(())
 }
@@ -93,6 +84,7 @@ fn add_declarations(
     text: &[u8],
     block: &[u8],
     wanted: Section,
+    most: usize,
 ) -> Result<(), AllocError> {
     let (mut in_block, mut in_section) = (false, false);
     for line in text.split(|byte| *byte == b'\n') {
@@ -104,22 +96,23 @@ fn add_declarations(
             _ => {}
         }
         if in_section {
-            add_line(list, rest)?;
+            add_line(list, rest, most)?;
         }
         in_section &= !ends_section(line);
     }
     Ok(())
 }
 
-/// The names that a block of the text declares in a kind of section, with commas between.
+/// The names that a block of the text declares in a kind of section, with commas between: no more than follow that number of bytes.
 fn names_in(
     alloc: Global,
     text: &[u8],
     block: &[u8],
     wanted: Section,
+    most: usize,
 ) -> Result<String, AllocError> {
     let mut list = String::new(alloc);
-    add_declarations(&mut list, text, block, wanted)?;
+    add_declarations(&mut list, text, block, wanted, most)?;
     Ok(list)
 }
 
@@ -136,13 +129,13 @@ fn named(alloc: Global, word: &str, sign: &str, names: &str) -> Result<String, A
 
 /// The inputs of a block of the text, in words.
 fn own_inputs(alloc: Global, text: &[u8], block: &[u8]) -> Result<String, AllocError> {
-    let inputs = names_in(alloc, text, block, Section::Input)?;
+    let inputs = names_in(alloc, text, block, Section::Input, LONGEST_LIST)?;
     named(alloc, "input", ":=", &inputs)
 }
 
 /// Its outputs.
 fn own_outputs(alloc: Global, text: &[u8], block: &[u8]) -> Result<String, AllocError> {
-    let outputs = names_in(alloc, text, block, Section::Output)?;
+    let outputs = names_in(alloc, text, block, Section::Output, LONGEST_LIST)?;
     named(alloc, "output", "=>", &outputs)
 }
 
@@ -177,27 +170,59 @@ fn near_advice(
 fn standard_advice(
     alloc: Global,
     block: StandardBlock,
+    is_input: bool,
     instance: &[u8],
     name: &[u8],
 ) -> Result<String, AllocError> {
-    let near = near_member(block, name);
+    let near = near_member(block, is_input, name);
     if near.is_empty() {
-        Ok(String::new(alloc))
+        format!(in alloc; "{}", members_said(block))
     } else {
         near_advice(alloc, block, instance, near)
     }
 }
 
-/// What to write for a name that a block does not have: a near one, and what the block has.
+/// What to write for a name that a block does not have as an input, or as an output: a near one, and what the block has.
 pub(crate) fn member_advice(
     alloc: Global,
     text: &[u8],
     block: &[u8],
+    is_input: bool,
     instance: &[u8],
     name: &[u8],
 ) -> Result<String, AllocError> {
     match standard_block(block) {
-        Some(standard) => standard_advice(alloc, standard, instance, name),
+        Some(standard) => standard_advice(alloc, standard, is_input, instance, name),
         None => own_members(alloc, text, block),
     }
+}
+
+/// The first input of a block; empty if it has none.
+pub(crate) fn input_of(alloc: Global, text: &[u8], block: &[u8]) -> Result<String, AllocError> {
+    match standard_block(block) {
+        Some(standard) => {
+            let first = members_of(standard, true).first().copied().unwrap_or("");
+            format!(in alloc; "{first}")
+        }
+        None => names_in(alloc, text, block, Section::Input, 0),
+    }
+}
+
+/// What to write for a variable in VAR of a block of the text, which is to be set or read outside; empty if it is none.
+pub(crate) fn hidden_advice(
+    alloc: Global,
+    text: &[u8],
+    block: &[u8],
+    name: &[u8],
+    is_set: bool,
+) -> Result<String, AllocError> {
+    let own = names_in(alloc, text, block, Section::Own, usize::MAX)?;
+    if !has_word(own.as_bytes(), name) {
+        return Ok(String::new(alloc));
+    }
+    let section = if is_set { "VAR_INPUT" } else { "VAR_OUTPUT" };
+    name_text(
+        alloc,
+        NameValues::Hidden(short_words(name), short_words(block), section),
+    )
 }

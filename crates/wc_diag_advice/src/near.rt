@@ -1,66 +1,27 @@
+use crate::advice::short_words;
 use crate::foreign::foreign_advice;
 use memchr::memchr;
 use std::alloc::{AllocError, Global};
 use wc_built_in::{Keyword, elementary_type, keyword_named};
-use wc_diag_mistakes::{first_word, following, is_near, prefix};
+use wc_diag_mistakes::{first_word, following, is_near, prefix, word_before};
 use wc_diag_texts::{InstructionValues, NameValues, instruction_text, name_text};
+use wc_model::Section;
 
 /// The operators.
-const OPERATORS: [&str; 39] = [
-    "LD",
-    "LDN",
-    "ST",
-    "STN",
-    "S",
-    "R",
-    "AND",
-    "ANDN",
-    "OR",
-    "ORN",
-    "XOR",
-    "XORN",
-    "NOT",
-    "ADD",
-    "SUB",
-    "MUL",
-    "DIV",
-    "MOD",
-    "GT",
-    "GE",
-    "EQ",
-    "NE",
-    "LE",
-    "LT",
-    "JMP",
-    "JMPC",
-    "JMPCN",
-    "CAL",
-    "CALC",
-    "CALCN",
-    "RET",
-    "RETC",
-    "RETCN",
-    "END_PROGRAM",
-    "END_FUNCTION_BLOCK",
-    "END_VAR",
-    "VAR_INPUT",
-    "VAR_OUTPUT",
-    "VAR",
-];
+const OPERATORS: &[u8] =
+    b"LD LDN ST STN S R AND ANDN OR ORN XOR XORN NOT ADD SUB MUL DIV MOD GT GE EQ NE LE LT JMP JMPC JMPCN CAL CALC CALCN RET RETC RETCN END_PROGRAM END_FUNCTION_BLOCK END_VAR VAR_INPUT VAR_OUTPUT VAR";
 
 /// The words with which a unit begins.
-const UNIT_WORDS: [&str; 2] = ["PROGRAM", "FUNCTION_BLOCK"];
+const UNIT_WORDS: &[u8] = b"PROGRAM FUNCTION_BLOCK";
 
 /// The types of every text.
-const TYPES: [&str; 10] = [
-    "BOOL", "DINT", "TIME", "R_TRIG", "SR", "RS", "CTU", "TON", "TOF", "TP",
-];
+const TYPES: &[u8] = b"BOOL DINT TIME R_TRIG SR RS CTU TON TOF TP";
 
 /// Which of some words another may be a misspelling of; empty if none is near.
-fn word_advice(alloc: Global, words: &[&'static str], word: &[u8]) -> Result<String, AllocError> {
-    for other in words {
-        if is_near(other.as_bytes(), word) {
-            return name_text(alloc, NameValues::Near(other));
+fn word_advice(alloc: Global, words: &[u8], word: &[u8]) -> Result<String, AllocError> {
+    for other in words.split(|byte| *byte == b' ') {
+        if is_near(other, word) {
+            return name_text(alloc, NameValues::Near(short_words(other)));
         }
     }
     Ok(String::new(alloc))
@@ -71,14 +32,14 @@ fn word_advice(alloc: Global, words: &[&'static str], word: &[u8]) -> Result<Str
 pub(crate) fn operator_advice(alloc: Global, word: &[u8]) -> Result<String, AllocError> {
     let foreign = foreign_advice(word);
     if foreign.is_empty() {
-        return word_advice(alloc, &OPERATORS, word);
+        return word_advice(alloc, OPERATORS, word);
     }
     format!(in alloc; "{foreign}")
 }
 
 /// Which keyword a word that begins no unit may be a misspelling of.
 pub(crate) fn unit_advice(alloc: Global, word: &[u8]) -> Result<String, AllocError> {
-    word_advice(alloc, &UNIT_WORDS, word)
+    word_advice(alloc, UNIT_WORDS, word)
 }
 
 /// Whether a line begins with a word, in letters of either case.
@@ -106,19 +67,33 @@ pub(crate) fn ends_section(line: &[u8]) -> bool {
     following(line, line.len().saturating_sub(7)).eq_ignore_ascii_case(b"END_VAR")
 }
 
-/// The name among those before a type that is spelled almost as this one; empty if none is, or if it has to have fields and the type
-/// has none.
-fn near_in_declaration<'a>(declaration: &'a [u8], name: &[u8], has_fields: bool) -> &'a [u8] {
+/// What a name that is looked for is wanted for.
+#[derive(Clone, Copy, PartialEq, Eq)]
+pub(crate) enum Wanted {
+    /// A variable that is read.
+    Value,
+    /// A variable that is written: no input of its unit is.
+    Target,
+    /// An instance, which has fields and can be called.
+    Instance,
+    /// An instance of the block of that name.
+    InstanceOf,
+}
+
+/// The name among those before a type that is wanted: one that is spelled almost as this one, or the first of this type; empty if none is.
+fn near_in_declaration<'a>(declaration: &'a [u8], name: &[u8], wanted: Wanted) -> &'a [u8] {
     let Some(colon) = memchr(b':', declaration) else {
         return b"";
     };
     let kind = first_word(following(declaration, colon.saturating_add(1)));
-    if has_fields && elementary_type(kind).is_some() {
+    let is_of = wanted == Wanted::InstanceOf;
+    let is_instance = is_of || wanted == Wanted::Instance;
+    if is_instance == elementary_type(kind).is_some() || is_of && !kind.eq_ignore_ascii_case(name) {
         return b"";
     }
     for declared in prefix(declaration, colon).split(|byte| *byte == b',') {
         let declared = declared.trim_ascii();
-        if is_near(declared, name) {
+        if is_of || is_near(declared, name) {
             return declared;
         }
     }
@@ -126,9 +101,9 @@ fn near_in_declaration<'a>(declaration: &'a [u8], name: &[u8], has_fields: bool)
 }
 
 /// Likewise among the declarations of a line.
-fn near_on_line<'a>(line: &'a [u8], name: &[u8], has_fields: bool) -> &'a [u8] {
+fn near_on_line<'a>(line: &'a [u8], name: &[u8], wanted: Wanted) -> &'a [u8] {
     for declaration in line.split(|byte| *byte == b';') {
-        let near = near_in_declaration(declaration, name, has_fields);
+        let near = near_in_declaration(declaration, name, wanted);
         if !near.is_empty() {
             return near;
         }
@@ -136,32 +111,31 @@ fn near_on_line<'a>(line: &'a [u8], name: &[u8], has_fields: bool) -> &'a [u8] {
     b""
 }
 
-/// The name that the unit around a place declares and that is spelled almost as this one. The lines are passed
-/// upwards from the place, so that a text of many units costs no more than the last of them. If it has to have fields, only an instance
-/// counts.
-pub(crate) fn near_name<'a>(
-    text: &'a [u8],
-    name: &[u8],
-    place: usize,
-    has_fields: bool,
-) -> &'a [u8] {
-    let mut in_section = false;
+/// The name that the unit around a place declares and that is wanted. The lines are passed upwards from the place, so that a text of many
+/// units costs no more than the last of them.
+pub(crate) fn near_name<'a>(text: &'a [u8], name: &[u8], place: usize, wanted: Wanted) -> &'a [u8] {
+    let (mut in_section, mut near): (bool, &[u8]) = (false, b"");
     for line in prefix(text, place).rsplit(|byte| *byte == b'\n') {
         let line = line.trim_ascii();
         let (keyword, names) = keyword_on(line);
         if matches!(keyword, Some(Keyword::UnitStart(_))) {
-            return b"";
+            return near;
         }
         in_section |= ends_section(line);
-        if in_section {
-            let near = near_on_line(names, name, has_fields);
+        if in_section && near.is_empty() {
+            near = near_on_line(names, name, wanted);
+        }
+        if let Some(Keyword::SectionStart(section)) = keyword {
+            if wanted == Wanted::Target && matches!(section, Section::Input) {
+                near = b"";
+            }
             if !near.is_empty() {
                 return near;
             }
+            in_section = false;
         }
-        in_section &= !matches!(keyword, Some(Keyword::SectionStart(_)));
     }
-    b""
+    near
 }
 
 /// What a name that is not declared may be a misspelling of; empty if no name is near.
@@ -170,12 +144,34 @@ pub(crate) fn advice_for(
     text: &[u8],
     name: &[u8],
     place: usize,
+    wanted: Wanted,
 ) -> Result<String, AllocError> {
-    let near = str::from_utf8(near_name(text, name, place, false)).unwrap_or("");
+    let near = str::from_utf8(near_name(text, name, place, wanted)).unwrap_or("");
     if near.is_empty() {
         return Ok(String::new(alloc));
     }
     name_text(alloc, NameValues::Near(near))
+}
+
+/// Which instance of the unit is called, if the name of its block is in place of its own; empty if there is none.
+pub(crate) fn instance_advice(
+    alloc: Global,
+    text: &[u8],
+    block: &[u8],
+    place: usize,
+) -> Result<String, AllocError> {
+    let instance = str::from_utf8(near_name(text, block, place, Wanted::InstanceOf)).unwrap_or("");
+    let is_called = matches!(
+        keyword_named(word_before(text, place)),
+        Some(Keyword::Call(_))
+    );
+    if instance.is_empty() || !is_called {
+        return Ok(String::new(alloc));
+    }
+    name_text(
+        alloc,
+        NameValues::InstanceOf(instance, str::from_utf8(block).unwrap_or("it")),
+    )
 }
 
 /// Whether a word is in a text, in letters of either case.
@@ -192,7 +188,12 @@ pub fn watched_advice(alloc: Global, program: &[u8], name: &[u8]) -> Result<Stri
         return Ok(String::new(alloc));
     }
     let (_, rest) = name.split_at(word.len().min(name.len()));
-    let near = near_name(program, word, program.len(), !rest.is_empty());
+    let wanted = if rest.is_empty() {
+        Wanted::Value
+    } else {
+        Wanted::Instance
+    };
+    let near = near_name(program, word, program.len(), wanted);
     let near = str::from_utf8(near).unwrap_or("");
     if near.is_empty() {
         return Ok(String::new(alloc));
@@ -262,6 +263,6 @@ pub(crate) fn type_advice(
 ) -> Result<String, AllocError> {
     match str::from_utf8(near_block(text, name, place)) {
         Ok(near) if !near.is_empty() => name_text(alloc, NameValues::Near(near)),
-        _ => word_advice(alloc, &TYPES, name),
+        _ => word_advice(alloc, TYPES, name),
     }
 }

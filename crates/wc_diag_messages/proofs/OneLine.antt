@@ -10,9 +10,9 @@ use Rattle.wc_diag_spans.specs.declared.refusal.Part.{Part}
 use Rattle.wc_diag_spans.specs.declared.refusal.Part.TheVariants.{Job, Plate, Program, Next, Log}
 use Rattle.wc_diag_spans.specs.declared.refusal.Refusal.{Refusal}
 use Rattle.wc_diag_messages.specs.Explanations.{QuotesAndSays, left_out_text, line_text, quoted_text}
-use Rattle.wc_diag_messages.specs.Formats.{HasNoControls, after_colon, position_text, short_text}
+use Rattle.wc_diag_messages.specs.Formats.{HasNoControls, after_colon, helped_text, position_text, short_text}
 use Rattle.wc_diag_messages.specs.Locations.{column_text, counted_name, counted_text, heading, number_text, place_text, row_text, section_text}
-use Rattle.wc_diag_messages.specs.Plain.{IsShown, acts, column_of, escaped_byte, escaped_text, hex_digit, is_calm, is_control, passes, shown_text, with_spaces}
+use Rattle.wc_diag_messages.specs.Plain.{IsShown, acts, column_of, escaped_byte, escaped_text, hex_digit, is_calm, is_control, passes, shown_text, with_spaces, words_after}
 use Rattle.wc_diag_messages.specs.Warned.{named_text, text_span_text, warning_line, warning_number}
 
 -- of two texts joined
@@ -71,7 +71,7 @@ texts_above : (texts : List (List ℕ)) → HasNoControls (flat_map shown_text t
 texts_above [] = tt
 texts_above (text ∷ texts) = joined (shown_text text) (flat_map shown_text texts) (bytes_shown text) (texts_above texts)
 
-shown_above : (bytes : List ℕ) → IsShown bytes → HasNoControls bytes
+pub shown_above : (bytes : List ℕ) → IsShown bytes → HasNoControls bytes
 shown_above bytes is = subst HasNoControls (sym is.1) (texts_above is.0)
 
 -- digits of a number
@@ -112,6 +112,15 @@ quoted_above (byte ∷ rest) =
 -- what is wrong
 pub reported_above : (subject reported : List ℕ) → QuotesAndSays subject reported → HasNoControls reported
 reported_above subject reported says = subst HasNoControls (sym says.2) (joined (quoted_text subject) says.0 (quoted_above subject) (shown_above says.0 says.1))
+
+-- what to write instead after it
+words_above : (mark words : List ℕ) → HasNoControls mark → HasNoControls words → HasNoControls (words_after mark words)
+words_above mark [] h k = tt
+words_above mark (byte ∷ rest) h k = joined mark (byte ∷ rest) h k
+
+pub helped_above : (reported advice : List ℕ) → HasNoControls reported → HasNoControls advice → HasNoControls (helped_text reported advice)
+helped_above reported advice h k =
+    joined reported (words_after (shown_text (codes "; help: ")) advice) h (words_above (shown_text (codes "; help: ")) advice (bytes_shown (codes "; help: ")) k)
 
 -- the place that is counted
 counted_above : (part : Part) (place : ℕ) → HasNoControls (counted_text part place)

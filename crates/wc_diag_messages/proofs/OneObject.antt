@@ -151,10 +151,10 @@ warned_clean number reported advice =
 warning_clean : (name : List ℕ) (warning : Warning) (parts : WarningParts) → AreClean (warning_tokens name warning parts)
 warning_clean name warning parts =
     let opening = json_token.begin_object ∷ text_member (codes "file") name in
-    let position = text_span_members warning.line parts.diagnostic in
+    let position = text_span_members parts.diagnostic.line parts.diagnostic in
     let words = warning_members warning.number parts.reported.bytes.items parts.advice.bytes.items in
     let first : AreClean opening = ((lit< tt, tt), text_clean (codes "file") name) in
-    let second = both_clean opening position first (text_span_clean warning.line parts.diagnostic) in
+    let second = both_clean opening position first (text_span_clean parts.diagnostic.line parts.diagnostic) in
     let third = both_clean (opening ++ position) words second (warned_clean warning.number parts.reported.bytes.items parts.advice.bytes.items) in
     both_clean (opening ++ position ++ words) (json_token.end_object ∷ []) third ((lit< tt, tt), tt)
 

@@ -37,6 +37,10 @@ position_text refusal line shown text_span =
     if line == 0 then after_colon (place_text refusal.in_job refusal.part refusal.place)
     else line_text line ++ column_text shown text_span
 
+-- what is wrong, and after it what to write instead, if that is known
+abbrev pub helped_text : List ℕ → List ℕ → List ℕ
+helped_text reported advice = reported ++ words_after (shown_text (codes "; help: ")) advice
+
 -- what is named, where, the number and what is wrong
 abbrev pub short_text : List ℕ → List ℕ → ℕ → List ℕ → List ℕ
 short_text name position number reported =
@@ -50,8 +54,11 @@ pub record ReportsShortly (refusal : Refusal) (bytes : List ℕ) : Type 0 where
   pub knows : Knows refusal diagnostic reported
   pub line : ℕ
   pub line_is : line ≡ named_line refusal diagnostic.line
+  pub advice : List ℕ
+  pub advice_is : IsShown advice
   pub all :
-      bytes ≡ short_text refusal.name.now (position_text refusal line diagnostic.shown.items diagnostic.text_span) refusal.number reported
+      bytes ≡ short_text refusal.name.now (position_text refusal line diagnostic.shown.items diagnostic.text_span) refusal.number
+      (helped_text reported advice)
       ++ (10 ∷ [])
   pub one : IsOneLine bytes
 

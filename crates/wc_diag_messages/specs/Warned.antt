@@ -1,6 +1,6 @@
 -- What is said of a warning, in each format: its number, the file, the line, the column, the name and the
 -- excerpt are pinned; the words between them are not (the profile's own).
-use Rattle.std.specs.Prelude.{◌≡◌, ℕ, List, [], ◌∷◌, ◌++◌, Option, IfSome, codes, drop, take, unwrap_or}
+use Rattle.std.specs.Prelude.{◌≡◌, ◌≤◌, ℕ, List, [], ◌∷◌, ◌++◌, Option, None, IfSome, codes, drop, take, unwrap_or}
 use Rattle.json.specs.Lex as json
 use Rattle.json.specs.Print.{print}
 use Rattle.json.specs.Token as json_token
@@ -10,7 +10,7 @@ use Rattle.wc_diag_spans.specs.declared.diagnostic.Diagnostic.{Diagnostic}
 use Rattle.wc_diag_spans.specs.declared.diagnostic.TextSpan.{TextSpan}
 use Rattle.wc_diag_messages.specs.Excerpts.{excerpt_text}
 use Rattle.wc_diag_messages.specs.Explanations.{line_text, place_line}
-use Rattle.wc_diag_messages.specs.Formats.{IsNameOf, IsOneLine, column_after, first_column, number_if_any, number_member, text_member}
+use Rattle.wc_diag_messages.specs.Formats.{IsNameOf, IsOneLine, column_after, first_column, helped_text, number_if_any, number_member, text_member}
 use Rattle.wc_diag_messages.specs.Locations.{column_text, margin_text, number_text}
 use Rattle.wc_diag_messages.specs.Plain.{shown_text}
 use Rattle.wc_diag_messages.specs.Spotted.{IsSpotted}
@@ -35,9 +35,12 @@ abbrev pub IsNamedThere : List ℕ → List ℕ → TextSpan → Type 0
 IsNamedThere [] line text_span = Unit {0}
 IsNamedThere (byte ∷ rest) line text_span = take text_span.length (drop text_span.start line) ≡ byte ∷ rest
 
--- what is known of a warning: its line of the text with the offending slice, and what is said of its name
+-- what is known of a warning: its line of the text, or one below it if its name is there, with the offending slice, and what is said of
+-- its name
 pub record KnowsWarning (text : List ℕ) (warning : Warning) (parts : WarningParts) : Type 0 where
-  pub shows : parts.diagnostic.shown.items ≡ unwrap_or (line_of_number warning.line text) []
+  pub below : warning.line ≤ parts.diagnostic.line
+  pub own : parts.diagnostic.text_span ≡ None → parts.diagnostic.line ≡ warning.line
+  pub shows : parts.diagnostic.shown.items ≡ unwrap_or (line_of_number parts.diagnostic.line text) []
   pub spotted : IsSpotted parts.diagnostic
   pub represents : IfSome parts.diagnostic.text_span (IsNamedThere warning.name.now parts.diagnostic.shown.items)
   pub said : List ℕ
@@ -63,8 +66,8 @@ pub record ExplainsWarning (file text : List ℕ) (warning : Warning) (bytes : L
   pub knows : KnowsWarning text warning parts
   pub all :
       bytes ≡ warning_headline warning.number parts.reported.bytes.items
-      ++ place_line (margin_text warning.line) file warning.line (column_text parts.diagnostic.shown.items parts.diagnostic.text_span)
-      ++ excerpt_text warning.line parts.diagnostic.shown.items parts.diagnostic.text_span []
+      ++ place_line (margin_text parts.diagnostic.line) file parts.diagnostic.line (column_text parts.diagnostic.shown.items parts.diagnostic.text_span)
+      ++ excerpt_text parts.diagnostic.line parts.diagnostic.shown.items parts.diagnostic.text_span []
       ++ warning_help warning.number parts.advice.bytes.items
 
 -- the line and the column
@@ -82,8 +85,9 @@ pub record WarnsShortly (file text : List ℕ) (warning : Warning) (bytes : List
   pub parts : WarningParts
   pub knows : KnowsWarning text warning parts
   pub all :
-      bytes ≡ warning_line file (text_span_text warning.line parts.diagnostic.shown.items parts.diagnostic.text_span) warning.number
-      parts.reported.bytes.items ++ (10 ∷ [])
+      bytes ≡ warning_line file (text_span_text parts.diagnostic.line parts.diagnostic.shown.items parts.diagnostic.text_span) warning.number
+      (helped_text parts.reported.bytes.items parts.advice.bytes.items)
+      ++ (10 ∷ [])
   pub one : IsOneLine bytes
 
 -- where it is
@@ -102,7 +106,7 @@ warning_members number reported advice =
 abbrev pub warning_tokens : List ℕ → Warning → WarningParts → List Token
 warning_tokens name warning parts =
     (json_token.begin_object ∷ text_member (codes "file") name)
-    ++ text_span_members warning.line parts.diagnostic
+    ++ text_span_members parts.diagnostic.line parts.diagnostic
     ++ warning_members warning.number parts.reported.bytes.items parts.advice.bytes.items
     ++ (json_token.end_object ∷ [])
 

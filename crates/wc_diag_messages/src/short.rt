@@ -30,7 +30,7 @@ fn write_position(
     write_column(message, &parts.diagnostic)
 }
 
-/// Writes what is wrong and where, on one line.
+/// Writes where it is, what is wrong and what to write instead, on one line.
 fn write_short(
     alloc: Global,
     message: &mut Message,
@@ -46,12 +46,12 @@ fn write_short(
     message.say(": error[")?;
     message.count(refusal.number as usize)?;
     message.say("]: ")?;
-    message.append(&parts.reported)?;
+    message.append_helped(&parts.reported, &parts.advice)?;
     message.end_line()?;
     Ok(())
 }
 
-/// What is wrong and where, on one line, as editors read it.
+/// Where it is, what is wrong and what to write instead, on one line, as editors read it.
 pub(crate) fn short(
     alloc: Global,
     refusal: &Refusal<'_>,

@@ -91,9 +91,21 @@ fn write_long(
         → OnOk result (ExplainsWarning file.now text warning.now message.new.bytes.items) }
 {
     write_headline(message, warning.number, &parts.reported)?;
-    write_place(alloc, message, file, warning.line, &parts.diagnostic)?;
+    write_place(
+        alloc,
+        message,
+        file,
+        parts.diagnostic.line,
+        &parts.diagnostic,
+    )?;
     let nothing = Message::new(alloc);
-    write_excerpt(alloc, message, warning.line, &parts.diagnostic, &nothing)?;
+    write_excerpt(
+        alloc,
+        message,
+        parts.diagnostic.line,
+        &parts.diagnostic,
+        &nothing,
+    )?;
     write_help(message, warning.number, &parts.advice)?;
     Ok(())
 }
@@ -144,11 +156,11 @@ fn write_short(
         → OnOk result (WarnsShortly file.now text warning.now message.new.bytes.items) }
 {
     message.add(file)?;
-    write_text_span(message, warning.line, &parts.diagnostic)?;
+    write_text_span(message, parts.diagnostic.line, &parts.diagnostic)?;
     message.say(": warning[")?;
     write_warning_number(message, warning.number)?;
     message.say("]: ")?;
-    message.append(&parts.reported)?;
+    message.append_helped(&parts.reported, &parts.advice)?;
     message.end_line()?;
     Ok(())
 }

@@ -60,7 +60,7 @@ fn write_object(
 {
     writer.begin_object()?;
     write_text(writer, "file", name)?;
-    write_text_span(writer, warning.line, &parts.diagnostic)?;
+    write_text_span(writer, parts.diagnostic.line, &parts.diagnostic)?;
     write_reported(writer, warning.number, parts)?;
     writer.end_object()?;
     Ok(())

@@ -1,4 +1,4 @@
-ghost use Rattle.std.specs.Prelude.{◌≡◌, ◌≤◌, ◌++◌, ℕ, [], true, List, IfOk, IfSome, OnOk, drop, length, take, unwrap_or};
+ghost use Rattle.std.specs.Prelude.{◌≡◌, ◌≤◌, ◌++◌, ℕ, [], true, List, IfOk, IfSome, None, OnOk, drop, length, take, unwrap_or};
 ghost use Rattle.wc_diag_spans.specs.Lines.{line_of_number};
 ghost use Rattle.wc_diag_messages.specs.Plain.{shown_text};
 ghost use Rattle.wc_diag_messages.specs.Warned.{KnowsWarning, IsNamedThere, named_text};
@@ -7,7 +7,7 @@ use crate::excerpts::excerpt;
 use crate::message::{Message, shown};
 use crate::warning_entries::warning_of;
 use std::alloc::{AllocError, Global};
-use wc_diag_spans::{Diagnostic, TextSpan, line_at};
+use wc_diag_spans::{Diagnostic, TextSpan, blanked, line_at};
 use wc_diag_texts::{Case, Expected};
 use wc_diag_warnings::Warning;
 
@@ -58,12 +58,12 @@ fn is_at(line: &[u8], place: usize, name: &[u8]) -> bool
     excerpt(line, place, name.len()) == name && is_whole(line, place, name)
 }
 
-/// The first byte of a line that is not a blank, and those after it.
-fn whole_text_span(line: &[u8]) -> Option<TextSpan>
+/// The first byte of a line that is neither a blank nor in a comment, and those after it.
+fn whole_text_span(line: &[u8], searched: &[u8]) -> Option<TextSpan>
     ensures { IfSome result (λ text_span. text_span.start ≤ length line.now) }
 {
     for start in 0..line.len() {
-        if line[start] > b' ' {
+        if searched.get(start).copied().unwrap_or(b' ') > b' ' {
             let length = line.len() - start;
             return Some(TextSpan { start, length });
         }
@@ -71,14 +71,14 @@ fn whole_text_span(line: &[u8]) -> Option<TextSpan>
     None
 }
 
-/// Where a name is in a line for the first time.
-fn name_text_span(line: &[u8], name: &[u8]) -> Option<TextSpan>
+/// Where a name is for the first time in a line, of which `searched` has the comments as blanks.
+fn name_text_span(line: &[u8], searched: &[u8], name: &[u8]) -> Option<TextSpan>
     ensures within { IfSome result (λ text_span. text_span.start ≤ length line.now) }
     ensures represents { IfSome result
         (λ text_span. take text_span.length (drop text_span.start line.now) ≡ name.now) }
 {
     for start in 0..line.len() {
-        if is_at(line, start, name) {
+        if is_at(searched, start, name) && is_at(line, start, name) {
             let length = name.len();
             return Some(TextSpan { start, length });
         }
@@ -87,14 +87,36 @@ fn name_text_span(line: &[u8], name: &[u8]) -> Option<TextSpan>
 }
 
 /// Where a name is in a line for the first time; with no name what is on the line.
-fn text_span_of(line: &[u8], name: &[u8]) -> Option<TextSpan>
+fn text_span_of(line: &[u8], searched: &[u8], name: &[u8]) -> Option<TextSpan>
     ensures within { IfSome result (λ text_span. text_span.start ≤ length line.now) }
     ensures represents { IfSome result (IsNamedThere name.now line.now) }
 {
     if name.is_empty() {
-        return whole_text_span(line);
+        return whole_text_span(line, searched);
     }
-    name_text_span(line, name)
+    name_text_span(line, searched, name)
+}
+
+/// The line of a warning, or that below it on which its name is, as in a list over lines; and where the name is. `searched` is the text
+/// with its comments as blanks.
+fn place_of(text: &[u8], searched: &[u8], warning: &Warning<'_>) -> (u32, Option<TextSpan>)
+    ensures below { warning.now.line ≤ result.0 }
+    ensures own { result.1 ≡ None → result.0 ≡ warning.now.line }
+    ensures within { IfSome result.1 (λ text_span. text_span.start
+        ≤ length (unwrap_or (line_of_number result.0 text.now) [])) }
+    ensures represents { IfSome result.1
+        (IsNamedThere warning.now.name.now (unwrap_or (line_of_number result.0 text.now) [])) }
+{
+    for line in warning.line..u32::MAX {
+        let Some(shown) = line_at(text, line) else {
+            return (warning.line, None);
+        };
+        let text_span = text_span_of(shown, line_at(searched, line).unwrap_or(b""), warning.name);
+        if text_span.is_some() {
+            return (line, text_span);
+        }
+    }
+    (warning.line, None)
 }
 
 /// The sentence of a warning.
@@ -136,24 +158,28 @@ fn reported_of(alloc: Global, warning: &Warning<'_>) -> Result<Message, AllocErr
     Ok(message)
 }
 
-/// The line of a warning, with its offending slice.
+/// The line that is shown of a warning, with its offending slice.
 fn diagnostic_of(
     alloc: Global,
     text: &[u8],
     warning: &Warning<'_>,
 ) -> Result<Diagnostic, AllocError>
+    ensures below { IfOk result (λ diagnostic. warning.now.line ≤ diagnostic.line) }
+    ensures own { IfOk result (λ diagnostic. diagnostic.text_span ≡ None
+        → diagnostic.line ≡ warning.now.line) }
     ensures shows { IfOk result (λ diagnostic. diagnostic.shown.items
-        ≡ unwrap_or (line_of_number warning.now.line text.now) []) }
+        ≡ unwrap_or (line_of_number diagnostic.line text.now) []) }
     ensures within { IfOk result (λ diagnostic. IfSome diagnostic.text_span
         (λ text_span. text_span.start ≤ length diagnostic.shown.items)) }
     ensures represents { IfOk result (λ diagnostic. IfSome diagnostic.text_span
         (IsNamedThere warning.now.name.now diagnostic.shown.items)) }
 {
-    let shown = line_shown(alloc, text, warning.line)?;
+    let searched = blanked(alloc, text)?;
+    let (line, text_span) = place_of(text, &searched, warning);
     Ok(Diagnostic {
-        line: warning.line,
-        text_span: text_span_of(&shown, warning.name),
-        shown,
+        line,
+        text_span,
+        shown: line_shown(alloc, text, line)?,
         subject: Vec::new(alloc),
         case: Case::Unknown,
         detail: String::new(alloc),

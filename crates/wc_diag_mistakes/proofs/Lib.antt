@@ -1,3 +1,4 @@
+pub mod Blanking
 pub mod Cuts
 pub mod Declaring
 pub mod Leaving

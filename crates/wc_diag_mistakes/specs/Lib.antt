@@ -1,3 +1,4 @@
+pub mod Comments
 pub mod Slices
 pub mod Unreached
 pub mod Words

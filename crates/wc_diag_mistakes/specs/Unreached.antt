@@ -1,5 +1,5 @@
--- Which line of a text is surely never reached, and which line declares a function block: by the first words of the lines. (The
--- profile's own.)
+-- Which line of a text is surely never reached, and which line declares a function block: by the first words of the lines,
+-- in a text whose comments are blanks. (The profile's own.)
 use Rattle.std.specs.Prelude.{◌≡◌, ℕ, ◌+◌, ◌-◌, ◌==◌, ◌&&◌, ◌||◌, not, min, Bool, true, false, List, [], ◌∷◌, ◌++◌, Option, Some, None, count_by, drop, length, slice_index, slice_index_or, take, if◌then◌else◌}
 use Rattle.std.specs.List.{list_any, position_or_len, slice_split}
 use Rattle.wc_built_in.specs.declared.keyword.Keyword.{Keyword}
@@ -56,17 +56,13 @@ abbrev pub is_block_start : Option Keyword → Bool
 is_block_start (Some (UnitStart kind)) = is_function_block kind
 is_block_start _ = false
 
--- a comment may begin or end on the line
-abbrev pub has_star : List ℕ → Bool
-has_star line = list_any (λ byte. byte == 42) line
-
 -- the line leaves the body, or for another line: nothing but a label leads to the line below
 abbrev pub leaves : List ℕ → Bool
-leaves line = not (has_star line) && is_leaving (keyword_of (after_label line))
+leaves line = is_leaving (keyword_of (after_label line))
 
--- the line may be reached from elsewhere, or begins or ends a body, or may be part of a comment
+-- the line may be reached from elsewhere, or begins or ends a body
 abbrev pub may_pass : List ℕ → Bool
-may_pass line = has_star line || has_label line || is_frame (keyword_of (after_label line))
+may_pass line = has_label line || is_frame (keyword_of (after_label line))
 
 -- the lines above that of a number, counted from 1; those above the last line, if the text has fewer
 abbrev pub lines_above : List ℕ → ℕ → List (List ℕ)

@@ -2,6 +2,7 @@
 //! that do not match. It works on the text and on the slice that a pass refuses.
 #![tactic(auto)]
 
+mod comments;
 mod differences;
 mod durations;
 mod excerpts;
@@ -11,9 +12,11 @@ mod types;
 mod unreached;
 mod words;
 
+pub use comments::blanked;
 pub use differences::{block_of, difference_said, names_operator, words_at};
 pub use excerpts::{BYTE_ORDER_MARK, case_of_excerpt};
 pub use mistakes::{mistake_at, names_type};
 pub use slices::{excerpt, following, line_of, prefix};
+pub use types::sets;
 pub use unreached::{block_line, follows_leaving, is_unreached};
 pub use words::{first_word, is_near, word_before};

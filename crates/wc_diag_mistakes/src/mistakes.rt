@@ -1,7 +1,7 @@
 use crate::durations::{is_long_duration, mistaken_units};
 use crate::slices::{excerpt, following, line_of, prefix};
 use crate::types::{is_conditional, type_hint};
-use crate::unreached::{block_line, is_unreached};
+use crate::unreached::{after_label, block_line, is_unreached, keyword_of};
 use crate::words::{first_word, is_near, letters_at_end, word_before};
 use wc_built_in::{Keyword, elementary_type, keyword_named, standard_block};
 use wc_diag_stops::RefusalSpan;
@@ -9,92 +9,39 @@ use wc_diag_texts::{Case, Expected};
 use wc_model::{Kind, UnitKind, is_word};
 
 /// Words of a conditional statement of Structured Text.
-const CONDITIONAL: [&[u8]; 4] = [b"if", b"elsif", b"else", b"end_if"];
+const CONDITIONAL: &[u8] = b"if elsif else end_if";
 
 /// Words of its loops.
-const LOOPS: [&[u8]; 6] = [
-    b"for",
-    b"end_for",
-    b"while",
-    b"end_while",
-    b"repeat",
-    b"until",
-];
-
-/// Words of its choice by a value.
-const CHOICES: [&[u8]; 2] = [b"case", b"end_case"];
+const LOOPS: &[u8] = b"for end_for while end_while repeat until";
 
 /// Operators of STL (AWL) that are written otherwise here.
-const STATEMENT_LIST: [&[u8]; 16] = [
-    b"a", b"an", b"o", b"on", b"u", b"un", b"x", b"xn", b"l", b"t", b"spa", b"spb", b"spbn", b"ju",
-    b"jc", b"network",
-];
+const STATEMENT_LIST: &[u8] = b"a an o on u un x xn l t spa spb spbn ju jc network";
 
 /// Inputs of standard blocks that the standard also writes as operators.
-const INPUTS: [&[u8]; 8] = [b"cu", b"cd", b"pv", b"in", b"pt", b"clk", b"s1", b"r1"];
+const INPUTS: &[u8] = b"cu cd pv in pt clk s1 r1";
 
 /// Words in which a program is bound to a controller.
-const CONFIGURATION: [&[u8]; 6] = [
-    b"configuration",
-    b"end_configuration",
-    b"resource",
-    b"end_resource",
-    b"task",
-    b"with",
-];
-
-/// Words with which types are declared.
-const OWN_TYPES: [&[u8]; 4] = [b"type", b"end_type", b"struct", b"end_struct"];
+const CONFIGURATION: &[u8] = b"configuration end_configuration resource end_resource task with";
 
 /// Standard functions.
-const FUNCTIONS: [&[u8]; 24] = [
-    b"abs", b"sqrt", b"expt", b"exp", b"ln", b"log", b"sin", b"cos", b"tan", b"asin", b"acos",
-    b"atan", b"shl", b"shr", b"rol", b"ror", b"len", b"left", b"right", b"mid", b"concat",
-    b"insert", b"find", b"trunc",
-];
+const FUNCTIONS: &[u8] =
+    b"abs sqrt expt exp ln log sin cos tan asin acos atan shl shr rol ror len left right mid concat insert find trunc";
 
 /// Words of STL in which other tools begin a file.
-const STATEMENT_BLOCKS: [&[u8]; 5] = [
-    b"organization_block",
-    b"function_block_end",
-    b"data_block",
-    b"network",
-    b"begin",
-];
-
-/// Conditions whose letters are exchanged.
-const EXCHANGED: [&[u8]; 3] = [b"jmpnc", b"calnc", b"retnc"];
+const STATEMENT_BLOCKS: &[u8] = b"organization_block function_block_end data_block network begin";
 
 /// Types of the standard for whole numbers and bit strings.
-const INTEGERS: [&[u8]; 11] = [
-    b"int", b"sint", b"uint", b"usint", b"udint", b"lint", b"ulint", b"byte", b"word", b"dword",
-    b"lword",
-];
-
-/// Types of the standard for numbers with a point.
-const REALS: [&[u8]; 2] = [b"real", b"lreal"];
+const INTEGERS: &[u8] = b"int sint uint usint udint lint ulint byte word dword lword";
 
 /// Other types of the standard, and words that begin one.
-const TEXTS: [&[u8]; 11] = [
-    b"string",
-    b"wstring",
-    b"char",
-    b"date",
-    b"tod",
-    b"time_of_day",
-    b"dt",
-    b"date_and_time",
-    b"array",
-    b"struct",
-    b"pointer",
-];
-
-/// Words that are written for END_VAR.
-const SECTION_ENDS: [&[u8]; 2] = [b"end", b"var_end"];
+const TEXTS: &[u8] =
+    b"string wstring char date tod time_of_day dt date_and_time array struct pointer";
 
 /// Whether a text is one of these words. Letter case is not significant.
-fn is_among(words: &[&'static [u8]], text: &[u8]) -> bool {
-    words.iter().any(|word| is_word(word, text))
+fn is_among(words: &[u8], text: &[u8]) -> bool {
+    words
+        .split(|byte| *byte == b' ')
+        .any(|word| is_word(word, text))
 }
 
 /// What is before a place on its line.
@@ -124,14 +71,38 @@ fn mistaken_equals(before: &[u8]) -> Case {
 
 /// The statement of Structured Text that a word begins, if it is one.
 fn mistaken_statement(word: &[u8]) -> Option<Case> {
-    if is_among(&CONDITIONAL, word) {
+    if is_among(CONDITIONAL, word) {
         Some(Case::IfStatement)
-    } else if is_among(&LOOPS, word) {
+    } else if is_among(LOOPS, word) {
         Some(Case::Loop)
-    } else if is_among(&CHOICES, word) {
+    } else if is_among(b"case end_case", word) {
         Some(Case::CaseStatement)
     } else {
         None
+    }
+}
+
+/// Whether a text begins with a comparison of STL, with its letter of a type.
+fn is_statement_comparison(text: &[u8]) -> bool {
+    match text {
+        [b'=', b'=', letter, ..]
+        | [b'<', b'>', letter, ..]
+        | [b'<' | b'>', b'=', letter, ..]
+        | [b'<' | b'>', letter, ..] => matches!(letter, b'D' | b'I' | b'R' | b'd' | b'i' | b'r'),
+        _ => false,
+    }
+}
+
+/// A quotation mark, by what is before it on its line, and what begins with it.
+fn mistaken_quote(before: &[u8], rest: &[u8]) -> Case {
+    let name = first_word(following(rest, 1));
+    let is_closed = following(rest, name.len().saturating_add(1)).starts_with(b"\"");
+    if rest.starts_with(b"'") && is_digit(before.last()) && is_digit(rest.get(1)) {
+        Case::DigitGroups
+    } else if rest.starts_with(b"\"") && is_closed && is_operator(first_word(after_label(before))) {
+        Case::QuotedName
+    } else {
+        Case::Quote
     }
 }
 
@@ -147,16 +118,21 @@ fn mistaken_comparison(before: &[u8], byte: u8) -> Option<Case> {
 /// A mistake of a byte that is not allowed; `rest` begins with it, and what is on its line comes before.
 fn mistaken_byte(before: &[u8], rest: &[u8], case: Case) -> Case {
     match case {
+        Case::Byte(b'=' | b'<' | b'>')
+            if before.trim_ascii().is_empty() && is_statement_comparison(rest) => {
+            Case::StatementComparison
+        }
         Case::Byte(byte @ (b'=' | b'<' | b'>')) => match mistaken_comparison(before, byte) {
             Some(mistake) => mistake,
             None if byte == b'=' => mistaken_equals(before),
             None => case,
         },
         Case::Byte(b'[' | b']') => Case::Bracket,
-        Case::Byte(b'\'' | b'"') => Case::Quote,
+        Case::Byte(b'\'' | b'"') => mistaken_quote(before, rest),
         Case::Byte(b'{' | b'}') => Case::Brace,
         Case::Byte(b'/') if rest.starts_with(b"//") => Case::LineComment,
         Case::Byte(0) => Case::Utf16,
+        Case::Byte(0xc2) if rest.starts_with(b"\xc2\xa0") => Case::NoBreakSpace,
         Case::Byte(128..) => Case::NotAscii,
         _ => case,
     }
@@ -164,7 +140,7 @@ fn mistaken_byte(before: &[u8], rest: &[u8], case: Case) -> Case {
 
 /// A standard function; nothing if a word is not one.
 fn mistaken_function(word: &[u8]) -> Option<Case> {
-    let choices: [&[u8]; 2] = [b"sel", b"mux"];
+    let choices: &[u8] = b"sel mux";
     if is_word(b"limit", word) {
         Some(Case::Limit)
     } else if is_word(b"max", word) {
@@ -173,11 +149,11 @@ fn mistaken_function(word: &[u8]) -> Option<Case> {
         Some(Case::Least)
     } else if is_word(b"neg", word) {
         Some(Case::Negative)
-    } else if is_among(&choices, word) {
+    } else if is_among(choices, word) {
         Some(Case::Select)
     } else if is_word(b"move", word) {
         Some(Case::Move)
-    } else if is_among(&FUNCTIONS, word) {
+    } else if is_among(FUNCTIONS, word) {
         Some(Case::StandardFunction)
     } else {
         mistaken_conversion(word)
@@ -195,10 +171,11 @@ fn mistaken_conversion(word: &[u8]) -> Option<Case> {
     if !has_part(word, b"_to_") {
         return None;
     }
-    let others: [&[u8]; 7] = [
-        b"time", b"bool", b"date", b"ring", b"char", b"bcd_", b"_bcd",
-    ];
-    if others.iter().any(|other| has_part(word, other)) {
+    let others: &[u8] = b"time bool date ring char bcd_ _bcd";
+    if others
+        .split(|byte| *byte == b' ')
+        .any(|other| has_part(word, other))
+    {
         Some(Case::Conversion)
     } else {
         Some(Case::NumberConversion)
@@ -207,10 +184,10 @@ fn mistaken_conversion(word: &[u8]) -> Option<Case> {
 
 /// A word of the standard that this language leaves out.
 fn left_out(word: &[u8]) -> Case {
-    let shared: [&[u8]; 2] = [b"var_global", b"var_external"];
+    let shared: &[u8] = b"var_global var_external";
     if is_word(b"at", word) {
         Case::AtAddress
-    } else if is_among(&shared, word) {
+    } else if is_among(shared, word) {
         Case::GlobalVariable
     } else if is_word(b"var_in_out", word) {
         Case::SharedVariable
@@ -227,11 +204,11 @@ fn left_out(word: &[u8]) -> Case {
 
 /// A word with which no unit begins.
 fn mistaken_unit(word: &[u8]) -> Case {
-    if is_among(&CONFIGURATION, word) {
+    if is_among(CONFIGURATION, word) {
         Case::Configuration
-    } else if is_among(&OWN_TYPES, word) {
+    } else if is_among(b"type end_type struct end_struct", word) {
         Case::OwnType
-    } else if is_among(&STATEMENT_BLOCKS, word) || is_among(&STATEMENT_LIST, word) {
+    } else if is_among(STATEMENT_BLOCKS, word) || is_among(STATEMENT_LIST, word) {
         Case::StatementList
     } else if matches!(keyword_named(word), Some(Keyword::Kept)) {
         left_out(word)
@@ -245,6 +222,7 @@ fn mistaken_operator(word: &[u8], rest: &[u8]) -> Case {
     let next = rest.trim_ascii_start();
     match keyword_named(word) {
         Some(Keyword::SectionStart(_) | Keyword::SectionEnd) => return Case::SectionWord,
+        Some(Keyword::UnitStart(_)) => return Case::OpenBlock,
         Some(Keyword::UnitEnd(_)) => return Case::UnitEnd,
         Some(Keyword::Kept) => return left_out(word),
         _ => {}
@@ -252,7 +230,7 @@ fn mistaken_operator(word: &[u8], rest: &[u8]) -> Case {
     match next.first() {
         Some(b':') => Case::Assignment,
         Some(b'.') => Case::FieldAssignment,
-        _ if is_among(&EXCHANGED, word) => Case::ConditionSpelling,
+        _ if is_among(b"jmpnc calnc retnc", word) => Case::ConditionSpelling,
         _ => match (mistaken_statement(word), mistaken_word(word, next)) {
             (Some(statement), _) => statement,
             (None, Case::NoOperator) if is_label(rest) => Case::LabelWithoutColon,
@@ -308,10 +286,10 @@ fn mistaken_word(word: &[u8], next: &[u8]) -> Case {
         (_, Some(function)) => function,
         (Some(b'('), None) => Case::InstanceCall,
         _ if is_word(b"cd", word) => Case::DownCounter,
-        _ if is_among(&INPUTS, word) => Case::InputOperator,
+        _ if is_among(INPUTS, word) => Case::InputOperator,
         _ if is_type(word) => Case::InstanceCall,
-        _ if is_among(&STATEMENT_LIST, word) => Case::StatementList,
-        _ if is_among(&CONFIGURATION, word) => Case::Configuration,
+        _ if is_among(STATEMENT_LIST, word) => Case::StatementList,
+        _ if is_among(CONFIGURATION, word) => Case::Configuration,
         _ => Case::NoOperator,
     }
 }
@@ -324,7 +302,7 @@ fn mistaken_before(before: &[u8], expected: Expected) -> Option<Case> {
         ),
         (Some(Keyword::Kept), Expected::CommaOrColon) => Some(left_out(before)),
         (None, Expected::CommaOrColon) if is_word(b"persistent", before) => Some(Case::Persistent),
-        (None, Expected::CommaOrColon) if is_among(&SECTION_ENDS, before) => Some(
+        (None, Expected::CommaOrColon) if is_among(b"end var_end", before) => Some(
             Case::OpenSection,
         ),
         (Some(_), Expected::CommaOrColon) => Some(Case::OpenSection),
@@ -345,6 +323,16 @@ fn begins_line(text: &[u8], start: usize) -> bool {
         match above[above.len() - count - 1] {
             b' ' | b'\t' | b'\r' => {}
             byte => return byte == b'\n',
+        }
+    }
+    false
+}
+
+/// Whether the unit around a place is the program: whether the line above it that begins a unit does so with PROGRAM.
+fn is_in_program(text: &[u8], place: usize) -> bool {
+    for line in prefix(text, place).rsplit(|byte| *byte == b'\n') {
+        if let Some(Keyword::UnitStart(kind)) = keyword_named(first_word(line)) {
+            return matches!(kind, UnitKind::Program);
         }
     }
     false
@@ -498,9 +486,54 @@ fn mistaken_at(text: &[u8], span: RefusalSpan, token: &[u8]) -> Case {
     }
 }
 
+/// A mistake in an instruction by what is before a token on its line.
+fn mistaken_after(before: &[u8], token: &[u8], expected: Expected) -> Option<Case> {
+    let before = before.trim_ascii_end();
+    match (expected, keyword_of(after_label(before)), token.first()) {
+        (Expected::Label, _, None | Some(b'\n')) => Some(Case::JumpAlone),
+        (Expected::LineEnd, Some(Keyword::Jump(_)), Some(b':')) => Some(Case::JumpColon),
+        (Expected::LineEnd, Some(Keyword::Return(_)), Some(b'A'..=b'Z' | b'a'..=b'z' | b'_')) => {
+            Some(Case::ReturnOperand)
+        }
+        (Expected::OpeningOrLineEnd, _, Some(b'.')) => Some(Case::CalledField),
+        (Expected::Operand, _, Some(b',' | b')'))
+            if before.ends_with(b"=>") || before.ends_with(b":=") => Some(Case::EmptyArgument),
+        _ => None,
+    }
+}
+
+/// Whether a name is after its type on a line of declarations.
+fn is_type_first(text: &[u8], span: RefusalSpan, before: &[u8], token: &[u8]) -> bool {
+    matches!(token.first(), Some(b'A'..=b'Z' | b'a'..=b'z' | b'_'))
+        && keyword_named(token).is_none()
+        && !begins_line(text, span.start)
+        && (is_type(before) || block_line(text, before).is_some())
+}
+
+/// A word after VAR that this language does not have.
+fn mistaken_section(word: &[u8]) -> Option<Case> {
+    match left_out(word) {
+        _ if is_word(b"persistent", word) => Some(Case::Persistent),
+        mistake @ (Case::Constant | Case::Retain) => Some(mistake),
+        _ => None,
+    }
+}
+
+/// What a token shows on its line, before what the word before it shows.
+fn mistaken_first(text: &[u8], span: RefusalSpan, before: &[u8], token: &[u8]) -> Option<Case> {
+    match span.expected {
+        Expected::CommaOrColon if is_type_first(text, span, before, token) => Some(Case::TypeFirst),
+        Expected::CommaOrColon => mistaken_section(token),
+        expected => mistaken_after(line_before(text, span.start), token, expected),
+    }
+}
+
 /// Likewise, wherever the opening of a parenthesis is.
 fn mistaken_by_place(text: &[u8], span: RefusalSpan, token: &[u8]) -> Case {
     let before = word_before(text, span.start);
+    if let Some(mistake) = mistaken_first(text, span, before, token) {
+        return mistake;
+    }
     match (mistaken_before(before, span.expected), span.expected) {
         (Some(mistake), _) => mistake,
         (None, Expected::AssignOrSemicolon | Expected::Semicolon)
@@ -541,8 +574,8 @@ fn mistaken_duration(token: &[u8], rest: &[u8], case: Case) -> Case {
 
 /// Whether a token is an address as STL has it: a number, a point and a number, after the letter of an area.
 fn is_foreign_address(before: &[u8], token: &[u8]) -> bool {
-    let areas: [&[u8]; 5] = [b"e", b"a", b"i", b"q", b"m"];
-    is_among(&areas, before) && token.len() < 8 && token.contains(&b'.')
+    let areas: &[u8] = b"e a i q m";
+    is_among(areas, before) && token.len() < 8 && token.contains(&b'.')
 }
 
 /// Whether a word is the area and the size of an address: IX or QX.
@@ -552,13 +585,14 @@ fn is_address(word: &[u8]) -> bool {
 
 /// Whether a literal has a prefix of another tool for a duration.
 fn is_foreign_duration(token: &[u8]) -> bool {
-    let prefixes: [&[u8]; 4] = [b"s5t", b"s5time", b"ltime", b"lt"];
-    is_among(&prefixes, first_word(token))
+    let prefixes: &[u8] = b"s5t s5time ltime lt";
+    is_among(prefixes, first_word(token))
 }
 
-/// A mistake in a number.
-fn mistaken_number(before: &[u8], token: &[u8], case: Case) -> Case {
+/// A mistake in a number; `rest` begins after it.
+fn mistaken_number(before: &[u8], token: &[u8], rest: &[u8], case: Case) -> Case {
     match case {
+        Case::SignAlone if token.starts_with(b"-") && rest.starts_with(b">") => Case::ThinArrow,
         Case::WithPoint if is_foreign_address(before, token) => Case::StatementAddress,
         Case::WithPoint if is_address(before) => Case::AddressSpace,
         Case::WithBase if is_foreign_duration(token) => Case::NoDuration,
@@ -591,11 +625,11 @@ fn mistaken_program(text: &[u8], token: &[u8], case: Case) -> Case {
 
 /// A type that this language does not have.
 fn mistaken_type(word: &[u8]) -> Case {
-    if is_among(&INTEGERS, word) {
+    if is_among(INTEGERS, word) {
         Case::SmallInteger
-    } else if is_among(&REALS, word) {
+    } else if is_among(b"real lreal", word) {
         Case::RealNumber
-    } else if is_among(&TEXTS, word) {
+    } else if is_among(TEXTS, word) {
         Case::TextType
     } else if is_word(b"f_trig", word) {
         Case::FallingEdge
@@ -662,8 +696,8 @@ fn digits_at_start(text: &[u8]) -> usize {
 /// Digits and a unit of time.
 pub(crate) fn is_bare_duration(text: &[u8]) -> bool {
     let digits = digits_at_start(text);
-    let units: [&[u8]; 5] = [b"ms", b"s", b"m", b"h", b"d"];
-    digits > 0 && is_among(&units, following(text, digits))
+    let units: &[u8] = b"ms s m h d";
+    digits > 0 && is_among(units, following(text, digits))
 }
 
 /// Whether the name of a type is used as that of a variable.
@@ -677,13 +711,17 @@ fn mistake_in_reading(text: &[u8], number: u16, span: RefusalSpan, case: Case) -
     let token = excerpt(text, span.start, span.length);
     match (number, span.expected) {
         (101, _) => mistaken_byte(line_before(text, span.start), rest, case),
-        (105, _) => mistaken_number(word_before(text, span.start), token, case),
+        (105, _) => {
+            let before = word_before(text, span.start);
+            mistaken_number(before, token, following(rest, span.length), case)
+        }
         (106, _) => mistaken_duration(token, following(rest, span.length), case),
         (201, Expected::LabelColon) => {
             match mistaken_operator(token, following(rest, span.length)) {
                 Case::LabelWithoutColon if !has_jump(prefix(text, span.start), token) => {
                     Case::NoOperator
                 }
+                Case::OpenBlock if is_in_program(text, span.start) => Case::OpenProgram,
                 mistake => mistake,
             }
         }
@@ -708,7 +746,10 @@ fn mistake_in_rules(text: &[u8], number: u16, span: RefusalSpan, case: Case) -> 
         403 if is_conditional(token) => Case::NoCondition,
         403 if prefix(text, span.start).trim_ascii_end().last() == Some(&b':') => Case::AtLabel,
         403 if is_unreached(text, line_of(text, span.start)) => Case::Unreached,
-        404 => mistaken_target(token),
+        404 => match mistaken_target(token) {
+            Case::Plain if is_in_program(text, span.start) => Case::ProgramInput,
+            mistake => mistake,
+        },
         406 if span.first != 0 => Case::LabelAbove,
         408
             if matches!(token.first(), Some(b'A'..=b'Z' | b'a'..=b'z' | b'_' | b'%'))

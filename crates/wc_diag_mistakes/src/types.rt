@@ -193,10 +193,23 @@ fn follows_bit(text: &[u8], start: usize) -> bool {
     false
 }
 
+/// Whether what a refusal refers to is to be set: the target of a store, or in the list of a call the name of an input or what takes an
+/// output.
+pub fn sets(text: &[u8], span: &RefusalSpan) -> bool {
+    match span.formal {
+        Some(_) => !span.is_passed,
+        None => matches!(
+            family_of(operator_before(text, span.start)),
+            Family::Store | Family::StoreNegated | Family::Set
+        ),
+    }
+}
+
 /// What to write if types do not match: by the operator, the type of the operand and that of the result.
 pub(crate) fn type_hint(text: &[u8], token: &[u8], span: RefusalSpan) -> Case {
     match (span.case, span.result) {
         (Case::Unpassed(_, kind), _) if !span.is_passed => Case::ReadOutput(kind),
+        (Case::Instance, _) if sets(text, &span) => Case::InstanceTarget,
         (Case::Untaken(Kind::Dint), _) if is_bit(token) => Case::TruthLiteral,
         (Case::Unlike(Kind::Bool) | Case::Result, _) if follows_bit(text, span.start) => {
             Case::TruthLiteral

@@ -1,6 +1,6 @@
 ghost use Rattle.std.specs.Prelude.{◌≡◌, ◌==◌, ◌≤◌, ◌↔◌, ◌&&◌, ◌||◌, ◌<◌, ◌+◌, not, min, IsTrue, if◌then◌else◌, drop, is_some, length};
 ghost use Rattle.std.specs.List.{position_or_len};
-ghost use Rattle.wc_diag_mistakes.specs.Unreached.{FollowsLeaving, IsUnreached, after_label, begins_with_colon, block_line, declares, has_label, has_star, is_block_start, is_frame, is_leaving, leaves, line_at, line_number, may_pass};
+ghost use Rattle.wc_diag_mistakes.specs.Unreached.{FollowsLeaving, IsUnreached, after_label, begins_with_colon, block_line, declares, has_label, is_block_start, is_frame, is_leaving, leaves, line_at, line_number, may_pass};
 ghost use Rattle.wc_diag_mistakes.specs.Words.{keyword_of};
 
 use crate::slices::{following, prefix};
@@ -47,7 +47,7 @@ fn has_label(line: &[u8]) -> bool
 }
 
 /// A line after its label, if it has one.
-fn after_label(line: &[u8]) -> &[u8]
+pub(crate) fn after_label(line: &[u8]) -> &[u8]
     ensures { result.now ≡ after_label line.now }
 {
     let rest = from_word(after_word(line));
@@ -59,7 +59,7 @@ fn after_label(line: &[u8]) -> &[u8]
 }
 
 /// What the first word of a line represents, if it is a reserved word.
-fn keyword_of(line: &[u8]) -> Option<Keyword>
+pub(crate) fn keyword_of(line: &[u8]) -> Option<Keyword>
     ensures { result ≡ keyword_of line.now }
 {
     keyword_named(first_word(line))
@@ -99,25 +99,18 @@ fn is_block_start(word: Option<Keyword>) -> bool
     }
 }
 
-/// Whether a comment may begin or end on a line.
-fn has_star(line: &[u8]) -> bool
-    ensures { result ≡ has_star line.now }
-{
-    line.contains(&b'*')
-}
-
 /// Whether a line leaves by a jump or a return.
 fn leaves(line: &[u8]) -> bool
     ensures { result ≡ leaves line.now }
 {
-    !has_star(line) && is_leaving(keyword_of(after_label(line)))
+    is_leaving(keyword_of(after_label(line)))
 }
 
-/// Whether a line may be reached otherwise than from the line above, or that is not sure.
+/// Whether a line may be reached otherwise than from the line above.
 fn may_pass(line: &[u8]) -> bool
     ensures { result ≡ may_pass line.now }
 {
-    has_star(line) || has_label(line) || is_frame(keyword_of(after_label(line)))
+    has_label(line) || is_frame(keyword_of(after_label(line)))
 }
 
 /// Whether the lines up to this one leave, if this is so of those above it or not.

@@ -32,7 +32,7 @@ fn type_of<'a>(source: &Source<'a>, unit: usize, name: &[u8]) -> Option<Word<'a>
 /// The instance that a slice of an instruction refers to: that of a field, or of the call.
 fn instance_in<'a>(tokens: &[Token<'a>], excerpt: &[Token<'a>], case: Case) -> Option<Token<'a>> {
     match case {
-        Case::Field => excerpt.first().copied(),
+        Case::Field | Case::Instance => excerpt.first().copied(),
         _ if is_listed(tokens) => tokens.get(1).copied(),
         _ if excerpt.len() > 1 => excerpt.first().copied(),
         _ => None,

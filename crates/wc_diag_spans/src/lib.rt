@@ -16,3 +16,4 @@ pub use diagnostic::{Diagnostic, TextSpan};
 pub use lines::line_at;
 pub use refusal::{Evidence, Part, Refusal};
 pub use searching::find;
+pub use wc_diag_mistakes::blanked;

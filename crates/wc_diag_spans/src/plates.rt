@@ -175,6 +175,16 @@ fn advice_of(alloc: Global, rule: BrokenRule<'_>) -> Result<String, AllocError> 
     }
 }
 
+/// The key that is missing, if a text has another in its place: the one of which that is a part, else the first.
+fn likely_key<'a>(text: &[u8], key: &str, missing: &'a str) -> &'a str {
+    for counts in ["zero_counts", "span_counts"] {
+        if !key.is_empty() && counts.starts_with(key) && search_key(text, counts).is_none() {
+            return counts;
+        }
+    }
+    missing
+}
+
 /// Says which rule is broken, and points to the key that is referred to.
 fn report_rule(
     alloc: Global,
@@ -186,7 +196,10 @@ fn report_rule(
         BrokenRule::UnknownKey { key, missing } => {
             point_to(diagnostic, text, key, true);
             if let Some(missing) = missing {
-                diagnostic.advice = plate_text(alloc, PlateValues::MissingKey(missing))?;
+                diagnostic.advice = plate_text(
+                    alloc,
+                    PlateValues::MissingKey(likely_key(text, key, missing)),
+                )?;
             }
             diagnostic.report(key.as_bytes(), Case::UnknownKey)
         }

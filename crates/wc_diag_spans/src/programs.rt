@@ -12,7 +12,7 @@ use std::alloc::{AllocError, Global};
 use wc_built_in::{Keyword, keyword_named};
 use wc_diag_advice::advice_at;
 use wc_diag_mistakes::{
-    BYTE_ORDER_MARK, block_line, case_of_excerpt, difference_said, excerpt, following,
+    BYTE_ORDER_MARK, blanked, block_line, case_of_excerpt, difference_said, excerpt, following,
     follows_leaving, is_unreached, line_of, mistake_at, names_operator, names_type, prefix,
     word_before, words_at,
 };
@@ -42,14 +42,23 @@ fn case_of_token(token: &[u8]) -> Case {
     }
 }
 
-/// In which way a rule is broken at a slice of the text, which goes on like `text`.
+/// Whether a call names a function block of the text.
+fn calls_block(text: &[u8], start: usize, name: &[u8]) -> bool {
+    matches!(
+        keyword_named(word_before(text, start)),
+        Some(Keyword::Call(_))
+    ) && block_line(text, name).is_some()
+}
+
+/// In which way a rule is broken at a slice of the text.
 fn case_at(number: u16, text: &[u8], span: RefusalSpan) -> Case {
-    let token = prefix(text, span.length);
+    let token = excerpt(text, span.start, span.length);
     match (number, span.expected) {
-        (101..=107, _) => case_of_excerpt(number, text, token),
+        (101..=107, _) => case_of_excerpt(number, following(text, span.start), token),
+        (201, Expected::CommaOrColon) if is_word(b"PERSISTENT", token) => Case::LeftOut,
         (201, Expected::LabelColon) => case_of_word(token),
         (201..=208, _) => case_of_token(token),
-        (401, _) if names_type(token) => Case::BlockType,
+        (401, _) if names_type(token) || calls_block(text, span.start, token) => Case::BlockType,
         _ => span.case,
     }
 }
@@ -67,7 +76,12 @@ fn case_said(case: Case, mistake: Case) -> Case {
         | Case::Conversion
         | Case::NumberConversion => Case::StandardFunction,
         Case::Configuration | Case::OwnType => Case::Configuration,
+        Case::Constant | Case::Persistent | Case::Retain if matches!(case, Case::LeftOut) => case,
         Case::StatementAssign
+        | Case::StatementComparison
+        | Case::NoBreakSpace
+        | Case::OpenProgram
+        | Case::OpenBlock
         | Case::AtLabel
         | Case::NoCondition
         | Case::SecondProgram
@@ -117,6 +131,7 @@ fn character_length(text: &[u8]) -> usize {
 fn quoted_length(text: &[u8], number: u16, case: Case, span: &RefusalSpan) -> usize {
     match (number, case) {
         (101, Case::ByteOrderMark) => BYTE_ORDER_MARK.len(),
+        (101, Case::NoBreakSpace) => 0,
         (101, Case::Byte(128..)) => character_length(following(text, span.start)),
         (201, Case::LineEnd | Case::Constant | Case::Persistent | Case::Retain) | (202..=208, _) =>
             0,
@@ -306,6 +321,28 @@ fn detail_or(
     Ok(said)
 }
 
+/// Says what is wrong with a slice of a text whose comments are blanks: what is found is the number of bytes to quote, and the mistake.
+fn say_of_excerpt(
+    alloc: Global,
+    diagnostic: &mut Diagnostic,
+    text: &[u8],
+    number: u16,
+    span: RefusalSpan,
+) -> Result<(usize, Case), AllocError>
+    ensures text_span { diagnostic.new.text_span ≡ diagnostic.old.text_span }
+    ensures line { diagnostic.new.line ≡ diagnostic.old.line }
+{
+    let case = case_at(number, text, span);
+    let mistake = mistake_at(text, number, span, case);
+    diagnostic.expected = expected_at(span.expected, mistake);
+    let case = case_said(case, mistake);
+    let said = said_of(alloc, text, number, &span, case, mistake)?;
+    diagnostic.case = case_reported(&said, case);
+    diagnostic.detail = detail_or(alloc, said, text, number, diagnostic.line, &span)?;
+    diagnostic.advice = advice_at(alloc, text, number, &span, mistake)?;
+    Ok((quoted_length(text, number, case, &span), mistake))
+}
+
 /// Points to the slice at which a pass refuses a text, and says what is wrong with it.
 fn point_to_excerpt(
     alloc: Global,
@@ -320,16 +357,10 @@ fn point_to_excerpt(
     ensures quoted { OnOk result (IsAt text.now span.start diagnostic.new.subject.items) }
 {
     diagnostic.point(column_at(text, span.start), span.length);
-    let case = case_at(number, following(text, span.start), span);
-    let mistake = mistake_at(text, number, span, case);
-    diagnostic.expected = expected_at(span.expected, mistake);
-    let case = case_said(case, mistake);
-    let length = quoted_length(text, number, case, &span);
-    let said = said_of(alloc, text, number, &span, case, mistake)?;
-    let reported = case_reported(&said, case);
-    diagnostic.detail = detail_or(alloc, said, text, number, diagnostic.line, &span)?;
-    diagnostic.advice = advice_at(alloc, text, number, &span, mistake)?;
-    diagnostic.report(excerpt(text, span.start, length), reported)?;
+    let searched = blanked(alloc, text)?;
+    let (length, mistake) = say_of_excerpt(alloc, diagnostic, &searched, number, span)?;
+    let case = diagnostic.case;
+    diagnostic.report(excerpt(text, span.start, length), case)?;
     diagnostic.hint = mistake;
     Ok(())
 }

@@ -12,7 +12,7 @@ use crate::refusal::{Evidence, Part, Refusal};
 use crate::rows::{report_row, shown_row};
 use std::alloc::{AllocError, Global};
 use wc_diag_advice::watched_advice;
-use wc_diag_mistakes::excerpt;
+use wc_diag_mistakes::{blanked, excerpt};
 use wc_diag_texts::Case;
 use wc_record::RefusedRow;
 
@@ -147,7 +147,7 @@ fn find_name(
     if !name.is_empty() {
         diagnostic.report(name, Case::Watched)?;
     }
-    diagnostic.advice = watched_advice(alloc, program, name)?;
+    diagnostic.advice = watched_advice(alloc, &blanked(alloc, program)?, name)?;
     diagnostic.hint = Case::Watched;
     diagnostic.point(start, length);
     diagnostic.line = 1;

@@ -1,5 +1,5 @@
 -- Where the first fault of a text that has tokens is. (The profile's own.)
-use Rattle.std.specs.Prelude.{◌≡◌, ◌==◌, ℕ, ◌-◌, ◌≤◌, false, List, [], ◌∷◌, find, if◌then◌else◌, length, map, nat_lt, slice_get, Option, Some, None, ◌⊎◌}
+use Rattle.std.specs.Prelude.{◌≡◌, ◌==◌, ◌||◌, ℕ, Bool, codes, ◌-◌, ◌≤◌, false, List, [], ◌∷◌, find, if◌then◌else◌, length, map, nat_lt, slice_get, Option, Some, None, ◌⊎◌}
 use Rattle.std.specs.List.{prefix_len}
 use Rattle.std.specs.Option.{option_map_or}
 use Rattle.wc_laws_grammar.specs.Moves.{State, at_first, colon_next, fault_at, move}
@@ -7,6 +7,8 @@ use Rattle.wc_lexer.specs.Refusals.{NeedsMemory}
 use Rattle.wc_lexer.specs.TextSpans.{IsTokenTextSpan}
 use Rattle.wc_lexer.specs.Views.{shape_view, token_view}
 use Rattle.wc_lexer.specs.declared.shape.Token.{Token}
+use Rattle.wc_model.specs.Language.Declarations.{same_name}
+use Rattle.wc_model.specs.Language.Names.{name_of}
 use Rattle.wc_model.specs.Text.Grammar.{Spells}
 use Rattle.wc_model.specs.Text.Limits.{IsWithinLimits}
 use Rattle.wc_model.specs.Text.Marks.{Mark}
@@ -18,7 +20,7 @@ use Rattle.wc_model.specs.declared.fault.Fault.{Fault}
 use Rattle.wc_model.specs.declared.fault.Fault.TheVariants.{Memory, Refused}
 use Rattle.wc_diag_stops.specs.Allowed.{allowed, allowed_with}
 use Rattle.wc_diag_texts.specs.declared.expected.Expected.{Expected}
-use Rattle.wc_diag_texts.specs.declared.expected.Expected.TheVariants.{LabelColon}
+use Rattle.wc_diag_texts.specs.declared.expected.Expected.TheVariants.{CommaOrColon, LabelColon}
 
 -- A token as the grammar sees it, with its place for its line: a fault of the grammar then reports the
 -- place of the token whose line it reports.
@@ -54,10 +56,23 @@ abbrev pub word_or_token : (word token : Option Token) → Option Token
 word_or_token (Some word) (Some token) = if word.line == token.line then Some word else Some token
 word_or_token word found = found
 
+-- a word after VAR of which this language has none
+abbrev pub is_left_out : Token → Bool
+is_left_out token =
+    same_name (name_of (codes "CONSTANT")) (name_of token.text.now)
+    || same_name (name_of (codes "RETAIN")) (name_of token.text.now)
+    || same_name (name_of (codes "PERSISTENT")) (name_of token.text.now)
+
+-- such a word, if the token after it is on its line; else that token
+abbrev pub left_out_or_token : (word token : Option Token) → Option Token
+left_out_or_token (Some word) found = if is_left_out word then word_or_token (Some word) found else found
+left_out_or_token None found = found
+
 -- the offending token if one is found at that byte: if only a colon could follow a word,
--- the word, which is not an operator
+-- the word, which is not an operator; after a word of which this language has none, that word
 abbrev pub offending_at : List Token → ℕ → Expected → Option Token
 offending_at tokens place LabelColon = word_or_token (token_before tokens place) (token_at tokens place)
+offending_at tokens place CommaOrColon = left_out_or_token (token_before tokens place) (token_at tokens place)
 offending_at tokens place expected = token_at tokens place
 
 -- the line of a token that is there; else the last one

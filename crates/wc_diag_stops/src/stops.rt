@@ -9,7 +9,7 @@ ghost use Rattle.wc_model.specs.Text.Tokens.{IsCut, most_bytes};
 ghost use Rattle.wc_reader.specs.TextViews.{IsStateCounted, reading_view};
 ghost use Rattle.wc_text_short_lines.specs.Walks.{walk};
 ghost use Rattle.wc_diag_stops.specs.Allowed.{allowed_with};
-ghost use Rattle.wc_diag_stops.specs.ReadingTextSpans.{IsReadByPlaces, StopsReading, length_of, line_of, offending_at, start_of, token_at, token_before, word_or_token};
+ghost use Rattle.wc_diag_stops.specs.ReadingTextSpans.{IsReadByPlaces, StopsReading, is_left_out, left_out_or_token, length_of, line_of, offending_at, start_of, token_at, token_before, word_or_token};
 ghost use Rattle.wc_diag_stops.specs.Stopping.{IsAllowedAs, IsExcerptAt, IsStopAt, ReadsText, ReportsRaised};
 
 use crate::expected::expected_at;
@@ -18,7 +18,7 @@ use crate::span::RefusalSpan;
 use std::alloc::Global;
 use wc_diag_texts::Expected;
 use wc_lexer::{Token, tokens_or_stop};
-use wc_model::Fault;
+use wc_model::{Fault, is_word};
 use wc_reader::{Reading, at_text_end, last_line, read_at, reading_start, take_lines};
 
 /// A fault that is found, and what could be there.
@@ -143,6 +143,33 @@ fn word_or_token<'a, 't>(
     }
 }
 
+/// Whether a token is a word after VAR of which this language has none.
+fn is_left_out(token: &Token<'_>) -> bool
+    ensures { result ≡ is_left_out token.now }
+{
+    is_word(b"CONSTANT", token.text)
+        || is_word(b"RETAIN", token.text)
+        || is_word(b"PERSISTENT", token.text)
+}
+
+/// A word of which this language has none, if the token after it is on its line; else that token.
+fn left_out_or_token<'a, 't>(
+    word: Option<&'t Token<'a>>,
+    token: Option<&'t Token<'a>>,
+) -> Option<&'t Token<'a>>
+    ensures { option_copied result
+        ≡ left_out_or_token (option_copied word.entry) (option_copied token.entry) }
+{
+    match word {
+        Some(other) => if is_left_out(other) {
+            word_or_token(word, token)
+        } else {
+            token
+        },
+        None => token,
+    }
+}
+
 /// The offending token if one is found at a byte.
 fn offending_at<'a, 't>(
     tokens: &'t [Token<'a>],
@@ -153,6 +180,9 @@ fn offending_at<'a, 't>(
 {
     match expected {
         Expected::LabelColon => word_or_token(token_before(tokens, place), token_at(tokens, place)),
+        Expected::CommaOrColon => {
+            left_out_or_token(token_before(tokens, place), token_at(tokens, place))
+        }
         _ => token_at(tokens, place),
     }
 }

@@ -46,11 +46,8 @@ pub enum Case {
     NotOfBlock(StandardBlock),
     /// Likewise for a block of the text.
     NotOfOwnBlock,
-    /// A conditional instruction that no result reaches.
     NoCondition,
-    /// A label above the jump.
     LabelAbove,
-    /// An operator that does not take the result.
     Result,
     Deferred,
     Watched,
@@ -76,6 +73,11 @@ pub enum Case {
     // Mistakes that have a hint of their own.
     Utf16,
     LineComment,
+    NoBreakSpace,
+    StatementComparison,
+    QuotedName,
+    DigitGroups,
+    ThinArrow,
     NotAscii,
     Bracket,
     Quote,
@@ -96,29 +98,25 @@ pub enum Case {
     CaseStatement,
     StatementList,
     Assignment,
-    /// Instructions with commas between them, or an operator with two operands.
     InstructionComma,
-    /// An address with a comma in place of its point.
     AddressComma,
-    /// A list after the name of a unit.
     UnitList,
-    /// A unit without a name.
     UnnamedUnit,
-    /// A parenthesis after an operator that takes none.
+    TypeFirst,
+    JumpAlone,
+    JumpColon,
+    ReturnOperand,
+    CalledField,
+    EmptyArgument,
     LoadParenthesis,
     /// An output of that type, which is read to something of another type.
     ReadOutput(Kind),
-    /// A number that is not a bit.
     NoSuchNumber,
-    /// An address with a space in it.
     AddressSpace,
-    /// An assignment to a field of an instance.
     FieldAssignment,
     OpenSection,
     ListBelow,
-    /// The inputs of a call without parentheses around them.
     BareInputs,
-    /// A `)` on the line of its opening.
     ClosingOperand,
     OpenProgram,
     OpenBlock,
@@ -137,9 +135,7 @@ pub enum Case {
     InitialNumber,
     InitialTime,
     InitialInstance,
-    /// A function block that the text declares below.
     BlockBelow,
-    /// A function block in itself.
     BlockInItself,
     BlockType,
     InputArrow,
@@ -147,18 +143,14 @@ pub enum Case {
     InputAddress,
     LiteralTarget,
     OutputTarget,
+    ProgramInput,
     AtLabel,
-    /// A line that follows a jump or a return, and has no label.
     Unreached,
-    /// A divisor that is not a literal.
     VariableDivisor,
     LabelWithoutColon,
     LongDuration,
-    /// A duration below the least.
     NegativeDuration,
-    /// A duration whose units are not from days to milliseconds.
     UnitOrder,
-    /// A duration with the same unit twice in a row.
     UnitTwice,
     TypedNumber,
     TypedTruth,
@@ -193,6 +185,7 @@ pub enum Case {
     DeclarationAbove,
     MissingType,
     // Types that do not match: what makes them match.
+    InstanceTarget,
     TruthLiteral,
     StoredNumberToBool,
     StoredTimeToBool,

@@ -52,6 +52,10 @@ fn token_hint(number: u16, case: Case) -> Option<&'static str> {
         101, Case::ByteOrderMark => "save the text as ASCII, or as UTF-8 without a byte order mark";
         101, Case::Utf16 => "save the text as ASCII, or as UTF-8 without a byte order mark";
         101, Case::LineComment => "a comment is (* .. *)";
+        101, Case::NoBreakSpace => "write a space in its place";
+        101, Case::QuotedName => "write a name without quotation marks, such as LD start";
+        101, Case::DigitGroups => "write the digits together, or with underscores, such as 1_000";
+        101, Case::StatementComparison => "this looks like Siemens STL (AWL): ==I and ==D are EQ, <>I is NE, >I GT, <I LT, >=I GE and <=I LE, each with its operand, such as EQ 5";
         101, Case::NotAscii => "names have the letters A to Z and a to z, digits and underscores; comments may have any";
         101, Case::Bracket => "this language has no arrays: declare one variable for each element, such as a0, a1";
         101, Case::Quote => "this language has no strings: use a DINT with a number for each text, such as 1";
@@ -69,6 +73,7 @@ fn token_hint(number: u16, case: Case) -> Option<&'static str> {
         101, Case::Byte(b'/') => "to divide write DIV; a comment is (* .. *)";
         101, Case::Byte(b'#') => "a # belongs to a literal, such as 16#FF or T#5s";
         101, Case::Byte(b'\r') => "save the file with line ends of Windows (CR LF) or Unix (LF)";
+        105, Case::ThinArrow => "an output is read with =>, such as Q => a";
         105, Case::SignAlone => "write ADD or SUB and the number on a line of its own, such as LD n, then ADD m in place of an L m and a +I; the negative of a number is LD 0, and on the next line SUB and the number";
         105, Case::AddressSpace => "write an address without a space, such as %IX0.0";
         105, Case::WithBase => "the largest is 16#7FFFFFFF: write -2147483648 for 16#80000000, -1 for 16#FFFFFFFF";
@@ -119,6 +124,14 @@ fn reading_hint(number: u16, case: Case) -> Option<&'static str> {
         201, Case::FieldAssignment => "set an input of a block in its call, such as CAL t(IN := a), or by LD a, ST t.IN and then CAL t";
         201, Case::Constant => "write only VAR, or write the number at each place that uses it";
         201, Case::Persistent | Case::Retain => "write only VAR: a variable keeps its value from scan to scan, and none keeps it over a power failure";
+        201, Case::TypeFirst => "the name comes before its type, such as a : BOOL;";
+        201, Case::JumpAlone => "a jump names a label, such as JMPC done, and `done:` begins a line below";
+        201, Case::JumpColon => "write the label here without its colon, such as JMPC done; the line to which it leads begins with `done:`";
+        201, Case::ReturnOperand => "RET has no operand: for a condition write LD and the operand on the line above, and RETC alone";
+        201, Case::CalledField => "CAL names the instance alone, and its inputs are in the list, such as CAL t(IN := a)";
+        201, Case::EmptyArgument => "leave out an input or output that is not used, such as CAL t(IN := a)";
+        201, Case::OpenProgram => "close the unit above with END_PROGRAM";
+        201, Case::OpenBlock => "close the unit above with END_FUNCTION_BLOCK";
         201, Case::Declaration => "a declaration is `name : TYPE;`, such as a : BOOL;";
         201, Case::DeclarationAbove => "the declaration above has no `;` at its end";
         201, Case::MissingType => "a declaration names a type, such as d, e : DINT;";
@@ -193,6 +206,7 @@ fn excerpt_hint(number: u16, case: Case) -> Option<&'static str> {
         404, Case::InputAddress => "inputs are only read: store to an output, such as %QX0.0, or to a variable";
         404, Case::LiteralTarget => "ST takes a variable or an output: LD loads the value, ST names where it goes";
         404, Case::OutputTarget => "the block sets its own outputs: store to an input, or to a variable of your own";
+        404, Case::ProgramInput => "declare it in VAR: nothing calls a PROGRAM and sets its inputs";
         404, _ => "an input is set by the caller: copy it to a variable in VAR, and change the copy";
         405, _ => "store the value in a variable of your own, pass that to the input, and read the variable";
         406, Case::LabelAbove => "jumps only go forward; the whole program runs again in each scan, so to repeat it delete this jump; to repeat lines write them once for each pass, or do one pass in each scan: LD n, LT 10, JMPCN done; the lines; LD n, ADD 1, ST n (n keeps its value between scans: set it to 0 only to start again); `done:` goes on with an LD";
@@ -220,6 +234,7 @@ fn members_hint(block: StandardBlock) -> &'static str {
 fn kind_hint(number: u16, case: Case) -> Option<&'static str> {
     text_among! {
         number, case;
+        402, Case::InstanceTarget => "name one of its inputs, such as t.IN";
         402, Case::Instance => "name one of its outputs, such as t.Q";
         402, Case::NoInstance => "CAL names an instance of a function block, declared in VAR: t : TON;";
         402, Case::Unpassed(Kind::Dint, Kind::Time) => "write a duration, such as T#500ms, or pass a TIME";

@@ -17,6 +17,12 @@ pub enum InstructionValues<'a> {
     Setting(&'a str, &'a str),
     /// A label that is missing.
     NewLabel(&'a str),
+    /// A name and the type before it.
+    TypeFirst(&'a str, &'a str),
+    /// A name between quotation marks.
+    Unquoted(&'a str),
+    /// The milliseconds of a duration.
+    Duration(&'a str),
     /// A label to which nothing leads, after a jump or a return.
     UnreachedLabel(&'a str),
 }
@@ -57,6 +63,15 @@ pub fn instruction_text(
         }
         InstructionValues::NewLabel(label) => {
             format!(in alloc; "write `{label}:` at the start of a line below this jump")
+        }
+        InstructionValues::TypeFirst(name, kind) => {
+            format!(in alloc; "the name comes before its type: write `{name} : {kind};`")
+        }
+        InstructionValues::Unquoted(name) => {
+            format!(in alloc; "write the name without quotation marks: `{name}`")
+        }
+        InstructionValues::Duration(milliseconds) => {
+            format!(in alloc; "write a duration, such as T#{milliseconds}ms, or pass a TIME")
         }
         InstructionValues::UnreachedLabel(label) => {
             format!(in alloc;

@@ -18,6 +18,12 @@ pub enum NameValues<'a> {
     NoGlobal(&'a str, &'a str),
     /// A variable before a point, and its type.
     NoFields(&'a str, &'a str),
+    /// An instance of a block, and the block.
+    InstanceOf(&'a str, &'a str),
+    /// An instance, and one of its inputs.
+    Input(&'a str, &'a str),
+    /// A variable that a block has for itself, the block, and the section for those that are seen outside.
+    Hidden(&'a str, &'a str, &'a str),
     /// A block with its inputs and its outputs, in words.
     Members(&'a str, &'a str, &'a str),
 }
@@ -49,6 +55,15 @@ pub fn name_text(alloc: Global, values: NameValues<'_>) -> Result<String, AllocE
             format!(in alloc;
                 "`{name}` is a {kind}, and has no fields: only an instance has, such as t.Q of t : TON;"
             )
+        }
+        NameValues::InstanceOf(name, block) => {
+            format!(in alloc; "did you mean `{name}`, which is an instance of {block}?")
+        }
+        NameValues::Input(instance, input) => {
+            format!(in alloc; "name one of its inputs, such as {instance}.{input}")
+        }
+        NameValues::Hidden(name, block, section) => {
+            format!(in alloc; "{name} is in VAR of {block}: declare it in {section} there")
         }
         NameValues::Members(block, inputs, outputs) => {
             format!(in alloc; "{block} has {inputs} and {outputs}")

@@ -40,7 +40,8 @@ fn token_sentence(number: u16, case: Case) -> Option<&'static str> {
         number, case;
         101, Case::ByteOrderMark => "is a byte order mark, which is not allowed";
         101, Case::Utf16 => "begins a text in UTF-16";
-        101, Case::StatementAssign => "is not an operator";
+        101, Case::StatementAssign | Case::StatementComparison => "is not an operator";
+        101, Case::NoBreakSpace => "a no-break space (U+00A0) is not allowed here";
         101, _ => "is not allowed here";
         104, Case::DoubleUnderscore => "has two underscores in a row";
         104, Case::LastUnderscore => "has an underscore at its end";
@@ -69,6 +70,7 @@ fn reading_sentence(number: u16, case: Case) -> Option<&'static str> {
         201, Case::SectionWord => "is not allowed after an instruction";
         201, Case::UnitEnd => "does not end this unit";
         201, Case::NoOperator => "is not an operator or a keyword";
+        201, Case::OpenProgram | Case::OpenBlock => "begins a unit, and the one above is still open";
         201, Case::LineEnd => "the line cannot end here";
         201, Case::StandardFunction => "is a standard function, and functions are not supported";
         201, Case::Configuration => "is not supported";
