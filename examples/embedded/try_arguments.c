@@ -146,7 +146,7 @@ static unsigned long others(const void *bytes, size_t count)
     return found;
 }
 
-/* What stands next to a status is 0 if there is nothing to report: after two samples, with a request that is open, and of texts that are refused. */
+/* What is next to a status is 0 if there is nothing to report: after two samples, with a request that is open, and of texts that are refused. */
 static void zeros(narbeddo_scale *scale)
 {
     static const uint8_t wrong[] = "PROGRAM P\nLD x\nEND_PROGRAM\n";
