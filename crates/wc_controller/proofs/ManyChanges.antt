@@ -1,16 +1,18 @@
 -- As many changes of the program as one likes: each scan ends well.
-use Rattle.std.proofs.Common.{ℕ, List, [], ◌∷◌, Option, reverse}
+use Rattle.std.proofs.Common.{ℕ, List, [], ◌∷◌, Option, refl, reverse}
 use Rattle.wc_controller.proofs.ScanEndings.{ends_within}
-use Rattle.wc_controller.specs.Headline.{KeepsInTurn}
-use Rattle.wc_controller.specs.Turns.{AreLoaded, Turns, change_in, first_turn, in_turn, turns_after}
+use Rattle.wc_controller.specs.Headline.{KeepsInTurn, ShowsInTurn}
+use Rattle.wc_controller.specs.Turns.{AreLoaded, Turns, change_in, first_turn, in_turn, turns_after, with_store}
 use Rattle.wc_laws_instrument.proofs.Independence.{is_free_of_programs}
 use Rattle.wc_model.specs.Instrument.Plates.{PlateData}
 use Rattle.wc_model.specs.Language.Loading.{IsLoaded}
+use Rattle.wc_model.specs.Language.Meaning.{Outcome, Done, Stuck}
 use Rattle.wc_model.specs.Language.Scans.{initial_of, scan_of, with_image}
 use Rattle.wc_model.specs.Language.Store.{Store}
 use Rattle.wc_model.specs.Language.Tree.{Text}
 use Rattle.wc_model.specs.Run.ProcessImage.{image_after}
 use Rattle.wc_model.specs.Run.Rows.{RowData, Counts, Bytes, Inputs, Scan, Change, Past}
+use Rattle.wc_model.specs.Say.ProgramReport.{result_of}
 use Rattle.wc_model.specs.Say.Report.{state_with}
 use Rattle.wc_model.specs.declared.image.Image.{Image}
 use Rattle.wc_model.specs.declared.value.Value.{Value}
@@ -64,12 +66,22 @@ sound_after : (plate : PlateData) (turns : Turns) → AreSound turns → (past :
 sound_after plate turns sound [] = sound
 sound_after plate turns sound (row ∷ past) = sound_with plate row.brings row.ms past (turns_after plate turns past) (sound_after plate turns sound past)
 
+-- what a scan that ends shows
+shows_in_turn : (first : Store) (turns : Turns) (outcome : Outcome) → EndsWell (λ (result : Option Value). Unit {0}) first outcome
+    → ShowsInTurn turns outcome (with_store turns (result_of turns.store outcome))
+shows_in_turn first turns (Done result store trace) well = (refl, refl, refl)
+shows_in_turn first turns (Stuck reason) well = absurd well
+
 -- a loaded text keeps to itself, whatever loaded texts follow it
 pub keeps_in_turn : (plate : PlateData) (bytes : List ℕ) (text : Text) → IsLoaded bytes text → (nexts : List Text) → AreLoaded nexts → KeepsInTurn plate (first_turn text nexts)
 keeps_in_turn plate bytes text loaded nexts others = record {
   scan = λ past ms bound longest.
       let turns : Turns = turns_after plate (first_turn text nexts) past in
       ends_within (reverse turns.text) bound (initial_of turns.text) (with_image (image_after plate past) turns.store) ms longest
+      (sound_scan turns (sound_after plate (first_turn text nexts) (first_sound bytes text loaded nexts others) past) (image_after plate past) ms);
+  shown = λ past ms.
+      let turns : Turns = turns_after plate (first_turn text nexts) past in
+      shows_in_turn (initial_of turns.text) turns (scan_of turns.text turns.store (image_after plate past) ms)
       (sound_scan turns (sound_after plate (first_turn text nexts) (first_sound bytes text loaded nexts others) past) (image_after plate past) ms);
   line = λ rows. is_free_of_programs plate in_turn (first_turn text nexts) rows;
 }

@@ -60,12 +60,21 @@ pub record KeepsOverAChange (plate : PlateData) (text : Text) (next : Option Tex
       (programs.scan (logic_following plate (first_logic text next) past) (image_after plate past) ms)
   pub line : (rows : List LogRow) → AreRun next rows → IsFreeOfPrograms plate programs (first_logic text next) rows
 
+-- the same of one of several programs that follow one another
+abbrev pub ShowsInTurn : Turns → Outcome → ScanResult Turns → Type 0
+ShowsInTurn turns (Done result store trace) shown =
+    (shown.steps ≡ length trace) × (shown.outputs ≡ outputs_of store) × (shown.after ≡ record { text = turns.text; store = store; nexts = turns.nexts })
+ShowsInTurn turns (Stuck reason) shown = ⊥
+
 -- Likewise for a program that others follow, as many as there are: after whatever rows, in whatever
--- order scans and changes come, the next scan of the text that runs then ends within its bound, and
--- the answers are those of a run with no program.
+-- order scans and changes come, the next scan of the text that runs then ends within its bound, its
+-- line shows what that scan means, and the answers are those of a run with no program.
 pub record KeepsInTurn (plate : PlateData) (first : Turns) : Type 0 where
   pub scan : (past : Past) (ms bound : ℕ) → IsProgramBound (turns_after plate first past).text bound →
       EndsWithin bound (scan_of (turns_after plate first past).text (turns_after plate first past).store (image_after plate past) ms)
+  pub shown : (past : Past) (ms : ℕ) →
+      ShowsInTurn (turns_after plate first past) (scan_of (turns_after plate first past).text (turns_after plate first past).store (image_after plate past) ms)
+      (in_turn.scan (turns_after plate first past) (image_after plate past) ms)
   pub line : (rows : List LogRow) → IsFreeOfPrograms plate in_turn first rows
 
 -- Each loaded text has a bound, and with it keeps to itself with every plate; and so it does over a
