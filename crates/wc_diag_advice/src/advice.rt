@@ -1,8 +1,8 @@
 use crate::fields::{input_advice, number_advice, point_advice};
 use crate::members::{hidden_advice, input_of, member_advice};
 use crate::near::{
-    Wanted, advice_for, has_word, instance_advice, label_advice, operator_advice, type_advice,
-    unit_advice,
+    Wanted, advice_for, has_word, instance_advice, label_advice, near_word, operator_advice,
+    type_advice, unit_advice,
 };
 use std::alloc::{AllocError, Global};
 use wc_built_in::{Keyword, keyword_named, variable_at};
@@ -29,13 +29,7 @@ pub(crate) fn short_words(text: &[u8]) -> &str {
 
 /// The likely operator for one whose letters are exchanged.
 fn exchanged_advice(alloc: Global, word: &[u8]) -> Result<String, AllocError> {
-    let likely = if is_word(b"jmpnc", word) {
-        "JMPCN"
-    } else if is_word(b"calnc", word) {
-        "CALCN"
-    } else {
-        "RETCN"
-    };
+    let likely = near_word(b"JMPCN CALCN RETCN", word);
     name_text(
         alloc,
         NameValues::NearOf(likely, "The C comes before the N"),
@@ -261,7 +255,7 @@ fn advice_of_token(
 ) -> Result<String, AllocError> {
     let word = excerpt(text, span.start, span.length);
     match (number, mistake) {
-        (201, Case::NoOperator) => operator_advice(alloc, word),
+        (201, Case::NoOperator) => operator_advice(alloc, text, word, span.start),
         (201, Case::LabelWithoutColon) => colon_advice(alloc, word),
         (201, Case::NoUnit) => unit_advice(alloc, word),
         (201, Case::ConditionSpelling) => exchanged_advice(alloc, word),

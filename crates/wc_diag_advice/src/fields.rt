@@ -2,30 +2,12 @@ use crate::advice::short_words;
 use crate::near::{Wanted, has_word, near_name};
 use std::alloc::{AllocError, Global};
 use wc_built_in::variable_at;
-use wc_diag_mistakes::{excerpt, first_word, following, prefix, word_before, words_at};
+use wc_diag_mistakes::{block_with, excerpt, first_word, following, prefix, word_before, words_at};
 use wc_diag_stops::RefusalSpan;
 use wc_diag_texts::{InstructionValues, NameValues, instruction_text, name_text};
-use wc_model::is_word;
 
 /// The greatest bit of a number that is not negative.
 const GREATEST_BIT: u32 = 30;
-
-/// The block that an instance may be of, if one of its fields has that name; empty if no standard block has it.
-fn block_with(field: &[u8]) -> &'static str {
-    let timer: [&[u8]; 4] = [b"q", b"et", b"in", b"pt"];
-    let counter: [&[u8]; 3] = [b"cv", b"cu", b"pv"];
-    if timer.iter().any(|name| is_word(name, field)) {
-        "TON"
-    } else if counter.iter().any(|name| is_word(name, field)) {
-        "CTU"
-    } else if is_word(b"clk", field) {
-        "R_TRIG"
-    } else if is_word(b"q1", field) || is_word(b"s1", field) {
-        "SR"
-    } else {
-        ""
-    }
-}
 
 /// What to write for a name before a point that the unit does not declare, and the name after it.
 fn undeclared_advice(

@@ -2,7 +2,7 @@ use wc_model::is_word;
 
 /// Operators of other tools and languages, with what to write for each. Without this list a name that is spelled almost as one of them,
 /// and does something else, would be suggested.
-const FOREIGN: [(&str, &str); 27] = [
+const FOREIGN: [(&str, &str); 26] = [
     ("LDI LDNOT", "did you mean `LDN`?"),
     ("ANI ANDI", "did you mean `ANDN`?"),
     ("ORI", "did you mean `ORN`?"),
@@ -47,7 +47,6 @@ const FOREIGN: [(&str, &str); 27] = [
         "DEC",
         "write LD n, on the next line SUB 1, on the next ST n",
     ),
-    ("END BE", "did you mean `END_PROGRAM`?"),
     ("BEA BEU", "did you mean `RET`?"),
     ("BEB BEC", "did you mean `RETC`?"),
     ("SE SD SI SP SA SF SV SS TIM", TIMER),

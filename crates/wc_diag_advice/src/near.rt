@@ -1,15 +1,17 @@
-use crate::advice::short_words;
 use crate::foreign::foreign_advice;
 use memchr::memchr;
 use std::alloc::{AllocError, Global};
 use wc_built_in::{Keyword, elementary_type, keyword_named};
-use wc_diag_mistakes::{first_word, following, is_near, prefix, word_before};
+use wc_diag_mistakes::{first_word, following, is_in_program, is_near, prefix, word_before};
 use wc_diag_texts::{InstructionValues, NameValues, instruction_text, name_text};
-use wc_model::Section;
+use wc_model::{Section, is_word};
 
 /// The operators.
 const OPERATORS: &[u8] =
-    b"LD LDN ST STN S R AND ANDN OR ORN XOR XORN NOT ADD SUB MUL DIV MOD GT GE EQ NE LE LT JMP JMPC JMPCN CAL CALC CALCN RET RETC RETCN END_PROGRAM END_FUNCTION_BLOCK END_VAR VAR_INPUT VAR_OUTPUT VAR";
+    b"LD LDN ST STN S R AND ANDN OR ORN XOR XORN NOT ADD SUB MUL DIV MOD GT GE EQ NE LE LT JMP JMPC JMPCN CAL CALC CALCN RET RETC RETCN";
+
+/// The words with which a section begins.
+const SECTION_WORDS: &[u8] = b"VAR_INPUT VAR_OUTPUT VAR";
 
 /// The words with which a unit begins.
 const UNIT_WORDS: &[u8] = b"PROGRAM FUNCTION_BLOCK";
@@ -18,23 +20,60 @@ const UNIT_WORDS: &[u8] = b"PROGRAM FUNCTION_BLOCK";
 const TYPES: &[u8] = b"BOOL DINT TIME R_TRIG SR RS CTU TON TOF TP";
 
 /// Which of some words another may be a misspelling of; empty if none is near.
-fn word_advice(alloc: Global, words: &[u8], word: &[u8]) -> Result<String, AllocError> {
+pub(crate) fn near_word(words: &'static [u8], word: &[u8]) -> &'static str {
     for other in words.split(|byte| *byte == b' ') {
         if is_near(other, word) {
-            return name_text(alloc, NameValues::Near(short_words(other)));
+            return str::from_utf8(other).unwrap_or("");
         }
     }
-    Ok(String::new(alloc))
+    ""
+}
+
+/// What to write for it; empty if none is near.
+fn word_advice(alloc: Global, words: &'static [u8], word: &[u8]) -> Result<String, AllocError> {
+    let near = near_word(words, word);
+    if near.is_empty() {
+        return Ok(String::new(alloc));
+    }
+    name_text(alloc, NameValues::Near(near))
 }
 
 /// What to write for a word that begins a line and is neither an operator nor a keyword: that of another tool, or one that it may be a
 /// misspelling of.
-pub(crate) fn operator_advice(alloc: Global, word: &[u8]) -> Result<String, AllocError> {
+pub(crate) fn operator_advice(
+    alloc: Global,
+    text: &[u8],
+    word: &[u8],
+    place: usize,
+) -> Result<String, AllocError> {
+    let end = if is_in_program(text, place) {
+        "END_PROGRAM"
+    } else {
+        "END_FUNCTION_BLOCK"
+    };
     let foreign = foreign_advice(word);
-    if foreign.is_empty() {
-        return word_advice(alloc, OPERATORS, word);
+    if !foreign.is_empty() {
+        return format!(in alloc; "{foreign}");
     }
-    format!(in alloc; "{foreign}")
+    if is_near(end.as_bytes(), word) || is_word(b"END", word) || is_word(b"BE", word) {
+        return name_text(alloc, NameValues::Near(end));
+    }
+    let near = word_advice(alloc, OPERATORS, word)?;
+    if near.is_empty() && begins_body(text, place) {
+        return word_advice(alloc, SECTION_WORDS, word);
+    }
+    Ok(near)
+}
+
+/// Whether nothing but the head of its unit or a section of declarations is above a place: another section may begin there.
+fn begins_body(text: &[u8], place: usize) -> bool {
+    let above = prefix(text, place).trim_ascii_end();
+    let line = above
+        .rsplit(|byte| *byte == b'\n')
+        .next()
+        .unwrap_or(b"")
+        .trim_ascii();
+    ends_section(line) || matches!(keyword_on(line), (Some(Keyword::UnitStart(_)), _))
 }
 
 /// Which keyword a word that begins no unit may be a misspelling of.

@@ -12,7 +12,7 @@ fn plate_a() -> &'static str {
 }
 
 /// Writes a line of a page: what it says, and its words.
-fn write_line(message: &mut Message, name: &str, words: &str) -> Result<(), AllocError>
+pub(crate) fn write_line(message: &mut Message, name: &str, words: &str) -> Result<(), AllocError>
     ensures { OnOk result (message.new.bytes.items
         ≡ message.old.bytes.items ++ page_line name.now words.now) }
 {

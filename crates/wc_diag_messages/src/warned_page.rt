@@ -2,17 +2,10 @@ ghost use Rattle.std.specs.Prelude.{◌≡◌, IfOk, is_some};
 ghost use Rattle.wc_diag_texts.specs.Numbers.{is_from};
 
 use crate::message::Message;
+use crate::page::write_line;
 use crate::warned_lines::write_warning_number;
 use crate::warning_entries::{WarningEntry, warning_of};
 use std::alloc::{AllocError, Global};
-
-/// Writes a line of the page of a warning.
-fn write_page_line(message: &mut Message, name: &str, words: &str) -> Result<(), AllocError> {
-    message.say(name)?;
-    message.say(": ")?;
-    message.say(words)?;
-    message.end_line()
-}
 
 /// The page of a warning, as it is printed.
 fn page_of(alloc: Global, entry: &WarningEntry) -> Result<Message, AllocError> {
@@ -22,9 +15,9 @@ fn page_of(alloc: Global, entry: &WarningEntry) -> Result<Message, AllocError> {
     message.say(entry.subject)?;
     message.say(entry.sentence)?;
     message.end_line()?;
-    write_page_line(&mut message, "place", entry.place)?;
-    write_page_line(&mut message, "example (` / ` is a line end)", entry.input)?;
-    write_page_line(&mut message, "help", entry.hint)?;
+    write_line(&mut message, "place", entry.place)?;
+    write_line(&mut message, "example (` / ` is a line end)", entry.input)?;
+    write_line(&mut message, "help", entry.hint)?;
     Ok(message)
 }
 

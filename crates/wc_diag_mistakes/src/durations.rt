@@ -33,12 +33,9 @@ fn number_of(digits: &[u8]) -> u64 {
 
 /// The number of bytes at the start of a text up to the first that is a letter, or is none.
 fn length_until(text: &[u8], letter: bool) -> usize {
-    for count in 0..text.len() {
-        if text[count].is_ascii_alphabetic() == letter {
-            return count;
-        }
-    }
-    text.len()
+    text.iter()
+        .take_while(|byte| byte.is_ascii_alphabetic() != letter)
+        .count()
 }
 
 /// The milliseconds of the first number of a duration with its unit, without a fraction, and what comes after them.

@@ -4,14 +4,7 @@ use wc_diag_texts::Case;
 
 /// Two underscores in a row.
 fn has_double_underscore(text: &[u8]) -> bool {
-    let mut before = false;
-    for byte in text {
-        if *byte == b'_' && before {
-            return true;
-        }
-        before = *byte == b'_';
-    }
-    false
+    text.windows(2).any(|pair| pair.starts_with(b"__"))
 }
 
 /// What is wrong with an identifier.
@@ -27,12 +20,10 @@ fn case_of_word(text: &[u8]) -> Case {
 
 /// Digits with single underscores between them.
 fn are_digits(text: &[u8]) -> bool {
-    for byte in text {
-        if !byte.is_ascii_digit() && *byte != b'_' {
-            return false;
-        }
-    }
-    !has_double_underscore(text) && text.last() != Some(&b'_')
+    text.iter()
+        .all(|byte| byte.is_ascii_digit() || *byte == b'_')
+        && !has_double_underscore(text)
+        && text.last() != Some(&b'_')
 }
 
 /// A sign, if any, and digits with single underscores between them.

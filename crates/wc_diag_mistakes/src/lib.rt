@@ -15,7 +15,7 @@ mod words;
 pub use comments::blanked;
 pub use differences::{block_of, difference_said, names_operator, words_at};
 pub use excerpts::{BYTE_ORDER_MARK, case_of_excerpt};
-pub use mistakes::{mistake_at, names_type};
+pub use mistakes::{block_with, is_in_program, mistake_at, names_type};
 pub use slices::{excerpt, following, line_of, prefix};
 pub use types::sets;
 pub use unreached::{block_line, follows_leaving, is_unreached};

@@ -318,18 +318,11 @@ fn is_type(word: &[u8]) -> bool {
 
 /// Whether nothing but blanks is between a place and the line end before it.
 fn begins_line(text: &[u8], start: usize) -> bool {
-    let above = prefix(text, start);
-    for count in 0..above.len() {
-        match above[above.len() - count - 1] {
-            b' ' | b'\t' | b'\r' => {}
-            byte => return byte == b'\n',
-        }
-    }
-    false
+    line_before(text, start).trim_ascii().is_empty() && prefix(text, start).contains(&b'\n')
 }
 
 /// Whether the unit around a place is the program: whether the line above it that begins a unit does so with PROGRAM.
-fn is_in_program(text: &[u8], place: usize) -> bool {
+pub fn is_in_program(text: &[u8], place: usize) -> bool {
     for line in prefix(text, place).rsplit(|byte| *byte == b'\n') {
         if let Some(Keyword::UnitStart(kind)) = keyword_named(first_word(line)) {
             return matches!(kind, UnitKind::Program);
@@ -685,12 +678,9 @@ fn mistaken_target(target: &[u8]) -> Case {
 
 /// The number of digits, points and underscores at the start of a text.
 fn digits_at_start(text: &[u8]) -> usize {
-    for count in 0..text.len() {
-        if !matches!(text[count], b'0'..=b'9' | b'.' | b'_') {
-            return count;
-        }
-    }
-    text.len()
+    text.iter()
+        .take_while(|byte| matches!(byte, b'0'..=b'9' | b'.' | b'_'))
+        .count()
 }
 
 /// Digits and a unit of time.
@@ -698,6 +688,23 @@ pub(crate) fn is_bare_duration(text: &[u8]) -> bool {
     let digits = digits_at_start(text);
     let units: &[u8] = b"ms s m h d";
     digits > 0 && is_among(units, following(text, digits))
+}
+
+/// The standard block that has a field of that name; empty if none has, or if that is not sure.
+pub fn block_with(field: &[u8]) -> &'static str {
+    if is_among(b"q et in pt", field) {
+        "TON"
+    } else if is_among(b"cv cu pv", field) {
+        "CTU"
+    } else if is_word(b"clk", field) {
+        "R_TRIG"
+    } else if is_among(b"q1 s1", field) {
+        "SR"
+    } else if is_word(b"r1", field) {
+        "RS"
+    } else {
+        ""
+    }
 }
 
 /// Whether the name of a type is used as that of a variable.

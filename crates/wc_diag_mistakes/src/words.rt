@@ -6,13 +6,10 @@ use crate::slices::{following, prefix};
 
 /// The number of letters, digits and underscores at the end of a text.
 pub(crate) fn letters_at_end(text: &[u8]) -> usize {
-    for count in 0..text.len() {
-        let byte = text[text.len() - count - 1];
-        if !byte.is_ascii_alphanumeric() && byte != b'_' {
-            return count;
-        }
-    }
-    text.len()
+    text.iter()
+        .rev()
+        .take_while(|byte| byte.is_ascii_alphanumeric() || **byte == b'_')
+        .count()
 }
 
 /// The word that ends right before a place, blanks apart; empty if there is none.
@@ -29,30 +26,21 @@ fn are_alike(a: Option<u8>, b: Option<u8>) -> bool {
     }
 }
 
-/// The byte before that number of bytes at the end of a text.
-fn byte_from_end(text: &[u8], count: usize) -> Option<u8> {
-    text.get(text.len().checked_sub(count.saturating_add(1))?)
-        .copied()
-}
-
 /// The number of bytes at the start of both that are the same letters.
 fn same_prefix(a: &[u8], b: &[u8]) -> usize {
-    for count in 0..a.len() {
-        if !are_alike(a.get(count).copied(), b.get(count).copied()) {
-            return count;
-        }
-    }
-    a.len()
+    a.iter()
+        .zip(b.iter())
+        .take_while(|(a, b)| a.eq_ignore_ascii_case(b))
+        .count()
 }
 
 /// The number of bytes at the end of both that are the same letters.
 fn same_end(a: &[u8], b: &[u8]) -> usize {
-    for count in 0..a.len() {
-        if !are_alike(byte_from_end(a, count), byte_from_end(b, count)) {
-            return count;
-        }
-    }
-    a.len()
+    a.iter()
+        .rev()
+        .zip(b.iter().rev())
+        .take_while(|(a, b)| a.eq_ignore_ascii_case(b))
+        .count()
 }
 
 /// Whether the letter at a place of one name is that after the same place of the other, and the letter after it that at the place.

@@ -23,22 +23,16 @@ struct KeyLine {
 
 /// The number of leading spaces and tabs.
 fn blanks(text: &[u8]) -> usize {
-    for count in 0..text.len() {
-        if text[count] != b' ' && text[count] != b'\t' {
-            return count;
-        }
-    }
-    text.len()
+    text.iter()
+        .take_while(|byte| matches!(byte, b' ' | b'\t'))
+        .count()
 }
 
 /// The number of bytes of a value, up to a blank, a comment or the line's end.
 fn value_length(text: &[u8]) -> usize {
-    for count in 0..text.len() {
-        if text[count] <= b' ' || text[count] == b'#' {
-            return count;
-        }
-    }
-    text.len()
+    text.iter()
+        .take_while(|byte| **byte > b' ' && **byte != b'#')
+        .count()
 }
 
 /// Where that key is given its value, if the first line does so, with that number of lines above it.
@@ -64,12 +58,7 @@ fn key_on(line: &[u8], above: usize, name: &str) -> Option<KeyLine> {
 
 /// The number of line feeds with which a text begins.
 fn feeds(text: &[u8]) -> usize {
-    for count in 0..text.len() {
-        if text[count] != b'\n' {
-            return count;
-        }
-    }
-    text.len()
+    text.iter().take_while(|byte| **byte == b'\n').count()
 }
 
 /// Searches the text for the one line that gives a value to that key: once through it, line by line. Nothing is found if

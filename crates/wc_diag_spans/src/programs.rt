@@ -12,9 +12,9 @@ use std::alloc::{AllocError, Global};
 use wc_built_in::{Keyword, keyword_named};
 use wc_diag_advice::advice_at;
 use wc_diag_mistakes::{
-    BYTE_ORDER_MARK, blanked, block_line, case_of_excerpt, difference_said, excerpt, following,
-    follows_leaving, is_unreached, line_of, mistake_at, names_operator, names_type, prefix,
-    word_before, words_at,
+    BYTE_ORDER_MARK, blanked, block_line, block_with, case_of_excerpt, difference_said, excerpt,
+    following, follows_leaving, is_unreached, line_of, mistake_at, names_operator, names_type,
+    prefix, word_before, words_at,
 };
 use wc_diag_places::{read_by_places, text_span_in};
 use wc_diag_stops::{Brought, LabelPaths, PathToLabel, RefusalSpan, stop_of};
@@ -163,16 +163,9 @@ fn detail_of(
 
 /// The block whose input a word is, if it is used as an operator.
 fn block_of_input(word: &[u8]) -> &'static str {
-    if is_word(b"clk", word) {
-        "R_TRIG"
-    } else if is_word(b"s1", word) {
-        "SR"
-    } else if is_word(b"r1", word) {
-        "RS"
-    } else if is_word(b"cu", word) || is_word(b"pv", word) {
-        "CTU"
-    } else {
-        "TON, TOF and TP"
+    match block_with(word) {
+        "TON" => "TON, TOF and TP",
+        block => block,
     }
 }
 

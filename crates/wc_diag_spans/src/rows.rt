@@ -93,12 +93,7 @@ fn report_fields(diagnostic: &mut Diagnostic, row: &RefusedRow, place: u32) {
 
 /// Whether all bytes are digits, of which there is one at least.
 fn are_digits(text: &[u8]) -> bool {
-    for byte in text {
-        if !byte.is_ascii_digit() {
-            return false;
-        }
-    }
-    !text.is_empty()
+    !text.is_empty() && text.iter().all(|byte| byte.is_ascii_digit())
 }
 
 /// What is wrong with a number of at most that number of digits.

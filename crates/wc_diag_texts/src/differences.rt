@@ -3,27 +3,16 @@ use std::alloc::{AllocError, Global};
 /// What does not match, by the names of types, operators and blocks.
 #[derive(Clone, Copy)]
 pub enum Difference<'a> {
-    /// The type of an operand, and that of the result before it, which a line made.
     Unlike(&'a str, &'a str, u32),
-    /// The type of an operand, its operator, and the types that this takes.
     Untaken(&'a str, &'a str, &'a str),
-    /// The types that an operator takes, and the type of the result before it, which a line made.
     Needs(&'a str, &'a str, u32),
-    /// Likewise for an operator that is named.
     Takes(&'a str, &'a str, &'a str, u32),
-    /// The type of the result in a parenthesis, and of that before it, each made by a line.
     Closes(&'a str, u32, &'a str, u32),
-    /// The type of a value, and the input with its block and its type.
     Passed(&'a str, &'a str, &'a str, &'a str),
-    /// The type of a target, and the output with its block and its type.
     Taken(&'a str, &'a str, &'a str, &'a str),
-    /// The block of an output to which a value is passed.
     OutputPassed(&'a str),
-    /// The block of an input that is read.
     InputRead(&'a str),
-    /// The block that has no such input.
     NoInput(&'a str),
-    /// The block that has no such output.
     NoOutput(&'a str),
 }
 

@@ -3,27 +3,16 @@ use std::alloc::{AllocError, Global};
 /// Values of an instruction, which are named in a hint.
 #[derive(Clone, Copy)]
 pub enum InstructionValues<'a> {
-    /// An area of another tool with a number, before a point and a bit.
     ForeignBit(&'a str),
-    /// The hint for lines of STL outside a unit.
     Framed(&'a str),
-    /// An instance that is called without parentheses, and its input.
     BareInput(&'a str, &'a str),
-    /// A bit, the variable before its point, and the power of two that divides it.
     Bit(u32, &'a str, u32),
-    /// A word that may be a label.
     LabelColon(&'a str),
-    /// An input, and the instance whose it is.
     Setting(&'a str, &'a str),
-    /// A label that is missing.
     NewLabel(&'a str),
-    /// A name and the type before it.
     TypeFirst(&'a str, &'a str),
-    /// A name between quotation marks.
     Unquoted(&'a str),
-    /// The milliseconds of a duration.
     Duration(&'a str),
-    /// A label to which nothing leads, after a jump or a return.
     UnreachedLabel(&'a str),
 }
 

@@ -3,28 +3,16 @@ use std::alloc::{AllocError, Global};
 /// Values of a name, which are named in a hint.
 #[derive(Clone, Copy)]
 pub enum NameValues<'a> {
-    /// A declared name that is spelled almost alike.
     Near(&'a str),
-    /// A declared name that is spelled almost alike, and what else there is.
     NearOf(&'a str, &'a str),
-    /// A word and its line, if it may be a misspelled END_VAR.
     NearEnd(&'a str, u32),
-    /// An instance that is not declared, and the block of which it may be.
     NewInstance(&'a str, &'a str),
-    /// A declared name that is spelled almost alike, and the name after its point, which only an instance has; an instance that is
-    /// not declared, and the block of which it may be.
     NearOrInstance(&'a str, &'a str, &'a str, &'a str),
-    /// A name before a point that is not declared, and the name after it.
     NoGlobal(&'a str, &'a str),
-    /// A variable before a point, and its type.
     NoFields(&'a str, &'a str),
-    /// An instance of a block, and the block.
     InstanceOf(&'a str, &'a str),
-    /// An instance, and one of its inputs.
     Input(&'a str, &'a str),
-    /// A variable that a block has for itself, the block, and the section for those that are seen outside.
     Hidden(&'a str, &'a str, &'a str),
-    /// A block with its inputs and its outputs, in words.
     Members(&'a str, &'a str, &'a str),
 }
 

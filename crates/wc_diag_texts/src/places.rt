@@ -3,19 +3,12 @@ use std::alloc::{AllocError, Global};
 /// Values of a place of the text, which are named in a sentence.
 #[derive(Clone, Copy)]
 pub enum PlaceValues<'a> {
-    /// The line of the first of two that have one name.
     FirstLine(u32),
-    /// The line of the innermost parenthesis that is open.
     OpenSince(u32),
-    /// The line of the label above a jump.
     LabelLine(u32),
-    /// A slice that is referred to, its line, and what is said of it.
     Below(&'a str, u32, &'a str),
-    /// The line on which a function block is declared.
     BlockBelow(u32),
-    /// A word and a number, of which another tool makes an address.
     ForeignAddress(&'a str, &'a str),
-    /// The block whose input is used as an operator.
     InputOf(&'a str),
 }
 
