@@ -268,8 +268,9 @@ narbeddo_variable narbeddo_value(const narbeddo_scale *scale, const uint8_t *nam
  *     if has_tare is 1, `window` samples of `tare` and the bytes 10, 'T', 13;
  *     the `count` samples; the inputs; and the `length` bytes of the request.
  *
- * From then on each answer, reading and scan of that scale is what it would have been here. In a log these are at most 52 rows
- * (docs/LOG.md, 4, "A log that is cut"; examples/embedded/record.c). */
+ * From then on each answer and each reading of that scale, and all that a scan sees, is what it would have been here. Nothing of the program
+ * is in it: one that is loaded there starts over, so its scans may have other outputs. In a log these are at most 52 rows (docs/LOG.md, 4,
+ * "A log that is cut"; examples/embedded/record.c). */
 typedef struct narbeddo_state {
     uint32_t status;
     uint32_t window;     /* how many samples the plate's window holds, 2 to 16 */
