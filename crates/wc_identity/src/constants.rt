@@ -7,7 +7,7 @@ macro_rules! with_constants {
             "0.1.0",
             "rattle-kit-13 logic dac8208d650f15bf",
             "1dde7c72ae67ac2419322ceddbf2693e62cd12cf6f95026a93509e8e4b8929ca",
-            "5476e66bb0ddd7ea6056bc29bf5acfa890183ba6eddc949c4fa42bce0170831e"
+            "85c881080f16c285e0cfdbccfee9f5d5de59302f656361fe2b01b3bb4cb27bf5"
         )
     };
 }
