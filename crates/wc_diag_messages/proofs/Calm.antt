@@ -5,20 +5,15 @@ use Rattle.std.proofs.lemmas.Bool.Decides.{nat_tests}
 use Rattle.std.proofs.lemmas.Str.{IsCharBoundary-start, IsUtf8-from_is_utf8}
 use Rattle.std.specs.Str.{is_utf8}
 use Rattle.wc_diag_messages.specs.Plain.{acts, acts_nowhere, is_calm, is_control, passes}
+use Rattle.wc_view_trace_rows.proofs.Acting.{begin_not, no_fourth, no_second, no_third}
 use Rattle.wc_view_trace_rows.specs.Shown.{acting_by, acting_length}
 
--- no character ends with a byte with which another begins
-no_second : (first second third : ℕ) → (128 ≤ second → 192 ≤ second) → acting_by first second third ≡ 0
-no_second first second third begins = grind (arith, nat_tests)
-
-no_third : (first second third : ℕ) → acting_by first second 0 ≡ 0 → (128 ≤ third → 192 ≤ third) → acting_by first second third ≡ 0
-no_third first second third none begins = grind (arith, nat_tests)
-
--- so more text after a character makes it no other
+-- no character ends with a byte with which another begins, so more text after a character makes it no other
 before_more : (byte : ℕ) (bytes more : List ℕ) → (128 ≤ get_or more 0 0 → 192 ≤ get_or more 0 0) → acting_length (byte ∷ bytes) ≡ 0 → acting_length (byte ∷ (bytes ++ more)) ≡ 0
-before_more byte [] more begins none = no_second byte (get_or more 0 0) (get_or more 1 0) begins
-before_more byte (second ∷ []) more begins none = no_third byte second (get_or more 0 0) none begins
-before_more byte (second ∷ third ∷ rest) more begins none = none
+before_more byte [] more begins none = no_second byte (get_or more 0 0) (get_or more 1 0) (get_or more 2 0) (begin_not (get_or more 0 0) begins)
+before_more byte (second ∷ []) more begins none = no_third byte second 0 0 (get_or more 0 0) (get_or more 1 0) none (begin_not (get_or more 0 0) begins)
+before_more byte (second ∷ third ∷ []) more begins none = no_fourth byte second third 0 (get_or more 0 0) none (begin_not (get_or more 0 0) begins)
+before_more byte (second ∷ third ∷ fourth ∷ rest) more begins none = none
 
 silent : (n : ℕ) → not (nat_lt 0 n) ≡ true → n ≡ 0
 silent n e = grind (arith, nat_tests)
@@ -45,7 +40,7 @@ calm_kept false old more new e first second text = ap acts_nowhere e ∙ first
 -- a byte of ASCII
 pub ascii_is_calm : (byte : ℕ) → byte < 128 → acts_nowhere (byte ∷ []) ≡ true
 ascii_is_calm byte less =
-    let none : acting_by byte 0 0 ≡ 0 = no_second byte 0 0 (λ high. absurd (omega (arith, high))) in
+    let none : acting_by byte 0 0 0 ≡ 0 = no_second byte 0 0 0 refl in
     both (not (acts (byte ∷ []))) true (ap (λ n. not (nat_lt 0 n)) none) refl
 
 no_act : (control other rest : Bool) → (not (control || other) && rest) ≡ true → not other ≡ true

@@ -9,14 +9,16 @@ use crate::view::{HEIGHT, TOP, View};
 use std::alloc::{AllocError, Global};
 use wc_view_columns::{Column, Lane, lanes_of, whole};
 
-/// Puts what precedes all that is drawn.
-fn put_head(out: &mut Sheet, bottom: u64) {
+/// Puts what precedes all that is drawn, with the name of the picture for a reader who does not see it.
+fn put_head(out: &mut Sheet, view: &View<'_>, rows: u32, all: Option<&Column>, bottom: u64) {
     let height = bottom.saturating_add(240) / 10;
     out.put("<svg xmlns=\"http://www.w3.org/2000/svg\" viewBox=\"0 0 1000 ");
     out.whole(height);
     out.put("\" width=\"1000\" height=\"");
     out.whole(height);
-    out.put("\" role=\"img\">\n");
+    out.put("\" role=\"img\" aria-label=\"A run of a scale: ");
+    put_counts(out, view, rows, all);
+    out.put("\">\n");
     out.put(STYLE);
     out.put("<path class=\"paper\" d=\"M0 0H1000V");
     out.whole(height);
@@ -24,22 +26,17 @@ fn put_head(out: &mut Sheet, bottom: u64) {
 }
 
 /// Puts the number of rows, and what is in them.
-fn put_counts(out: &mut Sheet, view: &View<'_>, rows: u32, all: &Column) {
-    let requests = all.events.requests;
-    out.put("<text class=\"heading\" x=\"130\" y=\"26\">");
-    out.whole(u64::from(rows));
-    out.put(" rows from ");
+fn put_counts(out: &mut Sheet, view: &View<'_>, rows: u32, all: Option<&Column>) {
+    out.several(rows, " row");
+    let Some(all) = all else {
+        return;
+    };
+    out.put(" from ");
     out.moment(view.start);
     out.put(" on: ");
-    out.whole(u64::from(all.events.scans));
-    out.put(" scans, ");
-    out.whole(u64::from(requests));
-    out.put(if requests == 1 {
-        " request"
-    } else {
-        " requests"
-    });
-    out.end_text();
+    out.several(all.events.scans, " scan");
+    out.put(", ");
+    out.several(all.events.requests, " request");
 }
 
 /// Puts the heading: the number of rows, what is in them, and which row was refused for which rule.
@@ -50,7 +47,9 @@ fn put_heading(
     all: &Column,
     refusal: Option<(u16, u32)>,
 ) {
-    put_counts(out, view, rows, all);
+    out.put("<text class=\"heading\" x=\"130\" y=\"26\">");
+    put_counts(out, view, rows, Some(all));
+    out.end_text();
     out.put("<text class=\"small\" x=\"130\" y=\"42\">a column is ");
     out.moment(view.width);
     out.put("; point at one to read it");
@@ -118,7 +117,7 @@ fn put_rows(
     lanes: &[Lane],
 ) {
     let bottom = bottom_of(lanes);
-    put_head(out, bottom);
+    put_head(out, view, rows, Some(all), bottom);
     put_heading(out, view, rows, all, refusal);
     put_legend(out, all);
     put_bands(out, view, all);
@@ -133,7 +132,7 @@ fn put_rows(
 /// Puts what is drawn of a log that has no rows.
 fn put_none(out: &mut Sheet, view: &View<'_>) {
     let bottom = bottom_of(&[]);
-    put_head(out, bottom);
+    put_head(out, view, 0, None, bottom);
     put_axes(out, view, bottom);
 }
 

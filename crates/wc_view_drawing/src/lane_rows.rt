@@ -149,7 +149,7 @@ fn put_steps(out: &mut Sheet, top: u64, word: &str, steps: ScanSteps) {
 /// Puts the lane of the scans, with the most steps of a scan and the bound, of the first program, and below of the next
 /// one.
 fn put_scans(out: &mut Sheet, view: &View<'_>, top: u64) {
-    out.path("full");
+    out.path("bars");
     put_bars(out, view, top);
     out.end_path();
     put_bound(out, view, top);

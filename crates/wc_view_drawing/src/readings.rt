@@ -26,18 +26,20 @@ fn put_status(out: &mut Sheet, state: &State) {
     }
     if state.over {
         out.put("\nover");
-    } else if state.under {
+    }
+    if state.under {
         out.put("\nunder");
-    } else if state.invalid {
+    }
+    if state.invalid && !state.over && !state.under {
         out.put("\nno sample yet");
     }
 }
 
 /// Puts the inputs and the outputs in hexadecimal digits, as they were last.
 fn put_ports(out: &mut Sheet, state: &State) {
-    out.put("\n%IW0 ");
+    out.put("\ninputs ");
     out.bits(state.inputs.last);
-    out.put(", %QW0 ");
+    out.put(", outputs ");
     out.bits(state.outputs.last);
     for (number, word) in state.words.iter().enumerate() {
         if word.last != 0 {

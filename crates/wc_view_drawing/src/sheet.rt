@@ -63,6 +63,15 @@ impl Sheet {
         self.keep(written);
     }
 
+    /// Puts a number of what a word names, which is of one.
+    pub(crate) fn several(&mut self, number: u32, word: &str) {
+        self.whole(u64::from(number));
+        self.put(word);
+        if number != 1 {
+            self.put("s");
+        }
+    }
+
     /// Puts a whole number that may be below zero.
     pub(crate) fn signed(&mut self, number: i32) {
         let written = write!(self.text, "{number}");

@@ -19,6 +19,7 @@ rect{fill:none;pointer-events:all}
 .refused path{stroke-dasharray:1 3;pointer-events:stroke}
 .request path{stroke-width:1.5;pointer-events:stroke}
 .full{fill:currentColor;fill-opacity:.45;stroke-width:.8}
+.bars{fill:currentColor;fill-opacity:.55;stroke:none}
 .none{fill:currentColor;fill-opacity:.06;stroke:none}
 .dots{fill:url(#dots);stroke-width:.6}
 .rising{fill:url(#rising);stroke-width:.6}

@@ -1,3 +1,4 @@
+pub mod Acting
 pub mod Bodies
 pub mod Digits
 pub mod Ends

@@ -3,22 +3,10 @@ use Rattle.std.proofs.Common.{◌≡◌, ◌∙◌, ℕ, zero, suc, ◌-◌, ◌
 use Rattle.std.proofs.lemmas.Bool.Decides.{nat_tests}
 use Rattle.std.specs.Prelude.{◌==◌, ◌&&◌, nat_le}
 use Rattle.std.specs.Str.{is_utf8}
-use Rattle.wc_view_trace_rows.specs.Columns.{columns_of, continues, first_columns, fitted}
+use Rattle.wc_view_trace_rows.proofs.Acting.{ascii_not, no_fourth, no_second, no_third, plain_first}
+use Rattle.wc_view_trace_rows.specs.Columns.{columns_of, first_columns, fitted}
 use Rattle.wc_view_trace_rows.specs.Safe.{IsSafe, ShownLinesAreSafe}
-use Rattle.wc_view_trace_rows.specs.Shown.{acting_by, acting_length, between_words, is_control, shown, shown_byte, shown_bytes, shown_first, single_spaces}
-
--- a byte with which no character begins on which a terminal would act
-plain_first : (first second third : ℕ) → first < 194 → acting_by first second third ≡ 0
-plain_first first second third low = grind (arith, nat_tests)
-
-plain_second : (first second third : ℕ) → second < 128 → acting_by first second third ≡ 0
-plain_second first second third low = grind (arith, nat_tests)
-
-plain_third : (first second third : ℕ) → acting_by first second 0 ≡ 0 → third < 128 → acting_by first second third ≡ 0
-plain_third first second third none low = grind (arith, nat_tests)
-
-no_third : (first second third : ℕ) → acting_by first second third ≡ 0 → acting_by first second 0 ≡ 0
-no_third first second third none = grind (arith, nat_tests)
+use Rattle.wc_view_trace_rows.specs.Shown.{acting_by, acting_length, between_words, continues, is_control, shown, shown_byte, shown_bytes, shown_first, single_spaces}
 
 -- a number is below another or not
 pub data Sides (bound number : ℕ) : Type 0 where
@@ -33,15 +21,24 @@ sides bound number = by (nat_le bound number) refl
     by false e = Below (grind (arith, nat_tests))
 
 -- what follows the first byte of such a character is above ASCII
-acts_above : (first second third : ℕ) → acting_by first second third ≡ 0 → (b c : ℕ) → (128 ≤ b → b ≡ second) → (128 ≤ b → 128 ≤ c → c ≡ third) → acting_by first b c ≡ 0
-acts_above first second third none b c same_b same_c = by (sides 128 b) (sides 128 c)
+acts_further : (first second third fourth : ℕ) → acting_by first second third fourth ≡ 0 → (b c d : ℕ)
+    → (128 ≤ b → b ≡ second) → (128 ≤ b → 128 ≤ c → c ≡ third) → (128 ≤ b → 128 ≤ c → 128 ≤ d → d ≡ fourth) → acting_by first b c d ≡ 0
+acts_further first second third fourth none b c d same_b same_c same_d = by_second (sides 128 b)
   where
-    by : Sides 128 b → Sides 128 c → acting_by first b c ≡ 0
-    by (Below low) s = plain_second first b c low
-    by (Above high) (Below low) =
-        plain_third first b c (subst (λ x. acting_by first x 0 ≡ 0) (sym (same_b high)) (no_third first second third none)) low
-    by (Above high) (Above third_high) =
-        subst (λ x. acting_by first x c ≡ 0) (sym (same_b high)) (subst (λ x. acting_by first second x ≡ 0) (sym (same_c high third_high)) none)
+    by_fourth : b ≡ second → c ≡ third → (128 ≤ d → d ≡ fourth) → Sides 128 d → acting_by first b c d ≡ 0
+    by_fourth e f same (Below low) =
+        subst (λ x. acting_by first x c d ≡ 0) (sym e) (subst (λ x. acting_by first second x d ≡ 0) (sym f) (no_fourth first second third fourth d none (ascii_not d low)))
+    by_fourth e f same (Above high) =
+        subst (λ x. acting_by first x c d ≡ 0) (sym e)
+        (subst (λ x. acting_by first second x d ≡ 0) (sym f) (subst (λ x. acting_by first second third x ≡ 0) (sym (same high)) none))
+
+    by_third : 128 ≤ b → Sides 128 c → acting_by first b c d ≡ 0
+    by_third high (Below low) = subst (λ x. acting_by first x c d ≡ 0) (sym (same_b high)) (no_third first second third fourth c d none (ascii_not c low))
+    by_third high (Above next) = by_fourth (same_b high) (same_c high next) (same_d high next) (sides 128 d)
+
+    by_second : Sides 128 b → acting_by first b c d ≡ 0
+    by_second (Below low) = no_second first b c d (ascii_not b low)
+    by_second (Above high) = by_third high (sides 128 c)
 
 -- a byte as it is shown
 no_control : (is_text : Bool) (byte : ℕ) → is_control (shown_byte is_text byte) ≡ false
@@ -71,6 +68,16 @@ same_second is_text (byte ∷ bytes) high next = by (acting_length (byte ∷ byt
     by zero h k = same_head is_text bytes k
     by (suc n) h k = absurd (omega arith)
 
+same_third : (is_text : Bool) (bytes : List ℕ) → 128 ≤ get_or (shown_bytes is_text 0 bytes) 0 0 → 128 ≤ get_or (shown_bytes is_text 0 bytes) 1 0
+    → 128 ≤ get_or (shown_bytes is_text 0 bytes) 2 0 → get_or (shown_bytes is_text 0 bytes) 2 0 ≡ get_or bytes 2 0
+same_third is_text [] high next last = refl
+same_third is_text (byte ∷ bytes) high next last = by (acting_length (byte ∷ bytes)) high next last
+  where
+    by : (n : ℕ) → 128 ≤ shown_first is_text n byte → 128 ≤ get_or (shown_bytes is_text (n - 1) bytes) 0 0 → 128 ≤ get_or (shown_bytes is_text (n - 1) bytes) 1 0
+        → get_or (shown_bytes is_text (n - 1) bytes) 1 0 ≡ get_or bytes 1 0
+    by zero h k l = same_second is_text bytes k l
+    by (suc n) h k l = absurd (omega arith)
+
 -- what is shown of a byte, before what is shown of those that follow
 first_acts : (is_text : Bool) (n byte : ℕ) (bytes : List ℕ) → acting_length (byte ∷ bytes) ≡ n
     → acting_length (shown_first is_text n byte ∷ shown_bytes is_text (n - 1) bytes) ≡ 0
@@ -78,11 +85,13 @@ first_acts is_text (suc n) byte bytes is = refl
 first_acts is_text zero byte bytes is = by (sides 194 (shown_byte is_text byte))
   where
     by : Sides 194 (shown_byte is_text byte) → acting_length (shown_byte is_text byte ∷ shown_bytes is_text 0 bytes) ≡ 0
-    by (Below low) = plain_first (shown_byte is_text byte) (get_or (shown_bytes is_text 0 bytes) 0 0) (get_or (shown_bytes is_text 0 bytes) 1 0) low
+    by (Below low) =
+        plain_first (shown_byte is_text byte) (get_or (shown_bytes is_text 0 bytes) 0 0) (get_or (shown_bytes is_text 0 bytes) 1 0) (get_or (shown_bytes is_text 0 bytes) 2 0) low
     by (Above high) =
         subst (λ b. acting_length (b ∷ shown_bytes is_text 0 bytes) ≡ 0) (sym (same_byte is_text byte (omega arith)))
-        (acts_above byte (get_or bytes 0 0) (get_or bytes 1 0) is (get_or (shown_bytes is_text 0 bytes) 0 0) (get_or (shown_bytes is_text 0 bytes) 1 0)
-        (same_head is_text bytes) (same_second is_text bytes))
+        (acts_further byte (get_or bytes 0 0) (get_or bytes 1 0) (get_or bytes 2 0) is
+        (get_or (shown_bytes is_text 0 bytes) 0 0) (get_or (shown_bytes is_text 0 bytes) 1 0) (get_or (shown_bytes is_text 0 bytes) 2 0)
+        (same_head is_text bytes) (same_second is_text bytes) (same_third is_text bytes))
 
 bytes_are_safe : (is_text : Bool) (n : ℕ) (bytes : List ℕ) → IsSafe (shown_bytes is_text n bytes)
 bytes_are_safe is_text n [] = tt
@@ -106,15 +115,23 @@ kept_second before [] high next = refl
 kept_second before (byte ∷ bytes) high next =
     ap (λ b. get_or (cond b (single_spaces byte bytes) (byte ∷ single_spaces byte bytes)) 1 0) (no_space before byte high) ∙ kept_head byte bytes next
 
+kept_third : (before : ℕ) (bytes : List ℕ) → 128 ≤ before → 128 ≤ get_or bytes 0 0 → 128 ≤ get_or bytes 1 0 → get_or (single_spaces before bytes) 2 0 ≡ get_or bytes 2 0
+kept_third before [] high next last = refl
+kept_third before (byte ∷ bytes) high next last =
+    ap (λ b. get_or (cond b (single_spaces byte bytes) (byte ∷ single_spaces byte bytes)) 2 0) (no_space before byte high) ∙ kept_second byte bytes next last
+
 kept_acts : (byte : ℕ) (bytes : List ℕ) → acting_length (byte ∷ bytes) ≡ 0 → acting_length (byte ∷ single_spaces byte bytes) ≡ 0
 kept_acts byte bytes none = by (sides 194 byte)
   where
     by : Sides 194 byte → acting_length (byte ∷ single_spaces byte bytes) ≡ 0
-    by (Below low) = plain_first byte (get_or (single_spaces byte bytes) 0 0) (get_or (single_spaces byte bytes) 1 0) low
+    by (Below low) = plain_first byte (get_or (single_spaces byte bytes) 0 0) (get_or (single_spaces byte bytes) 1 0) (get_or (single_spaces byte bytes) 2 0) low
     by (Above high) =
-        acts_above byte (get_or bytes 0 0) (get_or bytes 1 0) none (get_or (single_spaces byte bytes) 0 0) (get_or (single_spaces byte bytes) 1 0)
-        (λ h. kept_head byte bytes (omega arith))
-        (λ h k. kept_second byte bytes (omega arith) (subst (λ n. 128 ≤ n) (kept_head byte bytes (omega arith)) h))
+        let head = kept_head byte bytes (omega arith) in
+        let second = λ (h : 128 ≤ get_or (single_spaces byte bytes) 0 0). kept_second byte bytes (omega arith) (subst (λ n. 128 ≤ n) head h) in
+        acts_further byte (get_or bytes 0 0) (get_or bytes 1 0) (get_or bytes 2 0) none
+        (get_or (single_spaces byte bytes) 0 0) (get_or (single_spaces byte bytes) 1 0) (get_or (single_spaces byte bytes) 2 0)
+        (λ h. head) (λ h k. second h)
+        (λ h k l. kept_third byte bytes (omega arith) (subst (λ n. 128 ≤ n) head h) (subst (λ n. 128 ≤ n) (second h) k))
 
 spaces_are_safe : (before : ℕ) (bytes : List ℕ) → IsSafe bytes → IsSafe (single_spaces before bytes)
 spaces_are_safe before [] safe = tt
@@ -158,9 +175,29 @@ dotted_second (suc n) (byte ∷ bytes) high next = by (continues byte) next
     by true k = dotted_head (suc n) bytes k
     by false k = dotted_head n bytes k
 
+dotted_third : (n : ℕ) (bytes : List ℕ) → 128 ≤ get_or (dotted n bytes) 0 0 → 128 ≤ get_or (dotted n bytes) 1 0 → 128 ≤ get_or (dotted n bytes) 2 0
+    → get_or (dotted n bytes) 2 0 ≡ get_or bytes 2 0
+dotted_third n [] high next last = absurd (omega arith)
+dotted_third zero (byte ∷ bytes) high next last = by (continues byte) high next last
+  where
+    by : (b : Bool) → 128 ≤ get_or (cond b (byte ∷ first_columns zero bytes) [] ++ 46 ∷ 46 ∷ []) 0 0
+        → 128 ≤ get_or (cond b (byte ∷ first_columns zero bytes) [] ++ 46 ∷ 46 ∷ []) 1 0
+        → 128 ≤ get_or (cond b (byte ∷ first_columns zero bytes) [] ++ 46 ∷ 46 ∷ []) 2 0
+        → get_or (cond b (byte ∷ first_columns zero bytes) [] ++ 46 ∷ 46 ∷ []) 2 0 ≡ get_or bytes 1 0
+    by true h k l = dotted_second zero bytes k l
+    by false h k l = absurd (omega arith)
+dotted_third (suc n) (byte ∷ bytes) high next last = by (continues byte) next last
+  where
+    by : (b : Bool) → 128 ≤ get_or (cond b (byte ∷ first_columns (suc n) bytes) (byte ∷ first_columns n bytes) ++ 46 ∷ 46 ∷ []) 1 0
+        → 128 ≤ get_or (cond b (byte ∷ first_columns (suc n) bytes) (byte ∷ first_columns n bytes) ++ 46 ∷ 46 ∷ []) 2 0
+        → get_or (cond b (byte ∷ first_columns (suc n) bytes) (byte ∷ first_columns n bytes) ++ 46 ∷ 46 ∷ []) 2 0 ≡ get_or bytes 1 0
+    by true k l = dotted_second (suc n) bytes k l
+    by false k l = dotted_second n bytes k l
+
 dotted_acts : (byte n : ℕ) (bytes : List ℕ) → acting_length (byte ∷ bytes) ≡ 0 → acting_length (byte ∷ dotted n bytes) ≡ 0
 dotted_acts byte n bytes none =
-    acts_above byte (get_or bytes 0 0) (get_or bytes 1 0) none (get_or (dotted n bytes) 0 0) (get_or (dotted n bytes) 1 0) (dotted_head n bytes) (dotted_second n bytes)
+    acts_further byte (get_or bytes 0 0) (get_or bytes 1 0) (get_or bytes 2 0) none (get_or (dotted n bytes) 0 0) (get_or (dotted n bytes) 1 0) (get_or (dotted n bytes) 2 0)
+    (dotted_head n bytes) (dotted_second n bytes) (dotted_third n bytes)
 
 dots_are_safe : IsSafe (46 ∷ 46 ∷ [])
 dots_are_safe = (refl, refl, (refl, refl, tt))

@@ -1,13 +1,9 @@
 -- The columns of a row. (The profile's own.)
-use Rattle.std.specs.Prelude.{ℕ, zero, suc, ◌+◌, ◌*◌, ◌-◌, max, min, nat_le, Bool, not, List, [], ◌∷◌, ◌++◌, length, replicate, Option, Some, None, codes, count_by, decimal, if◌then◌else◌}
-use Rattle.wc_view_trace_rows.specs.Shown.{between_words, is_within, shown}
+use Rattle.std.specs.Prelude.{ℕ, zero, suc, ◌+◌, ◌*◌, ◌-◌, max, min, nat_le, not, List, [], ◌∷◌, ◌++◌, length, replicate, Option, Some, None, codes, count_by, decimal, if◌then◌else◌}
+use Rattle.wc_view_trace_rows.specs.Shown.{between_words, continues, shown}
 
 abbrev pub spaces : ℕ → List ℕ
 spaces n = replicate n 32
-
--- a byte that continues a character in UTF-8
-abbrev pub continues : ℕ → Bool
-continues byte = is_within 128 191 byte
 
 -- the number of columns that a text takes: one for each byte that begins a character
 abbrev pub columns_of : List ℕ → ℕ
