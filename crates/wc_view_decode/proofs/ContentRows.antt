@@ -9,7 +9,7 @@ use Rattle.wc_model.specs.Say.Report.{AnswerLine, line_text}
 
 -- the line is that of this moment and these bytes if it is any
 abbrev pub IsOnlyRow : List ℕ → ℕ → List ℕ → Type 0
-IsOnlyRow line ms bytes = (m : ℕ) (bs : List ℕ) → m < 2 ^ 64 → IsBytes bs → line ≡ line_text (AnswerLine m bs) → (ms ≡ m) × (bytes ≡ bs)
+IsOnlyRow line ms bytes = (m : ℕ) (bs : List ℕ) → m < 2 ^ 40 → IsBytes bs → line ≡ line_text (AnswerLine m bs) → (ms ≡ m) × (bytes ≡ bs)
 
 -- whatever else a line that starts with L says, it is the same
 only_content : (line bytes : List ℕ) (ms : ℕ) (answers : List Answer) → slice_index line 0 ≡ 76 → IsOnlyRow line ms bytes
@@ -31,7 +31,7 @@ none_reported line bytes ms letter row never (ScanContent m steps outputs) ok e 
 none_reported line bytes ms letter row never (RefusalContent number place) ok e = omega (arith, letter, ap (λ t. slice_index t 0) e)
 
 -- what the bytes say, the line says
-content_by_line : (found : Option LineContent) (line bytes : List ℕ) (ms : ℕ) → slice_index line 0 ≡ 76 → ms < 2 ^ 64 → line_text (AnswerLine ms bytes) ≡ line → IsOnlyRow line ms bytes
+content_by_line : (found : Option LineContent) (line bytes : List ℕ) (ms : ℕ) → slice_index line 0 ≡ 76 → ms < 2 ^ 40 → line_text (AnswerLine ms bytes) ≡ line → IsOnlyRow line ms bytes
     → AreContentOf ms found bytes → IsContentOf found line
 content_by_line (Some reported) line bytes ms letter below written row (answers, is, all, some, eb, only) =
     rw is (
@@ -42,7 +42,7 @@ content_by_line (Some reported) line bytes ms letter below written row (answers,
 content_by_line None line bytes ms letter below written row never = none_reported line bytes ms letter row never
 
 -- the same after a fault of memory
-pub row_content : {X E : Type 0} (view : X → LineContent) (given : Result (Option X) E) (line bytes : List ℕ) (ms : ℕ) → slice_index line 0 ≡ 76 → ms < 2 ^ 64 → line_text (AnswerLine ms bytes) ≡ line → IsOnlyRow line ms bytes
+pub row_content : {X E : Type 0} (view : X → LineContent) (given : Result (Option X) E) (line bytes : List ℕ) (ms : ℕ) → slice_index line 0 ≡ 76 → ms < 2 ^ 40 → line_text (AnswerLine ms bytes) ≡ line → IsOnlyRow line ms bytes
     → IfOk given (λ found. AreContentOf ms (option_map view found) bytes) → IfOk given (λ found. IsContentOf (option_map view found) line)
 row_content view (Ok found) line bytes ms letter below written row reported = content_by_line (option_map view found) line bytes ms letter below written row reported
 row_content view (Err fault) line bytes ms letter below written row reported = tt

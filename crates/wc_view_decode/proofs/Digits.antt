@@ -2,6 +2,7 @@
 use Rattle.std.proofs.Common.{◌≡◌, ◌<◌, ◌≤◌, ◌+◌, ◌/◌, ◌%◌, ◌^◌, ℕ, zero, suc, ℤ, pos, negsuc, true, false, cond, nat_lt, rules, List, [], ◌∷◌, ◌++◌, length, Ok, refl, sym, ap, ◌∙◌, arith}
 use Rattle.hex.proofs.HexLemmas.{decode_sized-encode_lower}
 use Rattle.hex.specs.Hex.{IsBytes, decode_sized}
+use Rattle.std.proofs.lemmas.Bool.Decides.{nat_tests}
 use Rattle.std.proofs.lemmas.Fmt.{decimal_is_IsNumeral}
 use Rattle.std.proofs.lemmas.Str.Parse.{digit_from_value}
 use Rattle.std.specs.Char.{digit_char}
@@ -10,6 +11,7 @@ use Rattle.std.specs.Int.{from_be_bytes}
 use Rattle.std.specs.List.{prefix_len}
 use Rattle.std.specs.Prelude.{decimal}
 use Rattle.std.specs.Str.Parse.{AllDigits}
+use Rattle.wc_diag_texts.specs.Numbers.{is_refusal}
 use Rattle.wc_view_decode.specs.Fields.{AreFieldBytes}
 use Rattle.wc_model.specs.Run.Hex.{hex_of_bytes, hex_of_word}
 use Rattle.wc_report.proofs.WrittenDigits.{digits_same}
@@ -28,6 +30,10 @@ pub field_in_prefix : (bytes more : List ℕ) (end : ℕ) → AreFieldBytes byte
 field_in_prefix [] more end are ends = rw (lt_false 32 end ends) refl
 field_in_prefix (byte ∷ bytes) more end (above, are) ends =
     rw (lt_true 32 byte above) (omega (arith, field_in_prefix bytes more end are ends))
+
+-- the number of a refusal is small
+pub known_below : (number : ℕ) → is_refusal number ≡ true → number < 703
+known_below number known = grind (arith, nat_tests)
 
 -- digits are bytes of a field
 digits_are_field : (ds : List ℕ) → AllDigits 10 ds → AreFieldBytes ds

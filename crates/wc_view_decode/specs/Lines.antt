@@ -1,8 +1,9 @@
 -- The lines of a report, and what each says. (The form is the profile's own.)
-use Rattle.std.specs.Prelude.{◌≡◌, ℕ, ◌^◌, ◌<◌, List, [], ◌∷◌, length, Option, Some, None, FitsSigned, ℤ}
+use Rattle.std.specs.Prelude.{◌≡◌, ℕ, ◌^◌, ◌<◌, true, List, [], ◌∷◌, length, Option, Some, None, FitsSigned, ℤ}
 use mir.Syntax.{w32}
 use Rattle.wc_view_decode.specs.AnswerBytes.{AreAllAnswers, bytes_of_answers}
 use Rattle.wc_view_decode.specs.declared.answer.Answer.{Answer}
+use Rattle.wc_diag_texts.specs.Numbers.{is_refusal}
 use Rattle.wc_model.specs.Say.Job.{refused_text}
 use Rattle.wc_model.specs.Say.Report.{AnswerLine, ScanLine, line_text}
 use Rattle.wc_model.specs.declared.image.Outputs.{Outputs}
@@ -28,11 +29,12 @@ AreWords (a ∷ b ∷ c ∷ []) = ⊥
 AreWords (a ∷ b ∷ c ∷ d ∷ []) = FitsSigned w32 a × FitsSigned w32 b × FitsSigned w32 c × FitsSigned w32 d
 AreWords (a ∷ b ∷ c ∷ d ∷ e ∷ more) = ⊥
 
--- each number is in the range of its type, each answer is one, and there is one at least
+-- each moment is one of a log, at most 1099511627775, each other number is in the range of its type, that of a refusal is one that
+-- there is; each answer is one, and there is one at least
 abbrev pub InRange : LineContent → Type 0
-InRange (ScanContent ms steps outputs) = (ms < 2 ^ 64) × (steps < 2 ^ 32) × (outputs.bits < 2 ^ 16) × AreWords outputs.words
-InRange (AnswersContent ms answers) = (ms < 2 ^ 64) × AreAllAnswers answers × (0 < length answers)
-InRange (RefusalContent number place) = (number < 2 ^ 16) × (place < 2 ^ 32)
+InRange (ScanContent ms steps outputs) = (ms < 2 ^ 40) × (steps < 2 ^ 32) × (outputs.bits < 2 ^ 16) × AreWords outputs.words
+InRange (AnswersContent ms answers) = (ms < 2 ^ 40) × AreAllAnswers answers × (0 < length answers)
+InRange (RefusalContent number place) = (is_refusal number ≡ true) × (place < 2 ^ 32)
 
 -- this is all that the line can say, or it is not a line of a report
 abbrev pub IsContentOf : Option LineContent → List ℕ → Type 0

@@ -6,7 +6,7 @@ ghost use Rattle.wc_model.specs.Run.Hex.{hex_of_bytes};
 ghost use Rattle.wc_model.specs.Say.Report.{AnswerLine, line_text};
 
 use crate::entry::{AnswerRow, ReportEntry};
-use crate::fields::{cut_field, number};
+use crate::fields::{cut_field, moment};
 use crate::frames::answers_of;
 use crate::same::is_same;
 use hex::FromHexError;
@@ -38,9 +38,9 @@ fn bytes_in(alloc: Global, field: &[u8]) -> Result<Vec<u8>, Fault>
 
 /// The moment and the bytes of a line, if it is one with answers.
 fn row_in(alloc: Global, line: &[u8]) -> Result<ByteRow, Fault>
-    ensures row { IfOk result (λ row. (ms : ℕ) (bytes : List ℕ) → ms < 2 ^ 64 → IsBytes bytes
+    ensures row { IfOk result (λ row. (ms : ℕ) (bytes : List ℕ) → ms < 2 ^ 40 → IsBytes bytes
         → line.now ≡ line_text (AnswerLine ms bytes) → (row.ms ≡ ms) × (row.bytes.items ≡ bytes)) }
-    ensures range { IfOk result (λ row. row.ms < 2 ^ 64) }
+    ensures range { IfOk result (λ row. row.ms < 2 ^ 40) }
     ensures memory { IsOkUnless result Fault.Memory }
 {
     let (_mark, rest) = cut_field(line);
@@ -48,7 +48,7 @@ fn row_in(alloc: Global, line: &[u8]) -> Result<ByteRow, Fault>
     let (digits, _end) = cut_field(rest);
     let bytes = bytes_in(alloc, digits)?;
     Ok(ByteRow {
-        ms: number(ms),
+        ms: moment(ms),
         bytes,
     })
 }

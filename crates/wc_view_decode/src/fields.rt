@@ -1,12 +1,14 @@
 // The fields of a line. A field that is not a number is read as one all the same: what is read is written again and compared.
-ghost use Rattle.std.specs.Prelude.{◌≡◌, ◌<◌, ◌≤◌, ◌^◌, ◌∷◌, ℕ, ℤ, List, nat_lt, length, decimal, FitsSigned};
+ghost use Rattle.std.specs.Prelude.{◌≡◌, ◌<◌, ◌≤◌, ◌^◌, ◌∷◌, ℕ, ℤ, List, nat_lt, true, length, decimal, FitsSigned};
 ghost use Rattle.std.specs.Fmt.{signed_decimal};
 ghost use Rattle.std.specs.List.{prefix_len};
+ghost use Rattle.wc_diag_texts.specs.Numbers.{is_refusal};
 ghost use Rattle.wc_view_decode.specs.Fields.{CutsField};
 ghost use Rattle.wc_model.specs.Run.Hex.{hex_of_word};
 ghost use mir.Syntax.{w32};
 
 use std::str;
+use wc_diag_texts::entry_of;
 
 /// The number of bytes before the first space or line feed.
 fn field_length(text: &[u8]) -> usize
@@ -40,7 +42,7 @@ pub(crate) fn cut_field(text: &[u8]) -> (&[u8], &[u8])
 }
 
 /// The number of a field.
-pub(crate) fn number(field: &[u8]) -> u64
+fn number(field: &[u8]) -> u64
     ensures { (n : ℕ) → n < 2 ^ 64 → field.now ≡ decimal n → result ≡ n }
 {
     match str::from_utf8(field) {
@@ -57,10 +59,32 @@ pub(crate) fn small_number(field: &[u8]) -> u32
 }
 
 /// The same in 16 bits.
-pub(crate) fn short_number(field: &[u8]) -> u16
+fn short_number(field: &[u8]) -> u16
     ensures { (n : ℕ) → n < 2 ^ 16 → field.now ≡ decimal n → result ≡ n }
 {
     u16::try_from(number(field)).unwrap_or(0)
+}
+
+/// The moment of a field: none is above 1099511627775.
+pub(crate) fn moment(field: &[u8]) -> u64
+    ensures within { result < 2 ^ 40 }
+    ensures number { (n : ℕ) → n < 2 ^ 40 → field.now ≡ decimal n → result ≡ n }
+{
+    let ms = number(field);
+    if ms < 1 << 40 { ms } else { 0 }
+}
+
+/// The number of a refusal, of which there is one.
+pub(crate) fn refusal_number(field: &[u8]) -> u16
+    ensures known { is_refusal result ≡ true }
+    ensures number { (n : ℕ) → is_refusal n ≡ true → field.now ≡ decimal n → result ≡ n }
+{
+    let number = short_number(field);
+    if entry_of(number).is_some() {
+        number
+    } else {
+        101
+    }
 }
 
 /// The word of a field.

@@ -3,7 +3,7 @@ ghost use Rattle.wc_view_decode.specs.Entries.{entry_content, refusal_content};
 ghost use Rattle.wc_view_decode.specs.Lines.{InRange, IsContentOf, RefusalContent, content_text};
 
 use crate::entry::{RefusalRow, ReportEntry};
-use crate::fields::{cut_field, short_number, small_number};
+use crate::fields::{cut_field, refusal_number, small_number};
 use crate::same::is_same;
 use std::alloc::Global;
 use wc_model::Fault;
@@ -20,7 +20,7 @@ fn refusal_in(line: &[u8]) -> RefusalRow
     let (number, rest) = cut_field(rest);
     let (place, _end) = cut_field(rest);
     RefusalRow {
-        number: short_number(number),
+        number: refusal_number(number),
         place: small_number(place),
     }
 }

@@ -5,7 +5,7 @@ ghost use Rattle.wc_view_decode.specs.Lines.{AreWords, InRange, IsContentOf, Sca
 ghost use Rattle.wc_model.specs.declared.image.Outputs.{Outputs};
 
 use crate::entry::{ReportEntry, ScanRow};
-use crate::fields::{bits, cut_field, number, signed_number, small_number};
+use crate::fields::{bits, cut_field, moment, signed_number, small_number};
 use crate::same::is_same;
 use std::alloc::Global;
 use wc_model::{Fault, Outputs, Steps};
@@ -41,7 +41,7 @@ fn scan_in(line: &[u8]) -> ScanRow
     let (steps, rest) = cut_field(rest);
     let (word, rest) = cut_field(rest);
     ScanRow {
-        ms: number(ms),
+        ms: moment(ms),
         steps: Steps(small_number(steps)),
         outputs: Outputs {
             bits: bits(word),
