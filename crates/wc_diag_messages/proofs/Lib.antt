@@ -4,3 +4,4 @@ pub mod OnLines
 pub mod OneLine
 pub mod OneObject
 pub mod Calm
+pub mod CalmTexts

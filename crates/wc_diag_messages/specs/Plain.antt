@@ -1,5 +1,5 @@
 -- What a message may hold: characters that a terminal only shows. (The profile's own; the characters are those of Unicode in UTF-8.)
-use Rattle.std.specs.Prelude.{◌≡◌, ℕ, ◌+◌, ◌/◌, ◌%◌, Bool, true, not, ◌==◌, ◌||◌, ◌&&◌, nat_le, nat_lt, if◌then◌else◌, List, [], ◌∷◌, ◌++◌, count_by, map, take}
+use Rattle.std.specs.Prelude.{◌≡◌, ℕ, ◌+◌, ◌/◌, ◌%◌, Bool, true, false, not, ◌==◌, ◌||◌, ◌&&◌, nat_le, nat_lt, if◌then◌else◌, List, [], ◌∷◌, ◌++◌, count_by, map, take}
 use Rattle.std.specs.List.{flat_map}
 use Rattle.std.specs.Str.{is_utf8}
 use Rattle.wc_view_trace_rows.specs.Shown.{acting_length}
@@ -18,6 +18,11 @@ is_within first last byte = nat_le first byte && nat_le byte last
 -- these bytes begin a character above ASCII on which a terminal or an editor acts, or which is not seen
 abbrev pub acts : List ℕ → Bool
 acts bytes = nat_lt 0 (acting_length bytes)
+
+-- the first character of a text is a control character of ASCII, or acts so
+abbrev pub starts_acting : List ℕ → Bool
+starts_acting [] = false
+starts_acting (byte ∷ bytes) = is_control byte || acts (byte ∷ bytes)
 
 -- no character of a text acts so, and none is a control character of ASCII
 abbrev pub is_calm : List ℕ → Bool

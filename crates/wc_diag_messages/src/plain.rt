@@ -1,6 +1,6 @@
 ghost use Rattle.std.specs.Prelude.{◌≡◌, ◌≤◌, IfOk, false, length};
 ghost use Rattle.std.specs.Str.{is_utf8};
-ghost use Rattle.wc_diag_messages.specs.Plain.{acts, characters, column_of, is_calm, is_control, passes, spaced, with_spaces};
+ghost use Rattle.wc_diag_messages.specs.Plain.{acts, characters, column_of, is_calm, is_control, passes, spaced, starts_acting, with_spaces};
 
 use std::alloc::{AllocError, Global};
 use wc_view_trace_rows::hidden_length;
@@ -43,12 +43,22 @@ fn acts(text: &[u8]) -> bool
     hidden_length(text) > 0
 }
 
+/// Whether the first character of a UTF-8 text is a control character, or acts so.
+fn starts_acting(text: &[u8]) -> bool
+    ensures { result ≡ starts_acting text.now }
+{
+    match text {
+        [byte, ..] => is_control(*byte) || acts(text),
+        [] => false,
+    }
+}
+
 /// Whether no character of a UTF-8 text is a control character, or acts so.
 fn is_calm(text: &[u8]) -> bool
     ensures { result ≡ is_calm text.now }
 {
-    for (index, byte) in text.iter().enumerate() {
-        if is_control(*byte) || acts(text.split_at(index).1) {
+    for index in 0..text.len() {
+        if starts_acting(text.split_at(index).1) {
             return false;
         }
     }
