@@ -7,7 +7,7 @@ macro_rules! with_constants {
             "0.1.0",
             "rattle-kit-13 logic dac8208d650f15bf",
             "1dde7c72ae67ac2419322ceddbf2693e62cd12cf6f95026a93509e8e4b8929ca",
-            "85c881080f16c285e0cfdbccfee9f5d5de59302f656361fe2b01b3bb4cb27bf5"
+            "ffd526ee71df8eb0feb2887abf637a043ef31535854da08a6f3ca5764f92c19f"
         )
     };
 }
