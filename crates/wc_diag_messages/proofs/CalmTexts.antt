@@ -1,11 +1,7 @@
 -- A text is calm as far as its first character is, and the rest.
-use Rattle.std.proofs.Common.{◌≡◌, ℕ, drop, true, false, not, List, [], ◌∷◌, refl, ap}
+use Rattle.std.proofs.Common.{◌≡◌, ℕ, drop, false, not, List, [], ◌∷◌, refl, ap}
 use Rattle.std.specs.Prelude.{◌&&◌}
 use Rattle.wc_diag_messages.specs.Plain.{is_calm, starts_acting}
-
-pub not_calm : (bytes : List ℕ) → starts_acting bytes ≡ true → is_calm bytes ≡ false
-not_calm [] e = absurd (cc (e))
-not_calm (byte ∷ bytes) e = ap (λ b. not b && is_calm bytes) e
 
 pub calm_on : (bytes : List ℕ) → starts_acting bytes ≡ false → is_calm bytes ≡ is_calm (drop 1 bytes)
 calm_on [] e = refl
