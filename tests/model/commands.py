@@ -1,9 +1,8 @@
-"""The commands `check`, `run`, `line`, `cut` and a job: standard output and exit status (docs/LOG.md, 3 to 5)."""
+"""The commands `check`, `run`, `line` and a job: standard output and exit status (docs/LOG.md, 3 to 5)."""
 from .machine import Program, preview
 from .plate import MOST_BYTES, read_plate
 from .refusal import Refused
-from .runs import Scale, run
-from .rows import rows
+from .runs import run
 
 
 def read_program(content):
@@ -88,30 +87,3 @@ def job(content):
     """`wc` with no word."""
     found = sections(content)
     return run_files(found["plate"], found["program"], found["log"], found.get("next"))
-
-
-def states(plate, log):
-    """What a scale with no program answers and shows after each row: (row number, line printed or None, image)."""
-    scale, found = Scale(plate), []
-    for number, ms, kind, data in rows(log):
-        line = scale.row(number, ms, kind, data)
-        found.append((number, line, scale.image()))
-    return found
-
-
-def cut_faults(plate, log, at, rest):
-    """What is wrong with a log that `wc cut` wrote: none of its rows after the prelude may answer or show other than before."""
-    try:
-        plate, before = read_plate(plate), []
-        before = states(plate, log)
-    except Refused as fault:
-        return [] if rest.endswith(fault.line().encode()) else [f"the cut of a refused log ends in {rest[-40:]!r}"]
-    kept = [it for it in before if it[0] > at]
-    after = states(plate, rest)
-    prelude = len(after) - len(kept)
-    if not 0 <= prelude <= 52:
-        return [f"the prelude has {prelude} rows"]
-    same = [it[1:] for it in kept] == [it[1:] for it in after[prelude:]]
-    left = [it[2] for it in before if it[0] <= at][-1:]
-    shown = [it[2] for it in after[:prelude]][-1:]
-    return ([] if same else ["the rows after the cut answer otherwise"]) + ([] if left == shown or not shown else ["the prelude brings another state"])

@@ -42,7 +42,8 @@ def plate_text(chance, lines, wrong):
         chance.shuffle(lines)
     if chance.random() < 0.2:
         lines.insert(0, "# a plate")
-    return chance.choice(["\n", "\r\n"]).join(lines) + chance.choice(["\n", ""])
+    text = chance.choice(["\n", "\r\n"]).join(lines) + chance.choice(["\n", ""])
+    return with_other_bytes(chance, text, "\"'=#\n\r.[]{}_0x1+-et \t,\\") if wrong and chance.random() < 0.4 else text
 
 
 def counts_near(chance, values, load):
@@ -114,7 +115,8 @@ def log_text(chance, rows, wrong):
     end = chance.choice(["\n", "\n", "\r\n", "\r"])
     if pick > 0.8:
         rows = [row + (end if chance.random() < 0.2 else "") for row in rows]
-    return ("\ufeff" if chance.random() < 0.05 else "") + end.join(rows) + chance.choice([end, ""])
+    text = ("\ufeff" if chance.random() < 0.05 else "") + end.join(rows) + chance.choice([end, ""])
+    return with_other_bytes(chance, text, "\"\"\",,\n\r x0-+\0\u00e9\ufeff") if wrong and chance.random() < 0.4 else text
 
 
 def job_text(chance, plate, program, following, log, wrong):
@@ -123,7 +125,9 @@ def job_text(chance, plate, program, following, log, wrong):
     closed = lambda text: text if text.endswith("\n") or not text else text + "\n"
     parts = [("plate", closed(plate)), ("program", closed(program))] + ([("next", closed(following))] if following else []) + [("log", log)]
     if wrong:
-        pick = chance.randrange(5)
+        pick = chance.randrange(8)
+        if pick >= 5:
+            return with_other_headings(chance, "".join(f"@{name}{end}{text}" for name, text in parts))
         if pick == 0:
             del parts[chance.randrange(len(parts))]
         elif pick == 1:
@@ -135,3 +139,19 @@ def job_text(chance, plate, program, following, log, wrong):
         else:
             return "\n" + "".join(f"@{name}{end}{text}" for name, text in parts)
     return "".join(f"@{name}{end}{text}" for name, text in parts)
+
+
+def with_other_bytes(chance, text, bytes_tried):
+    """The text with one to three bytes more, less or another."""
+    for _ in range(chance.choice([1, 1, 2, 3])):
+        at, byte = chance.randrange(len(text) + 1), chance.choice(bytes_tried)
+        text = chance.choice([text[:at] + byte + text[at:], text[:at] + text[at + 1 :], text[:at] + byte + text[at + 1 :]])
+    return text
+
+
+def with_other_headings(chance, text):
+    """A job with one to three lines more that look like headings."""
+    lines = text.split("\n")
+    for _ in range(chance.choice([1, 1, 2, 3])):
+        lines.insert(chance.randrange(len(lines) + 1), chance.choice(["@next", "@next", "@log", "@program", "@plate", "@Log", "@log ", " @log", "@next\r", "@log\r\r"]))
+    return "\n".join(lines)

@@ -220,6 +220,36 @@ def mistaken(chance, text):
     return text
 
 
+SHORT = (
+    "( ( ) ) : := => , ; . & &( &N FOO L LD LD( AND( ADD( XOR( EQ( NOT RET RETC JMP CAL CALC TRUE FALSE 1 T#1s %IX0.0 VAR VAR_INPUT END_VAR BOOL TON t a "
+    "END_PROGRAM END_FUNCTION_BLOCK PROGRAM FUNCTION_BLOCK P"
+).split() + ["\n"] * 14
+BEGINNINGS = ["", "", "PROGRAM P\n", "PROGRAM P\nLD TRUE\nAND(\n", "PROGRAM P\nVAR t : TON; END_VAR\nCAL t(", "PROGRAM P VAR ", "FUNCTION_BLOCK B\n", "PROGRAM P END_PROGRAM\n"]
+LEXEMES = ["T#", "TIME#", "t#-", "BOOL#", "16#", "2#", "8#", "-", "+", "INT#", "&", "&N", "%", "(*", "*)", "a", "_", "\n", "\r\n", "\r", " ", "N", "#", ":=", "=>", "="]
+DIGITS = list("0123456789019_.dhmsdhmsFfx") + ["ms", "ms", "s", "00", "1h", "2m", "3s", "4ms", "59", "60", "999", "1000", "000000000000"]
+
+
+def soup(chance):
+    """A short text of tokens in any order, after the beginning of some text."""
+    words = [chance.choice(SHORT) for _ in range(chance.randrange(1, 9))]
+    return chance.choice(BEGINNINGS) + " ".join(words) + chance.choice(["", "\n", "\nEND_PROGRAM\n"])
+
+
+def lexemes(chance):
+    """A body with bytes in any order, mostly those of literals."""
+    text = ""
+    for _ in range(chance.randrange(1, 4)):
+        text += chance.choice(LEXEMES) + "".join(chance.choice(DIGITS) for _ in range(chance.randrange(7)))
+    return f"PROGRAM P\nLD {text}\nEND_PROGRAM\n"
+
+
+def cut_short(chance, text):
+    """The text up to some byte, or with a byte more, less or another."""
+    at = chance.randrange(len(text) + 1)
+    byte = chance.choice("(*):=>.,;#_-+&N%aT1\n\r \x00\xe9")
+    return chance.choice([text[:at], text[:at], text[:at] + byte + text[at:], text[:at] + text[at + 1 :], text[:at] + byte + text[at + 1 :]])
+
+
 SAME_CLASS = [
     "LD LDN ST STN S R AND OR XORN ADD SUB MUL DIV MOD GT EQ NE LE &".split(),
     "NOT RET RETC RETCN".split(),
