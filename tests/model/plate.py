@@ -1,4 +1,5 @@
 """The plate (docs/INSTRUMENT.md, 1): seven keys, and refusals 501 to 508."""
+import math
 import tomllib
 
 from .refusal import Refused
@@ -18,13 +19,28 @@ class Plate:
         self.intervals = self.max // self.e
 
 
+def decimal(text):
+    """The value of a decimal number of TOML; too large for 64 bits is an error."""
+    value = float(text)
+    if math.isinf(value) and "inf" not in text:
+        raise ValueError(text)
+    return value
+
+
+def whole_numbers(value):
+    """The whole numbers in a value, through all tables and arrays."""
+    if isinstance(value, (dict, list)):
+        return [one for part in (value.values() if isinstance(value, dict) else value) for one in whole_numbers(part)]
+    return [value] if type(value) is int else []
+
+
 def read_table(content):
-    """The keys and values of a TOML file, or 501."""
+    """The keys and values of a TOML file, or 501. `tomllib` takes no byte order mark, and whole numbers of any size."""
     try:
-        values = tomllib.loads(content.decode("utf-8"))
-    except (UnicodeDecodeError, tomllib.TOMLDecodeError, RecursionError):
+        values = tomllib.loads(content.decode("utf-8").removeprefix("\ufeff"), parse_float=decimal)
+    except (ValueError, RecursionError):
         raise Refused(501, 0) from None
-    if any(type(value) is int and not -(2**63) <= value < 2**63 for value in values.values()):
+    if any(not -(2**63) <= value < 2**63 for value in whole_numbers(values)):
         raise Refused(501, 0)
     return values
 
