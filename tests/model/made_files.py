@@ -75,12 +75,12 @@ def line_bytes(chance):
     return text
 
 
-def made_rows(chance, values, most, change):
-    """Rows of a log below the heading."""
+def made_rows(chance, values, most, change, kinds="CCCSSSSLLIN"):
+    """Rows of a log below the heading, of these kinds; N is a window of samples of a new load."""
     n, ms, rows, load = values["max"] // values["e"], chance.choice([0, 0, 5, 1099511627000]), [], 0
     for _ in range(chance.randrange(most + 1)):
         ms = min(ms + chance.choice([0, 1, 10, 10, 20, 100]), 1099511627775)
-        kind = chance.choice("CCCSSSSLLIN")
+        kind = chance.choice(kinds)
         if kind == "N":
             load = made_load(chance, n)
             rows += [f"{ms},C,{counts_near(chance, values, load)}" for _ in range(values["window"])]

@@ -4,7 +4,7 @@ from .line import Line
 from .machine import Machine, changed, value_text
 from .refusal import Refused
 from .rows import rows
-from .tables import ADDRESSES, address_name
+from .tables import ADDRESSES, STANDARD, address_name
 
 
 class Scale:
@@ -70,8 +70,6 @@ def find(program, name):
 
 def field_found(kind, path, place):
     """The field of a standard block at the end of a path."""
-    from .tables import STANDARD
-
     fields = {**STANDARD[kind][0], **STANDARD[kind][1]} if kind in STANDARD else {}
     return (path, fields[path[-1]]) if place == len(path) - 2 and path[-1] in fields else None
 
@@ -101,12 +99,10 @@ def run(plate, log, program=None, following=None, last=None, watch=()):
     try:
         for number, ms, kind, data in rows(log):
             line = scale.row(number, ms, kind, data)
-            if line and kind == "S" and last is not None:
-                scans.append(line)
-            elif line:
-                lines.append(line)
             if line and kind == "S" and watch:
-                lines.append(" ".join([f"V {ms}", *watched(scale.machine, watch)]))
+                line += "\n" + " ".join([f"V {ms}", *watched(scale.machine, watch)])
+            if line:
+                (scans if kind == "S" and last is not None else lines).append(line)
     except Refused as fault:
         refused = fault
     lines += scans[-last:] if last is not None else []
