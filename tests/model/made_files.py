@@ -2,14 +2,19 @@
 
 UNITS = ["g", "kg", "kg", "t"]
 WRONG_LINES = [
-    'unit = "lb"', "unit = 5", "decimals = 4", "decimals = -1", "e = 3", "e = 10", "e = 1", "e = 0", "max = 15001", "max = 0", "max = -5", "zero_counts = 8388608",
-    "zero_counts = -8388609", "span_counts = 8000001", "span_counts = 1", "window = 1", "window = 17", 'window = "4"', "extra = 1", "x", "window = true",
+    'unit = "lb"', "unit = 5", "decimals = 4", "decimals = -1", "e = 3", "e = 10", "e = 1", "e = 0", "max = 15001", "max = 0", "max = -5",
+    "zero_counts = 8388608",
+    "zero_counts = -8388609", "span_counts = 8000001", "span_counts = 1", "window = 1", "window = 17", 'window = "4"', "extra = 1", "x",
+    "window = true",
     "e = 5.0", "= 5", "max = 9223372036854775808", "[table]",
 ]
 WRONG_ROWS = [
-    "0,S", "0,S,,", "x,S,", ",S,", "1099511627776,S,", "00000000000000,S,", "0,S,", "{t},s,", "{t}, S,", "{t},C,8388608", "{t},C,+0", "{t},C,", "{t},C,1.5",
-    "{t},L,0A5", "{t},L,0x", "{t},I,00a", "{t},I,00000", "{t},I,", "{t},S,x", "{t},P,x", "{t},P,", "{t},Q,", '{t},"S,', '"{t}"x,S,', "{t},L,0a 57", "-1,S,", '""', "{t},C,-8388609",
+    "0,S", "0,S,,", "x,S,", ",S,", "1099511627776,S,", "00000000000000,S,", "0,S,", "{t},s,", "{t}, S,", "{t},C,8388608", "{t},C,+0", "{t},C,",
+    "{t},C,1.5",
+    "{t},L,0A5", "{t},L,0x", "{t},I,00a", "{t},I,00000", "{t},I,", "{t},S,x", "{t},P,x", "{t},P,", "{t},Q,", '{t},"S,', '"{t}"x,S,', "{t},L,0a 57",
+    "-1,S,", '""', "{t},C,-8388609",
 ]
+LIKE_HEADINGS = ["@next", "@next", "@log", "@program", "@plate", "@Log", "@log ", " @log", "@next\r", "@log\r\r"]
 REQUESTS = ["W", "W", "Z", "T", "T", "M", "C", "w", "", "WW", "?"]
 
 
@@ -23,8 +28,13 @@ def made_plate(chance):
     e, n = chance.choice(allowed), chance.choice([500, 501, 999, 1000, 3000, 7777, 10000])
     span = chance.choice([4 * n, 4 * n + 1, 200 * n, 8000000, chance.randrange(4 * n, 8000001)])
     values = {
-        "unit": f'"{unit}"', "decimals": decimals, "e": e, "max": e * n, "zero_counts": chance.choice([0, 10000, -8388608, 8388607, chance.randrange(-9000, 9000)]),
-        "span_counts": min(span, 8000000), "window": chance.choice([2, 3, 4, 4, 16]),
+        "unit": f'"{unit}"',
+        "decimals": decimals,
+        "e": e,
+        "max": e * n,
+        "zero_counts": chance.choice([0, 10000, -8388608, 8388607, chance.randrange(-9000, 9000)]),
+        "span_counts": min(span, 8000000),
+        "window": chance.choice([2, 3, 4, 4, 16]),
     }
     lines = [f"{key} = {value}" for key, value in values.items()]
     chance.shuffle(lines)
@@ -56,7 +66,8 @@ def counts_near(chance, values, load):
 
 def made_load(chance, n):
     """A load in half intervals, near the edges more often."""
-    return chance.choice([0, 0, 1, -1, 2, -40, -41, -42, 2 * n, 2 * n + 18, 2 * n + 19, 2 * n + 20, n // 25, -(n // 25), chance.randrange(2 * n), chance.randrange(2 * n)])
+    edges = [0, 0, 1, -1, 2, -40, -41, -42, 2 * n, 2 * n + 18, 2 * n + 19, 2 * n + 20, n // 25, -(n // 25)]
+    return chance.choice([*edges, chance.randrange(2 * n), chance.randrange(2 * n)])
 
 
 def line_bytes(chance):
@@ -153,5 +164,5 @@ def with_other_headings(chance, text):
     """A job with one to three lines more that look like headings."""
     lines = text.split("\n")
     for _ in range(chance.choice([1, 1, 2, 3])):
-        lines.insert(chance.randrange(len(lines) + 1), chance.choice(["@next", "@next", "@log", "@program", "@plate", "@Log", "@log ", " @log", "@next\r", "@log\r\r"]))
+        lines.insert(chance.randrange(len(lines) + 1), chance.choice(LIKE_HEADINGS))
     return "\n".join(lines)

@@ -185,17 +185,24 @@ def made_text(chance, most=14):
 
 WRONG_DECLARATIONS = [
     "VAR c0 , C0 : BOOL ; END_VAR", "VAR z : X ; END_VAR", "VAR z : INT := 1 ; END_VAR", "VAR_INPUT z : TON ; END_VAR", "VAR z : BOOL := 2 ; END_VAR",
-    "VAR z : TIME := 1 ; END_VAR", "VAR z : SR := 0 ; END_VAR", "VAR At : BOOL ; END_VAR", "VAR z , Q1 , ton : X ; END_VAR", "VAR z : B0 ; END_VAR", "VAR z : B2 ; END_VAR",
+    "VAR z : TIME := 1 ; END_VAR", "VAR z : SR := 0 ; END_VAR", "VAR At : BOOL ; END_VAR", "VAR z , Q1 , ton : X ; END_VAR",
+    "VAR z : B0 ; END_VAR", "VAR z : B2 ; END_VAR",
     "VAR_OUTPUT z : B1 ; END_VAR", "VAR z : P ; END_VAR", "VAR z1 : Main ; END_VAR", f"VAR {', '.join(f'z{n}' for n in range(260))} : DINT ; END_VAR",
 ]
 WRONG_LINES = [
-    "LD TRUE\nAND (\n)", "LD TRUE\nOR (\nAND (\n)\n)", "LD TRUE\nXOR (\nJMP L9\n)", "LD TRUE\nAND (\nL9 : LD 1\n)", "LD TRUE\nAND (\nRETC\n)", ")", "LD TRUE\nAND (",
+    "LD TRUE\nAND (\n)", "LD TRUE\nOR (\nAND (\n)\n)", "LD TRUE\nXOR (\nJMP L9\n)", "LD TRUE\nAND (\nL9 : LD 1\n)", "LD TRUE\nAND (\nRETC\n)", ")",
+    "LD TRUE\nAND (",
     "LD TRUE\n" + "AND (\n" * 9, "LD TRUE\n" * 1025, "LD %IX0.16", "LD %ID9\nLD %Q", "LD x9", "LD zz.x9", "LD c0.Q", "LD TRUE\nAND TRUE.Q", "LD 1\nAND 1", "LD T#1s\nADD 1", "LD 1\nMUL T#1s",
-    "LD TRUE\nGT FALSE", "LD TRUE\nEQ T#0s", "LD 1\nST %QX0.0", "LD 1\nNOT", "LD 1\nRETC", "LD 1\nJMPC L9\nL9 :", "JMP L9\nNOT\nL9 :", "JMP L9\nL9 : NOT", "LD TRUE\nST %IX0.0", "LD TRUE\nST zz.Q",
-    "LD TRUE\nST 1", "LD zz.IN", "LD TRUE\nAND ( zz.PT\n)", "JMP L9", "L9 : JMP L9", "L9 :\nL9 : LD 1", "JMP L9\nL9 :\nL9 :", "LD 1\nDIV 0", "LD 1\nMOD -0", "LD 1\nDIV TRUE", "LD 1\nMOD zz.ET",
-    "LD 1\nDIV zz.IN", "LD 1\nDIV (\nLD 2\n)", "CAL zz ( CU := 1 )", "CAL zz ( Q := TRUE )", "CAL zz ( IN => %QX0.0 )", "CAL zz ( IN := 1 , in := 0 )", "CAL zz ( Q => zz.IN , q => zz.IN )",
-    "CAL zz ( IN := 2 )", "CAL zz ( PT := 1 )", "CAL zz ( ET => zz.IN )", "CAL zz ( Q => zz.Q )", "CAL zz ( IN := zz.PT )", "CAL zz ( IN := zz )", "CAL zz ( Q => zz )", "CAL c0", "CAL x9 ( x9 := x9 )",
-    "LD 1\nCALC zz", "LD zz", "LD TRUE\nS zz", "LD TRUE\nS zz.PT", "LDN 1", "LDN T#1s", "LD TRUE\nEQ (\nLD 1\n)", "LD TRUE\nAND (\nCAL zz\n)", "L9 : L8 : LD 1", "LD : LD 1", "NOT : LD 1", "RET\nNOT",
+    "LD TRUE\nGT FALSE", "LD TRUE\nEQ T#0s", "LD 1\nST %QX0.0", "LD 1\nNOT", "LD 1\nRETC", "LD 1\nJMPC L9\nL9 :", "JMP L9\nNOT\nL9 :",
+    "JMP L9\nL9 : NOT", "LD TRUE\nST %IX0.0", "LD TRUE\nST zz.Q",
+    "LD TRUE\nST 1", "LD zz.IN", "LD TRUE\nAND ( zz.PT\n)", "JMP L9", "L9 : JMP L9", "L9 :\nL9 : LD 1", "JMP L9\nL9 :\nL9 :", "LD 1\nDIV 0",
+    "LD 1\nMOD -0", "LD 1\nDIV TRUE", "LD 1\nMOD zz.ET",
+    "LD 1\nDIV zz.IN", "LD 1\nDIV (\nLD 2\n)", "CAL zz ( CU := 1 )", "CAL zz ( Q := TRUE )", "CAL zz ( IN => %QX0.0 )",
+    "CAL zz ( IN := 1 , in := 0 )", "CAL zz ( Q => zz.IN , q => zz.IN )",
+    "CAL zz ( IN := 2 )", "CAL zz ( PT := 1 )", "CAL zz ( ET => zz.IN )", "CAL zz ( Q => zz.Q )", "CAL zz ( IN := zz.PT )", "CAL zz ( IN := zz )",
+    "CAL zz ( Q => zz )", "CAL c0", "CAL x9 ( x9 := x9 )",
+    "LD 1\nCALC zz", "LD zz", "LD TRUE\nS zz", "LD TRUE\nS zz.PT", "LDN 1", "LDN T#1s", "LD TRUE\nEQ (\nLD 1\n)", "LD TRUE\nAND (\nCAL zz\n)",
+    "L9 : L8 : LD 1", "LD : LD 1", "NOT : LD 1", "RET\nNOT",
     "LD FALSE\nJMP L9\nLD 1\nL9 : NOT", "LD FALSE\nJMPC L9\nLD 1\nL9 : NOT", "LD FALSE\nJMP L9\nM9 :\nL9 : NOT",
 ]
 
@@ -262,8 +269,10 @@ SHORT = (
     "( ( ) ) : := => , ; . & &( &N FOO L LD LD( AND( ADD( XOR( EQ( NOT RET RETC JMP CAL CALC TRUE FALSE 1 T#1s %IX0.0 VAR VAR_INPUT END_VAR BOOL TON t a "
     "END_PROGRAM END_FUNCTION_BLOCK PROGRAM FUNCTION_BLOCK P"
 ).split() + ["\n"] * 14
-BEGINNINGS = ["", "", "PROGRAM P\n", "PROGRAM P\nLD TRUE\nAND(\n", "PROGRAM P\nVAR t : TON; END_VAR\nCAL t(", "PROGRAM P VAR ", "FUNCTION_BLOCK B\n", "PROGRAM P END_PROGRAM\n"]
-LEXEMES = ["T#", "TIME#", "t#-", "BOOL#", "16#", "2#", "8#", "-", "+", "INT#", "&", "&N", "%", "(*", "*)", "a", "_", "\n", "\r\n", "\r", " ", "N", "#", ":=", "=>", "="]
+BEGINNINGS = ["", "", "PROGRAM P\n", "PROGRAM P VAR ", "FUNCTION_BLOCK B\n", "PROGRAM P END_PROGRAM\n"]
+BEGINNINGS += ["PROGRAM P\nLD TRUE\nAND(\n", "PROGRAM P\nVAR t : TON; END_VAR\nCAL t("]
+LEXEMES = ["T#", "TIME#", "t#-", "BOOL#", "16#", "2#", "8#", "-", "+", "INT#", "&", "&N", "%", "(*", "*)"]
+LEXEMES += ["a", "_", "\n", "\r\n", "\r", " ", "N", "#", ":=", "=>", "="]
 DIGITS = list("0123456789019_.dhmsdhmsFfx") + ["ms", "ms", "s", "00", "1h", "2m", "3s", "4ms", "59", "60", "999", "1000", "000000000000"]
 
 
