@@ -192,7 +192,8 @@ WRONG_DECLARATIONS = [
 WRONG_LINES = [
     "LD TRUE\nAND (\n)", "LD TRUE\nOR (\nAND (\n)\n)", "LD TRUE\nXOR (\nJMP L9\n)", "LD TRUE\nAND (\nL9 : LD 1\n)", "LD TRUE\nAND (\nRETC\n)", ")",
     "LD TRUE\nAND (",
-    "LD TRUE\n" + "AND (\n" * 9, "LD TRUE\n" * 1025, "LD %IX0.16", "LD %ID9\nLD %Q", "LD x9", "LD zz.x9", "LD c0.Q", "LD TRUE\nAND TRUE.Q", "LD 1\nAND 1", "LD T#1s\nADD 1", "LD 1\nMUL T#1s",
+    "LD TRUE\n" + "AND (\n" * 9, "LD TRUE\n" * 1025, "LD %IX0.16", "LD %ID9\nLD %Q", "LD x9", "LD zz.x9", "LD c0.Q",
+    "LD TRUE\nAND TRUE.Q", "LD 1\nAND 1", "LD T#1s\nADD 1", "LD 1\nMUL T#1s",
     "LD TRUE\nGT FALSE", "LD TRUE\nEQ T#0s", "LD 1\nST %QX0.0", "LD 1\nNOT", "LD 1\nRETC", "LD 1\nJMPC L9\nL9 :", "JMP L9\nNOT\nL9 :",
     "JMP L9\nL9 : NOT", "LD TRUE\nST %IX0.0", "LD TRUE\nST zz.Q",
     "LD TRUE\nST 1", "LD zz.IN", "LD TRUE\nAND ( zz.PT\n)", "JMP L9", "L9 : JMP L9", "L9 :\nL9 : LD 1", "JMP L9\nL9 :\nL9 :", "LD 1\nDIV 0",
