@@ -158,8 +158,15 @@ class Maker:
                 self.lines.append(f"JMP L{self.label_number}")
                 result = None
         self.lines += [f"{label} :" for label in self.open_labels]
+        self.open_labels = []
         if self.chance.random() < 0.1:
-            self.lines.append("RET")
+            self.lines.append("RET" if self.keyword == "FUNCTION_BLOCK" else "LD FALSE\nRETC")
+
+    def shown(self):
+        """Lines that copy variables and fields to the outputs."""
+        own = {kind: [name for name in self.read[kind] if "%" not in name] for kind in ("BOOL", "DINT")}
+        bits = [f"LD {name}\nST %QX0.{bit}" for bit, name in enumerate(own["BOOL"][:12], 3)]
+        return bits + [f"LD {name}\nST %QD{word}" for word, name in enumerate(own["DINT"][:4])]
 
     def unit(self, most):
         """The text of the unit, and its inputs and outputs."""
@@ -168,7 +175,9 @@ class Maker:
         outputs = self.section("VAR_OUTPUT", "b", 3)
         self.section("VAR", "c", 4)
         self.instance_section()
-        self.body(most)
+        for _ in range(1 if self.keyword == "FUNCTION_BLOCK" else 3):
+            self.body(most)
+        self.lines += self.shown() if self.keyword == "PROGRAM" else []
         self.lines.append(f"END_{self.keyword}")
         return "\n".join(self.lines) + "\n", (inputs, outputs)
 
