@@ -9,7 +9,7 @@
  *   WRITE_CHUNK=N          a write to standard output takes at most N bytes
  *   INTERRUPTED=N          each Nth call that opens, reads or writes is interrupted first
  *   COUNTS=FILE            at the end the number of allocations is written to this file, and 1 if the allocation after the refused
- *                          one was a retry of no more bytes, else 0
+ *                          one was a retry: of fewer bytes, and of the block that the refused one would have grown, else 0
  */
 #define _GNU_SOURCE
 #include <dlfcn.h>
@@ -23,6 +23,7 @@
 
 static long allocations, transfers, refused, was_retried, read_left = -1, read_chunk, write_left = -1, write_chunk, interrupted;
 static size_t refused_size;
+static const void *refused_block;
 static int read_error = EIO;
 
 static int (*real_open)(const char *, int, ...);
@@ -63,14 +64,16 @@ __attribute__((destructor)) static void end(void)
     }
 }
 
-static int is_refused(size_t size)
+/* BLOCK is the one that grows, or NULL. */
+static int is_refused(const void *block, size_t size)
 {
     allocations += 1;
     if (refused > 0 && allocations == refused + 1)
-        was_retried = size <= refused_size;
+        was_retried = block == refused_block && size < refused_size;
     if (allocations != refused)
         return 0;
     refused_size = size;
+    refused_block = block;
     errno = ENOMEM;
     return 1;
 }
@@ -80,17 +83,17 @@ extern void *__libc_calloc(size_t, size_t);
 extern void *__libc_realloc(void *, size_t);
 extern void *__libc_memalign(size_t, size_t);
 
-void *malloc(size_t size) { return is_refused(size) ? NULL : __libc_malloc(size); }
+void *malloc(size_t size) { return is_refused(NULL, size) ? NULL : __libc_malloc(size); }
 
-void *calloc(size_t count, size_t size) { return is_refused(count * size) ? NULL : __libc_calloc(count, size); }
+void *calloc(size_t count, size_t size) { return is_refused(NULL, count * size) ? NULL : __libc_calloc(count, size); }
 
-void *realloc(void *old, size_t size) { return is_refused(size) ? NULL : __libc_realloc(old, size); }
+void *realloc(void *old, size_t size) { return is_refused(old, size) ? NULL : __libc_realloc(old, size); }
 
-void *aligned_alloc(size_t alignment, size_t size) { return is_refused(size) ? NULL : __libc_memalign(alignment, size); }
+void *aligned_alloc(size_t alignment, size_t size) { return is_refused(NULL, size) ? NULL : __libc_memalign(alignment, size); }
 
 int posix_memalign(void **place, size_t alignment, size_t size)
 {
-    if (is_refused(size))
+    if (is_refused(NULL, size))
         return ENOMEM;
     *place = __libc_memalign(alignment, size);
     return *place ? 0 : ENOMEM;

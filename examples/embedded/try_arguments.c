@@ -135,6 +135,49 @@ static void rows(narbeddo_scale *scale)
     is("change with no program", narbeddo_change(scale, (const uint8_t *)counting, strlen(counting)).status, NARBEDDO_NO_PROGRAM);
 }
 
+/* How many of these bytes are not 0. */
+static unsigned long others(const void *bytes, size_t count)
+{
+    unsigned long found = 0;
+    size_t i;
+    for (i = 0; i < count; i++) {
+        found += ((const uint8_t *)bytes)[i] != 0;
+    }
+    return found;
+}
+
+/* What is next to a status is 0 if there is nothing to report: after two samples, with a request that is open, and of texts that are refused. */
+static void zeros(narbeddo_scale *scale)
+{
+    static const uint8_t wrong[] = "PROGRAM P\nLD x\nEND_PROGRAM\n";
+    uint32_t lines[1] = {77};
+    narbeddo_answer answer = narbeddo_byte(scale, '\n');
+    narbeddo_state prelude = narbeddo_prelude(scale);
+    narbeddo_unit refused = narbeddo_about(wrong, sizeof wrong - 1, 0), missing = narbeddo_about((const uint8_t *)counting, strlen(counting), 2);
+    is("bytes of no answer", others(answer.bytes, sizeof answer.bytes), 0);
+    is("zero is not set", prelude.has_zero, 0);
+    is("and its sample", (unsigned long)prelude.zero, 0);
+    is("tare is not set", prelude.has_tare, 0);
+    is("and its sample", (unsigned long)prelude.tare, 0);
+    is("samples", prelude.count, 2);
+    is("after the samples", others(prelude.samples + 2, sizeof prelude.samples - 2 * sizeof prelude.samples[0]), 0);
+    is("an open request", prelude.length, 1);
+    is("after the request", others(prelude.request + 1, sizeof prelude.request - 1), 0);
+    answer = narbeddo_byte(scale, '\r');
+    is("bytes after an answer", others(answer.bytes + answer.length, sizeof answer.bytes - answer.length), 0);
+    is("a refused text", refused.text.number, 401);
+    is("its units", refused.units, 0);
+    is("its bound", refused.bound, 0);
+    is("its length", refused.length, 0);
+    is("its name", others(refused.name, sizeof refused.name), 0);
+    is("no such unit", missing.text.status, NARBEDDO_NO_UNIT);
+    is("its units", missing.units, 0);
+    is("its bound", missing.bound, 0);
+    is("its name", others(missing.name, sizeof missing.name), 0);
+    is("a path of a refused text", narbeddo_path(wrong, sizeof wrong - 1, 0, lines, 1).length, 0);
+    is("a path of no unit", narbeddo_path((const uint8_t *)counting, strlen(counting), 2, lines, 1).length, 0);
+}
+
 static void moments(narbeddo_scale *scale)
 {
     is("a moment", narbeddo_scan(scale, 7).words[0], 1);
@@ -247,6 +290,7 @@ int main(void)
     is("open again", open_by(&scale, good_plate).status, NARBEDDO_ALREADY_OPEN);
     plate(&scale);
     rows(&scale);
+    zeros(&scale);
     is("a program", narbeddo_load(&scale, (const uint8_t *)counting, strlen(counting)).status, NARBEDDO_DONE);
     moments(&scale);
     values(&scale);

@@ -1,5 +1,5 @@
 ghost use Rattle.std.specs.Prelude.{◌≡◌};
-ghost use Rattle.wc_scale.specs.About.{IsPathStatus, IsUnitStatus, RefusesText, ReportsTooSmall, ReportsNoUnit, ReportsPath, ReportsUnit};
+ghost use Rattle.wc_scale.specs.About.{HasNothingOfPath, HasNothingOfUnit, IsPathStatus, IsUnitStatus, RefusesText, ReportsTooSmall, ReportsNoUnit, ReportsPath, ReportsUnit};
 
 use std::alloc::Global;
 use wc_scale::{PathAnswer, UnitAnswer, about, path};
@@ -11,6 +11,7 @@ pub extern "C" fn narbeddo_about(alloc: Global, text: &[u8], unit: u32) -> UnitA
     ensures no_unit { ReportsNoUnit text.now unit result.text }
     ensures status { IsUnitStatus result.text.status }
     ensures refused { RefusesText text.now result.text }
+    ensures nothing { HasNothingOfUnit result }
 {
     about(alloc, text, unit)
 }
@@ -29,6 +30,7 @@ pub extern "C" fn narbeddo_path(
     ensures too_small { ReportsTooSmall text.now unit buffer.old result }
     ensures status { IsPathStatus result.text.status }
     ensures refused { RefusesText text.now result.text }
+    ensures nothing { HasNothingOfPath result }
 {
     path(alloc, text, unit, buffer)
 }

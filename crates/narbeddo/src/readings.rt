@@ -4,7 +4,7 @@ ghost use Rattle.std.specs.Ptr.{lies_at};
 ghost use Rattle.wc_scale.specs.contracts.scale.Scale.{the_row};
 ghost use Rattle.std.specs.Prelude.{◌≡◌};
 ghost use Rattle.wc_scale.specs.Calls.{ShowsNoPlate, ShowsNothing, ReportsEngraved, ReportsReading};
-ghost use Rattle.wc_scale.specs.Preludes.{HoldsNothing, ReportsPrelude};
+ghost use Rattle.wc_scale.specs.Preludes.{HasZerosBesides, HoldsNothing, ReportsPrelude};
 ghost use Rattle.wc_scale.specs.Representation.{IsClosed};
 ghost use Rattle.wc_scale.specs.Values.{RefusesValue, ReportsValue};
 
@@ -56,6 +56,7 @@ pub unsafe extern "C" fn narbeddo_plate(scale: *mut u8) -> Engraved
 fn prelude_of(scale: &mut Scale) -> PreludeAnswer
     ensures reports { ReportsPrelude scale.old result }
     ensures closed { IsClosed scale.old → HoldsNothing result }
+    ensures zeros { HasZerosBesides result }
     ensures kept { scale.new ≡ scale.old }
 {
     scale.prelude()
@@ -68,7 +69,7 @@ pub unsafe extern "C" fn narbeddo_prelude(scale: *mut u8) -> PreludeAnswer
     requires* { sem 𝓛 (lies_at the_row full_share scale before) }
     ensures* { ∃ₛ (λ (after : Scale). sem 𝓛 (lies_at the_row full_share scale after)
         ∗ ⌜ (ReportsPrelude before result) × (IsClosed before → HoldsNothing result)
-        × (after ≡ before) ⌝) }
+        × (HasZerosBesides result) × (after ≡ before) ⌝) }
 {
     prelude_of(&mut *(scale as *mut Scale))
 }

@@ -1,7 +1,8 @@
 ghost use Rattle.std.specs.Prelude.{◌≡◌, ◌≤◌, IfSome, Some, None, option_map};
 ghost use Rattle.wc_arguments.specs.Asked.{asked, check, cut, decode, format_asked, job, line, run, show, texts_of, trace};
 
-use crate::files::{KeptSource, RunFiles, RunPaths, kept_cause, kept_source, read_of};
+use crate::files::{KeptSource, RunFiles, RunPaths, cause_of, kept_cause, kept_source, read_of};
+use crate::noting::with_notes;
 use crate::output::{FlushBeforeRead, SharedWriter};
 use crate::reporting::{CommandEnd, ReadFile, Sources, end, report_warnings, without_memory};
 use crate::session::Session;
@@ -93,7 +94,7 @@ pub(crate) fn run_job(session: Session<'_>, _words: &[String], row: &mut Refused
     let mut writer = Device::new(SharedWriter::new(session.gathered));
     let ending = answer_job(session.rt.alloc(), &mut reader, &mut writer, row);
     let keeping = reader.get_ref().get_ref();
-    let reading = keeping.get_ref().cause();
+    let reading = cause_of(keeping, keeping.get_ref().cause());
     let bytes = keeping.bytes_read();
     finish(session, ending, reading, &Sources::Job { bytes }, row)
 }
@@ -148,16 +149,12 @@ pub(crate) fn preview_words(
         &mut writer,
     );
     let reading = kept_cause(&reader).or(kept_cause(&next_reader));
-    let status = finish(
-        session,
-        ending,
-        reading,
-        &Sources::Program {
-            program: read_of(program, &reader),
-            next: Some(read_of(next, &next_reader)),
-        },
-        row,
-    );
+    let sources = Sources::Program {
+        program: read_of(program, &reader),
+        next: Some(read_of(next, &next_reader)),
+    };
+    let status = finish(session, ending, reading, &sources, row);
+    let status = with_notes(session, status, &sources);
     with_warnings(session, status, &read_of(next, &next_reader), deny)
 }
 
@@ -293,7 +290,8 @@ pub(crate) fn trace_words(
         &mut Device::new(SharedWriter::new(session.gathered)),
         row,
     );
-    finish_run(session, ending, &opened, row)
+    let status = finish_run(session, ending, &opened, row);
+    with_notes(session, status, &opened.sources())
 }
 
 /// Runs the log in a file, with a program and a next one if they are given, and writes a picture of it: the exit status.
@@ -315,7 +313,8 @@ pub(crate) fn show_words(
         &mut Device::new(SharedWriter::new(session.gathered)),
         row,
     );
-    finish_run(session, ending, &opened, row)
+    let status = finish_run(session, ending, &opened, row);
+    with_notes(session, status, &opened.sources())
 }
 
 /// How a command ends that decodes a report.
@@ -354,7 +353,7 @@ pub(crate) fn decode_words(
         session,
         ending_of(answer),
         reading,
-        &Sources::Job { bytes: None },
+        &Sources::Job { bytes: b"" },
         row,
     )
 }

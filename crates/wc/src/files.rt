@@ -1,5 +1,5 @@
 use crate::file_source::FileSource;
-use crate::reporting::{ReadFile, Sources};
+use crate::reporting::{ReadFile, Sources, memory_error};
 use crate::session::Session;
 use std::io;
 use wc_arguments::ProgramFiles;
@@ -15,9 +15,17 @@ pub(crate) fn kept_source<'a>(session: Session<'a>, path: &'a str) -> KeptSource
     Device::new(TeeReader::new(session.rt.alloc(), FileSource::new(session, path)))
 }
 
-/// Why a file could not be read, if the system said so.
+/// Why a file could not be read, if the system or the lack of memory is the cause.
 pub(crate) fn kept_cause(source: &KeptSource<'_>) -> Option<io::Error> {
-    source.get_ref().get_ref().cause()
+    cause_of(source.get_ref(), source.get_ref().get_ref().cause())
+}
+
+/// Why a reader that keeps its bytes failed: no memory for these, or the cause of the reader inside.
+pub(crate) fn cause_of<D>(keeping: &TeeReader<D>, inside: Option<io::Error>) -> Option<io::Error> {
+    if keeping.has_lacked() {
+        return Some(memory_error());
+    }
+    inside
 }
 
 /// A file by its path, with the bytes that were read of it.

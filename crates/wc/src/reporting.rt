@@ -19,19 +19,19 @@ pub(crate) struct CommandEnd {
     pub(crate) writing: Option<io::Error>,
 }
 
-/// A file by its path, with the bytes that were read of it, if they were kept.
+/// A file by its path, with the bytes that were read of it.
 #[derive(Clone, Copy)]
 pub(crate) struct ReadFile<'a> {
     pub(crate) path: &'a str,
-    pub(crate) bytes: Option<&'a [u8]>,
+    pub(crate) bytes: &'a [u8],
 }
 
-/// Where the inputs of a command come from: a job on standard input, with its bytes if they were kept, or files. A log is
+/// Where the inputs of a command come from: a job on standard input, with its bytes, or files. A log is
 /// read row by row, and not kept.
 #[derive(Clone, Copy)]
 pub(crate) enum Sources<'a> {
     Job {
-        bytes: Option<&'a [u8]>,
+        bytes: &'a [u8],
     },
     Program {
         program: ReadFile<'a>,
@@ -54,10 +54,7 @@ pub(crate) enum Sources<'a> {
 
 /// A log by its path, of which no bytes are kept.
 fn log_file(path: &str) -> ReadFile<'_> {
-    ReadFile {
-        path,
-        bytes: Some(b""),
-    }
+    ReadFile { path, bytes: b"" }
 }
 
 impl<'a> Sources<'a> {
@@ -82,7 +79,7 @@ impl<'a> Sources<'a> {
             },
             Sources::Names { option, list, .. } => Some(ReadFile {
                 path: option,
-                bytes: Some(list.as_bytes()),
+                bytes: list.as_bytes(),
             }),
         }
     }
@@ -95,12 +92,12 @@ impl<'a> Sources<'a> {
         }
     }
 
-    /// The text of an input, if it was kept, and the number of lines above it in what is named.
+    /// The text of an input, if it has one, and the number of lines above it in what is named.
     pub(crate) fn text(&self, input: Input) -> Option<JobSection<'a>> {
         match self {
-            Sources::Job { bytes } => section_of((*bytes)?, part_of(input)),
+            Sources::Job { bytes } => section_of(bytes, part_of(input)),
             _ => Some(JobSection {
-                text: self.file(input)?.bytes?,
+                text: self.file(input)?.bytes,
                 above: 0,
             }),
         }
@@ -214,16 +211,14 @@ fn write_warnings(
 }
 
 /// The error if memory ran out.
-fn memory_error() -> io::Error {
+pub(crate) fn memory_error() -> io::Error {
     io::ErrorKind::OutOfMemory.into()
 }
 
 /// Prints what is suspicious of a program that is accepted: whether anything is. The error is out of memory.
 pub(crate) fn report_warnings(session: Session<'_>, file: &ReadFile<'_>) -> io::Result<bool> {
     let alloc = session.rt.alloc();
-    let Some(text) = file.bytes else {
-        return Err(memory_error());
-    };
+    let text = file.bytes;
     let source = match read(alloc, text) {
         Ok(source) => source,
         Err(Fault::Memory) => return Err(memory_error()),

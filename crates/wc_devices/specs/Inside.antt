@@ -1,5 +1,5 @@
 -- What is inside these readers and writers, and what else they keep. (The profile's own.)
-use Rattle.std.specs.Prelude.{◌≡◌, ℕ, ◌-◌, Bool, List, ◌++◌, Option, Some, None, Result, Ok, Err, IsErrAnd, IsTrue, drop, length, take, vec_capacity, if◌then◌else◌}
+use Rattle.std.specs.Prelude.{◌≡◌, ℕ, ◌-◌, Bool, List, ◌++◌, Option, Result, Ok, Err, IsErrAnd, IsTrue, drop, length, take, vec_capacity}
 use Rattle.std.specs.Io.KnownBytes.{append_known}
 use Rattle.wc_devices.specs.declared.output_buffer.OutputBuffer.{OutputBuffer}
 use Rattle.wc_devices.specs.declared.tee_reader.TeeReader.{TeeReader}
@@ -20,20 +20,22 @@ last_cause retry = retry.cause
 abbrev pub tee_inner : {D : Type 0} → TeeReader D → D
 tee_inner tee = tee.inner
 
--- the bytes that were read, if memory was given for all of them
-abbrev pub kept : {D : Type 0} → TeeReader D → Option (List ℕ)
-kept tee = if tee.whole then Some tee.kept.items else None
+-- the bytes that were read
+abbrev pub kept : {D : Type 0} → TeeReader D → List ℕ
+kept tee = tee.kept.items
 
--- the number of further bytes for which memory is allocated
-abbrev pub kept_space : {D : Type 0} → TeeReader D → ℕ
-kept_space tee = vec_capacity tee.kept - length tee.kept.items
+-- whether a read was out of memory for the bytes to keep
+abbrev pub has_lacked : {D : Type 0} → TeeReader D → Bool
+has_lacked tee = tee.lacked
 
--- bytes that are kept grow by those that a read gives, or are given up; a failed read adds none
-abbrev pub Keeps : Option (List ℕ) → Option (List ℕ) → Result ℕ Error → List ℕ → Type 0
-Keeps None new result buffer = new ≡ None
-Keeps (Some bytes) None (Ok count) buffer = Unit {0}
-Keeps (Some bytes) (Some more) (Ok count) buffer = more ≡ bytes ++ take count buffer
-Keeps (Some bytes) new (Err error) buffer = new ≡ Some bytes
+-- the number of bytes for which it has memory
+abbrev pub kept_capacity : {D : Type 0} → TeeReader D → ℕ
+kept_capacity tee = vec_capacity tee.kept
+
+-- bytes that are kept grow by those that a read gives; a failed read adds none
+abbrev pub Extends : List ℕ → List ℕ → Result ℕ Error → List ℕ → Type 0
+Extends old new (Ok count) buffer = new ≡ old ++ take count buffer
+Extends old new (Err error) buffer = new ≡ old
 
 -- the writer inside
 abbrev pub buffer_inner : {D : Type 0} → OutputBuffer D → D

@@ -1,30 +1,33 @@
-ghost use Rattle.std.specs.Prelude.{◌≡◌, ◌≤◌, [], IfOk, IsSome, Some, option_map};
+ghost use Rattle.std.specs.Prelude.{◌≡◌, ◌+◌, ◌≤◌, ◌⊎◌, [], IsErrAnd, IsTrue, false, length};
 ghost use Rattle.std.specs.Io.{ReadsAtMost};
 ghost use Rattle.std.specs.Io.KnownBytes.{ReadConsumes};
-ghost use Rattle.wc_devices.specs.Inside.{Keeps, tee_inner, kept, kept_space};
+ghost use Rattle.std.specs.IoError.{error_kind};
+ghost use Rattle.wc_devices.specs.Inside.{Extends, has_lacked, kept, kept_capacity, tee_inner};
 
 use std::alloc::Global;
 use std::io;
-use std::io::Read;
+use std::io::{ErrorKind, Read};
 
-/// A reader that keeps the bytes that it reads, as long as there is memory for them.
+/// A reader that keeps the bytes that it reads. Memory for them comes first: if it is refused, the read is out of memory
+/// (`OutOfMemory`) and takes nothing from the reader inside.
 #[derive(Drop)]
 pub struct TeeReader<D> {
     inner: D,
     kept: Vec<u8>,
-    whole: bool,
+    lacked: bool,
 }
 
 impl<D> TeeReader<D> {
     /// One that has read nothing.
     pub fn new(alloc: Global, inner: D) -> TeeReader<D>
         ensures inner { tee_inner result ≡ inner }
-        ensures nothing { kept result ≡ Some [] }
+        ensures nothing { kept result ≡ [] }
+        ensures memory { has_lacked result ≡ false }
     {
         TeeReader {
             inner,
             kept: Vec::new(alloc),
-            whole: true,
+            lacked: false,
         }
     }
 
@@ -35,15 +38,18 @@ impl<D> TeeReader<D> {
         &self.inner
     }
 
-    /// All bytes that were read; nothing if memory for some of them was refused.
-    pub fn bytes_read(&self) -> Option<&[u8]>
-        ensures { option_map (λ bytes. bytes.now) result ≡ kept self.now }
+    /// All bytes that were read.
+    pub fn bytes_read(&self) -> &[u8]
+        ensures { result.now ≡ kept self.now }
     {
-        if self.whole {
-            Some(self.kept.as_slice())
-        } else {
-            None
-        }
+        self.kept.as_slice()
+    }
+
+    /// Whether a read was out of memory for the bytes to keep.
+    pub fn has_lacked(&self) -> bool
+        ensures { result ≡ has_lacked self.now }
+    {
+        self.lacked
     }
 }
 
@@ -54,13 +60,24 @@ impl<D: Read> Read for TeeReader<D> {
         ensures bound { ReadsAtMost result buffer.new }
         ensures bytes { ReadConsumes (D.remaining (tee_inner self.old))
             (D.remaining (tee_inner self.new)) result buffer.new }
-        ensures kept { Keeps (kept self.old) (kept self.new) result buffer.new }
-        ensures allocated { IfOk result (λ count. count ≤ kept_space self.old
-            → IsSome (kept self.old) → IsSome (kept self.new)) }
+        ensures kept { Extends (kept self.old) (kept self.new) result buffer.new }
+        // It lacks memory only if some was refused, and then it says so and the reader inside is not asked.
+        ensures lacks { IsTrue (has_lacked self.new) → IsTrue (has_lacked self.old)
+            ⊎ IsErrAnd result (λ error. error_kind error ≡ ErrorKind.OutOfMemory)
+            × (tee_inner self.new ≡ tee_inner self.old) }
+        ensures enough { length (kept self.old) + length buffer.old ≤ kept_capacity self.old
+            → has_lacked self.new ≡ has_lacked self.old }
+        ensures there { has_lacked self.new ≡ false
+            → length (kept self.old) + length buffer.old ≤ kept_capacity self.new }
+        ensures lacked { IsTrue (has_lacked self.old) → IsTrue (has_lacked self.new) }
     {
+        if self.kept.reserve(buffer.len()).is_err() {
+            self.lacked = true;
+            return Err(io::Error::from(ErrorKind::OutOfMemory));
+        }
         let count = self.inner.read(buffer)?;
         let (read, _) = buffer.split_at(count);
-        self.whole = self.whole && self.kept.extend_from_slice(read).is_ok();
+        let _kept = self.kept.extend_from_slice(read);
         Ok(count)
     }
 }

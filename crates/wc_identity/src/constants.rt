@@ -6,8 +6,8 @@ macro_rules! with_constants {
         $macro!(
             "0.1.0",
             "rattle-kit-13 logic dac8208d650f15bf",
-            "1dde7c72ae67ac2419322ceddbf2693e62cd12cf6f95026a93509e8e4b8929ca",
-            "ffd526ee71df8eb0feb2887abf637a043ef31535854da08a6f3ca5764f92c19f"
+            "447321745f2b4cf931f5c8aa3776e801da89d23ba1d535ed9c2e088528bad28d",
+            "02bbf2361765de53498db54e5b92f6964290fa815310548ac564994068043d4a"
         )
     };
 }

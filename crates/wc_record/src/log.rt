@@ -27,16 +27,16 @@ const RECORD_CAPACITY: usize = 8192;
 const ENDS_CAPACITY: usize = 4;
 
 /// A record to read into. `csv` takes no more bytes at once than it has space for, so with less
-/// space than its line has bytes each record would be taken in two chunks. If memory is refused, it
-/// grows as it needs.
+/// space than its line has bytes each record would be taken in two chunks. `Memory` is the only
+/// fault.
 #[cold]
 #[inline(never)]
-fn buffer_record(alloc: Global) -> ByteRecord
-    ensures { fields_of result ≡ [] }
+fn buffer_record(alloc: Global) -> Result<ByteRecord, LogFault>
+    ensures memory { IfErr result (λ raised. raised ≡ LogFault.Memory) }
 {
     match ByteRecord::with_capacity(alloc, RECORD_CAPACITY, ENDS_CAPACITY) {
-        Ok(row) => row,
-        Err(_) => ByteRecord::new(alloc),
+        Ok(row) => Ok(row),
+        Err(_) => Err(LogFault::Memory),
     }
 }
 
@@ -178,7 +178,7 @@ impl<'r, R: ByteIn> Rows<'r, R> {
             ((rows_read self.new ≡ 1) × (last_ms self.new ≡ last_ms self.old)) }
         ensures keeps { Keeps self.old self.new }
     {
-        self.row = buffer_record(self.alloc);
+        self.row = buffer_record(self.alloc)?;
         match self.read() {
             Ok(found) => {
                 if found && is_first_row(&self.row) {

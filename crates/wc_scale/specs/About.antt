@@ -36,6 +36,15 @@ pub record IsTooLong (text : Text) (unit : ℕ) (buffer : List ℕ) (reported : 
   pub long : (length buffer < length lines) ⊎ (4294967295 < length lines)
   pub count : reported.length ≡ min (length lines) 4294967295
 
+-- if nothing is reported about a unit, each number is 0, and so are the bytes of its name
+abbrev pub HasNothingOfUnit : UnitAnswer → Type 0
+HasNothingOfUnit reported = ¬ (reported.text.status ≡ 0) →
+    (reported.units ≡ 0) × (reported.bound ≡ 0) × (reported.length ≡ 0) × (reported.name ≡ replicate 32 0)
+
+-- unless a path is reported, or is too long, it has no length
+abbrev pub HasNothingOfPath : PathAnswer → Type 0
+HasNothingOfPath reported = ¬ (reported.text.status ≡ 0) → ¬ (reported.text.status ≡ 11) → reported.length ≡ 0
+
 -- the bytes are loaded as a text, of which this holds
 pub record IsTextWith (bytes : List ℕ) (Holds : Text → Type 0) : Type 0 where
   pub text : Text

@@ -1,6 +1,6 @@
 -- What each call with a row's work does to a scale and what it answers, for whatever plate and whatever has come the scale
 -- represents. A call that answers any status but 0 changes nothing. (The profile's own.)
-use Rattle.std.specs.Prelude.{◌≡◌, ℕ, ◌<◌, ◌≤◌, List, [], ◌∷◌, take, replicate, ℤ, pos, IfSome, Some}
+use Rattle.std.specs.Prelude.{◌≡◌, ℕ, ◌<◌, ◌≤◌, ◌-◌, List, [], ◌∷◌, drop, take, replicate, ℤ, pos, IfSome, Some}
 use Rattle.wc_model.specs.Instrument.Answers.{answers_to}
 use Rattle.wc_model.specs.Instrument.Plates.{PlateData}
 use Rattle.wc_model.specs.Instrument.Requests.{requests_in}
@@ -67,9 +67,11 @@ pub record IsAnswered (new : Scale) (plate : PlateData) (came : Came) (byte : �
 abbrev pub TakesByte : Scale → Scale → ℕ → Answer → Type 0
 TakesByte old new byte answer = (plate : PlateData) (came : Came) → Represents old plate came → IsAnswered new plate came byte answer
 
+-- a closed scale answers nothing; after an answer's bytes are zeros
 pub record RefusesByte (old new : Scale) (answer : Answer) : Type 0 where
   pub closed : IsClosed old → (answer.status ≡ 3) × (answer.length ≡ 0) × (new ≡ old)
   pub short : answer.length ≤ 20
+  pub zeros : drop answer.length answer.bytes ≡ replicate (20 - answer.length) 0
 
 -- ---- a scan
 -- the steps and the outputs are those of this result

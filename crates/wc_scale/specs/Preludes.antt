@@ -1,5 +1,5 @@
 -- What is reported about the state of a scale, and what brings it back. (The profile's own.)
-use Rattle.std.specs.Prelude.{◌≡◌, ℕ, zero, suc, List, [], ◌∷◌, replicate, take, ℤ, pos, Option, Some, None}
+use Rattle.std.specs.Prelude.{◌≡◌, ◌-◌, ℕ, zero, suc, List, [], ◌∷◌, drop, replicate, take, ℤ, pos, Option, Some, None}
 use Rattle.wc_laws_instrument.specs.Preludes.{ScaleState, state_of}
 use Rattle.wc_model.specs.Instrument.Plates.{PlateData}
 use Rattle.wc_model.specs.Instrument.Requests.{line_feed}
@@ -25,6 +25,13 @@ pub record IsReportedState (reported : PreludeAnswer) (state : ScaleState) : Typ
   pub same_samples : take reported.count reported.samples ≡ state.window
   pub same_inputs : reported.inputs ≡ state.inputs
   pub same_request : take reported.length reported.request ≡ request_bytes state.request
+
+-- what is not set is 0, and so is all after the samples and after the request
+pub record HasZerosBesides (reported : PreludeAnswer) : Type 0 where
+  pub no_zero : reported.has_zero ≡ 0 → reported.zero ≡ pos 0
+  pub no_tare : reported.has_tare ≡ 0 → reported.tare ≡ pos 0
+  pub samples : drop reported.count reported.samples ≡ replicate (16 - reported.count) (pos 0)
+  pub request : drop reported.length reported.request ≡ replicate (3 - reported.length) 0
 
 -- what is reported is the state that all that has come has left, with the plate's window
 pub record IsPreludeOf (reported : PreludeAnswer) (plate : PlateData) (came : Came) : Type 0 where

@@ -1,4 +1,4 @@
-ghost use Rattle.std.specs.Prelude.{◌≡◌, ◌<◌, ◌≤◌, Some, length, take};
+ghost use Rattle.std.specs.Prelude.{◌≡◌, ◌<◌, ◌≤◌, ◌-◌, Some, drop, length, replicate, take};
 
 use std::io;
 use wc_model::ByteOut;
@@ -11,6 +11,7 @@ pub(crate) struct AnswerBuffer {
     pub(crate) failures: u64,
     ghost whole: { length bytes ≡ 20 },
     ghost within: { taken ≤ 20 },
+    ghost zeros: { drop taken bytes ≡ replicate (20 - taken) 0 },
     // A write fails only if the buffer is full.
     ghost full: { 0 < failures → taken ≡ 20 },
 }

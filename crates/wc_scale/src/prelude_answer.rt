@@ -1,6 +1,6 @@
-ghost use Rattle.std.specs.Prelude.{◌≡◌, option_map, take};
+ghost use Rattle.std.specs.Prelude.{◌≡◌, ◌-◌, drop, option_map, pos, replicate, take};
 ghost use Rattle.wc_open_scale.specs.States.{state_view};
-ghost use Rattle.wc_scale.specs.Preludes.{HoldsNothing, IsReportedState, ReportsPrelude, load_reported, request_bytes};
+ghost use Rattle.wc_scale.specs.Preludes.{HasZerosBesides, HoldsNothing, IsReportedState, ReportsPrelude, load_reported, request_bytes};
 ghost use Rattle.wc_scale.specs.Representation.{IsClosed};
 
 use crate::results::PreludeAnswer;
@@ -11,7 +11,8 @@ use wc_open_scale::Prelude;
 
 /// A list of at most sixteen numbers with zeros after it, and their number.
 fn padded(items: &ArrayVec<i32, 16>) -> (u32, [i32; 16])
-    ensures { take result.0 result.1 ≡ items.now.items }
+    ensures items { take result.0 result.1 ≡ items.now.items }
+    ensures zeros { drop result.0 result.1 ≡ replicate (16 - result.0) (pos 0) }
 {
     let mut buffer = [0; 16];
     let count = items.len();
@@ -21,8 +22,9 @@ fn padded(items: &ArrayVec<i32, 16>) -> (u32, [i32; 16])
 
 /// The bytes of a request that is open, with zeros after them, and their number.
 fn opened(request: &Option<ArrayVec<u8, 2>>) -> (u32, [u8; 3])
-    ensures { take result.0 result.1
+    ensures bytes { take result.0 result.1
         ≡ request_bytes (option_map (λ text. text.items) request.now) }
+    ensures zeros { drop result.0 result.1 ≡ replicate (3 - result.0) 0 }
 {
     let mut buffer = [0; 3];
     let Some(text) = request else {
@@ -36,7 +38,8 @@ fn opened(request: &Option<ArrayVec<u8, 2>>) -> (u32, [u8; 3])
 
 /// A load, and whether there is one.
 fn load_of(load: Option<i32>) -> (u32, i32)
-    ensures { load_reported result.0 result.1 ≡ load }
+    ensures load { load_reported result.0 result.1 ≡ load }
+    ensures unset { result.0 ≡ 0 → result.1 ≡ pos 0 }
 {
     match load {
         Some(counts) => (1, counts),
@@ -49,6 +52,7 @@ fn reported(prelude: &Prelude, window: u32) -> PreludeAnswer
     ensures status { result.status ≡ 0 }
     ensures window { result.window ≡ window }
     ensures state { IsReportedState result (state_view prelude.now) }
+    ensures zeros { HasZerosBesides result }
 {
     let (has_zero, zero) = load_of(prelude.zero);
     let (has_tare, tare) = load_of(prelude.tare);
@@ -74,6 +78,7 @@ impl Scale {
     /// takes no memory.
     pub fn prelude(&self) -> PreludeAnswer
         ensures reports { ReportsPrelude self.now result }
+        ensures zeros { HasZerosBesides result }
         ensures closed { IsClosed self.now → HoldsNothing result }
     {
         match &self.opened {

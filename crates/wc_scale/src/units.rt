@@ -1,6 +1,6 @@
 ghost use Rattle.std.specs.Prelude.{◌≡◌, ◌<◌, ◌-◌, ◌⊎◌, drop, length, min, replicate, take};
 ghost use Rattle.wc_model.specs.Language.Views.{text_view};
-ghost use Rattle.wc_scale.specs.About.{HasNoUnit, IsPathStatus, IsPathReported, IsTooLong, IsUnitStatus, IsUnitReported, RefusesText, ReportsTooSmall, ReportsNoUnit, ReportsPath, ReportsUnit};
+ghost use Rattle.wc_scale.specs.About.{HasNoUnit, HasNothingOfPath, HasNothingOfUnit, IsPathStatus, IsPathReported, IsTooLong, IsUnitStatus, IsUnitReported, RefusesText, ReportsTooSmall, ReportsNoUnit, ReportsPath, ReportsUnit};
 
 use crate::results::{PathAnswer, Refusal, UnitAnswer, of_fault, only};
 use crate::statuses::{DONE, NO_MEMORY, NO_UNIT, TOO_SMALL};
@@ -10,7 +10,8 @@ use wc_cost::Loaded;
 
 /// Nothing of a unit.
 fn no_unit(text: Refusal) -> UnitAnswer
-    ensures { result.text ≡ text }
+    ensures text { result.text ≡ text }
+    ensures nothing { HasNothingOfUnit result }
 {
     UnitAnswer {
         text,
@@ -39,6 +40,7 @@ fn unit_answer(loaded: &Loaded<'_>, unit: u32) -> UnitAnswer
         → IsUnitReported (text_view loaded.now.source) unit result }
     ensures no_unit { result.text.status ≡ 10 → HasNoUnit (text_view loaded.now.source) unit }
     ensures status { (result.text.status ≡ 0) ⊎ (result.text.status ≡ 10) }
+    ensures nothing { HasNothingOfUnit result }
 {
     let units = loaded.units();
     let at = unit as usize;
@@ -63,6 +65,7 @@ pub fn about(alloc: Global, text: &[u8], unit: u32) -> UnitAnswer
     ensures no_unit { ReportsNoUnit text.now unit result.text }
     ensures status { IsUnitStatus result.text.status }
     ensures refused { RefusesText text.now result.text }
+    ensures nothing { HasNothingOfUnit result }
 {
     match load(alloc, text) {
         Ok(loaded) => unit_answer(&loaded, unit),
@@ -88,6 +91,7 @@ fn path_answer(alloc: Global, loaded: &Loaded<'_>, unit: u32, buffer: &mut [u32]
         → IsTooLong (text_view loaded.now.source) unit buffer.old result }
     ensures status { ¬ (result.text.status ≡ 1) }
     ensures statuses { IsPathStatus result.text.status }
+    ensures nothing { HasNothingOfPath result }
 {
     let at = unit as usize;
     if at >= loaded.units() {
@@ -114,6 +118,7 @@ pub fn path(alloc: Global, text: &[u8], unit: u32, buffer: &mut [u32]) -> PathAn
     ensures too_small { ReportsTooSmall text.now unit buffer.old result }
     ensures status { IsPathStatus result.text.status }
     ensures refused { RefusesText text.now result.text }
+    ensures nothing { HasNothingOfPath result }
 {
     match load(alloc, text) {
         Ok(loaded) => path_answer(alloc, &loaded, unit, buffer),

@@ -51,14 +51,6 @@ fn moved(answer: io::Result<usize>) -> Option<usize> {
     }
 }
 
-/// Whether these bytes are kept, and no others.
-fn has_kept(kept: Option<&[u8]>, wanted: &[u8]) -> bool {
-    match kept {
-        Some(bytes) => bytes == wanted,
-        None => false,
-    }
-}
-
 /// Whether the next read into two bytes gives this many.
 fn reads(reader: &mut TeeReader<&[u8]>, count: usize) -> bool {
     let mut buffer = [0_u8; 2];
@@ -67,12 +59,13 @@ fn reads(reader: &mut TeeReader<&[u8]>, count: usize) -> bool {
 
 /// Whether a reader of three bytes keeps what it reads.
 fn keeps_what_it_reads(reader: &mut TeeReader<&[u8]>) -> bool {
-    has_kept(reader.bytes_read(), b"")
+    reader.bytes_read().is_empty()
         && reads(reader, 2)
         && reads(reader, 1)
         && reads(reader, 0)
-        && has_kept(reader.bytes_read(), b"abc")
+        && reader.bytes_read() == b"abc"
         && reader.get_ref().is_empty()
+        && !reader.has_lacked()
 }
 
 #[test]

@@ -8,11 +8,12 @@ use Rattle.wc_model.specs.Language.Declarations.{VariableType, Elementary, Stand
 use Rattle.wc_model.specs.Language.Names.{Name, name_of}
 use Rattle.wc_model.specs.Language.Scopes.{Scope, type_of}
 use Rattle.wc_model.specs.Language.Store.{Content, standard_fields}
+use Rattle.wc_model.specs.declared.source.Initial.{Initial}
 use Rattle.wc_model.specs.Language.Tree.{ProgramUnit, Text}
 use Rattle.wc_names.specs.Numbered.{numbered_type}
 use Rattle.wc_names.specs.declared.declared_type.DeclaredType.TheVariants as numbered
 use Rattle.wc_laws_soundness.proofs.Carrying.{is_field}
-use Rattle.wc_view_changes.specs.ChangeReport.{Found, found_by, found_from, path_text}
+use Rattle.wc_view_changes.specs.ChangeReport.{Found, found_by, found_from, initial_of, path_text}
 use Rattle.wc_view_changes.specs.Shown.{Shape, Plain, Instance, Shown, inside, names_of, paths_at, paths_of}
 use Rattle.wc_view_changes.specs.Sides.{IsSide, kept_between, line_between, numbered_side, pass_text, side_after, side_found, side_lead, type_after, unit_numbered}
 use Rattle.wc_view_changes.specs.declared.describing.Pass.{Pass}
@@ -70,11 +71,11 @@ step_kept side scope name block u us typed found path =
     by (Some old) = ap (λ l. same_lead l (lead_from path us u)) (lead_is name path old) ∙ same_after old.before (type_of old name) us u path
 
 -- and what is found there
-found_after : (before : List ProgramUnit) (type : Option VariableType) (name : Name) (names : List Name) → found_by (found_from (name ∷ names)) before type (name ∷ names) ≡ side_found (type_after before type) (name ∷ names)
-found_after before None name names = refl
-found_after before (Some (Elementary kind)) name names = refl
-found_after before (Some (Standard block)) name names = refl
-found_after before (Some (Block block)) name names = by (block_named before block)
+found_after : (before : List ProgramUnit) (initial : Option Initial) (type : Option VariableType) (name : Name) (names : List Name) → found_by (found_from (name ∷ names)) before initial type (name ∷ names) ≡ side_found (type_after before type) (name ∷ names)
+found_after before initial None name names = refl
+found_after before initial (Some (Elementary kind)) name names = refl
+found_after before initial (Some (Standard block)) name names = refl
+found_after before initial (Some (Block block)) name names = by (block_named before block)
   where
     by : (o : Option (ProgramUnit × List ProgramUnit)) → (elim o as (λ x. Option Found) [ Some found ↦ found_from (name ∷ names) found.1 found.0 | None ↦ None ])
         ≡ side_found (option_map (λ found. record { before = found.1; unit = found.0 }) o) (name ∷ names)
@@ -83,8 +84,8 @@ found_after before (Some (Block block)) name names = by (block_named before bloc
 
 step_found : (side : Option Scope) (first : Name) (instances : List (List ℕ)) (last : Name) → side_found side (first ∷ (map name_of instances ++ last ∷ [])) ≡ side_found (side_after side first) (map name_of instances ++ last ∷ [])
 step_found None first instances last = refl
-step_found (Some old) first [] last = found_after old.before (type_of old first) last []
-step_found (Some old) first (i ∷ instances) last = found_after old.before (type_of old first) (name_of i) (map name_of instances ++ last ∷ [])
+step_found (Some old) first [] last = found_after old.before (initial_of old.unit first) (type_of old first) last []
+step_found (Some old) first (i ∷ instances) last = found_after old.before (initial_of old.unit first) (type_of old first) (name_of i) (map name_of instances ++ last ∷ [])
 
 -- places after one name more
 paths_after : (shape : Shape) (name : Name) (names : List Name) (p : List Name → Bool) → list_all p (paths_at shape (name ∷ names)) ≡ list_all (λ path. p (name ∷ path)) (paths_at shape names)

@@ -1,4 +1,5 @@
 pub mod Units
+pub mod Initials
 pub mod Leads
 pub mod Between
 pub mod Nothing

@@ -9,13 +9,14 @@ use Rattle.wc_model.specs.Language.Scopes.{Scope, type_of}
 use Rattle.wc_model.specs.Language.Tree.{ProgramUnit, Text}
 use Rattle.wc_model.specs.Language.Views.{text_view}
 use Rattle.wc_model.specs.declared.source.Decl.{Decl}
+use Rattle.wc_model.specs.declared.source.Initial.{Initial}
 use Rattle.wc_model.specs.declared.source.Source.{Source}
 use Rattle.wc_model.specs.declared.source.Unit.{Unit as CodeUnit}
 use Rattle.wc_names.specs.Numbered.{IsUnit, numbered_type}
 use Rattle.wc_names.specs.RepresentsText.{onto}
 use Rattle.wc_names.specs.declared.declared_type.DeclaredType.{DeclaredType}
 use Rattle.wc_names.specs.declared.declared_type.DeclaredType.TheVariants as numbered
-use Rattle.wc_view_changes.specs.ChangeReport.{Found, found_from, found_in, found_type, has_line, is_kept, line_text, lost_text, path_text}
+use Rattle.wc_view_changes.specs.ChangeReport.{Found, found_first, found_from, found_in, found_type, has_line, initial_of, is_kept, line_text, lost_text, note_on, path_text}
 use Rattle.wc_view_changes.specs.Shown.{Declared, Shape, Shown, declared_in, names_of, paths_of, seen, shown_all, shown_by, shown_in, shown_of}
 use Rattle.wc_view_changes.specs.declared.describing.Pass.{Pass}
 use Rattle.wc_view_changes.specs.declared.describing.Pass.TheVariants as pass
@@ -68,6 +69,11 @@ abbrev pub side_lead : Option Scope → List Name → Option Lead
 side_lead None names = None
 side_lead (Some scope) names = lead_from names scope.before scope.unit
 
+-- the first value that is written after a name there
+abbrev pub side_initial : Option Scope → Name → Option Initial
+side_initial None name = None
+side_initial (Some scope) name = initial_of scope.unit name
+
 abbrev pub side_found : Option Scope → List Name → Option Found
 side_found None names = None
 side_found (Some scope) names = found_from names scope.before scope.unit
@@ -87,6 +93,7 @@ kept_between side scope s = list_all (λ path. same_lead (side_lead side path) (
 abbrev pub pass_text : Pass → Bool → List ℕ → Shape → Option Found → List ℕ
 pass_text pass.New kept path shape found = line_text kept path shape (option_map found_type found)
 pass_text pass.Old kept path shape found = lost_text (has_line found) path shape
+pass_text (pass.Notes as_objects) kept path shape found = note_on as_objects kept path shape (found_first found)
 
 -- the line of a variable of the unit, if the names so far are written like this
 abbrev pub line_between : Pass → Option Scope → Scope → List ℕ → Shown → List ℕ

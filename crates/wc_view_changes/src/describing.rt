@@ -4,13 +4,13 @@ ghost use Rattle.wc_model.specs.Language.Scopes.{Scope};
 ghost use Rattle.wc_model.specs.Language.Views.{text_view};
 ghost use Rattle.wc_model.specs.declared.source.Initial.{Initial};
 ghost use Rattle.wc_model.specs.declared.source.Unit.{Unit as CodeUnit};
-ghost use Rattle.wc_view_changes.specs.ChangeReport.{found_type, line_text, lost_text};
+ghost use Rattle.wc_view_changes.specs.ChangeReport.{found_first, found_type, line_text, lost_text, note_on};
 ghost use Rattle.wc_view_changes.specs.Shapes.{shape_view, has_shape};
 ghost use Rattle.wc_view_changes.specs.Shown.{declared_of};
 ghost use Rattle.wc_view_changes.specs.Sides.{IsAt, IsSide, declaration_lines, line_numbered, lines_between, numbered_side, pass_text, side_found, variable_lines};
 
-use crate::lines::{put_first, put_kept, put_lost};
-use crate::other::{is_line, other_type, type_text, unit_of};
+use crate::lines::{put_first, put_kept, put_lost, put_note};
+use crate::other::{is_line, other_literal, other_type, type_text, unit_of};
 use crate::shape::{Shape, first_value, is_kept};
 use std::alloc::Global;
 use wc_model::{Decl, Fault, Value, put_bytes};
@@ -24,6 +24,8 @@ pub(crate) enum Pass {
     New,
     /// Those of the old text, if they are lost.
     Old,
+    /// Those of the new text that keep their value though their first one is another than before: as objects, or in words.
+    Notes(bool),
 }
 
 /// Two texts that are gone through side by side.
@@ -45,6 +47,15 @@ pub(crate) struct UnitPair {
     pub unit: usize,
     /// In the text next to it, if there is one.
     pub other: Option<usize>,
+}
+
+/// What has the name in the other text.
+#[derive(Clone, Copy)]
+struct Counterpart {
+    /// The unit to which the names before have led.
+    unit: Option<usize>,
+    /// Its type.
+    declared: Option<DeclaredType>,
 }
 
 /// Puts one more name and a dot after the names that have led so far.
@@ -106,6 +117,34 @@ fn describe_old(
     put_lost(out, prefix, name, shape)
 }
 
+/// Puts the note on a variable that keeps its value, if its first one is another than before.
+fn describe_first(
+    out: &mut Vec<u8>,
+    texts: Texts<'_, '_, '_, '_>,
+    as_objects: bool,
+    path: (&[u8], &[u8]),
+    shape: Shape,
+    there: Counterpart,
+) -> Result<(), Fault>
+    ensures note { OnOk result ((side : Option Scope)
+        → IsSide (text_view texts.entry.other.now.source) there.unit side
+        → there.declared ≡ numbered_side side (name_of path.entry.1.now)
+        → out.new.items ≡ out.old.items
+        ++ note_on as_objects (has_shape there.declared (shape_view shape))
+        (path.entry.0.now ++ path.entry.1.now) (shape_view shape)
+        (found_first (side_found side (name_of path.entry.1.now ∷ [])))) }
+    ensures memory { IsOkUnless result Fault.Memory }
+{
+    if !is_kept(shape, there.declared) {
+        return Ok(());
+    }
+    let Shape::Plain(kind, value) = shape else {
+        return Ok(());
+    };
+    let before = first_value(kind, other_literal(texts.other, there.unit, path.1));
+    put_note(texts.alloc, out, as_objects, path, value, before)
+}
+
 /// Puts the line of a variable of one place, or of a standard block's instance.
 fn describe_shape(
     out: &mut Vec<u8>,
@@ -113,19 +152,23 @@ fn describe_shape(
     prefix: &[u8],
     name: &[u8],
     shape: Shape,
-    there: Option<DeclaredType>,
+    there: Counterpart,
 ) -> Result<(), Fault>
-    ensures line { OnOk result ((unit : Option ℕ) (side : Option Scope)
-        → IsSide (text_view texts.entry.other.now.source) unit side
-        → there ≡ numbered_side side (name_of name.now)
+    ensures line { OnOk result ((side : Option Scope)
+        → IsSide (text_view texts.entry.other.now.source) there.unit side
+        → there.declared ≡ numbered_side side (name_of name.now)
         → out.new.items ≡ out.old.items
-        ++ pass_text texts.entry.pass (has_shape there (shape_view shape)) (prefix.now ++ name.now)
-        (shape_view shape) (side_found side (name_of name.now ∷ []))) }
+        ++ pass_text texts.entry.pass (has_shape there.declared (shape_view shape))
+        (prefix.now ++ name.now) (shape_view shape)
+        (side_found side (name_of name.now ∷ []))) }
     ensures memory { IsOkUnless result Fault.Memory }
 {
     match texts.pass {
-        Pass::New => describe_new(out, texts, prefix, name, shape, there),
-        Pass::Old => describe_old(out, prefix, name, shape, there),
+        Pass::New => describe_new(out, texts, prefix, name, shape, there.declared),
+        Pass::Old => describe_old(out, prefix, name, shape, there.declared),
+        Pass::Notes(as_objects) => {
+            describe_first(out, texts, as_objects, (prefix, name), shape, there)
+        }
     }
 }
 
@@ -154,7 +197,10 @@ fn describe_variable(
     let Some(located) = texts.own.tables().variable(units.unit, name) else {
         return Ok(());
     };
-    let there = other_type(texts.other, units.other, name);
+    let there = Counterpart {
+        unit: units.other,
+        declared: other_type(texts.other, units.other, name),
+    };
     match located.declared {
         DeclaredType::Elementary(kind) => {
             let shape = Shape::Plain(kind, first_value(kind, literal));
@@ -173,7 +219,7 @@ fn describe_variable(
             go_into(names, name)?;
             let inner = UnitPair {
                 unit: block,
-                other: unit_of(there),
+                other: unit_of(there.declared),
             };
             describe_unit(out, texts, names, inner)?;
             names.truncate(length);

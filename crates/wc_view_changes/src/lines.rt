@@ -1,8 +1,9 @@
-ghost use Rattle.std.specs.Prelude.{◌≡◌, ◌++◌, ◌∷◌, [], ℕ, List, Option, OnOk, IsOkUnless, true, false, option_map};
+ghost use Rattle.std.specs.Prelude.{◌≡◌, ◌++◌, ◌∷◌, [], ℕ, List, Option, Some, OnOk, IsOkUnless, true, false, option_map};
 ghost use Rattle.std.specs.Fmt.{signed_decimal};
 ghost use Rattle.wc_model.specs.Language.Store.{Plain};
-ghost use Rattle.wc_view_changes.specs.ChangeReport.{content_text, line_text, lost_text, reason_text};
+ghost use Rattle.wc_view_changes.specs.ChangeReport.{content_text, line_text, lost_text, note_on, note_text, reason_text, same_content};
 ghost use Rattle.wc_view_changes.specs.ChangeReport as texts;
+ghost use Rattle.wc_model.specs.declared.kind.Kind.{Kind};
 ghost use Rattle.wc_view_changes.specs.Shown as shown;
 ghost use Rattle.wc_view_changes.specs.Shapes.{shape_view};
 
@@ -133,4 +134,84 @@ pub(crate) fn put_lost(
     put_bytes(out, b" ")?;
     put_bytes(out, shape_type(shape))?;
     put_bytes(out, b"\n")
+}
+
+/// Whether two first values are the same.
+fn is_same(first: Value, before: Value) -> bool
+    ensures { result ≡ same_content (Plain first) (Plain before) }
+{
+    match (first, before) {
+        (Value::Bool(first), Value::Bool(before)) => first == before,
+        (Value::Dint(first), Value::Dint(before)) => first == before,
+        (Value::Time(first), Value::Time(before)) => first == before,
+        _ => false,
+    }
+}
+
+/// Puts a note in words.
+fn put_sentence(
+    alloc: Global,
+    out: &mut Vec<u8>,
+    path: (&[u8], &[u8]),
+    first: Value,
+    before: Value,
+) -> Result<(), Fault>
+    ensures note { OnOk result (out.new.items ≡ out.old.items
+        ++ note_text false (path.entry.0.now ++ path.entry.1.now) (Plain first) (Plain before)) }
+    ensures memory { IsOkUnless result Fault.Memory }
+{
+    put_names(out, b"note: a change keeps the value of `", path.0, path.1)?;
+    put_bytes(out, b"`; its first value, ")?;
+    put_value(alloc, out, first)?;
+    put_bytes(out, b", is not taken (it was ")?;
+    put_value(alloc, out, before)?;
+    put_bytes(out, b")\n")
+}
+
+/// Puts a note as an object (JSON).
+fn put_object(
+    alloc: Global,
+    out: &mut Vec<u8>,
+    path: (&[u8], &[u8]),
+    first: Value,
+    before: Value,
+) -> Result<(), Fault>
+    ensures note { OnOk result (out.new.items ≡ out.old.items
+        ++ note_text true (path.entry.0.now ++ path.entry.1.now) (Plain first) (Plain before)) }
+    ensures memory { IsOkUnless result Fault.Memory }
+{
+    put_names(
+        out,
+        b"{\"severity\":\"note\",\"variable\":\"",
+        path.0,
+        path.1,
+    )?;
+    put_bytes(out, b"\",\"first\":\"")?;
+    put_value(alloc, out, first)?;
+    put_bytes(out, b"\",\"before\":\"")?;
+    put_value(alloc, out, before)?;
+    put_bytes(out, b"\"}\n")
+}
+
+/// Puts the note on a variable that keeps its value, if its first value is another than before.
+pub(crate) fn put_note(
+    alloc: Global,
+    out: &mut Vec<u8>,
+    as_objects: bool,
+    path: (&[u8], &[u8]),
+    first: Value,
+    before: Value,
+) -> Result<(), Fault>
+    ensures note { (kind : Kind) → OnOk result (out.new.items ≡ out.old.items
+        ++ note_on as_objects true (path.entry.0.now ++ path.entry.1.now) (shown.Plain kind (Plain first))
+        (Some (Plain before))) }
+    ensures memory { IsOkUnless result Fault.Memory }
+{
+    if is_same(first, before) {
+        return Ok(());
+    }
+    if as_objects {
+        return put_object(alloc, out, path, first, before);
+    }
+    put_sentence(alloc, out, path, first, before)
 }

@@ -1,11 +1,14 @@
 ghost use Rattle.std.specs.Prelude.{◌≡◌, ℕ, Option, Some, [], ◌∷◌, option_map};
+ghost use Rattle.std.specs.List.{list_any};
+ghost use Rattle.wc_model.specs.Language.Declarations.{same_name};
 ghost use Rattle.wc_model.specs.Language.Names.{Name, name_of};
 ghost use Rattle.wc_model.specs.Language.Scopes.{Scope};
-ghost use Rattle.wc_model.specs.Language.Views.{text_view};
-ghost use Rattle.wc_view_changes.specs.ChangeReport.{found_type};
-ghost use Rattle.wc_view_changes.specs.Sides.{IsSide, line_numbered, numbered_side, side_found, unit_numbered};
+ghost use Rattle.wc_model.specs.Language.Views.{text_view, unit_view};
+ghost use Rattle.wc_view_changes.specs.ChangeReport.{found_type, initial_of};
+ghost use Rattle.wc_view_changes.specs.Sides.{IsSide, line_numbered, numbered_side, side_found, side_initial, unit_numbered};
 
 use crate::shape::{block_text, kind_text};
+use wc_model::{Decl, Unit, Value, Word};
 use wc_names::DeclaredType;
 use wc_verify::Checked;
 
@@ -23,6 +26,63 @@ pub(crate) fn other_type(
     };
     match other.tables().variable(unit, name) {
         Some(located) => Some(located.declared),
+        None => None,
+    }
+}
+
+/// Whether a word is a name, in whichever letter case.
+fn is_named(word: &Word<'_>, name: &[u8]) -> bool
+    ensures { result ≡ same_name (name_of word.now.text.now) (name_of name.now) }
+{
+    word.text.eq_ignore_ascii_case(name)
+}
+
+/// Whether a declaration has a name.
+fn declares(declaration: &Decl<'_>, name: &[u8]) -> bool
+    ensures { result ≡ list_any (λ word. same_name (name_of word.text.now) (name_of name.now))
+        declaration.now.names.items }
+{
+    for word in &declaration.names {
+        if is_named(word, name) {
+            return true;
+        }
+    }
+    false
+}
+
+/// The literal after `:=` in a declaration.
+fn literal_of(declaration: &Decl<'_>) -> Option<Value>
+    ensures { result ≡ option_map (λ i. i.value) declaration.now.initial }
+{
+    match declaration.initial {
+        Some(initial) => Some(initial.value),
+        None => None,
+    }
+}
+
+/// The literal that a unit has after a name.
+fn literal_in(unit: &Unit<'_>, name: &[u8]) -> Option<Value>
+    ensures { result ≡ option_map (λ i. i.value)
+        (initial_of (unit_view unit.now) (name_of name.now)) }
+{
+    for declaration in &unit.declarations {
+        if declares(declaration, name) {
+            return literal_of(declaration);
+        }
+    }
+    None
+}
+
+/// The literal that the other text has after a name, in the unit at which the names before it have led.
+pub(crate) fn other_literal(other: &Checked<'_>, unit: Option<usize>, name: &[u8]) -> Option<Value>
+    ensures { (side : Option Scope) → IsSide (text_view other.now.source) unit side
+        → result ≡ option_map (λ i. i.value) (side_initial side (name_of name.now)) }
+{
+    let Some(number) = unit else {
+        return None;
+    };
+    match other.source().units.get(number) {
+        Some(unit) => literal_in(unit, name),
         None => None,
     }
 }
@@ -45,7 +105,7 @@ fn declared_text<'o>(other: &Checked<'o>, declared: DeclaredType) -> Option<&'o 
     }
 }
 
-/// Likewise for a type that a name has, if it has one.
+/// The type that a name has in the other text, if it has one, as a text spells it.
 pub(crate) fn type_text<'o>(other: &Checked<'o>, declared: Option<DeclaredType>) -> Option<&'o [u8]>
     ensures { (unit : Option ℕ) (side : Option Scope) (name : Name)
         → IsSide (text_view other.now.source) unit side

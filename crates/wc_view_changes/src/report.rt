@@ -1,6 +1,6 @@
 ghost use Rattle.std.specs.Prelude.{◌≡◌, ◌++◌, IfOk, IsOkUnless, OnOk};
 ghost use Rattle.wc_model.specs.Language.Views.{text_view};
-ghost use Rattle.wc_view_changes.specs.ChangeReport.{change_report};
+ghost use Rattle.wc_view_changes.specs.ChangeReport.{change_notes, change_report};
 ghost use Rattle.wc_view_changes.specs.Sides.{lines_alongside};
 
 use crate::describing::{Pass, Texts, UnitPair, describe_unit};
@@ -52,5 +52,28 @@ pub fn changes(alloc: Global, old: &Loaded<'_>, new: &Loaded<'_>) -> Result<Vec<
         other: new,
     };
     describe_program(&mut lines, lost)?;
+    Ok(lines)
+}
+
+/// A note on each variable of the new program that keeps its value though its first value is another than before: the first value
+/// that is not taken, and the one of the old program; as objects (JSON, one a line), or in words. `Memory` is the only fault.
+pub fn notes(
+    alloc: Global,
+    as_objects: bool,
+    old: &Loaded<'_>,
+    new: &Loaded<'_>,
+) -> Result<Vec<u8>, Fault>
+    ensures notes { IfOk result
+        (λ lines. lines.items ≡ change_notes as_objects old.now.source new.now.source) }
+    ensures memory { IsOkUnless result Fault.Memory }
+{
+    let mut lines = Vec::new(alloc);
+    let texts = Texts {
+        alloc,
+        pass: Pass::Notes(as_objects),
+        own: new.checked(),
+        other: old.checked(),
+    };
+    describe_program(&mut lines, texts)?;
     Ok(lines)
 }

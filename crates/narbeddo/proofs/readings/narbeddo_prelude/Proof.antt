@@ -1,7 +1,7 @@
 -- The scale at the pointer is borrowed for one call of `prelude_of`.
 use Rattle.narbeddo.proofs.Steps.{◌≡◌, [], ◌∷◌, ◌++◌, refl, proved, full_share, id⊢, sep, GName, ftrue, flft, flent, named, vptr, fact, tables, sem, Body, lft_new, lft_end, ‵, raw, ◌⊛◌, some, later, prop, ◌$◌, ◌∵◌, !, qed, done, move, keep, drop, use1, use2, use3, split, join, fsplit, pick, show, await, regoal, suffices, frame, group, enter, of_opd, addr, stop, no_more, and_then, returns, alloc_all, pass_all, free_all, look_at, get, through, sets, lands_as, yes, Is, shows, lends_ref, ref_back, mem, Ptr, RawPtr, block_ptr, lies_at, in_a_block, rawptr_vals, rawptr_Tells, MutRef, plain, nothing, heard, peeks, calls_at, lasts, on_entry, triple_of, Stays, walk_of, says, stay_dropped, Goes-dropped, ends_at, framed, WpFn}
 use Rattle.wc_scale.specs.contracts.scale.Scale.{the_row as R}
-use Rattle.wc_scale.specs.Preludes.{HoldsNothing, ReportsPrelude}
+use Rattle.wc_scale.specs.Preludes.{HasZerosBesides, HoldsNothing, ReportsPrelude}
 use Rattle.wc_scale.specs.Representation.{IsClosed}
 use Rattle.wc_scale.specs.contracts.results.PreludeAnswer.{the_row as T}
 use Rattle.wc_scale.proofs.results.PreludeAnswer.TheLaws.{the_row_laws as T-laws}
@@ -35,14 +35,14 @@ narbeddo_prelude_spec 𝓤 𝓛 𝓜 𝓡 wired =
     calls_at ! (framed 𝓤 𝓛.H 𝓜 (tables 𝓤 𝓛.H 𝓜 𝓡 𝓡.env)) G (met 𝓤 𝓛 𝓜 𝓡 (code.calls-narbeddo::readings::prelude_of 𝓡.env wired)) z
     (and_then ! (get ! refl) (no_more !)) (λ v.
     use1 𝓛 (later (some (λ (r : T.Denot). ((‵ (flft (α ∷ []) full_share) ⊛ ‵ ftrue) ⊛ ‵ (T.own_val r (v ∷ []))) ⊛
-    some (λ (ws : (R.Denot × Unit {0})). ‵ (lasts g.ended z.0.0 z.0.3 ws) ⊛ (raw (fact 𝓤 (ReportsPrelude h r)) ⊛ (raw (fact 𝓤 (IsClosed h → HoldsNothing r)) ⊛ raw (fact 𝓤 (ws.0 ≡ h)))))))) (id⊢ 𝓤 _) $
+    some (λ (ws : (R.Denot × Unit {0})). ‵ (lasts g.ended z.0.0 z.0.3 ws) ⊛ (raw (fact 𝓤 (ReportsPrelude h r)) ⊛ (raw (fact 𝓤 (IsClosed h → HoldsNothing r)) ⊛ (raw (fact 𝓤 (HasZerosBesides r)) ⊛ raw (fact 𝓤 (ws.0 ≡ h))))))))) (id⊢ 𝓤 _) $
     await ! tt $ pick ! (λ r. split ! $ split ! $ split ! $ lft_end ! tt $
     -- [α is over; the other tokens; the result; its facts; what the lender keeps]
     move ! (2 ∷ []) $ peeks ! T (Is T) (shows 𝓛 T) r (v ∷ []) (λ is. lands_as ! refl refl ((T-laws.lawful 𝓛).typed r _ is).0 $
-    move ! (3 ∷ []) $ pick ! (λ ws. split ! $ move ! (1 ∷ []) $ split ! $ heard ! _ (λ f0. split ! $ heard ! _ (λ f1. heard ! _ (λ f2. fsplit ! $ fsplit ! $
+    move ! (3 ∷ []) $ pick ! (λ ws. split ! $ move ! (1 ∷ []) $ split ! $ heard ! _ (λ f0. split ! $ heard ! _ (λ f1. split ! $ heard ! _ (λ f2. heard ! _ (λ f3. fsplit ! $ fsplit ! $
     -- [the last value; its borrow; nothing; the result; α is over; the other tokens; what the lender keeps]
     move ! (4 ∷ 6 ∷ 0 ∷ []) $ use3 𝓛 (later (‵ (lies_at R full_share (block_ptr b o) ws.0))) (ref_back 𝓛 R (α ∷ []) δ ws.0 b o) $ await ! tt $
     returns ! (look_at ! 0 refl) $ free_all ! refl $ keep ! (3 ∷ 0 ∷ []) $
     suffices ! _ (ends_at 𝓛 f.ended stayed c (y (block_ptr b o)) v r (tt, tt) (tt, tt)) $
     nothing ! $ nothing ! $ join ! $ nothing ! $ group ! 3 $ frame ! $
-    show ! (λ (k : R.Denot). sep 𝓤 (sem 𝓛 (lies_at R full_share (block_ptr b o) k)) (fact 𝓤 ((ReportsPrelude h r) × (IsClosed h → HoldsNothing r) × (k ≡ h)))) ws.0 $ says ! (f0, f1, f2) $ done !))))))))))))
+    show ! (λ (k : R.Denot). sep 𝓤 (sem 𝓛 (lies_at R full_share (block_ptr b o) k)) (fact 𝓤 ((ReportsPrelude h r) × (IsClosed h → HoldsNothing r) × (HasZerosBesides r) × (k ≡ h)))) ws.0 $ says ! (f0, f1, f2, f3) $ done !)))))))))))))

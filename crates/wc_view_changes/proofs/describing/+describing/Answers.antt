@@ -99,9 +99,9 @@ describe_variable-returns-in-Elementary-clause-lines t c =
     let shape = Plain c.in-Elementary.kind (store.Plain c.first_value.result) in
     let tables = subst (λ ts. AreTables ts text) (sym c.tables.ensures.tables) c.tables.ensures.occur in
     let typed = elementary_type (map unit_view before) (type_of (seen before u) n) c.in-Elementary.kind (ap Some (sym c.in-Elementary.is) ∙ c.in-Some.ensures.declared text (seen before u) tables (seen_unit source c.args.units.unit before u at)) in
-    w c.args.units.other side h (c.other_type-there.ensures side h)
-    ∙ ap (λ s. start ++ pass_text c.args.texts.pass (has_shape c.other_type-there.result shape) (s ++ c.args.name.now) shape (side_found side (n ∷ []))) c.as_slice.ensures.value
-    ∙ ap (λ x. start ++ pass_text c.args.texts.pass (has_shape x shape) path shape (side_found side (n ∷ []))) (c.other_type-there.ensures side h)
+    w side h (c.other_type.ensures side h)
+    ∙ ap (λ s. start ++ pass_text c.args.texts.pass (has_shape c.other_type.result shape) (s ++ c.args.name.now) shape (side_found side (n ∷ []))) c.as_slice.ensures.value
+    ∙ ap (λ x. start ++ pass_text c.args.texts.pass (has_shape x shape) path shape (side_found side (n ∷ []))) (c.other_type.ensures side h)
     ∙ ap (λ x. start ++ x) (plain_line c.args.texts.pass side before u c.args.names.now.items c.args.name.now initial c.in-Elementary.kind (store.Plain c.first_value.result) typed (c.first_value.ensures initial literal)))
     c.describe_shape.ensures.line
 
@@ -117,9 +117,9 @@ describe_variable-returns-in-Standard-clause-lines t c =
     let shape = Instance c.in-Standard.block in
     let tables = subst (λ ts. AreTables ts text) (sym c.tables.ensures.tables) c.tables.ensures.occur in
     let typed = standard_type (map unit_view before) (type_of (seen before u) n) c.in-Standard.block (ap Some (sym c.in-Standard.is) ∙ c.in-Some.ensures.declared text (seen before u) tables (seen_unit source c.args.units.unit before u at)) in
-    w c.args.units.other side h (c.other_type-there.ensures side h)
-    ∙ ap (λ s. start ++ pass_text c.args.texts.pass (has_shape c.other_type-there.result shape) (s ++ c.args.name.now) shape (side_found side (n ∷ []))) c.as_slice-in-Standard.ensures.value
-    ∙ ap (λ x. start ++ pass_text c.args.texts.pass (has_shape x shape) path shape (side_found side (n ∷ []))) (c.other_type-there.ensures side h)
+    w side h (c.other_type.ensures side h)
+    ∙ ap (λ s. start ++ pass_text c.args.texts.pass (has_shape c.other_type.result shape) (s ++ c.args.name.now) shape (side_found side (n ∷ []))) c.as_slice-in-Standard.ensures.value
+    ∙ ap (λ x. start ++ pass_text c.args.texts.pass (has_shape x shape) path shape (side_found side (n ∷ []))) (c.other_type.ensures side h)
     ∙ ap (λ x. start ++ x) (instance_line c.args.texts.pass side before u c.args.names.now.items c.args.name.now initial c.in-Standard.block typed))
     c.describe_shape-in-Standard.ensures.line
 
@@ -132,7 +132,7 @@ describe_variable-returns-in_ok-describe_unit-in-Block-clause-lines t c = λ sid
     let following = side_after side n in
     let tables = subst (λ ts. AreTables ts text) (sym c.tables.ensures.tables) c.tables.ensures.occur in
     let i = into source c.args.units.unit c.in-Block.block before u n at (ap Some (sym c.in-Block.is) ∙ c.in-Some.ensures.declared text (seen before u) tables (seen_unit source c.args.units.unit before u at)) in
-    let old_at = subst (λ k. IsSide (text_view c.args.texts.other.now.source) k following) (sym (c.unit_of.ensures ∙ ap unit_numbered (c.other_type-there.ensures side h))) (side_is (text_view c.args.texts.other.now.source) c.args.units.other side n h) in
+    let old_at = subst (λ k. IsSide (text_view c.args.texts.other.now.source) k following) (sym (c.unit_of.ensures ∙ ap unit_numbered (c.other_type.ensures side h))) (side_is (text_view c.args.texts.other.now.source) c.args.units.other side n h) in
     c.in_ok-describe_unit-in-Block.ensures.lines following i.code.earlier i.code.unit old_at i.at
     ∙ ap (λ p. start ++ lines_between c.args.texts.pass following i.code.earlier i.code.unit p (declared_of i.code.unit)) c.in_ok-go_into-in-Block.ensures.longer
     ∙ ap (λ x. start ++ x) (block_lines source c.args.units.unit c.in-Block.block c.args.texts.pass side before u c.args.names.now.items c.args.name.now initial i)

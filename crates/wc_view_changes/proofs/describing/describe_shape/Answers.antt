@@ -12,8 +12,8 @@ returns-in-New-clause-line c =
     let shape = shape_view c.args.shape in
     let path = c.args.prefix.now ++ c.args.name.now in
     on_ok c.describe_new.result _ _
-    (λ w unit side h e. w unit side h e
-    ∙ ap (λ p. c.args.out.now.items ++ pass_text p (has_shape c.args.there shape) path shape (side_found side (name_of c.args.name.now ∷ []))) (sym c.in-New.is))
+    (λ w side h e. w c.args.there.unit side h e
+    ∙ ap (λ p. c.args.out.now.items ++ pass_text p (has_shape c.args.there.declared shape) path shape (side_found side (name_of c.args.name.now ∷ []))) (sym c.in-New.is))
     c.describe_new.ensures.line
 
 pub returns-in-Old-clause-line : goal.returns-in-Old-clause-line
@@ -22,6 +22,15 @@ returns-in-Old-clause-line c =
     let path = c.args.prefix.now ++ c.args.name.now in
     let n = name_of c.args.name.now in
     on_ok c.describe_old.result _ _
-    (λ w unit side h e. w ∙ ap (λ b. c.args.out.now.items ++ lost_text b path shape) (ap line_numbered e ∙ sym (side_line side n))
-    ∙ ap (λ p. c.args.out.now.items ++ pass_text p (has_shape c.args.there shape) path shape (side_found side (n ∷ []))) (sym c.in-Old.is))
+    (λ w side h e. w ∙ ap (λ b. c.args.out.now.items ++ lost_text b path shape) (ap line_numbered e ∙ sym (side_line side n))
+    ∙ ap (λ p. c.args.out.now.items ++ pass_text p (has_shape c.args.there.declared shape) path shape (side_found side (n ∷ []))) (sym c.in-Old.is))
     c.describe_old.ensures.line
+
+pub returns-in-Notes-clause-line : goal.returns-in-Notes-clause-line
+returns-in-Notes-clause-line c =
+    let shape = shape_view c.args.shape in
+    let path = c.args.prefix.now ++ c.args.name.now in
+    on_ok c.describe_first.result _ _
+    (λ w side h e. w side h e
+    ∙ ap (λ p. c.args.out.now.items ++ pass_text p (has_shape c.args.there.declared shape) path shape (side_found side (name_of c.args.name.now ∷ []))) (sym c.in-Notes.is))
+    c.describe_first.ensures.note

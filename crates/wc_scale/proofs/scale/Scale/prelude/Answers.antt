@@ -1,0 +1,18 @@
+use Rattle.std.proofs.Common.{◌≡◌, ◌∙◌, ap, rules, subst}
+use Rattle.wc_model.specs.Instrument.Plates.{PlateData}
+use Rattle.wc_open_scale.specs.Representation.{Represents as OpenRepresents}
+use Rattle.wc_scale.specs.Preludes.{IsReportedState}
+use Rattle.wc_scale.specs.Representation.{IsOpenAt}
+use Rattle.wc_scale.proofs.scale.Scale.prelude.Goals as goal
+
+-- what is reported is what the open scale's prelude has
+pub returns-in-Some-clause-reports : goal.returns-in-Some-clause-reports
+returns-in-Some-clause-reports c = λ plate came represents.
+    let held : OpenRepresents c.in-Some.opened plate came = subst (λ opened. IsOpenAt opened plate came) c.in-Some.is represents in
+    let kept = c.plate.ensures plate came.history (c.indicator.ensures.represents plate came held) in
+    let window : c.reported.result.window ≡ c.plate.result.now.window = search (rules, c.reported.ensures.window, c.window-window.ensures.window) in
+    record {
+      done = c.reported.ensures.status;
+      window = window ∙ ap (λ (p : PlateData). p.window) kept;
+      state = subst (IsReportedState c.reported.result) (c.prelude.ensures.state plate came held) c.reported.ensures.state;
+    }
