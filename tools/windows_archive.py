@@ -6,6 +6,7 @@ import time
 import zipfile
 
 from harness import PROGRAM, TOP, call, version
+from signing import VERIFIED
 
 MADE = TOP / "out" / "narbeddo.exe"
 PAGE = TOP / "out" / "narbeddo.html"
@@ -38,6 +39,8 @@ examples              programs with plates, logs and reports
 editors               colours and problems for VS Code and Vim
 licenses              the licences of the libraries that are linked
 
+If its maker has signed the archive, a file .sig is next to it, and is verified by
+{verified}
 The sum of a file: certutil -hashfile narbeddo.exe SHA256, to be compared with SHA256SUMS.
 
 The program was proved as it is built for Linux. For Windows the target of its module was changed, and what it calls of the system is
@@ -54,7 +57,7 @@ def install_text():
     first = call([PROGRAM, "check", "--path", TOP / "examples" / "first" / "program.il"], text=True, check=True).stdout
     shown = "".join(f"    {line}\n" for line in first.splitlines())
     page = "narbeddo.html         the same in a browser: open it by a double click\n" if PAGE.is_file() else ""
-    return INSTALL.format(version=version(), first_check=shown, page=page).replace("\n", "\r\n")
+    return INSTALL.format(version=version(), first_check=shown, page=page, verified=VERIFIED).replace("\n", "\r\n")
 
 
 def files(pages, digests):

@@ -148,6 +148,16 @@ fn is_same(first: Value, before: Value) -> bool
     }
 }
 
+/// Puts bytes, and a value as a literal after them.
+fn put_before(alloc: Global, out: &mut Vec<u8>, words: &[u8], value: Value) -> Result<(), Fault>
+    ensures value { OnOk result
+        (out.new.items ≡ out.old.items ++ (words.now ++ content_text (Plain value))) }
+    ensures memory { IsOkUnless result Fault.Memory }
+{
+    put_bytes(out, words)?;
+    put_value(alloc, out, value)
+}
+
 /// Puts a note in words.
 fn put_sentence(
     alloc: Global,
@@ -161,10 +171,8 @@ fn put_sentence(
     ensures memory { IsOkUnless result Fault.Memory }
 {
     put_names(out, b"note: a change keeps the value of `", path.0, path.1)?;
-    put_bytes(out, b"`; its first value, ")?;
-    put_value(alloc, out, first)?;
-    put_bytes(out, b", is not taken (it was ")?;
-    put_value(alloc, out, before)?;
+    put_before(alloc, out, b"`; its first value, ", first)?;
+    put_before(alloc, out, b", is not taken (it was ", before)?;
     put_bytes(out, b")\n")
 }
 
@@ -186,10 +194,8 @@ fn put_object(
         path.0,
         path.1,
     )?;
-    put_bytes(out, b"\",\"first\":\"")?;
-    put_value(alloc, out, first)?;
-    put_bytes(out, b"\",\"before\":\"")?;
-    put_value(alloc, out, before)?;
+    put_before(alloc, out, b"\",\"first\":\"", first)?;
+    put_before(alloc, out, b"\",\"before\":\"", before)?;
     put_bytes(out, b"\"}\n")
 }
 
