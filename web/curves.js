@@ -1,18 +1,9 @@
 // The curves of a run over time: the weights, and below them a lane for each request, input, output and chosen variable. The cursor is on
 // a scan; the canvas itself is the control that moves it.
 import { timeText } from "./elements.js";
+import { roundStep, roundTime } from "./steps.js";
 
 const LEFT = 104, RIGHT = 84, TOP = 8, WEIGHTS_HIGH = 190, AXIS_HIGH = 24, BIT_HIGH = 17, NUMBER_HIGH = 36;
-const STEPS = [1, 2, 5, 10, 20, 50, 100, 200, 500, 1000, 2000, 5000, 10000, 15000, 30000, 60000, 120000, 300000, 600000, 1200000, 1800000,
-  3600000, 7200000, 10800000, 21600000, 43200000, 86400000];
-
-// a step of round numbers, of which a range has at most `most`
-function roundStep(range, most) {
-  let step = 10 ** Math.floor(Math.log10(Math.max(range, 1e-9) / most));
-  for (const factor of [1, 2, 5, 10]) if (range / (step * factor) <= most) { step *= factor; break; }
-  return Math.max(1, step);
-}
-
 export class Curves {
   // moved(index) is called when the user moves the cursor
   constructor(canvas, moved) {
@@ -130,8 +121,7 @@ export class Curves {
   }
 
   drawTime(high) {
-    const range = this.to - this.from, most = Math.max(2, Math.floor(this.span / 90));
-    const step = STEPS.find(it => range / it <= most) ?? roundStep(range / 86400000, most) * 86400000;
+    const step = roundTime(this.to - this.from, Math.max(2, Math.floor(this.span / 90)));
     this.pen.lineWidth = 1;
     for (let ms = Math.ceil(this.from / step) * step; ms <= this.to; ms += step) {
       this.line(this.x(ms), TOP, this.x(ms), high - AXIS_HIGH, "line");
@@ -249,7 +239,7 @@ export class Curves {
       const x = this.x(ms);
       if (x < LEFT - 20 || x > LEFT + this.span + 20) continue;
       this.line(x, top + 2, x, top + high, "accent");
-      this.label(sent.replace(/[\u2400-\u241f]/g, " ").trim().slice(0, 8), x + 3, top + high / 2, "accent");
+      this.label(sent.slice(0, 8), x + 3, top + high / 2, "accent");
     }
   }
 

@@ -46,21 +46,37 @@ CodeMirror.defineMode("log", simple("\u0000", /^[CLISP](?=,)/));
 // the place in a line of CodeMirror of a column that counts characters
 function placeOf(text, column) { return [...text].slice(0, column - 1).join("").length; }
 
+// characters of a text that can be edited, and lines of a longer one that are shown
+const MOST_EDITED = 200000;
+export const MOST_SHOWN = 500;
+
 export class Editor {
   // mode: il, scenario, plate or log; changed(text) is called after each change by the user
   constructor(place, mode, label, changed) {
+    this.held = null;
+    // its other style of input, an editable element, loses what is typed over a selection of many lines
     this.mirror = CodeMirror(place, {
-      mode, lineNumbers: true, inputStyle: "contenteditable", screenReaderLabel: label, extraKeys: { Tab: false, "Shift-Tab": false },
+      mode, lineNumbers: true, inputStyle: "textarea", screenReaderLabel: label, extraKeys: { Tab: false, "Shift-Tab": false },
       gutters: mode === "il" ? ["gutter-messages", "CodeMirror-linenumbers", "gutter-path"] : ["gutter-messages", "CodeMirror-linenumbers"],
-      indentUnit: 4, smartIndent: false, spellcheck: false, autocorrect: false, autocapitalize: false, viewportMargin: 30,
+      indentUnit: 4, smartIndent: false, spellcheck: false, autocorrect: false, autocapitalize: false,
+      cursorBlinkRate: matchMedia("(prefers-reduced-motion: reduce)").matches ? 0 : 530,
     });
     this.mirror.on("change", (_, change) => { if (change.origin !== "setValue") changed(this.text); });
     this.marks = [];
   }
 
-  get text() { return this.mirror.getValue(); }
-  set text(text) { if (text !== this.text) { this.mirror.setValue(text); this.mirror.clearHistory(); } }
-  set isReadOnly(is) { this.mirror.setOption("readOnly", is); }
+  // A text that is too long to be edited is held, and its first lines are shown.
+  get text() { return this.held ?? this.mirror.getValue(); }
+  set text(text) {
+    if (text === this.text) return;
+    this.held = text.length > MOST_EDITED ? text : null;
+    this.mirror.setValue(this.isCut ? text.split("\n", MOST_SHOWN).join("\n") : text);
+    this.mirror.clearHistory();
+    this.mirror.setOption("readOnly", this.isCut || this.isLocked === true);
+  }
+
+  get isCut() { return this.held !== null; }
+  set isReadOnly(is) { this.isLocked = is; this.mirror.setOption("readOnly", is || this.isCut); }
 
   // after its panel was hidden
   refresh() { this.mirror.refresh(); }

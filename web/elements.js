@@ -45,6 +45,6 @@ export function weightText(units, decimals) {
   return decimals ? `${sign}${digits.slice(0, -decimals)}.${digits.slice(-decimals)}` : sign + digits;
 }
 
-// A text with what is not seen, or turns the direction of writing, shown as marks.
-export const shownText = text => text.replace(/[\u0000-\u001f\u007f-\u009f\u200b-\u200f\u2028-\u202e\u2066-\u2069\ufeff]/g, letter =>
-  letter < "\u0020" ? String.fromCharCode(0x2400 + letter.charCodeAt(0)) : "\ufffd");
+// A text in which what is not seen, or turns the direction of writing, is shown by its number.
+export const shownText = text => text.replace(/[\u0000-\u0008\u000a-\u001f\u007f-\u009f\u200b-\u200f\u2028-\u202e\u2066-\u2069\ufeff]/g,
+  letter => `\\u{${letter.charCodeAt(0).toString(16)}}`);

@@ -27,11 +27,9 @@ export function sampledLog(rows) {
   return HEADING + lines.join("");
 }
 
-// The bytes of the host in a row `L`, as text: what is no character of ASCII as a mark.
+// The bytes of the host in a row `L`, as text: a request by its text, other bytes that are no characters of ASCII in hexadecimal digits.
 export function bytesText(hex) {
-  const bytes = hex.match(/../g) ?? [];
-  return bytes.map(pair => {
-    const byte = parseInt(pair, 16);
-    return byte < 32 ? String.fromCharCode(0x2400 + byte) : byte < 127 ? String.fromCharCode(byte) : `\\x${pair}`;
-  }).join("");
+  const all = String.fromCharCode(...(hex.match(/../g) ?? []).map(pair => parseInt(pair, 16)));
+  const requests = all.replace(/\n([ -~]*)\r/g, (_, text) => ` ${text || "(empty)"} `);
+  return requests.replace(/[^ -~]/g, letter => `\\x${letter.charCodeAt(0).toString(16).padStart(2, "0")}`).replace(/ +/g, " ").trim();
 }

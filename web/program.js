@@ -54,12 +54,12 @@ export function joined(chunks) {
 }
 
 // Calls the program: `words` are its arguments, `files` maps names to bytes, `input` is standard input. `take`, if there is one, gets each
-// chunk of standard output as it is written. Gives the status and the bytes of both outputs.
-export function callProgram(module, words, files, input = new Uint8Array(), take = null) {
+// chunk of standard output as it is written; `called` is the name by which the program is called. Gives the status and the bytes of both outputs.
+export function callProgram(module, words, files, input = new Uint8Array(), take = null, called = "narbeddo") {
   let memory, grants, errno = 0, nextFile = 3;
   const output = [], errors = [], open = new Map([[0, { bytes: input, at: 0 }]]);
   const encoder = new TextEncoder(), decoder = new TextDecoder();
-  const asked = ["narbeddo", ...words].map(word => encoder.encode(word));
+  const asked = [called, ...words].map(word => encoder.encode(word));
   const bytes = (at, count) => new Uint8Array(memory.buffer, Number(at), Number(count));
   const fault = number => { errno = number; return -1; };
 

@@ -140,7 +140,7 @@ async function readHost(caller, run) {
   // rows of one moment are shown as one
   for (const { ms, data } of run.rows.filter(row => row.kind === "L")) {
     const last = run.host.at(-1), sent = bytesText(data.toLowerCase());
-    if (last?.ms === ms) last.sent += sent;
+    if (last?.ms === ms) last.sent += ` ${sent}`;
     else run.host.push({ ms, sent, answers: answers.get(ms) ?? [] });
   }
 }

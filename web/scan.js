@@ -88,6 +88,7 @@ export class ScanLines {
   build(text) {
     if (text === this.text) return;
     this.text = text;
+    this.isPlaced = false;
     const lines = text.replace(/\n$/, "").split("\n");
     this.rows = lines.map((line, at) => {
       const cells = [element("td", { className: "code number" }, button(String(at + 1), () => this.find(at + 1), { className: "link", title: "the next scan in which this line runs", tabIndex: -1 })),
@@ -102,7 +103,7 @@ export class ScanLines {
 
   // null: there is no trace of the scan yet
   show(trace, note = "") {
-    const items = Map.groupBy ? Map.groupBy(trace?.items ?? [], item => item.line) : grouped(trace?.items ?? []);
+    const items = grouped(trace?.items ?? []);
     const paths = callPaths(trace?.items ?? []);
     this.note.hidden = !note;
     this.note.textContent = note;
@@ -113,6 +114,14 @@ export class ScanLines {
       setText(result, few(results.map(item => (isSeveral && paths.get(item) ? `${paths.get(item)} ` : "") + literal(item.result)), 3));
       setText(wrote, few(own.map(writes).filter(Boolean), 4));
     });
+    if (trace?.items.length && !this.isPlaced) this.toProgram(trace);
+  }
+
+  // a text is first shown from the lines that the program itself ran
+  toProgram(trace) {
+    this.isPlaced = true;
+    const first = trace.items.filter(item => item.depth === 0).reduce((least, item) => Math.min(least, item.line), Infinity), row = this.rows[first - 1]?.row;
+    if (row) this.place.scrollTop = Math.max(0, row.offsetTop - 2 * row.offsetHeight);
   }
 
   reveal(line) { reveal(this.place, this.rows?.[line - 1]?.row); }

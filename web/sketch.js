@@ -1,5 +1,6 @@
 // The picture of a scenario's weight, and drawing on it: what is drawn becomes lines of the scenario.
 import { timeText } from "./elements.js";
+import { roundStep, roundTime } from "./steps.js";
 import { readScenario, weightPoints, endOf } from "./scenario.js";
 
 const EDGE = { left: 70, right: 12, top: 10, bottom: 22 };
@@ -71,13 +72,14 @@ export class Sketch {
     if (!plate || !this.points.length) { pen.fillText("no picture: the plate or the scenario cannot be read", EDGE.left, 30); return; }
     pen.strokeStyle = ink("line");
     pen.textAlign = "right";
-    for (let part = 0; part <= 4; part++) {
-      const weight = this.least + (this.most - this.least) * part / 4;
+    const step = roundStep((this.most - this.least) * 10 ** plate.decimals, 5) / 10 ** plate.decimals;
+    for (let weight = Math.ceil(this.least / step) * step; weight <= this.most; weight += step) {
       pen.beginPath(); pen.moveTo(EDGE.left, this.y(weight)); pen.lineTo(EDGE.left + this.wide, this.y(weight)); pen.stroke();
-      pen.fillText(`${weight.toFixed(Math.min(plate.decimals, 2))} ${plate.unit}`, EDGE.left - 5, this.y(weight));
+      pen.fillText(`${Number(weight.toFixed(plate.decimals))} ${plate.unit}`, EDGE.left - 5, this.y(weight));
     }
     pen.textAlign = "center";
-    for (let part = 0; part <= 5; part++) pen.fillText(timeText(Math.round(this.last * part / 5)), Math.min(this.x(this.last * part / 5), EDGE.left + this.wide - 16), canvas.clientHeight - EDGE.bottom / 2);
+    const every = roundTime(this.last, Math.max(2, Math.floor(this.wide / 80)));
+    for (let ms = 0; ms <= this.last; ms += every) pen.fillText(timeText(ms), Math.min(this.x(ms), EDGE.left + this.wide - 16), canvas.clientHeight - EDGE.bottom / 2);
     for (const { at, on, bit } of this.inputs) { pen.fillStyle = ink("net"); pen.fillText(`I${bit}${on ? "↑" : "↓"}`, this.x(at), EDGE.top + 6); }
     for (const { at, texts } of this.requests.slice(0, 200)) { pen.fillStyle = ink("accent"); pen.fillText(texts.join(" ").slice(0, 6), this.x(at), EDGE.top + 20); }
     this.path(pen, this.points, ink("ink"));

@@ -1,6 +1,6 @@
 // What is written: the texts with their editors, what the program says of each while one types, and the log that comes of a scenario.
 import { $, element, button, settled } from "./elements.js";
-import { Editor } from "./editor.js";
+import { Editor, MOST_SHOWN } from "./editor.js";
 import { PlateForm } from "./plate_view.js";
 import { readPlate } from "./plate.js";
 import { Sketch, withDrawn } from "./sketch.js";
@@ -88,7 +88,8 @@ export class Work {
   }
 
   keep() {
-    try { localStorage.setItem(KEPT, JSON.stringify({ ...this.texts, isByScenario: this.isByScenario })); } catch { /* the browser keeps nothing: then nothing is kept */ }
+    const { log, ...others } = this.texts;
+    try { localStorage.setItem(KEPT, JSON.stringify({ ...others, ...(this.isByScenario ? {} : { log }), isByScenario: this.isByScenario })); } catch { /* too long, or the browser keeps nothing */ }
   }
 
   kept() {
@@ -165,6 +166,7 @@ export class Work {
         mistake = { line: error.line || undefined, column: error.line ? 1 : undefined, endColumn: 200, sentence: error.sentence, isWarning: false };
       }
     }
+    if (this.editors.log.isCut) $("log_hint").textContent += ` It has ${this.text("log").split("\n").length - 1} lines: the first ${MOST_SHOWN} are shown, and it is too long to be edited here.`;
     this.accepted.scenario = !mistake;
     showMessages($("messages_scenario"), mistake ? [mistake] : [], { goTo: line => this.editors.scenario.goTo(line), where: it => it.line ? `line ${it.line}` : "" });
     this.editors.scenario.showMessages(mistake ? [mistake] : []);

@@ -8,10 +8,10 @@ const READERS = { columns: more => new ReportColumns(more), lines: () => new Lin
 
 self.onmessage = ({ data }) => {
   if (data.module) { loaded = data.module; return; }
-  const { number, words, files, input, reader, more } = data;
+  const { number, name, words, files, input, reader, more } = data;
   try {
     const reading = reader ? READERS[reader](more) : null;
-    const { status, output, errors } = callProgram(loaded, words, files, input, reading && (chunk => reading.take(chunk)));
+    const { status, output, errors } = callProgram(loaded, words, files, input, reading && (chunk => reading.take(chunk)), name);
     self.postMessage({ number, status, output, errors, read: reading?.end() });
   } catch (error) {
     self.postMessage({ number, fault: String(error?.message ?? error) });
