@@ -1,0 +1,181 @@
+// The page: it loads the program, puts the parts together, and runs what is written.
+import { $, element, button, download, settled } from "./elements.js";
+import { Caller, loadModule, lacking } from "./calls.js";
+import { Work } from "./work.js";
+import { See } from "./see.js";
+import { makeRun, otherOutput } from "./run.js";
+import { openTrace } from "./trace_file.js";
+import { readFiles } from "./files.js";
+import { showTrust, ABOUT } from "./trust.js";
+import { fillPaper } from "./paper.js";
+
+const EXAMPLES = JSON.parse($("examples").textContent);
+const FIELDS = JSON.parse($("language").textContent).fields;
+const FILES = { "plate.toml": "plate", "program.il": "program", "next.il": "next", "log.csv": "log", "scenario.txt": "scenario" };
+const KEYS = [
+  ["Ctrl+Enter", "runs what is written"], ["Tab", "leads on, also out of an editor"], ["Alt+1 … Alt+5", "program, plate, scenario, log, next program"],
+  ["/", "the search, outside of a text"], ["on the curves", ""], ["← →", "a scan back, on"], ["Page Up, Page Down", "a tenth of the view"], ["Home, End", "first, last scan"], ["+ − 0", "nearer, farther, all"],
+];
+
+const say = (...parts) => $("said").replaceChildren(...parts);
+
+async function start() {
+  const lacks = lacking();
+  if (lacks) {
+    $("lacking").textContent = `This browser has ${lacks}, so the program cannot run here. Use Chromium, Chrome or Edge from 133 on, or Firefox from 134 on; or the command line (narbeddo) on Linux.`;
+    $("lacking").hidden = false;
+    return;
+  }
+  const module = await loadModule(), checker = new Caller(module), runner = new Caller(module);
+  const identity = (await checker.call(["--version"])).output;
+  showTrust($("trust_text"), identity);
+  document.querySelector("h1").textContent = `Narbeddo ${ABOUT.version}${ABOUT.isProved ? "" : " (not proved)"}`;
+  new Page(checker, runner, identity);
+}
+
+class Page {
+  constructor(checker, runner, identity) {
+    Object.assign(this, { checker, runner, identity });
+    const explain = async number => (await checker.call(["explain", number])).output;
+    this.see = new See({ caller: runner, explain, goToLog: line => { this.work.open("log"); this.work.editors.log.goTo(line); } });
+    this.work = new Work({ caller: checker, explain, changed: () => this.changed() });
+    this.paperSoon = settled(() => this.fillPaper(), 700);
+    this.build();
+    const kept = this.work.kept();
+    this.work.open("program");
+    if (kept?.program) { this.work.take(kept); say("what you wrote last is here again"); }
+    else this.takeExample("filling");
+  }
+
+  build() {
+    $("example").append(...Object.entries(EXAMPLES).map(([name, { title }]) => element("option", { value: name }, `${name}: ${title}`)));
+    $("example").onchange = event => { if (event.target.value) this.takeExample(event.target.value, true); event.target.value = ""; };
+    $("open").onchange = event => { this.openFiles([...event.target.files]); event.target.value = ""; };
+    $("run").onclick = () => this.run();
+    $("stop").onclick = () => this.runner.stop();
+    $("print").onclick = async () => { await this.fillPaper(); print(); };
+    $("keys_text").append(element("table", {}, element("tbody", {}, ...KEYS.map(([key, what]) => element("tr", {}, element("td", {}, what ? element("kbd", {}, key) : element("strong", {}, key)), element("td", {}, what))))));
+    this.buildSave();
+    this.listen();
+  }
+
+  buildSave() {
+    const texts = () => this.see.run?.texts ?? this.currentTexts;
+    const written = async words => (await otherOutput(this.runner, texts(), words)).output;
+    const report = () => written(["run"]);
+    const decoded = async more => (await this.runner.call(["decode", ...more], {}, { input: await report() })).output;
+    const job = () => { const it = this.currentTexts; return `@plate\n${it.plate}@program\n${it.program}${it.next.trim() ? `@next\n${it.next}` : ""}@log\n${it.log}`; };
+    const files = [
+      ["program.il", () => this.work.text("program")], ["plate.toml", () => this.work.text("plate")], ["scenario.txt", () => this.work.text("scenario")],
+      ["log.csv", () => this.work.text("log")], ["next.il", () => this.work.text("next")], ["job.txt", job, "all in one file, which the program takes"],
+      ["picture.svg", () => written(["show"]), "the run, as `show` draws it"], ["report.txt", report, "what `run` prints"], ["report_in_words.txt", () => decoded([])], ["report.csv", () => decoded(["--csv"]), "a table, for a spreadsheet"],
+      ["trace.txt", () => written(["trace"]), "each scan line by line"], ["trace.jsonl", () => written(["trace", "--message", "json"]), "the same for programs"],
+    ];
+    $("save_list").replaceChildren(...files.map(([name, make, what]) => button(what ? `${name} – ${what}` : name, async () => {
+      download(name, await make(), name.endsWith(".svg") ? "image/svg+xml" : "text/plain");
+      $("save").open = false;
+      $("save").firstElementChild.focus();
+      say(`${name} is saved`);
+    })));
+  }
+
+  listen() {
+    addEventListener("keydown", event => this.key(event));
+    addEventListener("beforeunload", () => this.work.keep());
+    addEventListener("dragover", event => { event.preventDefault(); document.body.classList.add("dropping"); });
+    addEventListener("dragleave", event => { if (!event.relatedTarget) document.body.classList.remove("dropping"); });
+    addEventListener("drop", event => { event.preventDefault(); document.body.classList.remove("dropping"); this.openFiles([...event.dataTransfer.files]); }, true);
+    addEventListener("click", event => { for (const menu of document.querySelectorAll(".menu[open]")) if (!menu.contains(event.target)) menu.open = false; });
+  }
+
+  key(event) {
+    const isText = event.target.matches?.("input:not([type=checkbox]):not([type=radio]), select, textarea, [contenteditable]") || event.target.isContentEditable;
+    if (event.ctrlKey && event.key === "Enter") { event.preventDefault(); this.run(); }
+    else if (event.altKey && /^[1-5]$/.test(event.key)) { event.preventDefault(); const name = ["program", "plate", "scenario", "log", "next"][event.key - 1]; this.work.open(name); $(`tab_${name}`).focus(); }
+    else if (event.key === "/" && !isText) { event.preventDefault(); $("what").focus(); $("what").select(); }
+    else if (event.key === "Escape") {
+      const menu = document.querySelector(".menu[open]");
+      if (menu) { menu.open = false; menu.firstElementChild.focus(); }
+    }
+  }
+
+  get currentTexts() { const { program, plate, next, log } = this.work.texts; return { program, plate, next, log }; }
+
+  // replaces what is written, and offers to bring it back
+  replace(texts, said) {
+    const old = { ...this.work.texts, isByScenario: this.work.isByScenario };
+    this.see.before = null;
+    const done = this.work.take(texts, true);
+    say(said, " ", ...(old.program.trim() ? [button("bring back what was here", () => { this.work.take(old); say("it is here again"); }, { className: "small" })] : []));
+    return done;
+  }
+
+  takeExample(name, isChosen = false) {
+    const texts = Object.fromEntries(Object.entries(EXAMPLES[name].files).map(([file, text]) => [FILES[file], text]));
+    return this.replace({ ...texts, isByScenario: !isChosen && texts.scenario !== undefined || texts.scenario !== undefined }, isChosen ? `the example ${name}` : "this is the example filling: change it, or choose another");
+  }
+
+  async openFiles(files) {
+    const { texts, said } = await readFiles(files), { trace, ...others } = texts;
+    say(said);
+    if (Object.keys(others).length) await this.work.take(others);
+    if (trace === undefined) return;
+    const run = await openTrace(this.checker, trace, this.currentTexts);
+    if (typeof run === "string") { say(run); return; }
+    this.see.before = null;
+    this.see.show(run);
+    this.isStale(false);
+    $("outcome").textContent = `${run.count} scans of the trace that was opened; variables have values only in the lines that wrote them`;
+    $("stale").textContent = run.note;
+    $("stale").hidden = !run.note;
+  }
+
+  // after a text was changed and checked: runs it if nothing is refused
+  changed() {
+    const { run } = this.see, isSame = run && Object.entries(this.currentTexts).every(([name, text]) => run.texts[name] === text);
+    if (isSame && run.origin === "run") { this.isStale(false); return; }
+    if (isSame) return;
+    if (this.work.obstacle) this.isStale(Boolean(run), this.work.obstacle);
+    else this.run();
+  }
+
+  isStale(is, why = "") {
+    $("stale").hidden = !is && !why;
+    $("stale").textContent = why ? `${why}${is ? ": below is the run of the texts before" : ": there is nothing to run"}` : "";
+    document.body.classList.toggle("stale", is);
+  }
+
+  // Runs what is written. A run that is under way is ended.
+  async run() {
+    if (this.work.obstacle) { this.isStale(Boolean(this.see.run), this.work.obstacle); return; }
+    if (this.isRunning) this.runner.stop();
+    const number = this.number = (this.number ?? 0) + 1;
+    this.isRunning = true;
+    const later = setTimeout(() => { $("stop").hidden = false; $("outcome").textContent = "running …"; }, 300);
+    try {
+      const run = await makeRun(this.runner, this.currentTexts, FIELDS);
+      if (number === this.number) this.ended(run);
+    } catch (error) {
+      if (number === this.number) $("outcome").textContent = `the run was ended: ${error.message}`;
+    } finally {
+      clearTimeout(later);
+      if (number === this.number) { this.isRunning = false; $("stop").hidden = true; }
+    }
+  }
+
+  ended(run) {
+    this.isStale(false);
+    const refused = run.messages.length ? "; the log is refused, so the run ends there" : "", rows = `${run.rows.length} rows, ${run.count} scans, ${run.host.length} requests`;
+    $("outcome").textContent = run.count ? rows + refused : `${rows}: the log has no scan, so there is nothing to see${refused}`;
+    if (run.errors) $("outcome").textContent = `${rows}; ${run.errors}`;
+    this.see.show(run);
+    this.paperSoon();
+  }
+
+  async fillPaper() {
+    const { run } = this.see;
+    if (run && !this.isRunning) await fillPaper($("paper"), this.checker, run, this.identity);
+  }
+}
+
+start();

@@ -1,0 +1,146 @@
+// One call of the program, with files that lie in memory: the functions of its host, and nothing else of the world.
+
+const GRANTED = 1n, NOT_GRANTED = 0n;
+const NO_SUCH_FILE = 2, BAD_FILE = 9;
+const REASONS = { [NO_SUCH_FILE]: "No such file or directory", [BAD_FILE]: "Bad file descriptor" };
+const PAGE = 65536;
+const STATX_BYTES = 256, STATX_KIND = 3, STATX_SIZE = 0x200, REGULAR_FILE = 0o100644;
+
+// The memory that the program is granted, by size classes; what it gives back is granted again.
+class Grants {
+  constructor(memory, first) { this.memory = memory; this.top = first; this.sizes = new Map(); this.free = new Map(); }
+
+  // The place of `bytes` bytes, or null if the engine grants no more.
+  place(bytes, alignment) {
+    let size = 16;
+    while (size < bytes) size *= 2;
+    const kept = this.free.get(size);
+    if (kept?.length && alignment <= 16) return this.given(kept.pop(), size);
+    const at = Math.ceil(this.top / Math.max(16, alignment)) * Math.max(16, alignment);
+    if (!this.reach(at + size)) return null;
+    this.top = at + size;
+    return this.given(at, size);
+  }
+
+  given(at, size) { this.sizes.set(at, size); return at; }
+
+  reach(end) {
+    const missing = end - this.memory.buffer.byteLength;
+    if (missing <= 0) return true;
+    const pages = Math.max(256, Math.ceil(missing / PAGE));
+    return this.grow(BigInt(pages)) || this.grow(pages);
+  }
+
+  // engines of before the standard was agreed take a Number
+  grow(pages) {
+    try { this.memory.grow(pages); return true; } catch { return false; }
+  }
+
+  release(at) {
+    const size = this.sizes.get(at);
+    if (size === undefined) return;
+    this.sizes.delete(at);
+    if (!this.free.has(size)) this.free.set(size, []);
+    this.free.get(size).push(at);
+  }
+}
+
+// Joins chunks of bytes.
+export function joined(chunks) {
+  const whole = new Uint8Array(chunks.reduce((sum, chunk) => sum + chunk.length, 0));
+  let at = 0;
+  for (const chunk of chunks) { whole.set(chunk, at); at += chunk.length; }
+  return whole;
+}
+
+// Calls the program: `words` are its arguments, `files` maps names to bytes, `input` is standard input. `take`, if there is one, gets each
+// chunk of standard output as it is written; `called` is the name by which the program is called. Gives the status and the bytes of both outputs.
+export function callProgram(module, words, files, input = new Uint8Array(), take = null, called = "narbeddo") {
+  let memory, grants, errno = 0, nextFile = 3;
+  const output = [], errors = [], open = new Map([[0, { bytes: input, at: 0 }]]);
+  const encoder = new TextEncoder(), decoder = new TextDecoder();
+  const asked = [called, ...words].map(word => encoder.encode(word));
+  const bytes = (at, count) => new Uint8Array(memory.buffer, Number(at), Number(count));
+  const fault = number => { errno = number; return -1; };
+
+  const answer = (to, at) => {
+    const view = new DataView(memory.buffer);
+    view.setBigUint64(Number(to), at === null ? NOT_GRANTED : GRANTED, true);
+    view.setBigUint64(Number(to) + 8, BigInt(at ?? 16), true);
+  };
+  const name = at => {
+    const all = new Uint8Array(memory.buffer), first = Number(at);
+    return decoder.decode(all.slice(first, all.indexOf(0, first)));
+  };
+  const write = (file, at, count) => {
+    const chunk = bytes(at, count).slice();
+    if (file !== 1) errors.push(chunk);
+    else if (take) take(chunk);
+    else output.push(chunk);
+    return count;
+  };
+
+  const host = {
+    write, __write: write,
+    rattle_alloc: (to, count, alignment) => answer(to, grants.place(Number(count), Number(alignment))),
+    rattle_realloc(to, from, kept, count, alignment) {
+      const at = grants.place(Number(count), Number(alignment));
+      if (at !== null) {
+        new Uint8Array(memory.buffer).copyWithin(at, Number(from), Number(from) + Number(kept));
+        grants.release(Number(from));
+      }
+      answer(to, at);
+    },
+    rattle_dealloc: at => grants.release(Number(at)),
+    // -1: there is no such argument; -2: it is longer than its place
+    rattle_arg(index, to, count) {
+      const word = asked[Number(index)];
+      if (word === undefined) return -1n;
+      bytes(to, count).set(word.subarray(0, Number(count)));
+      return word.length > Number(count) ? -2n : BigInt(word.length);
+    },
+    rattle_errno: () => errno,
+    rattle_set_errno: number => { errno = number; },
+    rattle_env: () => -1n,
+    rattle_env_at: () => -1n,
+    read(file, to, count) {
+      const from = open.get(file);
+      if (!from) return BigInt(fault(BAD_FILE));
+      const chunk = from.bytes.subarray(from.at, from.at + Number(count));
+      bytes(to, chunk.length).set(chunk);
+      from.at += chunk.length;
+      return BigInt(chunk.length);
+    },
+    open(at) {
+      const found = Object.hasOwn(files, name(at)) ? files[name(at)] : null;
+      if (!found) return fault(NO_SUCH_FILE);
+      open.set(nextFile, { bytes: found, at: 0 });
+      return nextFile++;
+    },
+    close: file => open.delete(file) ? 0 : fault(BAD_FILE),
+    // of an open file: its kind and its size, at the places that Linux gives them
+    statx(file, at, flags, mask, to) {
+      const found = open.get(file);
+      if (!found) return fault(BAD_FILE);
+      bytes(to, STATX_BYTES).fill(0);
+      const view = new DataView(memory.buffer, Number(to));
+      view.setUint32(0, STATX_KIND | STATX_SIZE, true);
+      view.setUint16(28, REGULAR_FILE, true);
+      view.setBigUint64(40, BigInt(found.bytes.length), true);
+      return 0;
+    },
+    isatty: () => 0,
+    __sysv_signal: () => 0n,
+    __xpg_strerror_r(number, to, count) {
+      const text = encoder.encode(REASONS[number] ?? `error ${number}`).subarray(0, Number(count) - 1);
+      bytes(to, text.length + 1).set([...text, 0]);
+      return 0;
+    },
+  };
+
+  const instance = new WebAssembly.Instance(module, { env: host });
+  memory = instance.exports.memory;
+  grants = new Grants(memory, Number(instance.exports.__heap_base.value));
+  const status = instance.exports.main(0, 0n);
+  return { status, output: joined(output), errors: joined(errors) };
+}

@@ -1,0 +1,180 @@
+// The scan at the cursor: the values that it left, its lines with their results, and what the host had asked by then. Elements stay and
+// only their texts change, so that the focus and the place of a list are kept from scan to scan.
+import { element, button, timeText, shownText } from "./elements.js";
+import { STATUS_NAMES } from "./run.js";
+
+const literal = value => value === true ? "TRUE" : value === false ? "FALSE" : value === undefined ? "" : String(value);
+
+// Values: weights, statuses, inputs, outputs, variables.
+export class Values {
+  // jump(name, step): to the next or the last change of a name; choose(name, is): whether it has a lane
+  constructor(place, { jump, choose }) { this.place = place; this.jump = jump; this.choose = choose; this.cells = new Map(); }
+
+  build(run, before, chosen) {
+    this.cells.clear();
+    this.run = run;
+    this.before = before;
+    const bits = names => element("div", { className: "bits" }, ...names.map(([name, label]) => this.bit(name, label)));
+    const numbered = (letter, count) => Array.from({ length: count }, (_, bit) => [`%${letter}X0.${bit}`, `${letter}X0.${bit}`]);
+    this.place.replaceChildren(
+      element("h2", {}, "Indicator"), this.table(["gross", "net", "tare"], chosen), bits(STATUS_NAMES.map((label, bit) => [`%IX1.${bit}`, label])),
+      element("h2", {}, "Inputs"), bits(numbered("I", 16)), element("h2", {}, "Outputs"), bits(numbered("Q", 16)), this.table(["%QD0", "%QD1", "%QD2", "%QD3"], chosen),
+      ...(run.variables.length ? [element("h2", {}, "Variables"), this.table(run.variables.map(it => it.name), chosen)] : []),
+      ...(run.leftOut ? [element("p", { className: "note" }, `${run.leftOut} more variables are not shown: the run has too many scans for all`)] : []));
+  }
+
+  bit(name, label) {
+    const cell = element("span", { className: "bit" }, label);
+    this.cells.set(name, { cell, label, isBit: true });
+    return cell;
+  }
+
+  table(names, chosen) {
+    const head = ["name", "value", ...(this.before ? ["before"] : []), "type", "changes", "lane"];
+    return element("table", {}, element("thead", {}, element("tr", {}, ...head.map(name => element("th", { scope: "col" }, name)))),
+      element("tbody", {}, ...names.map(name => this.row(name, chosen))));
+  }
+
+  row(name, chosen) {
+    const value = element("td", { className: "code value" }), before = this.before ? element("td", { className: "code faint" }) : null;
+    const lane = element("input", { type: "checkbox", checked: chosen.includes(name), "aria-label": `a lane for ${name}`, onchange: event => this.choose(name, event.target.checked) });
+    const row = element("tr", { "data-name": name }, element("td", { className: "code" }, name), value, before, element("td", { className: "faint" }, this.run.typeOf(name)),
+      element("td", {}, button("◂", () => this.jump(name, -1), { className: "small", "aria-label": `the change of ${name} before`, title: "the change before" }), " ",
+        button("▸", () => this.jump(name, 1), { className: "small", "aria-label": `the next change of ${name}`, title: "the next change" })),
+      element("td", {}, lane));
+    this.cells.set(name, { cell: value, before, row });
+    return row;
+  }
+
+  show(index, other) {
+    const { run, before } = this;
+    for (const [name, entry] of this.cells) {
+      const now = run.value(name, index), past = index ? run.value(name, index - 1) : now, isNew = !Object.is(now, past);
+      const then = before && other !== null ? before.value(name, other) : NaN;
+      entry.cell.classList.toggle("new", isNew);
+      if (entry.isBit) {
+        entry.cell.classList.toggle("on", now === 1);
+        entry.cell.classList.toggle("differs", Boolean(before) && !Object.is(now, then));
+        entry.cell.title = `${name} is ${now === 1 ? "TRUE" : "FALSE"}${before ? `, before ${then === 1 ? "TRUE" : "FALSE"}` : ""}`;
+      } else {
+        const isHidden = /^(gross|net)$/.test(name) && run.value("%IX1.5", index) !== 1;
+        entry.cell.textContent = isHidden ? "not valid" : Number.isNaN(now) ? "not in this program" : run.text(name, now);
+        if (entry.before) {
+          entry.before.textContent = Number.isNaN(then) ? "" : before.text(name, then);
+          entry.before.classList.toggle("differs", !Object.is(now, then));
+        }
+      }
+    }
+  }
+
+  // shows the row of a name
+  reveal(name) { reveal(this.place, this.cells.get(name)?.row); }
+}
+
+// marks a row as what was searched for, and scrolls its list to it
+function reveal(place, row) {
+  for (const other of place.querySelectorAll(".hit")) other.classList.remove("hit");
+  if (!row) return;
+  row.classList.add("hit");
+  const box = place.getBoundingClientRect(), its = row.getBoundingClientRect();
+  if (its.top < box.top || its.bottom > box.bottom) place.scrollTop += its.top - box.top - place.clientHeight / 2;
+  if (box.bottom > innerHeight || box.top < 0) place.scrollIntoView({ block: "nearest" });
+}
+
+// The lines of the text of a scan, with what each gave.
+export class ScanLines {
+  constructor(place, find) { this.place = place; this.find = find; this.text = null; }
+
+  build(text) {
+    if (text === this.text) return;
+    this.text = text;
+    this.isPlaced = false;
+    const lines = text.replace(/\n$/, "").split("\n");
+    this.rows = lines.map((line, at) => {
+      const cells = [element("td", { className: "code number" }, button(String(at + 1), () => this.find(at + 1), { className: "link", title: "the next scan in which this line runs", tabIndex: -1 })),
+        element("td", { className: "code" }, shownText(line.replace(/\r$/, ""))), element("td", { className: "code" }), element("td", { className: "code faint" })];
+      return { row: element("tr", {}, ...cells), result: cells[2], wrote: cells[3] };
+    });
+    this.note = element("p", { className: "note", hidden: true });
+    const head = element("tr", {}, ...["line", "text", "result", "writes"].map(name => element("th", { scope: "col" }, name)));
+    const columns = element("colgroup", {}, ...["n", "t", "r", "w"].map(name => element("col", { className: name })));
+    this.place.replaceChildren(element("h2", {}, "Lines of this scan"), this.note, element("table", {}, columns, element("thead", {}, head), element("tbody", {}, ...this.rows.map(it => it.row))));
+  }
+
+  // null: there is no trace of the scan yet
+  show(trace, note = "") {
+    const items = grouped(trace?.items ?? []);
+    const paths = callPaths(trace?.items ?? []);
+    this.note.hidden = !note;
+    this.note.textContent = note;
+    this.rows.forEach(({ row, result, wrote }, at) => {
+      const own = items.get(at + 1) ?? [];
+      row.classList.toggle("ran", own.length > 0);
+      const results = own.filter(item => item.result !== undefined), isSeveral = results.length > 1 && results.some(item => paths.get(item));
+      setText(result, few(results.map(item => (isSeveral && paths.get(item) ? `${paths.get(item)} ` : "") + literal(item.result)), 3));
+      setText(wrote, few(own.map(writes).filter(Boolean), 4));
+    });
+    if (trace?.items.length && !this.isPlaced) this.toProgram(trace);
+  }
+
+  // a text is first shown from the lines that the program itself ran
+  toProgram(trace) {
+    this.isPlaced = true;
+    const first = trace.items.filter(item => item.depth === 0).reduce((least, item) => Math.min(least, item.line), Infinity), row = this.rows[first - 1]?.row;
+    if (row) this.place.scrollTop = Math.max(0, row.offsetTop - 2 * row.offsetHeight);
+  }
+
+  reveal(line) { reveal(this.place, this.rows?.[line - 1]?.row); }
+}
+
+const few = (texts, most) => texts.slice(0, most).join("  ") + (texts.length > most ? `  … ${texts.length} times` : "");
+const setText = (cell, text) => { if (cell.textContent !== text) { cell.textContent = text; cell.title = text; } };
+
+function writes(item) {
+  if (item.block !== undefined) return `${item.block}()` + Object.entries(item.outputs ?? {}).map(([name, value]) => ` ${name}=${literal(value)}`).join("");
+  return item.variable !== undefined ? `${item.variable} := ${literal(item.value)}` : "";
+}
+
+function grouped(items) {
+  const found = new Map();
+  for (const item of items) found.set(item.line, [...found.get(item.line) ?? [], item]);
+  return found;
+}
+
+// the instances through which each item was called, as `a.b`
+function callPaths(items) {
+  const paths = [""], found = new Map();
+  for (const item of items) {
+    const path = paths[item.depth] ?? "";
+    if (path) found.set(item, path);
+    if (item.call !== undefined) paths[item.depth + 1] = path ? `${path}.${item.call}` : item.call;
+  }
+  return found;
+}
+
+// What the host sent, and what it was answered.
+export class Host {
+  constructor(place, go) { this.place = place; this.go = go; }
+
+  build(run) {
+    this.rows = run.host.slice(0, 2000).map(({ ms, sent, answers }) => {
+      const row = element("tr", {}, element("td", { className: "number" }, button(timeText(ms), () => this.go(ms), { className: "link", title: "go to the scan before" })),
+        element("td", { className: "code" }, shownText(sent)), element("td", {}, answers.length ? shownText(answers.join(" · ")) : "—"));
+      return { ms, row };
+    });
+    this.place.hidden = !this.rows.length;
+    const head = element("tr", {}, ...["time", "the host sends", "the scale answers"].map(name => element("th", { scope: "col" }, name)));
+    const more = run.host.length - this.rows.length;
+    this.place.replaceChildren(element("h2", {}, "Host"), element("table", {}, element("thead", {}, head), element("tbody", {}, ...this.rows.map(it => it.row))),
+      ...(more ? [element("p", { className: "note" }, `and ${more} more rows`)] : []));
+  }
+
+  // marks the last request before a moment
+  show(ms) {
+    const last = this.rows.findLast(it => it.ms <= ms);
+    for (const it of this.rows) it.row.classList.toggle("at-line", it === last);
+    if (last) this.place.scrollTop = Math.max(0, last.row.offsetTop - this.place.offsetTop - this.place.clientHeight / 2);
+  }
+
+  reveal(ms) { reveal(this.place, this.rows.find(it => it.ms === ms)?.row); }
+}

@@ -1,0 +1,152 @@
+// What is seen of a run: curves, the cursor with the scan at it, the search, and a run before to compare with.
+import { $, element, button, timeText } from "./elements.js";
+import { Curves, lanesOf } from "./curves.js";
+import { Values, ScanLines, Host } from "./scan.js";
+import { traceOf } from "./run.js";
+import { asked, find } from "./search.js";
+import { shownMessages, showMessages } from "./messages.js";
+
+export class See {
+  constructor({ caller, explain, goToLog }) {
+    Object.assign(this, { caller, explain, goToLog, run: null, before: null, at: 0, chosen: new Set() });
+    this.curves = new Curves($("plot"), index => this.go(index));
+    this.values = new Values($("values"), { jump: (name, step) => this.search(name, step), choose: (name, is) => this.choose(name, is) });
+    this.lines = new ScanLines($("lines"), line => this.search(String(line), 1));
+    this.host = new Host($("host"), ms => this.go(this.run.scanAt(ms)));
+    this.buildZoom();
+    this.listen();
+  }
+
+  buildZoom() {
+    const tools = [["|◂", "first scan (Home)", () => this.go(0)], ["◂", "scan before (←)", () => this.go(this.at - 1)], ["▸", "next scan (→)", () => this.go(this.at + 1)], ["▸|", "last scan (End)", () => this.go(Infinity)],
+      ["+", "nearer (+)", () => this.curves.zoom(0.5)], ["−", "farther (-)", () => this.curves.zoom(2)], ["all", "the whole run (0)", () => this.curves.showAll()]];
+    $("zoom_row").replaceChildren(...tools.map(([text, title, action]) => button(text, () => this.run?.count && action(), { title, "aria-label": title, className: "small" })),
+      element("span", { className: "hint" }, "drag to move the cursor, Ctrl and the wheel to zoom"));
+  }
+
+  listen() {
+    $("search").addEventListener("submit", event => { event.preventDefault(); this.search($("what").value, 1); });
+    $("find_before").onclick = () => this.search($("what").value, -1);
+    $("keep_before").onclick = () => { this.before = this.run; this.show(this.run); };
+    $("drop_before").onclick = () => { this.before = null; this.show(this.run); $("keep_before").focus(); };
+    $("next_difference").onclick = () => this.nextDifference();
+    $("plot").addEventListener("keydown", event => this.key(event));
+  }
+
+  key(event) {
+    if (event.ctrlKey || event.altKey || event.metaKey || !this.run?.count) return;
+    const view = this.curves.to - this.curves.from, nearby = ms => this.run.scanAt(this.run.ms(this.at) + ms);
+    const action = {
+      ArrowLeft: () => this.go(this.at - 1), ArrowRight: () => this.go(this.at + 1), Home: () => this.go(0), End: () => this.go(Infinity),
+      PageUp: () => this.go(Math.min(nearby(-view / 10), this.at - 1)), PageDown: () => this.go(Math.max(nearby(view / 10), this.at + 1)),
+      "+": () => this.curves.zoom(0.5), "-": () => this.curves.zoom(2), 0: () => this.curves.showAll(),
+    }[event.key];
+    if (!action) return;
+    event.preventDefault();
+    action();
+  }
+
+  // Shows a run; the cursor stays at its moment.
+  show(run) {
+    const ms = this.run?.count ? this.run.ms(this.at) : null;
+    this.run = run;
+    showMessages($("run_messages"), shownMessages(run.messages), { explain: this.explain, goTo: line => this.goToLog(line), where: it => `${it.file ?? ""}${it.line ? ` line ${it.line}` : ""}` });
+    for (const id of ["plot_box", "cursor_row", "search", "search_hint", "scan_box", "compare_row"]) $(id).hidden = !run.count;
+    if (!run.count) return;
+    $("drop_before").hidden = $("next_difference").hidden = !this.before;
+    $("compared").textContent = this.before ? this.comparison() : "";
+    $("names").replaceChildren(...run.names.map(name => element("option", { value: name })));
+    this.values.build(run, this.before, [...this.chosen]);
+    this.host.build(run);
+    this.draw();
+    this.go(ms === null ? 0 : run.scanAt(ms));
+  }
+
+  draw() { this.curves.set(this.run, this.before, lanesOf(this.run, [...this.chosen])); }
+
+  choose(name, is) {
+    if (is) this.chosen.add(name); else this.chosen.delete(name);
+    this.draw();
+  }
+
+  // The scan of the run before that belongs to a scan: the last one at its time or earlier.
+  other(index) {
+    if (!this.before?.count || this.before.ms(0) > this.run.ms(index)) return null;
+    return this.before.own.ms[index] === this.run.own.ms[index] ? index : this.before.scanAt(this.run.ms(index));
+  }
+
+  // Goes to a scan: the cursor, its values, its lines.
+  go(index) {
+    const { run } = this;
+    if (!run?.count) return;
+    this.at = Math.max(0, Math.min(run.count - 1, index));
+    this.curves.go(this.at);
+    const ms = run.ms(this.at), bound = run.bound(this.at), steps = run.own.steps[this.at], number = run.numbers?.[this.at] ?? this.at + 1;
+    const where = `scan ${number} at ${timeText(ms)} · ${steps} of at most ${bound} instructions${run.programOf(this.at) === 2 ? " · next program" : ""}`;
+    $("where").textContent = where;
+    Object.assign($("steps"), { max: Math.max(bound, 1), value: steps });
+    const plot = $("plot"), net = run.value("%IX1.5", this.at) === 1 ? `net ${run.text("net", run.value("net", this.at))}` : "no valid weight";
+    plot.setAttribute("aria-valuemax", run.count);
+    plot.setAttribute("aria-valuenow", this.at + 1);
+    plot.setAttribute("aria-valuetext", `${where}, ${net}`);
+    this.values.show(this.at, this.other(this.at));
+    this.host.show(ms);
+    this.lines.build(run.textOf(this.at));
+    this.showLines();
+  }
+
+  // The lines of the scan come from the program; while the cursor moves only the last one asked for is fetched.
+  async showLines() {
+    const { run, at } = this, kept = run.traces.get(at);
+    if (kept) { this.lines.show(kept, run.note); return; }
+    if (this.isTracing) return;
+    this.isTracing = true;
+    try {
+      const trace = await traceOf(this.caller, run, at);
+      if (this.run === run && this.at === at) this.lines.show(trace, trace ? "" : "no trace of this scan");
+    } catch { /* it was stopped */ } finally { this.isTracing = false; }
+    if (this.run !== run || this.at !== at) this.showLines();
+  }
+
+  async search(text, step) {
+    $("what").value = text;
+    const { run } = this, what = asked(run, text);
+    if (what.fault) { $("found").textContent = what.fault; return; }
+    $("found").textContent = "searching …";
+    const hit = await find(this.caller, run, what, this.at, step);
+    if (this.run !== run) return;
+    $("found").textContent = hit ? "" : step > 0 ? "none after the cursor" : "none before the cursor";
+    if (!hit) return;
+    this.go(hit.index);
+    $("found").textContent = `found at ${timeText(hit.ms ?? run.ms(hit.index))}`;
+    if (what.name) this.values.reveal(what.name);
+    else if (what.line) this.lines.reveal(what.line);
+    else this.host.reveal(hit.ms);
+  }
+
+  // names that both runs have
+  get common() { return this.run.names.filter(name => this.before.names.includes(name)); }
+
+  isDifferent(index, names) {
+    const other = this.other(index);
+    return other === null || this.before.ms(other) !== this.run.ms(index) || names.some(name => !Object.is(this.run.value(name, index), this.before.value(name, other)));
+  }
+
+  comparison() {
+    const names = this.common;
+    let count = 0;
+    for (let index = 0; index < this.run.count; index++) count += this.isDifferent(index, names);
+    return count ? `${count} of ${this.run.count} scans differ from before` : "no scan differs from before";
+  }
+
+  nextDifference() {
+    const names = this.common;
+    let index = this.at + 1;
+    while (index < this.run.count && !this.isDifferent(index, names)) index++;
+    if (index >= this.run.count) { $("compared").textContent = `${this.comparison()}; none after the cursor`; return; }
+    this.go(index);
+    const other = this.other(index), name = names.find(it => other !== null && !Object.is(this.run.value(it, index), this.before.value(it, other)));
+    $("compared").textContent = name ? `${name}: ${this.run.text(name, this.run.value(name, index))}, before ${this.before.text(name, this.before.value(name, other))}` : "the scans are at other times";
+    if (name) this.values.reveal(name);
+  }
+}
