@@ -30,7 +30,7 @@ def ran(words, **more):
 
 
 def as_text(module):
-    """A module, which is in LLVM.s binary format, as text."""
+    """A module, which is in LLVM's binary format, as text."""
     return ran([compiler(), "-S", "-emit-llvm", "-O0", "-Xclang", "-disable-llvm-passes", "-x", "ir", module, "-o", "-"])
 
 
@@ -48,32 +48,40 @@ def keeping_toolchain(folder, kept):
     return made
 
 
-def build_module(folder, kept):
-    """Puts the module of the program into a file. The program is proved for it over the libraries of the gate."""
-    checked = folder / "checked"
+def build_module(folder):
+    """The module of the program, in a file. It is proved for it over the libraries of the gate, and has to be the program that the gate
+    has built, linked for the system that the toolchain builds for."""
+    checked, kept, code, again = (folder / name for name in ("checked", "kept.bc", "wc.o", "again"))
     ran([*over_the_gate("check", "wc"), "-o", checked], cwd=CRATES / "wc")
     words = over_the_gate("build", "wc")
     # what is checked has its statements with it
     del words[words.index("--logic-built") :]
-    words += ["--crate-checked", checked, "--toolchain", keeping_toolchain(folder, kept)]
-    ran([*words, "--backend", "llvm", "-o", folder / "wc.o"], cwd=CRATES / "wc")
+    words += ["--crate-checked", checked, "--toolchain", keeping_toolchain(folder, kept), "--backend", "llvm", "-o", code]
+    ran(words, cwd=CRATES / "wc")
+    linker = [kit() / "bin" / "rattle-link", "--target", "x86_64-unknown-linux-gnu", "--toolchain", kit() / "toolchain", "-o", again, code]
+    ran([*linker, kit() / "c" / "libos_c.a", kit() / "c" / "liblibc_c.a"], cwd=CRATES / "wc")
+    if again.read_bytes() != PROGRAM.read_bytes():
+        sys.exit(f"{Path(sys.argv[0]).name}: the module, linked for Linux, is not the program of the gate")
+    return kept
 
 
 def proved_module(folder):
-    """The module of the program that the gate has built, as text. It takes some four minutes and is kept in out/ for as long as that
+    """The module of the program that the gate has built, in a file. It takes some five minutes and is kept in out/ for as long as that
     program is there: the name of the file has the sum of the program."""
     kept = TOP / "out" / f"wc-{hashlib.sha256(PROGRAM.read_bytes()).hexdigest()[:16]}.bc"
     if not kept.is_file():
         kept.parent.mkdir(exist_ok=True)
-        build_module(folder, folder / "kept.bc")
-        shutil.copyfile(folder / "kept.bc", kept)
-    return as_text(kept)
+        shutil.copyfile(build_module(folder), kept)
+    return kept
 
 
 def retargeted(text, layout, triple):
     """A module for another system, which lays out memory like this."""
     named = {"datalayout": layout, "triple": triple}
-    return PROCESSOR.sub("", LAYOUT.sub(lambda found: f'target {found[1]} = "{named[found[1]]}"', text))
+    text, places = LAYOUT.subn(lambda found: f'target {found[1]} = "{named[found[1]]}"', text)
+    if places != len(named):
+        sys.exit(f"{Path(sys.argv[0]).name}: the module does not name one target")
+    return PROCESSOR.sub("", text)
 
 
 def renamed(text, names):
