@@ -63,7 +63,7 @@ fn keeps_what_it_reads(reader: &mut TeeReader<&[u8]>) -> bool {
         && reads(reader, 2)
         && reads(reader, 1)
         && reads(reader, 0)
-        && reader.bytes_read() == b"abc"
+        && reader.bytes_read() == b"abc".as_slice()
         && reader.get_ref().is_empty()
         && !reader.has_lacked()
 }
