@@ -5,3 +5,5 @@ pub mod Carrying
 pub mod SeenLines
 pub mod SeenScans
 pub mod Presence
+pub mod PairLines
+pub mod PairsLeft

@@ -3,10 +3,13 @@
 
 mod body;
 mod carry;
+mod executable;
 mod first;
+mod line;
 mod machine;
 mod observer;
 mod own_line;
+mod pairs;
 mod seen;
 mod started;
 

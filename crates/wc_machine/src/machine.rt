@@ -12,6 +12,7 @@ ghost use Rattle.wc_model.specs.Language.Views.{text_view};
 
 use crate::body::run;
 use crate::carry::carried_over;
+use crate::executable::Executable;
 use crate::first::first_store;
 use crate::observer::{LineObserver, NoObserver};
 use crate::seen::{SeenLine, Sight};
@@ -25,7 +26,7 @@ use wc_store::Store;
 /// A machine: a loaded text that is run scan by scan over a store of plain numbers.
 #[derive(Drop)]
 pub struct Machine<'a, S: Store> {
-    loaded: Loaded<'a>,
+    loaded: Executable<'a>,
     store: S,
     last: u64,
     bound: u32,
@@ -68,6 +69,13 @@ impl<'a, S: Store> Machine<'a, S> {
                 return Err(fault);
             }
         };
+        let loaded = match Executable::new(alloc, loaded) {
+            Ok(executable) => executable,
+            Err(refused) => {
+                drop(store);
+                return Err(refused);
+            }
+        };
         Ok(Machine {
             loaded,
             store,
@@ -103,7 +111,14 @@ impl<'a, S: Store> Machine<'a, S> {
         };
         let units = loaded.units();
         let bound = loaded.bound(units - 1);
-        let store = carried_over(first, &loaded, &self.loaded, &self.store);
+        let store = carried_over(first, &loaded, self.loaded.text(), &self.store);
+        let loaded = match Executable::new(alloc, loaded) {
+            Ok(executable) => executable,
+            Err(refused) => {
+                drop(store);
+                return Err((self, refused));
+            }
+        };
         let last = self.last;
         drop(self);
         Ok(Machine {
@@ -196,7 +211,7 @@ impl<'a, S: Store> Machine<'a, S> {
     pub fn loaded(&self) -> &Loaded<'a>
         ensures { result.now.source ≡ self.now.source }
     {
-        &self.loaded
+        self.loaded.text()
     }
 
     /// The moment of the last scan in milliseconds, 0 before the first.

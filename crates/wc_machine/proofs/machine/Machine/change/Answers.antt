@@ -1,15 +1,16 @@
 -- A changed machine represents the store that is carried over.
 use Rattle.std.proofs.Common.{◌≡◌, ◌-◌, List, ℤ, length, ap, sym, ◌∙◌, subst, arith, rules, refl}
 use Rattle.std.proofs.lemmas.List.{length-map}
+use Rattle.wc_cost.specs.LoadedTexts.{LoadedText}
 use Rattle.wc_text_flat.specs.Contents.{AreContents, frame_of_text}
 use Rattle.wc_machine.proofs.Carrying.{before_later, contents_carried}
 use Rattle.wc_machine.proofs.FirstPlaces.{last_bound}
 use Rattle.wc_machine.proofs.Scanning.{has_a_unit}
 use Rattle.wc_machine.proofs.machine.Machine.change.Goals as goal
 use Rattle.wc_machine.specs.Carrying.{AreCarried}
-use Rattle.wc_machine.specs.Machines.{MachineState, text_of}
+use Rattle.wc_machine.specs.Machines.{IsMachineSound, MachineState, RepresentsText, machine_view, text_of}
 use Rattle.wc_model.specs.Language.Carried.{carried}
-use Rattle.wc_model.specs.Language.Frames.{content_number, first_numbers, slot_kind_of}
+use Rattle.wc_model.specs.Language.Frames.{content_number, first_numbers, slot_kind_of, slot_kinds}
 use Rattle.wc_model.specs.Language.Scans.{initial_of}
 use Rattle.wc_model.specs.Language.Store.{Store}
 use Rattle.wc_model.specs.Language.Tree.{Text}
@@ -75,10 +76,11 @@ carried_over-store-requires-clause-capacity g c =
     omega (arith, same, few)
 
 pub carried_over-store-requires-clause-old_kinds : goal.carried_over-store-requires-clause-old_kinds
-carried_over-store-requires-clause-old_kinds g c = c.self.invariant.kinds_are
+carried_over-store-requires-clause-old_kinds g c =
+    subst (λ (l : LoadedText). g.S.Store.slot_kinds c.self.inside.store ≡ slot_kinds (frame_of_text (text_view l.source))) (sym c.text.ensures) c.self.invariant.kinds_are
 
 pub returns-clause-text : goal.returns-clause-text
-returns-clause-text g c = refl
+returns-clause-text g c = ap (λ (l : LoadedText). text_view l.source) c.in-Ok-new.ensures.same
 
 pub returns-clause-last : goal.returns-clause-last
 returns-clause-last g c = ap (λ (m : MachineState). m.last) c.self.view_is
@@ -96,15 +98,16 @@ invariant_of-result g c =
     let sound = c.units-units.ensures.sound in
     let inv = c.self.invariant in
     let kinds = c.carried_over-store.ensures.kinds ∙ c.in-Ok.ensures.kinds in
-    record {
+    subst (λ (loaded : LoadedText). IsMachineSound loaded (g.S.Store.slot_kinds c.carried_over-store.result) (g.S.Store.numbers c.carried_over-store.result) c.self.inside.last c.bound-bound.result) (sym c.in-Ok-new.ensures.same)
+    (record {
       sound = sound;
       kinds_are = kinds ∙ c.kinds.ensures.kinds;
       capacity = omega (arith, ap length kinds, c.kinds.ensures.few);
-      held = (carried old inv.held.0 text, carried_holds old text inv.held.0 inv.sound.read.1.spelled.order sound.read.1.spelled.order inv.held.1, held old text inv.sound.read.1.spelled.order sound.read.1.spelled.order inv.held.0 inv.held.1 (g.S.Store.numbers c.self.inside.store) inv.held.2 (g.S.Store.numbers c.in-Ok.first) (g.S.Store.numbers c.carried_over-store.result) (c.in-Ok.ensures.numbers ∙ c.initials.ensures.numbers) c.carried_over-store.ensures.numbers);
+      held = (carried old inv.held.0 text, carried_holds old text inv.held.0 inv.sound.read.1.spelled.order sound.read.1.spelled.order inv.held.1, held old text inv.sound.read.1.spelled.order sound.read.1.spelled.order inv.held.0 inv.held.1 (g.S.Store.numbers c.self.inside.store) inv.held.2 (g.S.Store.numbers c.in-Ok.first) (g.S.Store.numbers c.carried_over-store.result) (c.in-Ok.ensures.numbers ∙ c.initials.ensures.numbers) (subst (λ (l : LoadedText). AreCarried (text_view l.source) (text_view c.args.loaded.source) (g.S.Store.numbers c.self.inside.store) (g.S.Store.numbers c.in-Ok.first) (g.S.Store.numbers c.carried_over-store.result)) c.text.ensures c.carried_over-store.ensures.numbers));
       before = c.carried_over-store.ensures.moments c.self.inside.last (before_later 0 c.self.inside.last (g.S.Store.slot_kinds c.in-Ok.first) (g.S.Store.numbers c.in-Ok.first) (omega arith) c.in-Ok.ensures.moments) inv.before;
       bounded = last_bound text (c.units-units.result - 1) c.bound-bound.result (omega (arith, c.units-units.ensures.count, has_a_unit sound.read.0 text sound.read.1)) c.bound-bound.ensures;
       fits = search rules;
-    }
+    })
 
 pub returns-clause-represents : goal.returns-clause-represents
 returns-clause-represents g c = λ text store represents.
@@ -114,11 +117,12 @@ returns-clause-represents g c = λ text store represents.
     let slots : SameSlots (initial_of here) store = subst (λ t. SameSlots (initial_of t) store) same represents.slots in
     let contents : AreContents (frame_of_text here) store (g.S.Store.numbers c.self.inside.store) =
     subst (λ ns. AreContents (frame_of_text here) store ns) (ap (λ (m : MachineState). m.numbers) (sym c.self.view_is)) (subst (λ t. AreContents (frame_of_text t) store c.args.self.numbers) same represents.contents) in
-    record {
+    subst (λ (loaded : LoadedText). RepresentsText (machine_view loaded (g.S.Store.numbers c.carried_over-store.result) c.self.inside.last) new (carried text store new)) (sym c.in-Ok-new.ensures.same)
+    (record {
       same_text = refl;
       slots = subst (λ t. SameSlots (initial_of new) (carried t store new)) (sym same) (carried_holds here new store c.self.invariant.sound.read.1.spelled.order c.units-units.ensures.sound.read.1.spelled.order slots);
-      contents = subst (λ t. AreContents (frame_of_text new) (carried t store new) (g.S.Store.numbers c.carried_over-store.result)) (sym same) (held here new c.self.invariant.sound.read.1.spelled.order c.units-units.ensures.sound.read.1.spelled.order store slots (g.S.Store.numbers c.self.inside.store) contents (g.S.Store.numbers c.in-Ok.first) (g.S.Store.numbers c.carried_over-store.result) (c.in-Ok.ensures.numbers ∙ c.initials.ensures.numbers) c.carried_over-store.ensures.numbers);
-    }
+      contents = subst (λ t. AreContents (frame_of_text new) (carried t store new) (g.S.Store.numbers c.carried_over-store.result)) (sym same) (held here new c.self.invariant.sound.read.1.spelled.order c.units-units.ensures.sound.read.1.spelled.order store slots (g.S.Store.numbers c.self.inside.store) contents (g.S.Store.numbers c.in-Ok.first) (g.S.Store.numbers c.carried_over-store.result) (c.in-Ok.ensures.numbers ∙ c.initials.ensures.numbers) (subst (λ (l : LoadedText). AreCarried (text_view l.source) (text_view c.args.loaded.source) (g.S.Store.numbers c.self.inside.store) (g.S.Store.numbers c.in-Ok.first) (g.S.Store.numbers c.carried_over-store.result)) c.text.ensures c.carried_over-store.ensures.numbers));
+    })
 
 pub first_store-requires-clause-first : goal.first_store-requires-clause-first
 first_store-requires-clause-first g c = subst (λ ks. AreFirst ks c.initials.result.now) (sym c.kinds.ensures.kinds) c.initials.ensures.first
