@@ -8,10 +8,17 @@ import { openTrace } from "./trace_file.js";
 import { readFiles } from "./files.js";
 import { showTrust, ABOUT } from "./trust.js";
 import { fillPaper } from "./paper.js";
+import { languageHelp } from "./language_help.js";
 
 const EXAMPLES = JSON.parse($("examples").textContent);
 const FIELDS = JSON.parse($("language").textContent).fields;
 const FILES = { "plate.toml": "plate", "program.il": "program", "next.il": "next", "log.csv": "log", "scenario.txt": "scenario" };
+// what there is when somebody begins with nothing
+const EMPTY = {
+  program: "PROGRAM Mine\nVAR\nEND_VAR\n    LD %IX0.0           (* a button *)\n    ST %QX0.0           (* a lamp *)\nEND_PROGRAM\n",
+  plate: 'unit = "kg"\ndecimals = 3\nmax = 15000\ne = 5\nzero_counts = 10000\nspan_counts = 600000\nwindow = 4\n',
+  scenario: "samples every 10 ms\nscans every 20 ms\nfrom 1 to 1.5 s input 0 on\nfrom 2 to 4 s weight from 0 to 1 kg\nuntil 6 s\n",
+};
 const KEYS = [
   ["Ctrl+Enter", "runs what is written"], ["Tab", "leads on, also out of an editor"], ["Alt+1 … Alt+5", "program, plate, scenario, log, next program"],
   ["/", "the search, outside of a text"], ["on the curves", ""], ["← →", "a scan back, on"], ["Page Up, Page Down", "a tenth of the view"], ["Home, End", "first, last scan"], ["+ − 0", "nearer, farther, all"],
@@ -48,7 +55,8 @@ class Page {
   }
 
   build() {
-    $("example").append(...Object.entries(EXAMPLES).map(([name, { title }]) => element("option", { value: name }, `${name}: ${title}`)));
+    $("language_help").append(languageHelp(FIELDS));
+    $("example").append(element("option", { value: "empty" }, "empty: begin with a program of three lines"), ...Object.entries(EXAMPLES).map(([name, { title }]) => element("option", { value: name }, `${name}: ${title}`)));
     $("example").onchange = event => { if (event.target.value) this.takeExample(event.target.value, true); event.target.value = ""; };
     $("open").onchange = event => { this.openFiles([...event.target.files]); event.target.value = ""; };
     $("run").onclick = () => this.run();
@@ -111,8 +119,9 @@ class Page {
   }
 
   takeExample(name, isChosen = false) {
+    if (name === "empty") return this.replace({ ...EMPTY, isByScenario: true }, "a program, a plate and a scenario to begin with");
     const texts = Object.fromEntries(Object.entries(EXAMPLES[name].files).map(([file, text]) => [FILES[file], text]));
-    return this.replace({ ...texts, isByScenario: !isChosen && texts.scenario !== undefined || texts.scenario !== undefined }, isChosen ? `the example ${name}` : "this is the example filling: change it, or choose another");
+    return this.replace({ ...texts, isByScenario: texts.scenario !== undefined }, isChosen ? `the example ${name}` : "this is the example filling: change it, or choose another");
   }
 
   async openFiles(files) {
@@ -122,6 +131,7 @@ class Page {
     if (trace === undefined) return;
     const run = await openTrace(this.checker, trace, this.currentTexts);
     if (typeof run === "string") { say(run); return; }
+    this.dropRun();
     this.see.before = null;
     this.see.show(run);
     this.isStale(false);
@@ -145,11 +155,19 @@ class Page {
     document.body.classList.toggle("stale", is);
   }
 
-  // Runs what is written. A run that is under way is ended.
+  // Ends a run that is under way; it shows nothing.
+  dropRun() {
+    this.number = (this.number ?? 0) + 1;
+    if (this.isRunning) this.runner.stop();
+    this.isRunning = false;
+    $("stop").hidden = true;
+  }
+
+  // Runs what is written, in place of a run that is under way.
   async run() {
     if (this.work.obstacle) { this.isStale(Boolean(this.see.run), this.work.obstacle); return; }
-    if (this.isRunning) this.runner.stop();
-    const number = this.number = (this.number ?? 0) + 1;
+    this.dropRun();
+    const { number } = this;
     this.isRunning = true;
     const later = setTimeout(() => { $("stop").hidden = false; $("outcome").textContent = "running …"; }, 300);
     try {

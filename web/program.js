@@ -72,6 +72,7 @@ export function callProgram(module, words, files, input = new Uint8Array(), take
     const all = new Uint8Array(memory.buffer), first = Number(at);
     return decoder.decode(all.slice(first, all.indexOf(0, first)));
   };
+  const named = path => Object.hasOwn(files, path) ? files[path] : null;
   const write = (file, at, count) => {
     const chunk = bytes(at, count).slice();
     if (file !== 1) errors.push(chunk);
@@ -112,21 +113,21 @@ export function callProgram(module, words, files, input = new Uint8Array(), take
       return BigInt(chunk.length);
     },
     open(at) {
-      const found = Object.hasOwn(files, name(at)) ? files[name(at)] : null;
+      const found = named(name(at));
       if (!found) return fault(NO_SUCH_FILE);
       open.set(nextFile, { bytes: found, at: 0 });
       return nextFile++;
     },
     close: file => open.delete(file) ? 0 : fault(BAD_FILE),
-    // of an open file: its kind and its size, at the places that Linux gives them
+    // of a file, by its name or open: its kind and its size, at the places that Linux gives them
     statx(file, at, flags, mask, to) {
-      const found = open.get(file);
-      if (!found) return fault(BAD_FILE);
+      const path = name(at), found = path ? named(path) : open.get(file)?.bytes;
+      if (!found) return fault(path ? NO_SUCH_FILE : BAD_FILE);
       bytes(to, STATX_BYTES).fill(0);
       const view = new DataView(memory.buffer, Number(to));
       view.setUint32(0, STATX_KIND | STATX_SIZE, true);
       view.setUint16(28, REGULAR_FILE, true);
-      view.setBigUint64(40, BigInt(found.bytes.length), true);
+      view.setBigUint64(40, BigInt(found.length), true);
       return 0;
     },
     isatty: () => 0,

@@ -12,6 +12,7 @@ export class Values {
 
   build(run, before, chosen) {
     this.cells.clear();
+    this.place.classList.toggle("compared", Boolean(before));
     this.run = run;
     this.before = before;
     const bits = names => element("div", { className: "bits" }, ...names.map(([name, label]) => this.bit(name, label)));

@@ -29,6 +29,7 @@ export class See {
     $("find_before").onclick = () => this.search($("what").value, -1);
     $("keep_before").onclick = () => { this.before = this.run; this.show(this.run); };
     $("drop_before").onclick = () => { this.before = null; this.show(this.run); $("keep_before").focus(); };
+    $("lines_before").onchange = () => this.showLines();
     $("next_difference").onclick = () => this.nextDifference();
     $("plot").addEventListener("keydown", event => this.key(event));
   }
@@ -53,7 +54,7 @@ export class See {
     showMessages($("run_messages"), shownMessages(run.messages), { explain: this.explain, goTo: line => this.goToLog(line), where: it => `${it.file ?? ""}${it.line ? ` line ${it.line}` : ""}` });
     for (const id of ["plot_box", "cursor_row", "search", "search_hint", "scan_box", "compare_row"]) $(id).hidden = !run.count;
     if (!run.count) return;
-    $("drop_before").hidden = $("next_difference").hidden = !this.before;
+    $("drop_before").hidden = $("next_difference").hidden = $("of_before").hidden = !this.before;
     $("compared").textContent = this.before ? this.comparison() : "";
     $("names").replaceChildren(...run.names.map(name => element("option", { value: name })));
     this.values.build(run, this.before, [...this.chosen]);
@@ -91,21 +92,27 @@ export class See {
     plot.setAttribute("aria-valuetext", `${where}, ${net}`);
     this.values.show(this.at, this.other(this.at));
     this.host.show(ms);
-    this.lines.build(run.textOf(this.at));
     this.showLines();
+  }
+
+  // The run and the scan whose lines are shown: those at the cursor, or of the run before.
+  get traced() {
+    const other = this.before && $("lines_before").checked ? this.other(this.at) : null;
+    return other === null ? [this.run, this.at] : [this.before, other];
   }
 
   // The lines of the scan come from the program; while the cursor moves only the last one asked for is fetched.
   async showLines() {
-    const { run, at } = this, kept = run.traces.get(at);
+    const [run, at] = this.traced, kept = run.traces.get(at), isAsked = () => this.traced[0] === run && this.traced[1] === at;
+    this.lines.build(run.textOf(at));
     if (kept) { this.lines.show(kept, run.note); return; }
     if (this.isTracing) return;
     this.isTracing = true;
     try {
       const trace = await traceOf(this.caller, run, at);
-      if (this.run === run && this.at === at) this.lines.show(trace, trace ? "" : "no trace of this scan");
+      if (isAsked()) this.lines.show(trace, trace ? "" : "no trace of this scan");
     } catch { /* it was stopped */ } finally { this.isTracing = false; }
-    if (this.run !== run || this.at !== at) this.showLines();
+    if (!isAsked()) this.showLines();
   }
 
   async search(text, step) {

@@ -5,7 +5,7 @@ import struct
 import time
 import zlib
 
-COLOURS = 64
+COLOURS = 160
 # width, height, the colour scheme, the medium, and the tab that is open
 PICTURES = {
     "light": (1180, 900, "light", "screen", "program"), "dark": (1180, 900, "dark", "screen", "scenario"),

@@ -41,7 +41,7 @@ class Recorder:
 
     def keep(self, words, more, done):
         files = files_of(words, Path(more.get("cwd", ".")))
-        if files is None or not isinstance(more.get("stdin", -3), int):
+        if files is None or more.get("stdin", subprocess.DEVNULL) != subprocess.DEVNULL:
             self.left_out += 1
             return
         given = more.get("input") or b""
@@ -59,7 +59,7 @@ def files_of(words, folder):
         try:
             text = word.decode()
             path = folder / text.rpartition("=")[2]
-            if path.is_dir() and text or path.exists() and not path.is_file():
+            if path.exists() and text and (not path.is_file() or text.endswith("/")):
                 return None
             if text and path.is_file():
                 found[text.rpartition("=")[2]] = path.read_bytes()

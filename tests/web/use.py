@@ -428,6 +428,71 @@ def compare_faults(page, folder):
     page.one("drop_before").click()
 
 
+FILLING = """PROGRAM Fill
+VAR
+    filling : BOOL;
+END_VAR
+    LD %IX0.0           (* the start button *)
+    S filling
+    LD %ID1             (* net, in grams *)
+    LT 10000
+    R filling
+    LD filling
+    AND %IX1.5
+    ST %QX0.1           (* the fine valve *)
+END_PROGRAM
+"""
+FILLED = "samples every 20 ms\nscans every 50 ms\nat 0.2 s request Z\nfrom 0.5 to 0.8 s input 0 on\nfrom 0.6 to 4 s weight from 0 to 10.02 kg\nat 6.5 s request W\nuntil 7 s\n"
+
+
+def walk_faults(page, folder):
+    """From nothing to a filling program: a planted error is found by the search and the lines of the scan, and mended."""
+    page.choose("empty")
+    page.write("program", FILLING)
+    page.write("scenario", FILLED)
+    page.open("program")
+    page.go(0)
+    page.find("%IX0.0")
+    wrote = page.script("return [...document.querySelectorAll('#lines tbody tr.ran')].map(row => row.children[3].textContent)")
+    if "filling := TRUE" not in wrote or "filling := FALSE" not in wrote:
+        yield f"the lines of the scan write {wrote}"
+    page.one("keep_before").click()
+    page.write("program", FILLING.replace("LT 10000", "GE 10000"))
+    page.one("next_difference").click()
+    page.settle(0.3)
+    if page.text("compared") != "filling: TRUE, before FALSE":
+        yield f"after the error was mended: {page.text('compared')!r}"
+    page.one("lines_before").click()
+    page.settle(0.3)
+    if page.lines().get(8) != "TRUE" or "LT 10000" not in page.text("lines"):
+        yield f"the lines of the run before: {page.lines()}"
+    page.one("lines_before").click()
+    page.go(0)
+    if "scan" not in page.find("%QX0.1") or page.find("%QX0.1") == page.find("%QX0.1", back=True):
+        yield "the valve does not open and close"
+    page.one("drop_before").click()
+
+
+DROP = """
+const [texts] = arguments, data = new DataTransfer();
+for (const [name, text] of Object.entries(texts)) data.items.add(new File([text], name));
+document.body.dispatchEvent(new DragEvent("dragover", { dataTransfer: data, bubbles: true, cancelable: true }));
+document.body.dispatchEvent(new DragEvent("drop", { dataTransfer: data, bubbles: true, cancelable: true }));
+"""
+
+
+def drop_faults(page, folder):
+    """Files that are dropped, whatever their order and names."""
+    first = TOP / "examples" / "first"
+    texts = {"z.csv": (first / "log.csv").read_text(), "b.toml": (first / "plate.toml").read_text(), "a.txt": (first / "program.il").read_text()}
+    page.script(DROP, texts)
+    page.settle()
+    if [page.written(tab) for tab in ("log", "plate", "program")] != list(texts.values()):
+        yield f"the dropped files are not in their tabs: {page.text('said')}"
+    if page.script("return document.body.classList.contains('dropping')"):
+        yield "the page still waits for files"
+
+
 def long_faults(page, folder):
     """20,000 scans: going to one is fast, and the last values are those of the program."""
     rows = "".join(f"{ms},C,{10000 + ms * 20}\n{ms},S,\n" for ms in range(20000))
@@ -591,7 +656,7 @@ def lacking_faults(page, folder):
 
 
 TRIALS = (
-    start_faults, check_faults, bound_faults, search_faults, scenario_faults, plate_faults, files_faults, trace_faults, compare_faults, keys_faults, names_faults, narrow_faults, kept_faults,
+    start_faults, check_faults, bound_faults, search_faults, scenario_faults, plate_faults, files_faults, trace_faults, compare_faults, walk_faults, drop_faults, keys_faults, names_faults, narrow_faults, kept_faults,
     paper_faults, long_faults, hostile_faults, network_faults, lacking_faults,
 )
 
