@@ -40,11 +40,6 @@ raised_lines raised =
     page_line (codes "pass") raised.pass ++ page_line (codes "place") raised.place
     ++ page_line (codes "example (` / ` is a line end)") raised.input
 
--- a usual mistake and its mended text; nothing if there is none
-abbrev pub mended_lines : List ℕ → List ℕ → List ℕ
-mended_lines [] mended = []
-mended_lines (x ∷ usual) mended = page_line (codes "usual mistake") (x ∷ usual) ++ page_line (codes "mended") mended
-
 -- the page of that refusal: each line has its words of one entry, which has that number
 pub record ReportsPage (number : ℕ) (bytes : List ℕ) : Type 0 where
   pub entry : Entry
@@ -53,5 +48,4 @@ pub record ReportsPage (number : ℕ) (bytes : List ℕ) : Type 0 where
   pub all :
       bytes ≡ number_line entry.number entry.sentence.now ++ raised_lines (raised_at entry)
       ++ plate_line entry.number plate ++ answer_line entry.number entry.answer
-      ++ mended_lines entry.usual.now entry.mended.now
-      ++ page_line (codes "help") entry.hint.now ++ page_line (codes "more") entry.section.now
+      ++ page_line (codes "help") entry.hint.now

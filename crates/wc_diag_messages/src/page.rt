@@ -1,5 +1,5 @@
-ghost use Rattle.std.specs.Prelude.{◌≡◌, ◌++◌, IfOk, IfSome, OnOk, codes, is_some};
-ghost use Rattle.wc_diag_messages.specs.Paged.{ReportsPage, answer_line, mended_lines, raised_at, raised_lines, number_line, page_line, plate_line};
+ghost use Rattle.std.specs.Prelude.{◌≡◌, ◌++◌, IfOk, IfSome, OnOk, is_some};
+ghost use Rattle.wc_diag_messages.specs.Paged.{ReportsPage, answer_line, raised_at, raised_lines, number_line, page_line, plate_line};
 ghost use Rattle.wc_diag_texts.specs.Numbers.{is_refusal};
 
 use crate::message::Message;
@@ -64,28 +64,6 @@ fn write_answer(message: &mut Message, number: u16, place: u32) -> Result<(), Al
     message.end_line()
 }
 
-/// Writes a usual mistake and its mended text, if there is one.
-fn write_mended(message: &mut Message, usual: &str, mended: &str) -> Result<(), AllocError>
-    ensures { OnOk result (message.new.bytes.items
-        ≡ message.old.bytes.items ++ mended_lines usual.now mended.now) }
-{
-    if usual.is_empty() {
-        return Ok(());
-    }
-    write_line(message, "usual mistake", usual)?;
-    write_line(message, "mended", mended)
-}
-
-/// Writes what to write instead, and where the rule is.
-fn write_help(message: &mut Message, entry: &Entry) -> Result<(), AllocError>
-    ensures { OnOk result (message.new.bytes.items ≡ message.old.bytes.items
-        ++ page_line (codes "help") entry.now.hint.now
-        ++ page_line (codes "more") entry.now.section.now) }
-{
-    write_line(message, "help", entry.hint)?;
-    write_line(message, "more", entry.section)
-}
-
 /// The page of a refusal, as it is printed.
 fn page_message(alloc: Global, entry: &Entry) -> Result<Message, AllocError>
     ensures { IfOk result (λ message. ReportsPage entry.now.number message.bytes.items) }
@@ -96,13 +74,12 @@ fn page_message(alloc: Global, entry: &Entry) -> Result<Message, AllocError>
     write_raised(&mut message, entry)?;
     write_plate(&mut message, entry.number, plate)?;
     write_answer(&mut message, entry.number, entry.answer)?;
-    write_mended(&mut message, entry.usual, entry.mended)?;
-    write_help(&mut message, entry)?;
+    write_line(&mut message, "help", entry.hint)?;
     Ok(message)
 }
 
 /// The page of a refusal, if there is one of that number: what it means, where it is raised, a smallest input with its
-/// answer, a usual mistake with its mended text, what to write instead, and where the rule is. The error is out of memory.
+/// answer, and what to write instead. The error is out of memory.
 pub fn page(alloc: Global, number: u16) -> Result<Option<Message>, AllocError>
     ensures known { IfOk result (λ page. is_some page ≡ is_refusal number) }
     ensures reported { IfOk result

@@ -14,19 +14,13 @@ pub struct Entry {
     pub input: &'static str,
     /// The place in the answer to that input.
     pub answer: u32,
-    /// A usual mistake that is refused with the number, and its mended text, in which ` / ` ends a line too: a program, the line of a plate,
-    /// or rows of a log. Both are empty if it takes too much text to show one.
-    pub usual: &'static str,
-    pub mended: &'static str,
     /// What to write instead.
     pub hint: &'static str,
-    /// The section of the pages that has the rule.
-    pub section: &'static str,
 }
 
 /// The entry of a number among these, if there is one: a number without a row has no entry.
 macro_rules! entry_among {
-    ($among:expr, $section:literal; $($number:literal $pass:literal: $sentence:literal at $place:literal, $input:literal => $answer:literal, not $usual:literal but $mended:literal, help $hint:literal;)*) => {
+    ($among:expr; $($number:literal $pass:literal: $sentence:literal at $place:literal, $input:literal => $answer:literal, help $hint:literal;)*) => {
         Some(match $among {
             $($number => &Entry {
                 number: $number,
@@ -35,10 +29,7 @@ macro_rules! entry_among {
                 place: $place,
                 input: $input,
                 answer: $answer,
-                usual: $usual,
-                mended: $mended,
                 hint: $hint,
-                section: $section,
             },)*
             _ => return None,
         })
@@ -68,34 +59,27 @@ fn token_entry(number: u16) -> Option<&'static Entry>
     ensures number { IfSome result (λ entry. entry.now.number ≡ number) }
 {
     entry_among! {
-        number, "docs/LANGUAGE.md, 2.4";
+        number;
         101 "tokens": "a byte is not allowed here"
             at "the line of the byte", "!" => 1,
-            not "PROGRAM P / LD %IX0.0 // start / ST %QX0.0 / END_PROGRAM" but "PROGRAM P / LD %IX0.0 (* start *) / ST %QX0.0 / END_PROGRAM",
             help "outside comments only letters, digits, spaces and the punctuation of the language are allowed; a comment is (* .. *)";
         102 "tokens": "a comment is still open at the end of the text"
             at "the line of its (*", "(*" => 1,
-            not "PROGRAM P / LD %IX0.0 (* start / ST %QX0.0 / END_PROGRAM" but "PROGRAM P / LD %IX0.0 (* start *) / ST %QX0.0 / END_PROGRAM",
             help "close the comment with *)";
         103 "tokens": "comments cannot be nested"
             at "the line of the outer (*", "(*(*" => 1,
-            not "PROGRAM P / (* LD %IX0.0 (* start *) / ST %QX0.0 *) / END_PROGRAM" but "PROGRAM P / (* LD %IX0.0, start / ST %QX0.0 *) / END_PROGRAM",
             help "close the comment with *) before the next one opens, or delete the inner (* and *)";
         104 "tokens": "an identifier has two underscores in a row, one at its end, or more than 32 characters"
             at "the line of the token", "_" => 1,
-            not "PROGRAM P / VAR motor__on : BOOL; END_VAR / LD %IX0.0 / ST motor__on / END_PROGRAM" but "PROGRAM P / VAR motor_on : BOOL; END_VAR / LD %IX0.0 / ST motor_on / END_PROGRAM",
             help "an identifier has at most 32 letters, digits and single underscores, and no underscore at its end";
         105 "tokens": "a number is malformed or out of range"
             at "the line of the token", "+" => 1,
-            not "PROGRAM P / LD %ID0 / GE 2.5 / ST %QX0.0 / END_PROGRAM" but "PROGRAM P / LD %ID0 / GE 2500 / ST %QX0.0 / END_PROGRAM",
             help "write an integer from -2147483648 to 2147483647, such as 12, -7 or 16#FF, or BOOL#0 or BOOL#1";
         106 "tokens": "a duration is malformed or out of range"
             at "the line of the token", "T#" => 1,
-            not "PROGRAM P / VAR t : TON; END_VAR / CAL t(IN := %IX0.0, PT := T#5) / LD t.Q / ST %QX0.0 / END_PROGRAM" but "PROGRAM P / VAR t : TON; END_VAR / CAL t(IN := %IX0.0, PT := T#5s) / LD t.Q / ST %QX0.0 / END_PROGRAM",
             help "write days to milliseconds in order, such as T#1d2h3m4s5ms, or one with a point, such as T#1.5s";
         107 "tokens": "the text has more than 65536 bytes"
             at "0", "(65537 spaces)" => 0,
-            not "" but "",
             help "shorten the text: it may have 65536 bytes";
     }
 }
@@ -106,38 +90,30 @@ fn reading_entry(number: u16) -> Option<&'static Entry>
     ensures number { IfSome result (λ entry. entry.now.number ≡ number) }
 {
     entry_among! {
-        number, "docs/LANGUAGE.md, 3.3";
+        number;
         201 "reader": "a token is unexpected"
             at "the line of the first token with which the text can't go on", "x" => 1,
-            not "PROGRAM P / LD %IX0.0; / ST %QX0.0; / END_PROGRAM" but "PROGRAM P / LD %IX0.0 / ST %QX0.0 / END_PROGRAM",
             help "an instruction is `label: OPERATOR operand`; `name : TYPE;` is declared between VAR and END_VAR";
         202 "reader": "the file ends inside this unit"
             at "the line of the unit's keyword", "PROGRAM" => 1,
-            not "PROGRAM P / LD %IX0.0 / ST %QX0.0" but "PROGRAM P / LD %IX0.0 / ST %QX0.0 / END_PROGRAM",
             help "close the unit with END_PROGRAM or END_FUNCTION_BLOCK";
         203 "reader": "there must be exactly one PROGRAM, as the last unit"
             at "the line of the unit after PROGRAM, or the text's last line", "(the empty text)" => 1,
-            not "PROGRAM P / END_PROGRAM / FUNCTION_BLOCK B / END_FUNCTION_BLOCK" but "FUNCTION_BLOCK B / END_FUNCTION_BLOCK / PROGRAM P / END_PROGRAM",
             help "write the function blocks first, and then one PROGRAM";
         204 "reader": "a parenthesis is empty"
             at "the line of the )", "PROGRAM P&( / )" => 2,
-            not "PROGRAM P / LD %IX0.0 / AND( / ) / ST %QX0.0 / END_PROGRAM" but "PROGRAM P / LD %IX0.0 / AND( / LD %IX0.1 / ) / ST %QX0.0 / END_PROGRAM",
             help "write at least one line between ( and )";
         205 "reader": "a jump, a call, a return or a label is not allowed inside a parenthesis"
             at "its line", "PROGRAM P&( / x:" => 2,
-            not "PROGRAM P / LD %IX0.0 / OR( / LD %IX0.1 / JMPC out / ) / ST %QX0.0 / out: / END_PROGRAM" but "PROGRAM P / LD %IX0.0 / OR( / LD %IX0.1 / ) / JMPC out / ST %QX0.0 / out: / END_PROGRAM",
             help "close the parenthesis before it, with a `)` on a line of its own";
         206 "reader": "a parenthesis is not closed, or none is open"
             at "the line of the ); the line of the innermost opening", "PROGRAM P)" => 1,
-            not "PROGRAM P / LD %IX0.0 / OR( / LD %IX0.1 / ST %QX0.0 / END_PROGRAM" but "PROGRAM P / LD %IX0.0 / OR( / LD %IX0.1 / ) / ST %QX0.0 / END_PROGRAM",
             help "write one ) on a line of its own for each ( that is open";
         207 "reader": "more than 8 parentheses are nested"
             at "the line of the ninth opening", "PROGRAM P&( / &( / &( / &( / &( / &( / &( / &( / &(" => 9,
-            not "" but "",
             help "store the inner result in a variable, and use that";
         208 "reader": "there are more than 64 units, or more than 1024 lines in a unit"
             at "the line of the unit's keyword, or of the line that is too many", "(64 times FUNCTION_BLOCK a END_FUNCTION_BLOCK, a line each, then PROGRAM)" => 65,
-            not "" but "",
             help "split the body: a unit may have 1024 lines, a text 64 units";
     }
 }
@@ -148,38 +124,30 @@ fn declaration_entry(number: u16) -> Option<&'static Entry>
     ensures number { IfSome result (λ entry. entry.now.number ≡ number) }
 {
     entry_among! {
-        number, "docs/LANGUAGE.md, 7.6";
+        number;
         301 "tables": "a name is declared twice"
             at "the second name", "PROGRAM P / VAR a, a : BOOL; END_VAR / END_PROGRAM" => 2,
-            not "PROGRAM P / VAR full : BOOL; Full : DINT; END_VAR / END_PROGRAM" but "PROGRAM P / VAR full : BOOL; level : DINT; END_VAR / END_PROGRAM",
             help "choose another name; letter case makes no difference";
         302 "tables": "the type is unknown or is not allowed here"
             at "the type", "PROGRAM P / VAR a : b; END_VAR / END_PROGRAM" => 2,
-            not "PROGRAM P / VAR load : REAL; END_VAR / LD %ID0 / ST load / END_PROGRAM" but "PROGRAM P / VAR load : DINT; END_VAR / LD %ID0 / ST load / END_PROGRAM",
             help "types are BOOL, DINT, TIME, and in VAR R_TRIG, SR, RS, CTU, TON, TOF, TP and the blocks above";
         303 "tables": "the initial value does not fit the type"
             at "the literal", "PROGRAM P / VAR a : BOOL := 2; END_VAR / END_PROGRAM" => 2,
-            not "PROGRAM P / VAR pause : TIME := 500; END_VAR / END_PROGRAM" but "PROGRAM P / VAR pause : TIME := T#500ms; END_VAR / END_PROGRAM",
             help "a BOOL takes TRUE, FALSE, 0 or 1, a DINT an integer, a TIME a duration, such as T#500ms";
         304 "tables": "there is no such address"
             at "the address", "PROGRAM P / LD % / END_PROGRAM" => 2,
-            not "PROGRAM P / LD %IX0.16 / ST %QX0.0 / END_PROGRAM" but "PROGRAM P / LD %IX0.15 / ST %QX0.0 / END_PROGRAM",
             help "the inputs are %IX0.0 to %IX0.15, %IX1.0 to %IX1.5 and %ID0 to %ID2, the outputs %QX0.0 to %QX0.15 and %QD0 to %QD3";
         305 "tables": "an address is not allowed in a function block"
             at "the address", "FUNCTION_BLOCK B / LD %IX0.0 / END_FUNCTION_BLOCK / PROGRAM P / END_PROGRAM" => 2,
-            not "FUNCTION_BLOCK B / VAR_OUTPUT on : BOOL; END_VAR / LD %IX0.0 / ST on / END_FUNCTION_BLOCK / PROGRAM P / VAR b : B; END_VAR / CAL b / END_PROGRAM" but "FUNCTION_BLOCK B / VAR_INPUT start : BOOL; END_VAR / VAR_OUTPUT on : BOOL; END_VAR / LD start / ST on / END_FUNCTION_BLOCK / PROGRAM P / VAR b : B; END_VAR / CAL b(start := %IX0.0) / END_PROGRAM",
             help "declare a VAR_INPUT or VAR_OUTPUT in the block, and pass the address in its CAL";
         306 "tables": "a unit has more than 256 variables, or a frame more than 4096 places"
             at "the name that is too many", "(PROGRAM P, on line 2 a VAR section with 257 names of type BOOL, END_PROGRAM)" => 2,
-            not "" but "",
             help "use fewer variables or instances: a unit may have 256 variables, a frame 4096 places";
         307 "tables": "the name is a reserved word"
             at "the name", "PROGRAM R / END_PROGRAM" => 1,
-            not "PROGRAM P / VAR time : TIME; END_VAR / END_PROGRAM" but "PROGRAM P / VAR pause : TIME; END_VAR / END_PROGRAM",
             help "choose another name: operators, keywords and types are reserved; letter case makes no difference";
         308 "tables": "the function block is declared below, or is this one itself"
             at "the type", "FUNCTION_BLOCK B / VAR a : B; END_VAR / END_FUNCTION_BLOCK / PROGRAM P / END_PROGRAM" => 2,
-            not "FUNCTION_BLOCK A / VAR b : B; END_VAR / CAL b / END_FUNCTION_BLOCK / FUNCTION_BLOCK B / END_FUNCTION_BLOCK / PROGRAM P / END_PROGRAM" but "FUNCTION_BLOCK B / END_FUNCTION_BLOCK / FUNCTION_BLOCK A / VAR b : B; END_VAR / CAL b / END_FUNCTION_BLOCK / PROGRAM P / END_PROGRAM",
             help "move the block above the unit that uses it; a block cannot contain itself";
     }
 }
@@ -190,50 +158,39 @@ fn body_entry(number: u16) -> Option<&'static Entry>
     ensures number { IfSome result (λ entry. entry.now.number ≡ number) }
 {
     entry_among! {
-        number, "docs/LANGUAGE.md, 5 and 7.7";
+        number;
         401 "verify": "the name is not declared"
             at "the line of the instruction", "PROGRAM P / LD x / END_PROGRAM" => 2,
-            not "PROGRAM P / VAR motor : BOOL; END_VAR / LD %IX0.0 / ST moter / END_PROGRAM" but "PROGRAM P / VAR motor : BOOL; END_VAR / LD %IX0.0 / ST motor / END_PROGRAM",
             help "declare the name in VAR, VAR_INPUT or VAR_OUTPUT of this unit";
         402 "verify": "the types do not match"
             at "the line of the instruction, or of the )", "PROGRAM P / LDN 1 / END_PROGRAM" => 2,
-            not "PROGRAM P / LD %ID0 / ST %QX0.0 / END_PROGRAM" but "PROGRAM P / LD %ID0 / GE 5000 / ST %QX0.0 / END_PROGRAM",
             help "a comparison gives a BOOL, such as GE 500; ST takes a variable of the type of the current result";
         403 "verify": "there is no current result, or its type differs by the path"
             at "the line of the instruction", "PROGRAM P / NOT / END_PROGRAM" => 2,
-            not "PROGRAM P / JMPC out / LD %IX0.1 / ST %QX0.0 / out: / END_PROGRAM" but "PROGRAM P / LD %IX0.0 / JMPC out / LD %IX0.1 / ST %QX0.0 / out: / END_PROGRAM",
             help "load a value with LD first: every path that leads here has to bring one, and all of them one type";
         404 "verify": "this may not be written"
             at "the line of the instruction", "PROGRAM P / ST 1 / END_PROGRAM" => 2,
-            not "PROGRAM P / LD TRUE / ST %IX0.0 / END_PROGRAM" but "PROGRAM P / LD TRUE / ST %QX0.0 / END_PROGRAM",
             help "only variables, outputs, and inputs of instances can be written";
         405 "verify": "this may not be read"
             at "the line of the instruction", "PROGRAM P / VAR t : TON; END_VAR / LD t.IN / END_PROGRAM" => 3,
-            not "PROGRAM P / VAR t : TON; END_VAR / CAL t(IN := %IX0.0, PT := T#1s) / LD t.IN / ST %QX0.0 / END_PROGRAM" but "PROGRAM P / VAR t : TON; END_VAR / CAL t(IN := %IX0.0, PT := T#1s) / LD t.Q / ST %QX0.0 / END_PROGRAM",
             help "only the outputs of an instance can be read";
         406 "verify": "no line below has the label"
             at "the line of the jump", "PROGRAM P / JMP L / END_PROGRAM" => 2,
-            not "PROGRAM P / again: LD %IX0.0 / ST %QX0.0 / JMP again / END_PROGRAM" but "PROGRAM P / LD %IX0.0 / ST %QX0.0 / END_PROGRAM",
             help "jumps only go forward: put the label on a line below the jump";
         407 "verify": "the label is used twice in this body"
             at "the line of the second label", "PROGRAM P / L: / L: / END_PROGRAM" => 3,
-            not "PROGRAM P / LD %IX0.0 / JMPC out / LD 1 / ST %QD0 / out: / LD %IX0.1 / JMPC out / LD 2 / ST %QD1 / out: / END_PROGRAM" but "PROGRAM P / LD %IX0.0 / JMPC other / LD 1 / ST %QD0 / other: / LD %IX0.1 / JMPC out / LD 2 / ST %QD1 / out: / END_PROGRAM",
             help "choose another label; letter case makes no difference";
         408 "verify": "the divisor is not a whole-number literal, or it is 0"
             at "the line of the instruction", "PROGRAM P / LD 1 / DIV 0 / END_PROGRAM" => 3,
-            not "PROGRAM P / VAR n : DINT := 2; END_VAR / LD %ID0 / DIV n / ST %QD0 / END_PROGRAM" but "PROGRAM P / LD %ID0 / DIV 2 / ST %QD0 / END_PROGRAM",
             help "DIV and MOD take a literal other than 0, such as DIV 10; to compare a quotient, MUL the other side instead";
         409 "verify": "the block has no input or output of that name"
             at "the line of the call", "PROGRAM P / VAR t : TON; END_VAR / CAL t(x := 1) / END_PROGRAM" => 3,
-            not "PROGRAM P / VAR t : TON; END_VAR / CAL t(START := %IX0.0, PT := T#1s) / END_PROGRAM" but "PROGRAM P / VAR t : TON; END_VAR / CAL t(IN := %IX0.0, PT := T#1s) / END_PROGRAM",
             help "`:=` takes the names that a block has in VAR_INPUT, `=>` those that it has in VAR_OUTPUT";
         410 "verify": "an input or output is passed twice"
             at "the line of the call", "PROGRAM P / VAR t : TON; END_VAR / CAL t(IN := 1, IN := 1) / END_PROGRAM" => 3,
-            not "PROGRAM P / VAR t : TON; END_VAR / CAL t(IN := %IX0.0, IN := T#1s) / END_PROGRAM" but "PROGRAM P / VAR t : TON; END_VAR / CAL t(IN := %IX0.0, PT := T#1s) / END_PROGRAM",
             help "name each input and output once";
         411 "cost": "the unit may take more than 1000000 steps"
             at "the line of the unit's keyword", "(the text below the table) of docs/REFUSALS.md: nineteen blocks, of which each calls the one before twice, and a program that calls the last one twice" => 94,
-            not "" but "",
             help "call fewer blocks: the longest path through a unit may have 1000000 steps";
     }
 }
@@ -244,38 +201,30 @@ fn plate_entry(number: u16) -> Option<&'static Entry>
     ensures number { IfSome result (λ entry. entry.now.number ≡ number) }
 {
     entry_among! {
-        number, "docs/INSTRUMENT.md, 1";
+        number;
         501 "plate": "the plate is not TOML"
             at "0", "plate x" => 0,
-            not "unit = kg" but "unit = \"kg\"",
             help "the plate has lines `key = value`";
         502 "plate": "a key is missing, is unknown, or has a value of the wrong type"
             at "0", "(the empty plate)" => 0,
-            not "Window = 4" but "window = 4",
             help "the keys are unit, decimals, max, e, zero_counts, span_counts and window, each once; unit is a text, the others are whole numbers, max and e in units of the last decimal, such as e = 5 for 0.005 kg";
         503 "plate": "unit must be g, kg or t"
             at "0", "plate A with unit = \"lb\"" => 0,
-            not "unit = \"lb\"" but "unit = \"kg\"",
             help "write unit = \"g\", \"kg\" or \"t\"";
         504 "plate": "decimals must be 0 to 3"
             at "0", "plate A with decimals = 4" => 0,
-            not "decimals = 4" but "decimals = 3",
             help "write decimals = 0, 1, 2 or 3";
         505 "plate": "e is not an allowed scale interval"
             at "0", "plate A with e = 3" => 0,
-            not "e = 3" but "e = 5",
             help "e is 1, 2 or 5, with 0 or 3 decimals also 10, 20 or 50, and at least 5 g";
         506 "plate": "max must be 500 to 10000 times e"
             at "0", "plate A with max = 15001" => 0,
-            not "max = 15001" but "max = 15000",
             help "max is a multiple of e, from 500 to 10000 times e";
         507 "plate": "zero_counts or span_counts is out of range"
             at "0", "plate A with span_counts = 11999" => 0,
-            not "span_counts = 9000000" but "span_counts = 600000",
             help "zero_counts is -8388608 to 8388607, span_counts four times max / e to 8000000";
         508 "plate": "window must be 2 to 16"
             at "0", "plate A with window = 1" => 0,
-            not "window = 1" but "window = 4",
             help "window is 2 to 16";
     }
 }
@@ -286,42 +235,33 @@ fn log_entry(number: u16) -> Option<&'static Entry>
     ensures number { IfSome result (λ entry. entry.now.number ≡ number) }
 {
     entry_among! {
-        number, "docs/LOG.md, 1";
+        number;
         601 "log": "the row does not have three fields, or the first row is not ms,kind,data"
             at "the row", "(the empty log)" => 1,
-            not "0;S;" but "0,S,",
             help "the first row is ms,kind,data; every other row has two commas as well, even without data, such as 50,S,";
         602 "log": "the time is not a number of milliseconds below 2^40"
             at "the row", "row ,S," => 2,
-            not "0.5,S," but "500,S,",
             help "a row is ms,kind,data; ms is a whole number of milliseconds, 0 to 1099511627775";
         603 "log": "the time is before that of the row above"
             at "the row", "rows 1,S, / 0,S," => 3,
-            not "20,S, / 10,S," but "10,S, / 20,S,",
             help "sort the rows by their times";
         604 "log": "the kind is not C, L, I, S or P"
             at "the row", "row 0,," => 2,
-            not "0,s," but "0,S,",
             help "a row is ms,kind,data; the kinds are C, L, I, S and P";
         605 "log": "the counts are not a whole number from -8388608 to 8388607"
             at "the row", "row 0,C," => 2,
-            not "0,C,10000.5" but "0,C,10001",
             help "the counts are -8388608 to 8388607";
         606 "log": "the data is not hexadecimal, or of the wrong length"
             at "the row", "row 0,I," => 2,
-            not "0,L,0a570" but "0,L,0a570d",
             help "an L row has pairs of hexadecimal digits, for at most 4096 bytes, an I row four digits";
         607 "log": "there are more than 1000000 rows"
             at "the row", "(the heading row and 1000000 rows 0,S,)" => 1000001,
-            not "" but "",
             help "split the log: it may have 1000000 rows";
         608 "log": "the row of a scan or of a change has data"
             at "the row", "row 0,S,x" => 2,
-            not "0,S,1" but "0,S,",
             help "leave the third field of a scan and of a change empty, such as 10,S,";
         609 "log": "there is no next program to change to"
             at "the row", "row 0,P," => 2,
-            not "" but "",
             help "name the next program by --next of run, trace or show, or in a job by @next before @log; one run changes its program once";
     }
 }
@@ -332,14 +272,12 @@ fn job_entry(number: u16) -> Option<&'static Entry>
     ensures number { IfSome result (λ entry. entry.now.number ≡ number) }
 {
     entry_among! {
-        number, "docs/LOG.md, 3";
+        number;
         701 "job": "a job has the lines @plate, @program and @log in this order, and begins with @plate"
             at "0", "(the empty job)" => 0,
-            not "" but "",
             help "a job is a line @plate and the plate, a line @program and the program, a line @log and the log; each of the three is on a line of its own, in lower case";
         702 "job, files": "there are more than 1048576 bytes"
             at "0", "(1048577 spaces)" => 0,
-            not "" but "",
             help "a plate and a job may have 1048576 bytes, a program 65536";
     }
 }
