@@ -9,7 +9,7 @@
  *   WRITE_CHUNK=N          a write to standard output takes at most N bytes
  *   INTERRUPTED=N          each Nth call that opens, reads or writes is interrupted first
  *   COUNTS=FILE            at the end the number of allocations is written to this file, and 1 if the allocation after the refused
- *                          one was a retry: of fewer bytes, and of the block that the refused one would have grown, else 0
+ *                          one was a retry: of no more bytes, and of the block that the refused one would have grown, else 0
  */
 #define _GNU_SOURCE
 #include <dlfcn.h>
@@ -69,7 +69,7 @@ static int is_refused(const void *block, size_t size)
 {
     allocations += 1;
     if (refused > 0 && allocations == refused + 1)
-        was_retried = block == refused_block && size < refused_size;
+        was_retried = block == refused_block && size <= refused_size;
     if (allocations != refused)
         return 0;
     refused_size = size;
