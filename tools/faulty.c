@@ -2,6 +2,7 @@
  * fail as these environment variables say.
  *
  *   REFUSED_ALLOCATION=N   the Nth allocation fails, counted from 1
+ *   REFUSED_RETRY=1        so does the one after it, if it is a retry
  *   READ_LIMIT=N           files that are opened give N bytes in all, and then each read fails
  *   READ_ERROR=N           with this error in place of EIO
  *   READ_CHUNK=N           a read gives at most N bytes
@@ -21,7 +22,7 @@
 #include <sys/types.h>
 #include <unistd.h>
 
-static long allocations, transfers, refused, was_retried, read_left = -1, read_chunk, write_left = -1, write_chunk, interrupted;
+static long allocations, transfers, refused, refused_retry, was_retried, read_left = -1, read_chunk, write_left = -1, write_chunk, interrupted;
 static size_t refused_size;
 static const void *refused_block;
 static int read_error = EIO;
@@ -42,6 +43,7 @@ __attribute__((constructor)) static void begin(void)
     *(void **)&real_read = dlsym(RTLD_NEXT, "read");
     *(void **)&real_write = dlsym(RTLD_NEXT, "write");
     refused = number("REFUSED_ALLOCATION", 0);
+    refused_retry = number("REFUSED_RETRY", 0);
     read_left = number("READ_LIMIT", -1);
     read_error = (int)number("READ_ERROR", EIO);
     read_chunk = number("READ_CHUNK", 0);
@@ -55,6 +57,7 @@ __attribute__((destructor)) static void end(void)
 {
     const char *path = getenv("COUNTS");
     long count = allocations, retried = was_retried;
+    refused = 0;
     if (path) {
         FILE *file = fopen(path, "w");
         if (file) {
@@ -70,6 +73,10 @@ static int is_refused(const void *block, size_t size)
     allocations += 1;
     if (refused > 0 && allocations == refused + 1)
         was_retried = block == refused_block && size <= refused_size;
+    if (allocations == refused + 1 && was_retried && refused_retry) {
+        errno = ENOMEM;
+        return 1;
+    }
     if (allocations != refused)
         return 0;
     refused_size = size;
