@@ -1,4 +1,4 @@
-// Calls the program of the page in Node: reads calls from standard input, an object on a line, and writes what each printed, likewise.
+// Calls the program of the page in Node: reads calls from standard input, an object on a line, and writes what each printed, an object on a line too.
 //   node --experimental-wasm-memory64 tests/web/calls.mjs MODULE
 import { readFileSync } from "node:fs";
 import { createInterface } from "node:readline";
