@@ -1,7 +1,7 @@
 // The curves of a run over time: the weights, and below them a lane for each request, input, output and chosen variable. The cursor is on
 // a scan; the canvas itself is the control that moves it.
 import { timeText } from "./elements.js";
-import { roundStep, roundTime } from "./steps.js";
+import { roundStep, roundTime, merged } from "./steps.js";
 
 const LEFT = 104, RIGHT = 84, TOP = 8, WEIGHTS_HIGH = 190, AXIS_HIGH = 24, BIT_HIGH = 17, NUMBER_HIGH = 36;
 export class Curves {
@@ -100,6 +100,7 @@ export class Curves {
       this.drawLane(lane, top, this.laneHeight(lane));
       top += this.laneHeight(lane);
     }
+    this.drawChange(high);
     this.drawCursor(high);
   }
 
@@ -112,6 +113,14 @@ export class Curves {
     pen.lineTo(toX, toY);
     pen.stroke();
     pen.setLineDash([]);
+  }
+
+  // a text over curves, which stays apart from them
+  mark(text, x, y, ink, align = "left") {
+    const { pen } = this;
+    Object.assign(pen, { strokeStyle: this.ink("paper"), lineWidth: 4, lineJoin: "round", textAlign: align });
+    pen.strokeText(text, x, y);
+    this.label(text, x, y, ink, align);
   }
 
   label(text, x, y, ink = "faint", align = "left", width = undefined) {
@@ -127,11 +136,13 @@ export class Curves {
       this.line(this.x(ms), TOP, this.x(ms), high - AXIS_HIGH, "line");
       this.label(timeText(ms), this.x(ms), high - AXIS_HIGH / 2, "faint", "center");
     }
-    const { run } = this;
-    if (run.changedAt < run.count) {
-      const x = this.x(run.ms(run.changedAt));
-      if (x >= LEFT && x <= LEFT + this.span) { this.line(x, TOP, x, high - AXIS_HIGH, "net", [6, 3]); this.label("next program", x + 3, TOP + 6, "net"); }
-    }
+  }
+
+  drawChange(high) {
+    const { run } = this, x = run.changedAt < run.count ? this.x(run.ms(run.changedAt)) : -1;
+    if (x < LEFT || x > LEFT + this.span) return;
+    this.line(x, TOP, x, high - AXIS_HIGH, "net", [6, 3]);
+    this.mark("next program", x + 3, TOP + 8, "net");
   }
 
   // the weights: of the samples, or of the scans if samples are not shown
@@ -140,7 +151,7 @@ export class Curves {
   }
 
   drawWeights() {
-    const { run, before } = this, series = this.series(run), scale = this.weightScale([series, ...(before ? [this.series(before)] : [])]);
+    const { run } = this, before = this.isComparable ? this.before : null, series = this.series(run), scale = this.weightScale([series, ...(before ? [this.series(before)] : [])]);
     this.pen.save();
     this.pen.lineWidth = 1;
     for (let weight = Math.ceil(scale.least / scale.step) * scale.step; weight <= scale.most; weight += scale.step) {
@@ -192,7 +203,7 @@ export class Curves {
       this.pen.fillStyle = this.ink("band");
       this.pen.fillRect(x, TOP, wide, WEIGHTS_HIGH);
       const why = series["%IX1.1"][first] ? "over" : series["%IX1.2"][first] ? "under" : "no sample";
-      if (wide > 50) this.label(why, x + wide / 2, TOP + WEIGHTS_HIGH / 2, "faint", "center");
+      if (wide > 50) this.mark(why, x + wide / 2, TOP + WEIGHTS_HIGH / 2, "faint", "center");
     }
   }
 
@@ -222,25 +233,24 @@ export class Curves {
     const { run, before } = this, middle = top + high / 2;
     this.pen.lineWidth = 1;
     this.line(4, top + 0.5, LEFT + this.span, top + 0.5, "line");
-    this.label(lane.name, LEFT - 6, middle, "ink", "right", LEFT - 10);
+    let range = "";
     this.pen.save();
     this.clip(top, high);
     if (lane.isHost) this.drawHost(top, high);
     else if (lane.isBit) {
       this.bars(run, lane.name, top + 3, before ? high / 1.6 - 5 : high - 6, "on", false);
       if (before) this.bars(before, lane.name, top + high / 1.6, high - high / 1.6 - 2, "old", true);
-    } else this.steps(lane, top, high);
+    } else range = this.steps(lane, top, high);
     this.pen.restore();
+    this.label(lane.name, LEFT - 6, range ? middle - 7 : middle, "ink", "right", LEFT - 10);
+    if (range) this.label(range, LEFT - 6, middle + 8, "faint", "right", LEFT - 10);
     if (!lane.isHost && run.count) this.label(run.text(lane.name, run.value(lane.name, this.at)), LEFT + this.span + 6, middle, "ink", "left", RIGHT - 8);
   }
 
   drawHost(top, high) {
-    for (const { ms, sent } of this.run.host) {
-      const x = this.x(ms);
-      if (x < LEFT - 20 || x > LEFT + this.span + 20) continue;
-      this.line(x, top + 2, x, top + high, "accent");
-      this.label(sent.slice(0, 8), x + 3, top + high / 2, "accent");
-    }
+    const seen = this.run.host.map(({ ms, sent }) => [this.x(ms) + 3, sent.slice(0, 8)]).filter(([x]) => x > LEFT - 20 && x < LEFT + this.span + 20);
+    for (const [x] of seen) this.line(x - 3, top + 2, x - 3, top + high, "accent");
+    for (const { x, text } of merged(seen, this.pen)) this.label(text, x, top + high / 2, "accent");
   }
 
   bars(run, name, top, high, ink, isHollow) {
@@ -264,12 +274,11 @@ export class Curves {
         const value = it.value(lane.name, index);
         if (!Number.isNaN(value)) { least = Math.min(least, value); most = Math.max(most, value); }
       }
-    if (least > most) return;
+    if (least > most) return "";
     const y = value => top + high - 5 - (most === least ? 0.5 : (value - least) / (most - least)) * (high - 10);
     if (before) this.stepsOf(before, lane.name, y, "old", [2, 3]);
     this.stepsOf(run, lane.name, y, "on", []);
-    this.label(run.text(lane.name, most), LEFT + 3, top + 7);
-    if (most !== least) this.label(run.text(lane.name, least), LEFT + 3, top + high - 7);
+    return most === least ? "" : `${run.text(lane.name, least)} to ${run.text(lane.name, most)}`;
   }
 
   stepsOf(run, name, y, ink, dash) {
@@ -299,9 +308,9 @@ export class Curves {
     this.line(x, TOP, x, high - AXIS_HIGH + 4, "accent");
     this.pen.fillStyle = this.ink("accent");
     this.pen.beginPath();
-    this.pen.moveTo(x - 6, high - AXIS_HIGH + 10);
-    this.pen.lineTo(x + 6, high - AXIS_HIGH + 10);
-    this.pen.lineTo(x, high - AXIS_HIGH + 2);
+    this.pen.moveTo(x - 6, 0);
+    this.pen.lineTo(x + 6, 0);
+    this.pen.lineTo(x, TOP);
     this.pen.fill();
   }
 }
@@ -316,10 +325,10 @@ function firstAfter(moments, ms) {
 const firstOf = run => Math.min(run.rows?.[0]?.ms ?? Infinity, run.count ? run.ms(0) : Infinity, 1e15);
 const lastOf = run => Math.max(run.rows?.at(-1)?.ms ?? 0, run.count ? run.ms(run.count - 1) : 0);
 
-// The lanes of a run: requests, what changed of inputs and outputs, and the chosen names.
+// The lanes of a run: requests, what changed of inputs and outputs, and other names that the user has chosen; `chosen` maps names to whether.
 export function lanesOf(run, chosen) {
   const lanes = run.host.length ? [{ name: "host", isHost: true, isBit: true }] : [];
-  const image = run.names.filter(name => /^%(IX0|QX|QD)/.test(name) && !run.isFlat(name));
-  const names = [...image, ...chosen.filter(name => run.names.includes(name) && !image.includes(name))];
+  const image = run.names.filter(name => /^%(IX0|QX|QD)/.test(name) && (chosen.get(name) ?? !run.isFlat(name)));
+  const names = [...image, ...[...chosen.keys()].filter(name => chosen.get(name) && run.names.includes(name) && !image.includes(name))];
   return [...lanes, ...names.slice(0, 40).map(name => ({ name, isBit: run.typeOf(name) === "BOOL" }))];
 }

@@ -54,6 +54,7 @@ export class Editor {
   // mode: il, scenario, plate or log; changed(text) is called after each change by the user
   constructor(place, mode, label, changed) {
     this.held = null;
+    this.ending = "\n";
     // its other style of input, an editable element, loses what is typed over a selection of many lines
     this.mirror = CodeMirror(place, {
       mode, lineNumbers: true, inputStyle: "textarea", screenReaderLabel: label, extraKeys: { Tab: false, "Shift-Tab": false },
@@ -66,17 +67,34 @@ export class Editor {
   }
 
   // A text that is too long to be edited is held, and its first lines are shown.
-  get text() { return this.held ?? this.mirror.getValue(); }
+  get text() { return this.held ?? this.mirror.getValue(this.ending); }
   set text(text) {
     if (text === this.text) return;
     this.held = text.length > MOST_EDITED ? text : null;
+    // the lines end as those of the file
+    this.ending = text.includes("\r\n") ? "\r\n" : "\n";
     this.mirror.setValue(this.isCut ? text.split("\n", MOST_SHOWN).join("\n") : text);
     this.mirror.clearHistory();
-    this.mirror.setOption("readOnly", this.isCut || this.isLocked === true);
+    this.isReadOnly = this.isLocked;
   }
 
   get isCut() { return this.held !== null; }
-  set isReadOnly(is) { this.isLocked = is; this.mirror.setOption("readOnly", is || this.isCut); }
+  set isReadOnly(is) {
+    this.isLocked = is === true;
+    const now = this.isLocked || this.isCut;
+    if (this.mirror.getOption("readOnly") !== now) this.mirror.setOption("readOnly", now);
+  }
+
+  // Changes the text as its user does, so that it can be undone: from the first letter that differs to the last.
+  change(text) {
+    const { mirror } = this, old = mirror.getValue(), now = text.replaceAll("\r\n", "\n"), most = Math.min(old.length, now.length);
+    let first = 0, last = 0;
+    while (first < most && old[first] === now[first]) first++;
+    while (last < most - first && old.at(-1 - last) === now.at(-1 - last)) last++;
+    mirror.replaceRange(now.slice(first, now.length - last), mirror.posFromIndex(first), mirror.posFromIndex(old.length - last), "change");
+  }
+
+  undo() { this.mirror.undo(); }
 
   // after its panel was hidden
   refresh() { this.mirror.refresh(); }
@@ -98,11 +116,15 @@ export class Editor {
   // Marks each message at its place: { line, column, endColumn, isWarning, sentence }.
   showMessages(messages) {
     this.clear();
-    for (const { line, column, endColumn, isWarning, sentence } of messages) {
-      if (!line || line > this.mirror.lineCount()) continue;
-      const kind = isWarning ? "suspicious" : "mistake", text = this.mirror.getLine(line - 1);
-      this.mirror.setGutterMarker(line - 1, "gutter-messages", element("span", { className: `sign ${kind}`, title: sentence }, isWarning ? "▲" : "●"));
+    const placed = messages.filter(it => it.line && it.line <= this.mirror.lineCount());
+    for (const [line, own] of Map.groupBy(placed, it => it.line)) {
+      const isWarning = own.every(it => it.isWarning), title = own.map(it => it.sentence).join("\n");
+      this.mirror.setGutterMarker(line - 1, "gutter-messages", element("span", { className: `sign ${isWarning ? "suspicious" : "mistake"}`, title },
+        isWarning ? "▲" : "●", own.length > 1 ? element("sup", {}, String(own.length)) : null));
+    }
+    for (const { line, column, endColumn, isWarning, sentence } of placed) {
       if (!column) continue;
+      const kind = isWarning ? "suspicious" : "mistake", text = this.mirror.getLine(line - 1);
       const from = placeOf(text, column), to = Math.max(placeOf(text, endColumn), from + 1);
       this.marks.push(this.mirror.markText({ line: line - 1, ch: from }, { line: line - 1, ch: to }, { className: `underlined ${kind}`, title: sentence }));
     }

@@ -16,6 +16,20 @@ export function element(name, more = {}, ...children) {
 
 export const button = (text, action, more = {}) => element("button", { type: "button", onclick: action, ...more }, text);
 
+// Asks, and gives the answer that was chosen, or an empty text if the user leaves the question by Esc.
+export function ask(sentence, answers) {
+  return new Promise(give => {
+    const dialog = element("dialog", { role: "alertdialog", "aria-label": sentence }, element("p", {}, sentence),
+      element("div", { className: "row" }, ...answers.map(answer => button(answer, () => dialog.close(answer)))));
+    dialog.onclose = () => { dialog.remove(); give(dialog.returnValue); };
+    document.body.append(dialog);
+    dialog.showModal();
+  });
+}
+
+// Names in a sentence.
+export const listed = names => names.length < 2 ? names.join("") : `${names.slice(0, -1).join(", ")} and ${names.at(-1)}`;
+
 // The last of several calls within `wait` milliseconds.
 export function settled(action, wait) {
   let timer = 0;

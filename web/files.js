@@ -1,17 +1,38 @@
 // Files that are opened or dropped: which text each one is. Nothing is taken by the order of names.
+import { shownText } from "./elements.js";
 import { isTrace } from "./trace_file.js";
+import { PLATE_KEYS } from "./plate.js";
 
 const SCENARIO = /^\s*(?:#[^\n]*\n\s*)*(?:samples|scans|noise|until|at|from)\s/;
+const KEY_LINE = new RegExp(`^\\s*"?(?:${PLATE_KEYS.join("|")})"?\\s*=`, "m");
+// a unit or a section at the beginning of a line, or a first line that has an operator
+const UNIT_LINE = /^[ \t]*(?:PROGRAM|FUNCTION|FUNCTION_BLOCK|VAR(?:_\w+)?)\b/im, FIRST_LINE = /^(?:\s|\(\*[^]*?\*\))*(?:\w+\s*:\s*)?(?:LDN?|CAL|JMP)[ \t]+\S/;
 
-// What a file is: program, next, plate, scenario, log, trace or job.
+// What a file is: program, next, plate, scenario, log, trace or job; null if none of these.
 export function kindOf(name, text) {
   const bare = name.toLowerCase();
   if (isTrace(text)) return "trace";
   if (/^@plate\r?\n/.test(text)) return "job";
-  if (/\.toml$/.test(bare) || /^\s*"?zero_counts"?\s*=/m.test(text)) return "plate";
-  if (/^\ufeff?"?ms"?,"?kind"?,/.test(text) || /\.csv$/.test(bare)) return "log";
-  if (/scenario/.test(bare) || SCENARIO.test(text)) return "scenario";
-  return /^next|[._-]next\b/.test(bare) ? "next" : "program";
+  if (/^"?ms"?,"?kind"?,/.test(text)) return "log";
+  const isMarkup = /^\s*</.test(text), isProgram = /\.il$/.test(bare) || !isMarkup && (UNIT_LINE.test(text) || FIRST_LINE.test(text));
+  if (isProgram) return /^next|[._-]next\b/.test(bare) ? "next" : "program";
+  if (isMarkup) return null;
+  if (KEY_LINE.test(text)) return "plate";
+  return /scenario/.test(bare) || SCENARIO.test(text) ? "scenario" : null;
+}
+
+// The text of a file's bytes, and a remark if they are not of UTF-8; null if they are no text.
+function textOf(bytes) {
+  const decoded = (name, more) => new TextDecoder(name, more).decode(bytes), isText = text => !/[\u0000-\u0008\u000e-\u001f]/.test(text);
+  try { const text = decoded("utf-8", { fatal: true }); return isText(text) ? { text, remark: "" } : null; } catch { /* other letters */ }
+  const text = decoded("windows-1252");
+  return isText(text) ? { text, remark: " (it is not UTF-8: its letters are read as those of Windows)" } : null;
+}
+
+function whyNot(name, found) {
+  if (!found) return `${name} is not opened: it is no text of UTF-8 or Windows`;
+  const more = /plcopen/i.test(found.text) ? " (tools/from_plcopen takes the programs out of an export)" : /\.csv$/i.test(name) ? " (a log begins with the line ms,kind,data)" : "";
+  return `${name} is not opened: it is no program, plate, log, scenario, job or trace${more}`;
 }
 
 // The sections of a job: a section goes on to the next heading that may follow it.
@@ -30,16 +51,21 @@ export function sectionsOf(job) {
 // the second in the order in which they were given is the next program.
 export async function readFiles(files) {
   const texts = {}, said = [];
-  const take = (kind, text, name) => {
+  const take = (kind, text, name, remark = "") => {
     const place = kind === "program" && texts.program !== undefined && texts.next === undefined ? "next" : kind;
     if (texts[place] !== undefined) { said.push(`${name} is left out: there is another ${place}`); return; }
     texts[place] = text;
-    said.push(`${name} is the ${place === "next" ? "next program" : place}`);
+    said.push(`${name} is the ${place === "next" ? "next program" : place}${remark}`);
   };
   for (const file of files) {
-    const text = await file.text(), kind = kindOf(file.name, text);
-    if (kind !== "job") { take(kind, text, file.name); continue; }
-    for (const [part, own] of Object.entries(sectionsOf(text))) take(part, own, `the ${part} of ${file.name}`);
+    const name = shownText(file.name), found = textOf(await file.arrayBuffer()), kind = found && kindOf(file.name, found.text);
+    if (!kind) said.push(whyNot(name, found));
+    else if (kind !== "job") take(kind, found.text, name, found.remark);
+    else {
+      for (const [part, own] of Object.entries(sectionsOf(found.text))) take(part, own, `the ${part} of ${name}`);
+      // a job is a whole run: without its own it has no next program
+      texts.next ??= "";
+    }
   }
   return { texts, said: said.join("; ") };
 }

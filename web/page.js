@@ -1,18 +1,20 @@
 // The page: it loads the program, puts the parts together, and runs what is written.
-import { $, element, button, download, settled } from "./elements.js";
+import { $, element, button, download, settled, ask, listed } from "./elements.js";
 import { Caller, loadModule, lacking } from "./calls.js";
 import { Work } from "./work.js";
 import { See } from "./see.js";
 import { makeRun, otherOutput } from "./run.js";
 import { openTrace } from "./trace_file.js";
-import { readFiles } from "./files.js";
+import { readFiles, sectionsOf } from "./files.js";
 import { showTrust, ABOUT } from "./trust.js";
-import { fillPaper } from "./paper.js";
+import { fillPaper, eventsText } from "./paper.js";
 import { languageHelp } from "./language_help.js";
 
 const EXAMPLES = JSON.parse($("examples").textContent);
 const FIELDS = JSON.parse($("language").textContent).fields;
-const FILES = { "plate.toml": "plate", "program.il": "program", "next.il": "next", "log.csv": "log", "scenario.txt": "scenario" };
+const FILE_NAMES = { program: "program.il", plate: "plate.toml", scenario: "scenario.txt", log: "log.csv", next: "next.il" };
+const NAMES_OF_FILES = Object.fromEntries(Object.entries(FILE_NAMES).map(([name, file]) => [file, name]));
+const LONG_NAMES = { next: "next program" };
 // what there is when somebody begins with nothing
 const EMPTY = {
   program: "PROGRAM Mine\nVAR\nEND_VAR\n    LD %IX0.0           (* a button *)\n    ST %QX0.0           (* a lamp *)\nEND_PROGRAM\n",
@@ -45,12 +47,12 @@ class Page {
     Object.assign(this, { checker, runner, identity });
     const explain = async number => (await checker.call(["explain", number])).output;
     this.see = new See({ caller: runner, explain, goToLog: line => { this.work.open("log"); this.work.editors.log.goTo(line); } });
-    this.work = new Work({ caller: checker, explain, changed: () => this.changed() });
+    this.work = new Work({ caller: checker, explain, say, changed: () => this.changed() });
     this.paperSoon = settled(() => this.fillPaper(), 700);
     this.build();
     const kept = this.work.kept();
     this.work.open("program");
-    if (kept?.program) { this.work.take(kept); say("what you wrote last is here again"); }
+    if (kept?.program) { this.work.take({ unsaved: Object.keys(kept), ...kept }); say("what you wrote last is here again"); }
     else this.takeExample("filling");
   }
 
@@ -65,26 +67,57 @@ class Page {
     $("keys_text").append(element("table", {}, element("tbody", {}, ...KEYS.map(([key, what]) => element("tr", {}, element("td", {}, what ? element("kbd", {}, key) : element("strong", {}, key)), element("td", {}, what))))));
     this.buildSave();
     this.listen();
+    for (const menu of document.querySelectorAll(".menu")) menu.addEventListener("toggle", () => placeBox(menu));
   }
 
   buildSave() {
-    const texts = () => this.see.run?.texts ?? this.currentTexts;
+    const texts = () => this.see.run?.origin === "run" ? this.see.run.texts : this.currentTexts;
     const written = async words => (await otherOutput(this.runner, texts(), words)).output;
     const report = () => written(["run"]);
     const decoded = async more => (await this.runner.call(["decode", ...more], {}, { input: await report() })).output;
-    const job = () => { const it = this.currentTexts; return `@plate\n${it.plate}@program\n${it.program}${it.next.trim() ? `@next\n${it.next}` : ""}@log\n${it.log}`; };
+    const inWords = () => this.see.run ? eventsText(this.see.run) : "";
+    const text = name => [`${FILE_NAMES[name]}`, () => name === "log" ? this.log() : this.work.text(name), undefined, name];
     const files = [
-      ["program.il", () => this.work.text("program")], ["plate.toml", () => this.work.text("plate")], ["scenario.txt", () => this.work.text("scenario")],
-      ["log.csv", () => this.work.text("log")], ["next.il", () => this.work.text("next")], ["job.txt", job, "all in one file, which the program takes"],
-      ["picture.svg", () => written(["show"]), "the run, as `show` draws it"], ["report.txt", report, "what `run` prints"], ["report_in_words.txt", () => decoded([])], ["report.csv", () => decoded(["--csv"]), "a table, for a spreadsheet"],
+      ...["program", "plate", "scenario", "log", "next"].map(text), ["job.txt", () => this.job(), "all in one file, which the program takes"],
+      ["picture.svg", () => written(["show"]), "the run, as `show` draws it"], ["report.txt", report, "what `run` prints"], ["report_in_words.txt", inWords, "what happened, and what the answers mean"],
+      ["report_decoded.txt", () => decoded([]), "the report, as `decode` writes it"], ["report.csv", () => decoded(["--csv"]), "a table, for a spreadsheet"],
       ["trace.txt", () => written(["trace"]), "each scan line by line"], ["trace.jsonl", () => written(["trace", "--message", "json"]), "the same for programs"],
     ];
-    $("save_list").replaceChildren(...files.map(([name, make, what]) => button(what ? `${name} – ${what}` : name, async () => {
-      download(name, await make(), name.endsWith(".svg") ? "image/svg+xml" : "text/plain");
-      $("save").open = false;
-      $("save").firstElementChild.focus();
-      say(`${name} is saved`);
-    })));
+    $("save_list").replaceChildren(...files.map(([name, make, what, own]) => button(what ? `${name} – ${what}` : name, () => this.save(name, make, own))));
+  }
+
+  // Gives a file to the browser; says why if there is nothing to save, and of what it is if that is not what is written.
+  async save(name, make, own) {
+    $("save").open = false;
+    $("save").firstElementChild.focus();
+    try {
+      const content = await make();
+      if (!content) throw own ? "it is empty" : "there is no run";
+      download(name, content, name.endsWith(".svg") ? "image/svg+xml" : "text/plain");
+      if (own) this.work.saved[own] = content;
+      const isOfRun = !own && name !== "job.txt", isTrace = this.see.run?.origin === "trace" && name !== "report_in_words.txt";
+      say(`${name} is saved${!isOfRun ? "" : isTrace ? ": it is of the texts here, not of the trace" : document.body.classList.contains("stale") ? ": it is of the run below, of the texts before" : ""}`);
+    } catch (why) {
+      if (typeof why !== "string") throw why;
+      say(`${name} is not saved: ${why}`);
+    }
+  }
+
+  // The log; it is none of the scenario that is written if that has a mistake.
+  log() {
+    this.work.showScenario();
+    if (this.work.isByScenario && !this.work.accepted.scenario) throw "the scenario has a mistake, so there is no log of it";
+    return this.work.text("log");
+  }
+
+  job() {
+    const parts = { ...this.currentTexts, log: this.log() }, lacks = ["plate", "program", "log"].filter(name => !parts[name].trim());
+    if (lacks.length) throw `there is no ${listed(lacks)}`;
+    if (!parts.next.trim()) delete parts.next;
+    const whole = ["plate", "program", "next", "log"].filter(name => name in parts).map(name => `@${name}\n${parts[name].replace(/(?<!\n)$/, "\n")}`).join("");
+    const others = Object.entries(sectionsOf(whole)).filter(([name, text]) => text.trimEnd() !== parts[name]?.trimEnd());
+    if (others.length) throw `a line of the ${others[0][0]} is a heading of a job`;
+    return whole;
   }
 
   listen() {
@@ -109,49 +142,54 @@ class Page {
 
   get currentTexts() { const { program, plate, next, log } = this.work.texts; return { program, plate, next, log }; }
 
-  // replaces what is written, and offers to bring it back
-  replace(texts, said) {
-    const old = { ...this.work.texts, isByScenario: this.work.isByScenario };
-    this.see.before = null;
-    const done = this.work.take(texts, true);
-    say(said, " ", ...(old.program.trim() ? [button("bring back what was here", () => { this.work.take(old); say("it is here again"); }, { className: "small" })] : []));
+  // Takes texts, and offers to bring back what was written and is in no file.
+  replace(texts, said, isWhole = true) {
+    if (this.work.unsaved.length) this.old = this.work.state;
+    const done = this.work.take(texts, isWhole), { old } = this;
+    const bringBack = () => { this.old = null; this.replace(old, "it is here again"); };
+    say(said, ...(old ? [" ", button("bring back what was written", bringBack, { className: "small" })] : []));
     return done;
   }
 
   takeExample(name, isChosen = false) {
     if (name === "empty") return this.replace({ ...EMPTY, isByScenario: true }, "a program, a plate and a scenario to begin with");
-    const texts = Object.fromEntries(Object.entries(EXAMPLES[name].files).map(([file, text]) => [FILES[file], text]));
+    const texts = Object.fromEntries(Object.entries(EXAMPLES[name].files).map(([file, text]) => [NAMES_OF_FILES[file], text]));
     return this.replace({ ...texts, isByScenario: texts.scenario !== undefined }, isChosen ? `the example ${name}` : "this is the example filling: change it, or choose another");
   }
 
   async openFiles(files) {
-    const { texts, said } = await readFiles(files), { trace, ...others } = texts;
-    say(said);
-    if (Object.keys(others).length) await this.work.take(others);
+    const { texts, said } = await readFiles(files), { trace, ...others } = texts, lost = this.lostBy(others), names = listed(lost.map(name => `the ${LONG_NAMES[name] ?? name}`));
+    const answer = lost.length ? await ask(`Not saved, and to be replaced: ${names}. ${said}.`, ["Keep mine", "Replace", "Cancel"]) : "Replace";
+    if (answer === "" || answer === "Cancel") { say("nothing is opened"); return; }
+    if (answer === "Keep mine") for (const name of [...lost, ...(lost.includes("log") ? ["scenario"] : [])]) delete others[name];
+    await (Object.keys(others).length ? this.replace(others, said, false) : say(said));
+    if (answer === "Keep mine") say(`kept as it was: ${names}`);
     if (trace === undefined) return;
     const run = await openTrace(this.checker, trace, this.currentTexts);
     if (typeof run === "string") { say(run); return; }
     this.dropRun();
-    this.see.before = null;
     this.see.show(run);
     this.isStale(false);
     $("outcome").textContent = `${run.count} scans of the trace that was opened; variables have values only in the lines that wrote them`;
-    $("stale").textContent = run.note;
-    $("stale").hidden = !run.note;
+  }
+
+  // Names of what is not saved and would be another text, or a log that gives way to a scenario.
+  lostBy(texts) {
+    const isOther = name => texts[name] !== undefined && texts[name] !== this.work.text(name);
+    return this.work.unsaved.filter(name => isOther(name) || name === "log" && texts.log === undefined && texts.scenario !== undefined);
   }
 
   // after a text was changed and checked: runs it if nothing is refused
   changed() {
     const { run } = this.see, isSame = run && Object.entries(this.currentTexts).every(([name, text]) => run.texts[name] === text);
-    if (isSame && run.origin === "run") { this.isStale(false); return; }
-    if (isSame) return;
     if (this.work.obstacle) this.isStale(Boolean(run), this.work.obstacle);
+    else if (isSame) this.isStale(false);
     else this.run();
   }
 
   isStale(is, why = "") {
-    $("stale").hidden = !is && !why;
-    $("stale").textContent = why ? `${why}${is ? ": below is the run of the texts before" : ": there is nothing to run"}` : "";
+    const { run } = this.see, below = run?.origin === "trace" ? "the trace that was opened" : "the run of the texts before";
+    $("stale").textContent = why ? `${why}: ${is ? `below is ${below}` : "there is nothing to run"}` : run?.note ?? "";
     document.body.classList.toggle("stale", is);
   }
 
@@ -182,11 +220,11 @@ class Page {
   }
 
   ended(run) {
-    this.isStale(false);
     const refused = run.messages.length ? "; the log is refused, so the run ends there" : "", rows = `${run.rows.length} rows, ${run.count} scans, ${run.host.length} requests`;
     $("outcome").textContent = run.count ? rows + refused : `${rows}: the log has no scan, so there is nothing to see${refused}`;
     if (run.errors) $("outcome").textContent = `${rows}; ${run.errors}`;
     this.see.show(run);
+    this.isStale(false);
     this.paperSoon();
   }
 
@@ -194,6 +232,14 @@ class Page {
     const { run } = this.see;
     if (run && !this.isRunning) await fillPaper($("paper"), this.checker, run, this.identity);
   }
+}
+
+// a menu's box within the window
+function placeBox(menu) {
+  const box = menu.lastElementChild;
+  box.style.left = "0";
+  const { left, right } = box.getBoundingClientRect(), most = document.documentElement.clientWidth - 8;
+  box.style.left = `${Math.max(8, Math.min(left, left - (right - most))) - left}px`;
 }
 
 start();

@@ -3,6 +3,7 @@ import { rowsOf, sampledLog, bytesText } from "./log.js";
 import { readPlate } from "./plate.js";
 import { unitsOf } from "./messages.js";
 import { weightText } from "./elements.js";
+import { meaningOf, requestsIn } from "./answers.js";
 
 const NOTHING = "PROGRAM NOTHING\nEND_PROGRAM\n";
 const INPUTS = Array.from({ length: 16 }, (_, bit) => `%IX0.${bit}`);
@@ -69,10 +70,19 @@ export class Run {
     return [...Object.keys(WEIGHTS), ...this.variables.map(it => it.name), ...INPUTS, ...STATUS, ...outputs];
   }
 
-  // The name as the run spells it, for any letter case; null if it has none.
+  // The name as the run spells it, for any letter case, an address with or without its % or X, or a caption; null if it has none.
   nameOf(text) {
-    const wanted = text.trim().toUpperCase().replace(/^%([IQ])(?=\d)/, "%$1X");
-    return this.names.find(name => name.toUpperCase() === wanted) ?? null;
+    const wanted = text.trim().toUpperCase().replace(/\s+/g, " "), address = wanted.replace(/^%?/, "%").replace(/^%([IQ])(?=\d)/, "%$1X");
+    const status = STATUS_NAMES.findIndex(label => label.toUpperCase() === wanted), weight = Object.keys(WEIGHTS).find(name => WEIGHTS[name] === address);
+    return this.names.find(name => name.toUpperCase() === wanted) ?? STATUS[status] ?? weight ?? this.names.find(name => name === address) ?? null;
+  }
+
+  // Names and captions that are nearest to one that the run does not have, if any is near.
+  near(text) {
+    const typed = text.trim().toUpperCase(), most = Math.max(1, Math.floor(typed.length / 3));
+    const scored = [...this.names, ...STATUS_NAMES].map(name => ({ name, far: name.toUpperCase().includes(typed) ? 1 : lettersBetween(typed, name.toUpperCase()) }));
+    const least = scored.reduce((far, it) => Math.min(far, it.far), most);
+    return scored.filter(it => it.far === least).slice(0, 3).map(it => it.name);
   }
 
   isFlat(name) {
@@ -80,6 +90,17 @@ export class Run {
     for (let index = 1; index < this.count; index++) if (!Object.is(this.value(name, index), first)) return false;
     return true;
   }
+}
+
+// The letters to insert, leave out or change in one text so that it becomes another.
+function lettersBetween(one, other) {
+  let row = Array.from({ length: other.length + 1 }, (_, at) => at);
+  for (const letter of one) {
+    const next = [row[0] + 1];
+    for (let at = 1; at < row.length; at++) next.push(Math.min(row[at] + 1, next[at - 1] + 1, row[at - 1] + (letter !== other[at - 1])));
+    row = next;
+  }
+  return row.at(-1);
 }
 
 const filesOf = texts => ({ "plate.toml": texts.plate, "program.il": texts.program, "log.csv": texts.log, ...(texts.next.trim() ? { "next.il": texts.next } : {}) });
@@ -110,10 +131,13 @@ async function nameVariables(caller, run, fields) {
   const { texts } = run, found = new Map();
   run.types = new Map();
   run.bounds = [];
+  run.programs = [];
   for (const text of [texts.program, ...(run.hasNext ? [texts.next] : [])]) {
     for (const variable of await variablesOf(caller, text, fields)) if (!found.has(variable.name)) found.set(variable.name, variable);
     const checked = await caller.call(["check", "program.il"], { "program.il": text });
-    run.bounds.push(unitsOf(checked.output).at(-1)?.cost ?? 0);
+    const unit = unitsOf(checked.output).at(-1);
+    run.bounds.push(unit?.cost ?? 0);
+    run.programs.push(unit?.name ?? "");
   }
   run.variables = [...found.values()];
   for (const { name, type } of run.variables) run.types.set(name, type);
@@ -139,10 +163,11 @@ async function readHost(caller, run) {
   run.host = [];
   // rows of one moment are shown as one
   for (const { ms, data } of run.rows.filter(row => row.kind === "L")) {
-    const last = run.host.at(-1), sent = bytesText(data.toLowerCase());
-    if (last?.ms === ms) last.sent += ` ${sent}`;
-    else run.host.push({ ms, sent, answers: answers.get(ms) ?? [] });
+    const last = run.host.at(-1), sent = bytesText(data.toLowerCase()), requests = requestsIn(data.toLowerCase());
+    if (last?.ms === ms) { last.sent += ` ${sent}`; last.requests.push(...requests); }
+    else run.host.push({ ms, sent, requests, answers: answers.get(ms) ?? [] });
   }
+  for (const it of run.host) it.meanings = it.answers.map((answer, at) => meaningOf(it.requests.length === it.answers.length ? it.requests[at] : "", answer));
 }
 
 // The indication after each sample and each request: the same log with a scan after each, and a program that does nothing.

@@ -8,41 +8,70 @@ const literal = value => value === true ? "TRUE" : value === false ? "FALSE" : v
 // Values: weights, statuses, inputs, outputs, variables.
 export class Values {
   // jump(name, step): to the next or the last change of a name; choose(name, is): whether it has a lane
-  constructor(place, { jump, choose }) { this.place = place; this.jump = jump; this.choose = choose; this.cells = new Map(); }
+  constructor(place, { jump, choose }) { Object.assign(this, { place, jump, choose, cells: new Map(), picked: new Set() }); }
 
-  build(run, before, chosen) {
+  // lanes: the names that have one
+  build(run, before, lanes) {
     this.cells.clear();
     this.place.classList.toggle("compared", Boolean(before));
-    this.run = run;
-    this.before = before;
-    const bits = names => element("div", { className: "bits" }, ...names.map(([name, label]) => this.bit(name, label)));
+    Object.assign(this, { run, before, lanes: new Set(lanes) });
     const numbered = (letter, count) => Array.from({ length: count }, (_, bit) => [`%${letter}X0.${bit}`, `${letter}X0.${bit}`]);
     this.place.replaceChildren(
-      element("h2", {}, "Indicator"), this.table(["gross", "net", "tare"], chosen), bits(STATUS_NAMES.map((label, bit) => [`%IX1.${bit}`, label])),
-      element("h2", {}, "Inputs"), bits(numbered("I", 16)), element("h2", {}, "Outputs"), bits(numbered("Q", 16)), this.table(["%QD0", "%QD1", "%QD2", "%QD3"], chosen),
-      ...(run.variables.length ? [element("h2", {}, "Variables"), this.table(run.variables.map(it => it.name), chosen)] : []),
+      element("h2", {}, "Indicator"), this.table(["gross", "net", "tare"]), this.lamps(...STATUS_NAMES.map((label, bit) => [`%IX1.${bit}`, label])),
+      element("h2", {}, "Inputs"), this.lamps(...numbered("I", 16)), element("h2", {}, "Outputs"), this.lamps(...numbered("Q", 16)), this.table(["%QD0", "%QD1", "%QD2", "%QD3"]),
+      ...(run.variables.length ? [element("h2", {}, "Variables"), this.table(run.variables.map(it => it.name))] : []),
       ...(run.leftOut ? [element("p", { className: "note" }, `${run.leftOut} more variables are not shown: the run has too many scans for all`)] : []));
   }
 
-  bit(name, label) {
-    const cell = element("span", { className: "bit" }, label);
-    this.cells.set(name, { cell, label, isBit: true });
-    return cell;
+  // Lamps; the one that was picked has its jumps and its lane below them. Arrows lead from one to the next.
+  lamps(...names) {
+    const tools = element("div", { className: "row" }), group = element("div", { className: "bits", role: "group", "aria-label": "lamps" });
+    const pick = (name, label) => {
+      for (const [other] of names) {
+        const { cell } = this.cells.get(other);
+        cell.tabIndex = other === name ? 0 : -1;
+        cell.setAttribute("aria-pressed", String(other === name));
+        this.picked.delete(other);
+      }
+      this.picked.add(name);
+      tools.replaceChildren(element("span", { className: "code" }, name.slice(1) === label ? name : `${label}, ${name}`), this.jumps(name), element("label", {}, this.lane(name), " lane"));
+    };
+    for (const [name, label] of names) {
+      const cell = button(label, () => pick(name, label), { className: "bit" });
+      this.cells.set(name, { cell, isBit: true });
+      group.append(cell);
+    }
+    group.addEventListener("keydown", event => {
+      const next = { ArrowRight: "nextElementSibling", ArrowLeft: "previousElementSibling" }[event.key], cell = next && event.target[next];
+      if (!cell) return;
+      event.preventDefault();
+      cell.focus();
+      cell.click();
+    });
+    pick(...(names.find(([name]) => this.picked.has(name)) ?? names.find(([name]) => !this.run.isFlat(name)) ?? names[0]));
+    return element("div", {}, group, tools);
   }
 
-  table(names, chosen) {
+  jumps(name) {
+    const jump = (text, step, title) => button(text, () => this.jump(name, step), { className: "small", "aria-label": `${title} of ${name}`, title });
+    return element("span", {}, jump("◂", -1, "the change before"), " ", jump("▸", 1, "the next change"));
+  }
+
+  lane(name) {
+    const choose = is => { if (is) this.lanes.add(name); else this.lanes.delete(name); this.choose(name, is); };
+    return element("input", { type: "checkbox", checked: this.lanes.has(name), "aria-label": `a lane for ${name}`, onchange: event => choose(event.target.checked) });
+  }
+
+  table(names) {
     const head = ["name", "value", ...(this.before ? ["before"] : []), "type", "changes", "lane"];
     return element("table", {}, element("thead", {}, element("tr", {}, ...head.map(name => element("th", { scope: "col" }, name)))),
-      element("tbody", {}, ...names.map(name => this.row(name, chosen))));
+      element("tbody", {}, ...names.map(name => this.row(name))));
   }
 
-  row(name, chosen) {
+  row(name) {
     const value = element("td", { className: "code value" }), before = this.before ? element("td", { className: "code faint" }) : null;
-    const lane = element("input", { type: "checkbox", checked: chosen.includes(name), "aria-label": `a lane for ${name}`, onchange: event => this.choose(name, event.target.checked) });
     const row = element("tr", { "data-name": name }, element("td", { className: "code" }, name), value, before, element("td", { className: "faint" }, this.run.typeOf(name)),
-      element("td", {}, button("◂", () => this.jump(name, -1), { className: "small", "aria-label": `the change of ${name} before`, title: "the change before" }), " ",
-        button("▸", () => this.jump(name, 1), { className: "small", "aria-label": `the next change of ${name}`, title: "the next change" })),
-      element("td", {}, lane));
+      element("td", {}, this.jumps(name)), element("td", {}, this.lane(name)));
     this.cells.set(name, { cell: value, before, row });
     return row;
   }
@@ -158,9 +187,10 @@ export class Host {
   constructor(place, go) { this.place = place; this.go = go; }
 
   build(run) {
-    this.rows = run.host.slice(0, 2000).map(({ ms, sent, answers }) => {
+    this.rows = run.host.slice(0, 2000).map(({ ms, sent, answers, meanings }) => {
+      const said = answers.map((answer, at) => element("div", {}, `${shownText(answer)} `, element("span", { className: "faint" }, meanings[at])));
       const row = element("tr", {}, element("td", { className: "number" }, button(timeText(ms), () => this.go(ms), { className: "link", title: "go to the scan before" })),
-        element("td", { className: "code" }, shownText(sent)), element("td", {}, answers.length ? shownText(answers.join(" · ")) : "—"));
+        element("td", { className: "code" }, shownText(sent)), element("td", {}, ...(said.length ? said : ["—"])));
       return { ms, row };
     });
     this.place.hidden = !this.rows.length;

@@ -1,7 +1,7 @@
 // A scenario becomes a log: docs/LOG.md (6) has its lines. tools/make_log does the same without the page, byte for byte.
 import { HEADING } from "./log.js";
 
-const MASS = { g: 1n, kg: 1000n, t: 1000000n };
+export const MASS = { g: 1n, kg: 1000n, t: 1000000n };
 const MILLISECONDS = { ms: 1, s: 1000, min: 60000 };
 const LEAST_COUNTS = -8388608n, MOST_COUNTS = 8388607n;
 const MOST_ROWS = 999999, MOST_TIME = 1099511627775;
@@ -14,7 +14,7 @@ export class Mistake extends Error {
 }
 
 // A decimal number as a whole number of 10^-12.
-function decimal(text) {
+export function decimal(text) {
   const found = /^(-?)(\d{1,12})(?:\.(\d{1,9}))?$/.exec(text);
   if (!found) throw `\`${text}\` is not a number`;
   const value = BigInt(found[2] + (found[3] ?? "").padEnd(PLACES, "0"));
@@ -158,6 +158,7 @@ export function endOf(made) {
   return made.until ?? named.reduce((most, at) => Math.max(most, at), 0) + 1000;
 }
 
+const inTime = segments => inOrder(segments.map(segment => ({ ...segment, at: segment.from })));
 const inOrder = events => events.map((event, place) => [event, place]).sort(([a, i], [b, j]) => a.at - b.at || i - j).map(([event]) => event);
 
 // Counts of a weight in 10^-12 g over a divisor; a tie goes away from zero.
@@ -177,9 +178,27 @@ function weightAt(segments, at) {
   return [segment.first * length + (segment.last - segment.first) * BigInt(at - segment.from), length];
 }
 
+// A weight in 10^-12 g as a number of a unit, with up to nine digits after the point.
+function amountText(weight, unit) {
+  const digits = String((weight < 0n ? -weight : weight) / MASS[unit] / 1000n).padStart(10, "0");
+  return `${weight < 0n ? "-" : ""}${digits.slice(0, -9)}.${digits.slice(-9)}`.replace(/\.?0+$/, "");
+}
+
+// The slope that is under way at a moment; none if the weight holds there, or is set anew.
+export function slopeAt(made, at) {
+  const segment = inTime(made.segments).findLast(it => it.from <= at);
+  return segment && segment.from < at && segment.to > at ? segment : null;
+}
+
+// The line with which a slope goes on from a moment.
+export function restOf(slope, at, unit) {
+  const [parts, divisor] = weightAt([slope], at);
+  return `from ${at} to ${slope.to} ms weight from ${amountText(parts / divisor, unit)} to ${amountText(slope.last, unit)} ${unit}`;
+}
+
 // The curve of the weight in units of the plate, for drawing: [ms, weight].
 export function weightPoints(made, plate) {
-  const unit = Number(MASS[plate.unit]) * 10 ** PLACES, segments = inOrder(made.segments.map(segment => ({ ...segment, at: segment.from }))), end = endOf(made);
+  const unit = Number(MASS[plate.unit]) * 10 ** PLACES, segments = inTime(made.segments), end = endOf(made);
   const points = [[0, 0]], last = () => points[points.length - 1][1];
   segments.forEach((segment, place) => {
     const stop = Math.min(segments[place + 1]?.from ?? end, end);
@@ -220,7 +239,7 @@ function inputRows(made) {
 }
 
 function sampleRows(made, plate, end) {
-  const segments = inOrder(made.segments.map(segment => ({ ...segment, at: segment.from })));
+  const segments = inTime(made.segments);
   const most = Number(countsOf(plate, made.noise, 1n)), rows = [];
   let chance = made.seed;
   for (let at = 0; at <= end; at += made.samples) {

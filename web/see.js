@@ -2,13 +2,13 @@
 import { $, element, button, timeText } from "./elements.js";
 import { Curves, lanesOf } from "./curves.js";
 import { Values, ScanLines, Host } from "./scan.js";
-import { traceOf } from "./run.js";
+import { traceOf, WEIGHTS } from "./run.js";
 import { asked, find } from "./search.js";
 import { shownMessages, showMessages } from "./messages.js";
 
 export class See {
   constructor({ caller, explain, goToLog }) {
-    Object.assign(this, { caller, explain, goToLog, run: null, before: null, at: 0, chosen: new Set() });
+    Object.assign(this, { caller, explain, goToLog, run: null, before: null, at: 0, chosen: new Map() });
     this.curves = new Curves($("plot"), index => this.go(index));
     this.values = new Values($("values"), { jump: (name, step) => this.search(name, step), choose: (name, is) => this.choose(name, is) });
     this.lines = new ScanLines($("lines"), line => this.search(String(line), 1));
@@ -27,7 +27,7 @@ export class See {
   listen() {
     $("search").addEventListener("submit", event => { event.preventDefault(); this.search($("what").value, 1); });
     $("find_before").onclick = () => this.search($("what").value, -1);
-    $("keep_before").onclick = () => { this.before = this.run; this.show(this.run); };
+    $("keep_before").onclick = () => { this.before = this.run; this.show(this.run); $("drop_before").focus(); };
     $("drop_before").onclick = () => { this.before = null; this.show(this.run); $("keep_before").focus(); };
     $("lines_before").onchange = () => this.showLines();
     $("next_difference").onclick = () => this.nextDifference();
@@ -55,18 +55,19 @@ export class See {
     for (const id of ["plot_box", "cursor_row", "search", "search_hint", "scan_box", "compare_row"]) $(id).hidden = !run.count;
     if (!run.count) return;
     $("drop_before").hidden = $("next_difference").hidden = $("of_before").hidden = !this.before;
+    this.curves.isComparable = this.isSamePlate;
     $("compared").textContent = this.before ? this.comparison() : "";
     $("names").replaceChildren(...run.names.map(name => element("option", { value: name })));
-    this.values.build(run, this.before, [...this.chosen]);
-    this.host.build(run);
     this.draw();
+    this.values.build(run, this.before, this.curves.lanes.map(it => it.name));
+    this.host.build(run);
     this.go(ms === null ? 0 : run.scanAt(ms));
   }
 
-  draw() { this.curves.set(this.run, this.before, lanesOf(this.run, [...this.chosen])); }
+  draw() { this.curves.set(this.run, this.before, lanesOf(this.run, this.chosen)); }
 
   choose(name, is) {
-    if (is) this.chosen.add(name); else this.chosen.delete(name);
+    this.chosen.set(name, is);
     this.draw();
   }
 
@@ -118,21 +119,24 @@ export class See {
   async search(text, step) {
     $("what").value = text;
     const { run } = this, what = asked(run, text);
+    for (const hit of document.querySelectorAll("#scan_box .hit")) hit.classList.remove("hit");
     if (what.fault) { $("found").textContent = what.fault; return; }
     $("found").textContent = "searching …";
     const hit = await find(this.caller, run, what, this.at, step);
     if (this.run !== run) return;
-    $("found").textContent = hit ? "" : step > 0 ? "none after the cursor" : "none before the cursor";
+    $("found").textContent = (what.said ?? "") + (hit ? `found at ${timeText(hit.ms ?? run.ms(hit.index))}` : step > 0 ? "none after the cursor" : "none before the cursor");
     if (!hit) return;
     this.go(hit.index);
-    $("found").textContent = `found at ${timeText(hit.ms ?? run.ms(hit.index))}`;
     if (what.name) this.values.reveal(what.name);
     else if (what.line) this.lines.reveal(what.line);
-    else this.host.reveal(hit.ms);
+    else if (what.answer) this.host.reveal(hit.ms);
   }
 
-  // names that both runs have
-  get common() { return this.run.names.filter(name => this.before.names.includes(name)); }
+  // whether weights of both runs are counted in the same unit
+  get isSamePlate() { return ["unit", "decimals"].every(key => this.before?.plate?.[key] === this.run.plate?.[key]); }
+
+  // names that both runs have, and whose numbers mean the same in both
+  get common() { return this.run.names.filter(name => this.before.names.includes(name) && (this.isSamePlate || !WEIGHTS[name])); }
 
   isDifferent(index, names) {
     const other = this.other(index);
@@ -143,7 +147,8 @@ export class See {
     const names = this.common;
     let count = 0;
     for (let index = 0; index < this.run.count; index++) count += this.isDifferent(index, names);
-    return count ? `${count} of ${this.run.count} scans differ from before` : "no scan differs from before";
+    const kept = `before: ${this.before.programs?.[0] ?? "a trace"}, ${this.before.count} scans${this.isSamePlate ? "" : ", on a plate of another unit"}`;
+    return `${count ? `${count} of ${this.run.count} scans differ from before` : "no scan differs from before"} (${kept})`;
   }
 
   nextDifference() {

@@ -1,9 +1,9 @@
 // The picture of a scenario's weight, and drawing on it: what is drawn becomes lines of the scenario.
 import { timeText } from "./elements.js";
-import { roundStep, roundTime } from "./steps.js";
-import { readScenario, weightPoints, endOf } from "./scenario.js";
+import { roundStep, roundTime, merged } from "./steps.js";
+import { readScenario, weightPoints, endOf, slopeAt, restOf } from "./scenario.js";
 
-const EDGE = { left: 70, right: 12, top: 10, bottom: 22 };
+const EDGE = { left: 70, right: 12, top: 36, bottom: 28 };
 
 export class Sketch {
   // drawn(from, to, lines): the user has drawn these lines over that time
@@ -79,9 +79,11 @@ export class Sketch {
     }
     pen.textAlign = "center";
     const every = roundTime(this.last, Math.max(2, Math.floor(this.wide / 80)));
-    for (let ms = 0; ms <= this.last; ms += every) pen.fillText(timeText(ms), Math.min(this.x(ms), EDGE.left + this.wide - 16), canvas.clientHeight - EDGE.bottom / 2);
-    for (const { at, on, bit } of this.inputs) { pen.fillStyle = ink("net"); pen.fillText(`I${bit}${on ? "↑" : "↓"}`, this.x(at), EDGE.top + 6); }
-    for (const { at, texts } of this.requests.slice(0, 200)) { pen.fillStyle = ink("accent"); pen.fillText(texts.join(" ").slice(0, 6), this.x(at), EDGE.top + 20); }
+    for (let ms = 0; ms <= this.last; ms += every) pen.fillText(timeText(ms), Math.min(this.x(ms), EDGE.left + this.wide - 16), canvas.clientHeight - 9);
+    const marks = (all, y, colour) => { pen.fillStyle = ink(colour); for (const { x, text } of merged(all, pen)) pen.fillText(text, x, y); };
+    pen.textAlign = "left";
+    marks(this.inputs.map(({ at, on, bit }) => [this.x(at), `I${bit}${on ? "↑" : "↓"}`]), 10, "net");
+    marks(this.requests.map(({ at, texts }) => [this.x(at), texts.join(" ").slice(0, 6)]), 25, "accent");
     this.path(pen, this.points, ink("ink"));
     if (this.stroke) this.path(pen, this.stroke, ink("accent"));
   }
@@ -110,14 +112,18 @@ function simplified(points, most) {
   return [...simplified(points.slice(0, place + 1), most), ...simplified(points.slice(place), most).slice(1)];
 }
 
-// A scenario in which the weights of a span of time are replaced by other lines.
-export function withDrawn(text, from, to, lines) {
+// A scenario in which the weights of a span of time are replaced by other lines, and a sentence that says what they replace; a slope goes on
+// after the span. Of a scenario with a mistake only the sentence.
+export function withDrawn(text, from, to, lines, unit) {
   let made;
-  try { made = readScenario(text); } catch { return text; }
-  const gone = new Set(made.segments.filter(segment => segment.from >= from && segment.to <= to).map(segment => segment.line));
-  const kept = text.replace(/\n*$/, "").split("\n").filter((_, at) => !gone.has(at + 1));
-  const later = made.segments.find(segment => segment.from > from && !gone.has(segment.line));
-  const place = later ? kept.indexOf(text.split("\n")[later.line - 1]) : kept.length;
-  kept.splice(place, 0, ...lines);
-  return kept.join("\n") + "\n";
+  try { made = readScenario(text); } catch (mistake) { return { said: `nothing is drawn: in ${mistake.message}` }; }
+  const rows = text.trim() ? text.replace(/\s*$/, "").split(/\r?\n/).map((row, at) => ({ row, line: at + 1 })) : [];
+  const gone = new Set(made.segments.filter(it => it.from === from || it.from > from && it.from < to).map(it => it.line));
+  const slope = slopeAt(made, to), isCut = slope && to > from;
+  const later = made.segments.find(it => it.from >= to && !gone.has(it.line)), kept = rows.filter(it => !gone.has(it.line));
+  const place = later ? kept.findIndex(it => it.line === later.line) : kept.length;
+  kept.splice(place, 0, ...[...lines, ...(isCut ? [restOf(slope, to, unit)] : [])].map(row => ({ row })));
+  const replaced = rows.filter(it => gone.has(it.line)).map(it => `\`${it.row.trim()}\``), where = from === to ? `at ${timeText(from)}` : `from ${timeText(from)} to ${timeText(to)}`;
+  const said = [`drawn ${where}`, replaced.length ? `in place of ${replaced.join(" and ")}` : "", slope ? `the slope of line ${slope.line} ${isCut ? "goes on after it" : "ends there"}` : ""];
+  return { text: kept.map(it => it.row).join("\n") + "\n", said: said.filter(Boolean).join(", ") };
 }

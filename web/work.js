@@ -1,5 +1,5 @@
 // What is written: the texts with their editors, what the program says of each while one types, and the log that comes of a scenario.
-import { $, element, button, settled } from "./elements.js";
+import { $, element, button, settled, weightText } from "./elements.js";
 import { Editor, MOST_SHOWN } from "./editor.js";
 import { PlateForm } from "./plate_view.js";
 import { readPlate } from "./plate.js";
@@ -12,20 +12,22 @@ const TABS = { program: "1 Program", plate: "2 Plate", scenario: "3 Scenario", l
 const MODES = { program: "il", next: "il", plate: "plate", scenario: "scenario", log: "log" };
 const KEPT = "narbeddo texts";
 const INSERTED = {
-  "+ step": "at 1 s weight 1 UNIT", "+ slope": "from 1 to 3 s weight from 0 to 1 UNIT", "+ button": "from 1 to 1.3 s input 0 on", "+ input on": "at 1 s input 0 on",
+  "+ step": "at 1 s weight WEIGHT", "+ slope": "from 1 to 3 s weight from 0 to WEIGHT", "+ button": "from 1 to 1.3 s input 0 on", "+ input on": "at 1 s input 0 on",
   "+ request": "at 1 s request W", "+ end": "until 10 s",
 };
+// a tenth of Max in whole intervals
+const tenthOf = ({ max, e, decimals, unit }) => `${weightText(Math.max(1, Math.round(max / e / 10)) * e, decimals)} ${unit}`;
 
 export class Work {
-  // changed(): a text was changed, and has been checked; explain(number): the page of a refusal
-  constructor({ caller, changed, explain, opened }) {
-    Object.assign(this, { caller, changed, explain, opened });
-    this.accepted = {};
+  // changed(): a text was changed, and has been checked; explain(number): the page of a refusal; say(..): tells the user
+  constructor({ caller, changed, explain, say }) {
+    Object.assign(this, { caller, changed, explain, say, accepted: {}, saved: {} });
     this.buildTabs();
     this.editors = Object.fromEntries(Object.entries(MODES).map(([name, mode]) =>
       [name, new Editor($(`editor_${name}`), mode, TABS[name].replace(/^\d /, ""), () => this.typed(name))]));
-    this.plate = new PlateForm($("plate_form"), $("plate_hint"), text => { this.editors.plate.text = text; this.typed("plate"); });
-    this.sketch = new Sketch($("sketch"), (from, to, lines) => { this.editors.scenario.text = withDrawn(this.text("scenario"), from, to, lines); this.typed("scenario"); });
+    this.plate = new PlateForm($("plate_form"), $("plate_hint"), text => this.editors.plate.change(text));
+    this.sketch = new Sketch($("sketch"), (...drawn) => this.drawn(...drawn));
+    $("sketch").addEventListener("keydown", event => { if (event.ctrlKey && event.key === "z") { event.preventDefault(); this.editors.scenario.undo(); } });
     this.buildTools();
     for (const id of ["by_scenario", "by_log"]) $(id).addEventListener("change", () => this.typed("source"));
     this.checkSoon = settled(() => this.check(), 250);
@@ -45,12 +47,18 @@ export class Work {
 
   buildTools() {
     const tools = Object.entries(INSERTED).map(([label, line]) => button(label, () => {
-      const unit = readPlate(this.text("plate"))?.unit ?? "kg", text = this.text("scenario").replace(/\n*$/, "\n");
-      this.editors.scenario.text = text.replace(/^\n$/, "") + line.replace("UNIT", unit) + "\n";
-      this.typed("scenario");
+      const plate = readPlate(this.text("plate")), text = this.text("scenario").replace(/\s*$/, "\n");
+      this.editors.scenario.change(text.replace(/^\n$/, "") + line.replace("WEIGHT", plate ? tenthOf(plate) : "1 kg") + "\n");
       this.editors.scenario.goTo(this.text("scenario").split("\n").length - 1);
     }, { className: "small" }));
     $("sketch_tools").replaceChildren(...tools, element("span", { className: "hint" }, "or drag on the picture to draw the weight"));
+  }
+
+  // What is drawn takes the place of the weights that it covers.
+  drawn(from, to, lines) {
+    const { text, said } = withDrawn(this.text("scenario"), from, to, lines, this.sketch.plate.unit);
+    if (text) this.editors.scenario.change(text);
+    this.say(said, ...(text ? [" ", button("undo", () => { this.editors.scenario.undo(); this.say("it is as it was"); }, { className: "small" })] : []));
   }
 
   open(name) {
@@ -68,28 +76,33 @@ export class Work {
   get isByScenario() { return $("by_scenario").checked; }
   get texts() { return Object.fromEntries(Object.keys(MODES).map(name => [name, this.text(name)])); }
 
-  // takes texts; those that are not named stay, or become empty if `isWhole`
+  // names of the texts that are in no file and no example as they are
+  get unsaved() { return Object.keys(MODES).filter(name => this.text(name).trim() && this.text(name) !== this.saved[name] && !(name === "log" && (this.isByScenario || this.text(name) === this.made))); }
+  get state() { return { ...this.texts, isByScenario: this.isByScenario, unsaved: this.unsaved }; }
+
+  // Takes texts; those that are not named stay, or become empty if `isWhole`. They are in files, but for the names in `texts.unsaved`.
   take(texts, isWhole = false) {
     for (const name of Object.keys(MODES)) {
-      if (texts[name] !== undefined) this.editors[name].text = texts[name];
-      else if (isWhole) this.editors[name].text = "";
+      if (texts[name] === undefined && !isWhole) continue;
+      this.editors[name].text = texts[name] ?? "";
+      this.saved[name] = texts.unsaved?.includes(name) ? null : this.text(name);
     }
     if (texts.scenario !== undefined) $("by_scenario").checked = true;
     else if (texts.log !== undefined) $("by_log").checked = true;
     if (texts.isByScenario !== undefined) $(texts.isByScenario ? "by_scenario" : "by_log").checked = true;
-    this.isTaken = true;
     return this.check();
   }
 
   typed(name) {
-    if (name === "log") $("by_log").checked = true;
-    if (name === "scenario") $("by_scenario").checked = true;
+    if (name === "log" || name === "scenario") $(`by_${name}`).checked = true;
+    // at once: what is typed before the texts are checked would be lost
+    this.editors.log.isReadOnly = this.isByScenario;
     this.checkSoon();
   }
 
   keep() {
-    const { log, ...others } = this.texts;
-    try { localStorage.setItem(KEPT, JSON.stringify({ ...others, ...(this.isByScenario ? {} : { log }), isByScenario: this.isByScenario })); } catch { /* too long, or the browser keeps nothing */ }
+    const { log, ...others } = this.state;
+    try { localStorage.setItem(KEPT, JSON.stringify(this.isByScenario ? others : { ...others, log })); } catch { /* too long, or the browser keeps nothing */ }
   }
 
   kept() {
@@ -160,7 +173,7 @@ export class Work {
     if (this.isByScenario) {
       try {
         if (!plate) throw new Mistake(0, "the plate's values cannot be read: write them as seven lines of key = value");
-        this.editors.log.text = makeLog(text, plate);
+        this.takeMade(makeLog(text, plate));
       } catch (error) {
         if (!(error instanceof Mistake)) throw error;
         mistake = { line: error.line || undefined, column: error.line ? 1 : undefined, endColumn: 200, sentence: error.sentence, isWarning: false };
@@ -171,6 +184,14 @@ export class Work {
     showMessages($("messages_scenario"), mistake ? [mistake] : [], { goTo: line => this.editors.scenario.goTo(line), where: it => it.line ? `line ${it.line}` : "" });
     this.editors.scenario.showMessages(mistake ? [mistake] : []);
     this.mark("scenario", !mistake);
+  }
+
+  // The log of the scenario takes the place of one that was typed, which can be had back.
+  takeMade(log) {
+    const own = this.text("log");
+    if (own.trim() && own !== log && own !== this.made && own !== this.saved.log)
+      this.say("the log that was typed has given way to that of the scenario ", button("bring it back", () => { this.take({ log: own, unsaved: ["log"] }); this.say("it is here again"); }, { className: "small" }));
+    this.editors.log.text = this.made = log;
   }
 
   // what keeps the texts from being run, or an empty text
