@@ -23,7 +23,7 @@ const EMPTY = {
 };
 const KEYS = [
   ["Ctrl+Enter", "runs what is written"], ["Tab", "leads on, also out of an editor"], ["Alt+1 … Alt+5", "program, plate, scenario, log, next program"],
-  ["/", "the search, outside of a text"], ["on the curves", ""], ["← →", "a scan back, on"], ["Page Up, Page Down", "a tenth of the view"], ["Home, End", "first, last scan"], ["+ − 0", "nearer, farther, all"],
+  ["/", "the search, outside of a text; scan 120 or 12.5 s there"], ["Ctrl+Z", "undoes, also what was drawn"], ["on the curves", ""], ["← →", "a scan back, on"], ["Page Up, Page Down", "a tenth of the view"], ["Home, End", "first, last scan"], ["+ − 0", "nearer, farther, all"],
 ];
 
 const say = (...parts) => $("said").replaceChildren(...parts);
@@ -159,7 +159,7 @@ class Page {
 
   async openFiles(files) {
     const { texts, said } = await readFiles(files), { trace, ...others } = texts, lost = this.lostBy(others), names = listed(lost.map(name => `the ${LONG_NAMES[name] ?? name}`));
-    const answer = lost.length ? await ask(`Not saved, and to be replaced: ${names}. ${said}.`, ["Keep mine", "Replace", "Cancel"]) : "Replace";
+    const answer = lost.length ? await ask(`What is written here is not saved, and would be replaced: ${names}. (${said})`, ["Keep mine", "Replace", "Cancel"]) : "Replace";
     if (answer === "" || answer === "Cancel") { say("nothing is opened"); return; }
     if (answer === "Keep mine") for (const name of [...lost, ...(lost.includes("log") ? ["scenario"] : [])]) delete others[name];
     await (Object.keys(others).length ? this.replace(others, said, false) : say(said));

@@ -97,8 +97,12 @@ export class Values {
     }
   }
 
-  // shows the row of a name
-  reveal(name) { reveal(this.place, this.cells.get(name)?.row); }
+  // shows the row or the lamp of a name
+  reveal(name) {
+    const { isBit, cell, row } = this.cells.get(name) ?? {};
+    if (isBit && !this.picked.has(name)) cell.click();
+    reveal(this.place, isBit ? cell : row);
+  }
 }
 
 // marks a row as what was searched for, and scrolls its list to it

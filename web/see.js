@@ -51,8 +51,9 @@ export class See {
   show(run) {
     const ms = this.run?.count ? this.run.ms(this.at) : null;
     this.run = run;
+    $("found").textContent = "";
     showMessages($("run_messages"), shownMessages(run.messages), { explain: this.explain, goTo: line => this.goToLog(line), where: it => `${it.file ?? ""}${it.line ? ` line ${it.line}` : ""}` });
-    for (const id of ["plot_box", "cursor_row", "search", "search_hint", "scan_box", "compare_row"]) $(id).hidden = !run.count;
+    for (const id of ["plot_box", "cursor_row", "search", "search_hint", "scan_box", "compare_row", "compared"]) $(id).hidden = !run.count;
     if (!run.count) return;
     $("drop_before").hidden = $("next_difference").hidden = $("of_before").hidden = !this.before;
     this.curves.isComparable = this.isSamePlate;

@@ -132,7 +132,7 @@ def search_faults(page, folder):
         if "found at" not in page.text("found"):
             yield f"{text} finds nothing: {page.text('found')}"
         hit = page.script("const row = document.querySelector('.hit'); if (!row) return null; const box = row.closest('.pane').getBoundingClientRect(), its = row.getBoundingClientRect(); return its.top >= box.top - 1 && its.bottom <= box.bottom + 1 && its.bottom > 0 && its.top < innerHeight")
-        if not hit and not text.startswith("%Q"):
+        if not hit:
             yield f"the hit of {text} is not in view"
     page.go(0)
     page.find("“net”")
@@ -518,7 +518,7 @@ def tried(trial, page, folder, *more):
     try:
         yield from (f"{trial.__name__}: {fault}" for fault in trial(page, folder, *more))
     except (Fault, WebDriverException) as fault:
-        yield f"{trial.__name__}: {str(fault)[:500]}"
+        yield f"{trial.__name__}: {str(fault).partition(chr(10))[0][:500]}"
         page.load()
 
 
