@@ -16,7 +16,7 @@ const switched = (name, is) => STATES[name]?.[is ? 0 : 1] ?? `${name[1] === "I" 
 
 // What happened: requests and answers, what switched as the scans saw it, the change of the program; in order of time.
 function eventsOf(run) {
-  const events = run.host.map(({ ms, sent, answers, meanings }) => ({ ms, what: `the host sends ${shownText(sent)}`, more: answers.map((answer, at) => `${answer}: ${meanings[at]}`).join("; ") }));
+  const events = run.host.map(({ ms, sent, answers, meanings }) => ({ ms, what: `the host sends ${shownText(sent)}`, more: answers.map((answer, at) => `${answer} – ${meanings[at]}`).join("; ") }));
   const names = run.names.filter(name => (/^%(IX0|QX)/.test(name) || STATES[name]) && !(run.isFlat(name) && run.value(name, 0) === 0));
   for (let index = 0; index < run.count; index++)
     for (const name of names) {

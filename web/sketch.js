@@ -1,5 +1,5 @@
 // The picture of a scenario's weight, and drawing on it: what is drawn becomes lines of the scenario.
-import { timeText } from "./elements.js";
+import { timeText, listed } from "./elements.js";
 import { roundStep, roundTime, merged } from "./steps.js";
 import { readScenario, weightPoints, endOf, slopeAt, restOf } from "./scenario.js";
 
@@ -119,11 +119,12 @@ export function withDrawn(text, from, to, lines, unit) {
   try { made = readScenario(text); } catch (mistake) { return { said: `nothing is drawn: in ${mistake.message}` }; }
   const rows = text.trim() ? text.replace(/\s*$/, "").split(/\r?\n/).map((row, at) => ({ row, line: at + 1 })) : [];
   const gone = new Set(made.segments.filter(it => it.from === from || it.from > from && it.from < to).map(it => it.line));
-  const slope = slopeAt(made, to), isCut = slope && to > from;
-  const later = made.segments.find(it => it.from >= to && !gone.has(it.line)), kept = rows.filter(it => !gone.has(it.line));
-  const place = later ? kept.findIndex(it => it.line === later.line) : kept.length;
-  kept.splice(place, 0, ...[...lines, ...(isCut ? [restOf(slope, to, unit)] : [])].map(row => ({ row })));
+  const cut = slopeAt(made, from), slope = to > from ? slopeAt(made, to) : null;
+  const kept = rows.filter(it => !gone.has(it.line)), next = Math.min(...gone, ...made.segments.filter(it => it.from >= to).map(it => it.line));
+  const place = kept.findIndex(it => it.line >= next), at = place < 0 ? kept.length : place;
+  kept.splice(at, 0, ...[...lines, ...(slope ? [restOf(slope, to, unit)] : [])].map(row => ({ row })));
   const replaced = rows.filter(it => gone.has(it.line)).map(it => `\`${it.row.trim()}\``), where = from === to ? `at ${timeText(from)}` : `from ${timeText(from)} to ${timeText(to)}`;
-  const said = [`drawn ${where}`, replaced.length ? `in place of ${replaced.join(" and ")}` : "", slope ? `the slope of line ${slope.line} ${isCut ? "goes on after it" : "ends there"}` : ""];
+  const said = [`drawn ${where}`, replaced.length ? `in place of ${listed(replaced)}` : "",
+    slope ? `the slope of line ${slope.line} goes on after it` : "", cut && cut.line !== slope?.line ? `the slope of line ${cut.line} ends at ${timeText(from)}` : ""];
   return { text: kept.map(it => it.row).join("\n") + "\n", said: said.filter(Boolean).join(", ") };
 }

@@ -129,13 +129,13 @@ def meaning_faults(page, folder):
     page.choose("weighbridge")
     at_files(folder, {"report.txt": page.asked(TOP / "examples" / "weighbridge", "run", "--plate", "plate.toml", "--program", "program.il", "--log", "log.csv").stdout})
     decoded = [re.sub(r"^L \d+ +", "", line) for line in page.asked(folder, "decode", input=(folder / "report.txt").read_text()).stdout.splitlines() if line.startswith("L ")]
-    meanings = ["zero is set; a weight at rest", "the tare is not set: the weight is in motion", "the tare is set; a weight at rest", "a weight at rest", "the value of the tare", "no valid weight: over", "the tare is cleared; no valid weight: over"]
+    meanings = ["zero is set; a weight at rest", "the tare is not set: the weight is in motion", "the tare is set; a weight at rest", "a weight at rest", "the value of the tare", "no valid weight: the load is above the range", "the tare is cleared; no valid weight: the load is above the range"]
     saved = (page.saves(folder, "report_in_words.txt") or b"").decode()
     page.until(lambda: "Identity" in page.script("return document.getElementById('paper').textContent"), "nothing is made for paper")
     time.sleep(1)
     paper = page.script("return document.getElementById('paper').textContent")
     for answer, meaning in zip(decoded, meanings, strict=True):
-        for where, text, parts in (("the list", " ".join(page.text("host").split()), (answer, meaning)), ("the report", saved, (f"{answer}: {meaning}",)), ("the paper", paper, (f"{answer}: {meaning}",))):
+        for where, text, parts in (("the list", " ".join(page.text("host").split()), (answer, meaning)), ("the report", saved, (f"{answer} – {meaning}",)), ("the paper", paper, (f"{answer} – {meaning}",))):
             yield from (f"{where} does not say {part!r}" for part in parts if part not in text)
     for part in ("Program Weighbridge on a scale of 60000 kg in steps of 20 kg; weights in kg", "output %QX0.0 switches on", "a tare is active", "the scale is over its range"):
         yield from (f"{where} does not say {part!r}" for where, text in (("the report", saved), ("the paper", paper)) if part not in text)
