@@ -184,7 +184,7 @@ function amountText(weight, unit) {
   return `${weight < 0n ? "-" : ""}${digits.slice(0, -9)}.${digits.slice(-9)}`.replace(/\.?0+$/, "");
 }
 
-// The slope that is under way at a moment; none if the weight holds there, or is set anew.
+// The slope that is under way at a moment; none if the weight holds there, or another begins.
 export function slopeAt(made, at) {
   const segment = inTime(made.segments).findLast(it => it.from <= at);
   return segment && segment.from < at && segment.to > at ? segment : null;

@@ -19,7 +19,7 @@ const INSERTED = {
 const tenthOf = ({ max, e, decimals, unit }) => `${weightText(Math.max(1, Math.round(max / e / 10)) * e, decimals)} ${unit}`;
 
 export class Work {
-  // changed(): a text was changed, and has been checked; explain(number): the page of a refusal; say(..): tells the user
+  // changed(): a text was changed, and has been checked; explain(number): the page of a refusal; say(..): a sentence for the user
   constructor({ caller, changed, explain, say }) {
     Object.assign(this, { caller, changed, explain, say, accepted: {}, saved: {} });
     this.buildTabs();

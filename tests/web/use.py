@@ -6,7 +6,7 @@ import time
 
 from harness import HEADING, PLATE, TOP, call, scratch, script
 
-from . import finding, writing
+from . import search, writing
 from .page import Fault, Page, at_files, browser, missing, run_words  # noqa: F401
 from .pictures import take
 
@@ -107,43 +107,6 @@ def example_faults(page, folder, name):
     for line in decoded.splitlines():
         if re.sub(r"^L \d+ +", "", line) not in page.text("host"):
             yield f"{name}: the answer {line!r} is not shown"
-
-
-def search_faults(page, folder):
-    """The search by name, by a comparison, by a line, by an answer; the hit is in view, and the cursor is there."""
-    page.choose("filling")
-    at_files(folder, {"program.il": page.written("program"), "plate.toml": page.written("plate"), "log.csv": page.written("log")})
-    scans = [dict(word.split("=", 1) for word in line.split()[2:]) | {"ms": int(line.split()[1])} for line in
-             page.asked(folder, "run", *run_words(folder), "--watch", "fills.count,settling.Q,settling.ET,%ID1").stdout.splitlines() if line.startswith("V ")]
-
-    def first(is_so, back=False):
-        return next(index + 1 for index in (range(len(scans) - 1, 0, -1) if back else range(1, len(scans))) if is_so(scans[index], scans[index - 1]))
-
-    tries = [
-        ("fills.count", first(lambda now, past: now["fills.count"] != past["fills.count"])), ("SETTLING.q", first(lambda now, past: now["settling.Q"] != past["settling.Q"])),
-        ("settling.ET >= T#500ms", first(lambda now, past: int(now["settling.ET"][2:-2]) >= 500 > int(past["settling.ET"][2:-2]))),
-        ("net > 900", first(lambda now, past: int(now["%ID1"]) > 900 >= int(past["%ID1"]))), ("%QX0.0 = TRUE", None), ("22", 2),
-    ]
-    for text, number in tries:
-        page.go(0)
-        where = page.find(text)
-        if number and f"scan {number} at " not in where:
-            yield f"{text} finds {where}, and not scan {number}: {page.text('found')}"
-        if "found at" not in page.text("found"):
-            yield f"{text} finds nothing: {page.text('found')}"
-        hit = page.script("const row = document.querySelector('.hit'); if (!row) return null; const box = row.closest('.pane').getBoundingClientRect(), its = row.getBoundingClientRect(); return its.top >= box.top - 1 && its.bottom <= box.bottom + 1 && its.bottom > 0 && its.top < innerHeight")
-        if not hit:
-            yield f"the hit of {text} is not in view"
-    page.go(0)
-    page.find("“net”")
-    if "found at" not in page.text("found") or not page.script("return document.querySelector('#host .hit')"):
-        yield f"an answer is not found: {page.text('found')}"
-    if "no such" not in page.find("such") and "no such" not in page.text("found"):
-        yield f"an unknown name: {page.text('found')!r}"
-    page.go(10**6)
-    page.find("fills.count", back=True)
-    if f"scan {first(lambda now, past: now['fills.count'] != past['fills.count'], back=True)} at " not in page.text("where"):
-        yield f"the search back finds {page.text('where')}"
 
 
 def scenario_faults(page, folder):
@@ -508,7 +471,7 @@ def lacking_faults(page, folder):
 
 
 TRIALS = (
-    start_faults, check_faults, bound_faults, search_faults, *finding.TRIALS, scenario_faults, plate_faults, files_faults, *writing.TRIALS, trace_faults, compare_faults, walk_faults, drop_faults, keys_faults, names_faults,
+    start_faults, check_faults, bound_faults, *search.TRIALS, scenario_faults, plate_faults, files_faults, *writing.TRIALS, trace_faults, compare_faults, walk_faults, drop_faults, keys_faults, names_faults,
     narrow_faults, kept_faults, paper_faults, long_faults, hostile_faults, network_faults, lacking_faults,
 )
 

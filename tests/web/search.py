@@ -48,6 +48,43 @@ def number_of(scans, is_so):
     return next(at + 1 for at in range(1, len(scans)) if is_so(scans[at]) and not is_so(scans[at - 1]))
 
 
+def search_faults(page, folder):
+    """The search by name, by a comparison, by a line, by an answer; the hit is in view, and the cursor is there."""
+    page.choose("filling")
+    at_files(folder, {"program.il": page.written("program"), "plate.toml": page.written("plate"), "log.csv": page.written("log")})
+    scans = [dict(word.split("=", 1) for word in line.split()[2:]) | {"ms": int(line.split()[1])} for line in
+             page.asked(folder, "run", *run_words(folder), "--watch", "fills.count,settling.Q,settling.ET,%ID1").stdout.splitlines() if line.startswith("V ")]
+
+    def first(is_so, back=False):
+        return next(index + 1 for index in (range(len(scans) - 1, 0, -1) if back else range(1, len(scans))) if is_so(scans[index], scans[index - 1]))
+
+    tries = [
+        ("fills.count", first(lambda now, past: now["fills.count"] != past["fills.count"])), ("SETTLING.q", first(lambda now, past: now["settling.Q"] != past["settling.Q"])),
+        ("settling.ET >= T#500ms", first(lambda now, past: int(now["settling.ET"][2:-2]) >= 500 > int(past["settling.ET"][2:-2]))),
+        ("net > 900", first(lambda now, past: int(now["%ID1"]) > 900 >= int(past["%ID1"]))), ("%QX0.0 = TRUE", None), ("22", 2),
+    ]
+    for text, number in tries:
+        page.go(0)
+        where = page.find(text)
+        if number and f"scan {number} at " not in where:
+            yield f"{text} finds {where}, and not scan {number}: {page.text('found')}"
+        if "found at" not in page.text("found"):
+            yield f"{text} finds nothing: {page.text('found')}"
+        hit = page.script("const row = document.querySelector('.hit'); if (!row) return null; const box = row.closest('.pane').getBoundingClientRect(), its = row.getBoundingClientRect(); return its.top >= box.top - 1 && its.bottom <= box.bottom + 1 && its.bottom > 0 && its.top < innerHeight")
+        if not hit:
+            yield f"the hit of {text} is not in view"
+    page.go(0)
+    page.find("“net”")
+    if "found at" not in page.text("found") or not page.script("return document.querySelector('#host .hit')"):
+        yield f"an answer is not found: {page.text('found')}"
+    if "no such" not in page.find("such") and "no such" not in page.text("found"):
+        yield f"an unknown name: {page.text('found')!r}"
+    page.go(10**6)
+    page.find("fills.count", back=True)
+    if f"scan {first(lambda now, past: now['fills.count'] != past['fills.count'], back=True)} at " not in page.text("where"):
+        yield f"the search back finds {page.text('where')}"
+
+
 def unit_faults(page, folder):
     """Weights with a unit, addresses, captions, times and numbers of scans lead where the program has them."""
     page.choose("filling")
@@ -93,7 +130,7 @@ def lamp_faults(page, folder):
             yield f"the next change of {name} is at {page.text('where')}, and not in scan {number}"
     page.press(Keys.TAB, Keys.SPACE)
     if "%IX1.4" not in [it[0] for it in drawn(page, "plot", 600)]:
-        yield "the box behind the jumps gives a lamp no lane"
+        yield "the box after the jumps gives a lamp no lane"
     page.press(Keys.SPACE)
     lamp("%QX0.0").click()
     page.press(Keys.ARROW_RIGHT, Keys.ARROW_RIGHT)
@@ -108,7 +145,7 @@ def lamp_faults(page, folder):
 
 
 def kept_run_faults(page, folder):
-    """A run that is kept stays so when an example is chosen, until its user lets go."""
+    """A run that is kept stays so when an example is chosen, until it is forgotten."""
     page.choose("filling")
     page.one("keep_before").click()
     page.choose("checkweigher")
@@ -121,7 +158,7 @@ def kept_run_faults(page, folder):
         yield "weights of another unit are drawn on the axis"
     page.one("drop_before").click()
     if page.text("compared"):
-        yield f"the run before is not let go: {page.text('compared')!r}"
+        yield f"the run before is not forgotten: {page.text('compared')!r}"
 
 
 def meaning_faults(page, folder):
@@ -141,7 +178,7 @@ def meaning_faults(page, folder):
         yield from (f"{where} does not say {part!r}" for where, text in (("the report", saved), ("the paper", paper)) if part not in text)
 
 
-def room_faults(page, folder):
+def overlap_faults(page, folder):
     """Boxes of menus are within the window; texts of pictures and signs at the margin do not lie over one another; nothing jumps while one types."""
     for width in (1400, 900, 420):
         page.driver.execute_cdp_cmd("Emulation.setDeviceMetricsOverride", {"width": width, "height": 900, "deviceScaleFactor": 1, "mobile": False})
@@ -172,4 +209,4 @@ def room_faults(page, folder):
         yield f"{messages} messages have the signs {signs}"
 
 
-TRIALS = (unit_faults, lamp_faults, kept_run_faults, meaning_faults, room_faults)
+TRIALS = (search_faults, unit_faults, lamp_faults, kept_run_faults, meaning_faults, overlap_faults)
