@@ -4,20 +4,20 @@ import { isTrace } from "./trace_file.js";
 import { PLATE_KEYS } from "./plate.js";
 
 const SCENARIO = /^\s*(?:#[^\n]*\n\s*)*(?:samples|scans|noise|until|at|from)\s/;
-const KEY_LINE = new RegExp(`^\\s*"?(?:${PLATE_KEYS.join("|")})"?\\s*=`, "m");
-// a unit or a section at the beginning of a line, or a first line that has an operator
-const UNIT_LINE = /^[ \t]*(?:PROGRAM|FUNCTION|FUNCTION_BLOCK|VAR(?:_\w+)?)\b/im, FIRST_LINE = /^(?:\s|\(\*[^]*?\*\))*(?:\w+\s*:\s*)?(?:LDN?|CAL|JMP)[ \t]+\S/;
+const KEY_LINE = new RegExp(`^\\s*"?(${PLATE_KEYS.join("|")})"?\\s*=`, "gm");
+// a unit or a section; a text that begins with one, or with an operator, after its comments
+const UNIT = "(?:PROGRAM|FUNCTION|FUNCTION_BLOCK|VAR(?:_\\w+)?)\\b";
+const UNIT_LINE = new RegExp(`^[ \\t]*${UNIT}`, "im"), BEGINNING = new RegExp(`^(?:\\s|\\(\\*[^]*?\\*\\)|//.*|\\{[^}]*\\})*(?:${UNIT}|(?:\\w+\\s*:\\s*)?(?:LDN?|CAL|JMP)[ \\t]+\\S)`, "i");
 
 // What a file is: program, next, plate, scenario, log, trace or job; null if none of these.
 export function kindOf(name, text) {
-  const bare = name.toLowerCase();
+  const bare = name.toLowerCase(), isPlain = /(?:^[^.]*|\.txt)$/.test(bare);
   if (isTrace(text)) return "trace";
   if (/^@plate\r?\n/.test(text)) return "job";
   if (/^"?ms"?,"?kind"?,/.test(text)) return "log";
-  const isMarkup = /^\s*</.test(text), isProgram = /\.il$/.test(bare) || !isMarkup && (UNIT_LINE.test(text) || FIRST_LINE.test(text));
-  if (isProgram) return /^next|[._-]next\b/.test(bare) ? "next" : "program";
-  if (isMarkup) return null;
-  if (KEY_LINE.test(text)) return "plate";
+  if (/\.(?:il|awl|st|exp)$/.test(bare) || BEGINNING.test(text) || isPlain && UNIT_LINE.test(text)) return /^next|[._-]next\b/.test(bare) ? "next" : "program";
+  const keys = new Set([...text.matchAll(KEY_LINE)].map(found => found[1])).size;
+  if (isPlain && keys > 2 || keys && /\.toml$/.test(bare)) return "plate";
   return /scenario/.test(bare) || SCENARIO.test(text) ? "scenario" : null;
 }
 

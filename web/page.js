@@ -106,7 +106,7 @@ class Page {
   // The log; it is none of the scenario that is written if that has a mistake.
   log() {
     this.work.showScenario();
-    if (this.work.isByScenario && !this.work.accepted.scenario) throw "the scenario has a mistake, so there is no log of it";
+    if (this.work.mistake) throw `the scenario makes no log: ${this.work.mistake}`;
     return this.work.text("log");
   }
 

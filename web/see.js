@@ -27,7 +27,7 @@ export class See {
   listen() {
     $("search").addEventListener("submit", event => { event.preventDefault(); this.search($("what").value, 1); });
     $("find_before").onclick = () => this.search($("what").value, -1);
-    $("keep_before").onclick = () => { this.before = this.run; this.show(this.run); $("drop_before").focus(); };
+    $("keep_before").onclick = () => { this.before = this.run; this.show(this.run); };
     $("drop_before").onclick = () => { this.before = null; this.show(this.run); $("keep_before").focus(); };
     $("lines_before").onchange = () => this.showLines();
     $("next_difference").onclick = () => this.nextDifference();

@@ -181,6 +181,7 @@ export class Work {
     }
     if (this.editors.log.isCut) $("log_hint").textContent += ` It has ${this.text("log").split("\n").length - 1} lines: the first ${MOST_SHOWN} are shown, and it is too long to be edited here.`;
     this.accepted.scenario = !mistake;
+    this.mistake = mistake && (mistake.line ? `line ${mistake.line}: ` : "") + mistake.sentence;
     showMessages($("messages_scenario"), mistake ? [mistake] : [], { goTo: line => this.editors.scenario.goTo(line), where: it => it.line ? `line ${it.line}` : "" });
     this.editors.scenario.showMessages(mistake ? [mistake] : []);
     this.mark("scenario", !mistake);

@@ -85,7 +85,7 @@ def saved_faults(page, folder):
     if "the scenario is refused: below is the run of the texts before" not in page.text("stale") or not page.script("return document.body.classList.contains('stale')"):
         yield f"a scenario with a mistake does not mark the run: {page.text('stale')!r}"
     for name in ("log.csv", "job.txt"):
-        if page.saves(folder, name) is not None or "the scenario has a mistake" not in page.text("said"):
+        if page.saves(folder, name) is not None or "the scenario makes no log: line 4" not in page.text("said"):
             yield f"{name} of a scenario with a mistake: {page.text('said')!r}"
     if page.saves(folder, "picture.svg") is None or "of the texts before" not in page.text("said"):
         yield f"the picture of a run before: {page.text('said')!r}"
