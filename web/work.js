@@ -58,7 +58,7 @@ export class Work {
   drawn(from, to, lines) {
     const { text, said } = withDrawn(this.text("scenario"), from, to, lines, this.sketch.plate.unit);
     if (text) this.editors.scenario.change(text);
-    this.say(said, ...(text ? [" ", button("undo", () => { this.editors.scenario.undo(); this.say("it is as it was"); }, { className: "small" })] : []));
+    this.say(said, ...(text ? [" ", button("undo", () => { this.editors.scenario.undo(); this.say("undone"); }, { className: "small" })] : []));
   }
 
   open(name) {
