@@ -12,7 +12,7 @@ const TIME_UNITS = { MS: 1, S: 1000, MIN: 60000, M: 60000, H: 3600000, D: 864000
 
 // The milliseconds of a time as it is typed, `12.5 s` or `T#1m30s`; null if it is none.
 export function timeOf(text) {
-  const typed = /^(?:T(?:IME)?#)?(-?)((?:\d+(?:\.\d+)?\s*(?:MS|MIN|S|M|H|D)\s*)+)$/.exec(text.trim().toUpperCase());
+  const typed = /^(?:T(?:IME)?#)?(-?)((?:\d+(?:\.\d+)?\s*(?:MS|MIN|S|M|H|D)\s*)+)$/.exec(text.trim().toUpperCase().replaceAll(",", "."));
   if (!typed) return null;
   const parts = [...typed[2].matchAll(/([\d.]+)\s*([A-Z]+)/g)].map(([, number, unit]) => Math.round(Number(number) * TIME_UNITS[unit] * 1000) / 1000);
   return parts.reduce((sum, part) => sum + part, 0) * (typed[1] ? -1 : 1);
@@ -54,7 +54,7 @@ function valueOf(run, name, typed) {
 
 // A weight in units of the plate's last decimal.
 function weightOf(run, typed) {
-  const found = /^([+-]?)(\d{1,12}(?:\.\d{1,9})?)\s*([A-Za-z]*)$/.exec(typed), { plate } = run;
+  const found = /^([+-]?)(\d{1,12}(?:\.\d{1,9})?)\s*([A-Za-z]*)$/.exec(typed.replace(",", ".")), { plate } = run;
   if (!plate) return "the values of the plate cannot be read, so no unit can be";
   const unit = found?.[3].toLowerCase() || plate.unit;
   if (!found || !MASS[unit]) return `${typed} is no weight: write a number with ${listed(Object.keys(MASS)).replace("and", "or")}, as ${run.weight(plate.e)}`;

@@ -93,7 +93,7 @@ def unit_faults(page, folder):
     on = lambda name: number_of(scans, lambda it: it[name] == "TRUE")
     late = next(at for at, it in enumerate(scans) if it["ms"] > 2500)
     tries = {
-        "net > 0.9 kg": heavy("%ID1", 900), "gross > 1 kg": heavy("%ID0", 1000), "%ID1 > 900": heavy("%ID1", 900), "id0 > 0.0005 t": heavy("%ID0", 500), "net > 900 g": heavy("%ID1", 900),
+        "net > 0.9 kg": heavy("%ID1", 900), "gross > 1 kg": heavy("%ID0", 1000), "%ID1 > 900": heavy("%ID1", 900), "id0 > 0.0005 t": heavy("%ID0", 500), "net > 900 g": heavy("%ID1", 900), "net > 0,9 kg": heavy("%ID1", 900),
         "tare active": on("%IX1.4"), "QX0.1": on("%QX0.1"), "%q0.1 = true": on("%QX0.1"), "settling.ET >= 0.5 s": number_of(scans, lambda it: int(it["settling.ET"][2:-2]) >= 500),
         "scan 77": 77, "2.5 s": late, "2500 ms": late, "T#2s500ms": late,
     }
