@@ -48,7 +48,7 @@ export class Work {
   buildTools() {
     const tools = Object.entries(INSERTED).map(([label, line]) => button(label, () => {
       const plate = readPlate(this.text("plate")), text = this.text("scenario").replace(/\s*$/, "\n");
-      this.editors.scenario.change(text.replace(/^\n$/, "") + line.replace("WEIGHT", plate ? tenthOf(plate) : "1 kg") + "\n");
+      this.editors.scenario.change(text.replace(/^\n$/, "") + line.replace("WEIGHT", plate && this.accepted.plate ? tenthOf(plate) : "1 kg") + "\n");
       this.editors.scenario.goTo(this.text("scenario").split("\n").length - 1);
     }, { className: "small" }));
     $("sketch_tools").replaceChildren(...tools, element("span", { className: "hint" }, "or drag on the picture to draw the weight"));
