@@ -17,15 +17,15 @@ export class Values {
     Object.assign(this, { run, before, lanes: new Set(lanes) });
     const numbered = (letter, count) => Array.from({ length: count }, (_, bit) => [`%${letter}X0.${bit}`, `${letter}X0.${bit}`]);
     this.place.replaceChildren(
-      element("h2", {}, "Indicator"), this.table(["gross", "net", "tare"]), this.lamps(...STATUS_NAMES.map((label, bit) => [`%IX1.${bit}`, label])),
-      element("h2", {}, "Inputs"), this.lamps(...numbered("I", 16)), element("h2", {}, "Outputs"), this.lamps(...numbered("Q", 16)), this.table(["%QD0", "%QD1", "%QD2", "%QD3"]),
+      element("h2", {}, "Indicator"), this.table(["gross", "net", "tare"]), this.lamps("status", ...STATUS_NAMES.map((label, bit) => [`%IX1.${bit}`, label])),
+      element("h2", {}, "Inputs"), this.lamps("inputs", ...numbered("I", 16)), element("h2", {}, "Outputs"), this.lamps("outputs", ...numbered("Q", 16)), this.table(["%QD0", "%QD1", "%QD2", "%QD3"]),
       ...(run.variables.length ? [element("h2", {}, "Variables"), this.table(run.variables.map(it => it.name))] : []),
       ...(run.leftOut ? [element("p", { className: "note" }, `${run.leftOut} more variables are not shown: the run has too many scans for all`)] : []));
   }
 
   // Lamps; the one that was picked has its jumps and its lane below them. Arrows lead from one to the next.
-  lamps(...names) {
-    const tools = element("div", { className: "row" }), group = element("div", { className: "bits", role: "group", "aria-label": "lamps" });
+  lamps(what, ...names) {
+    const tools = element("div", { className: "row" }), group = element("div", { className: "bits", role: "group", "aria-label": what });
     const pick = (name, label) => {
       for (const [other] of names) {
         const { cell } = this.cells.get(other);
