@@ -8,6 +8,8 @@ pub struct Entry {
     pub pass: &'static str,
     /// What is wrong.
     pub sentence: &'static str,
+    /// What is wrong, said of a slice of text that is quoted before it; empty if nothing is quoted.
+    pub quoted: &'static str,
     /// What its place is.
     pub place: &'static str,
     /// A smallest input, in which ` / ` ends a line.
@@ -22,13 +24,15 @@ pub struct Entry {
 
 /// The entry of a number among these, if there is one: a number without a row has no entry.
 macro_rules! entry_among {
-    ($among:expr; $($number:literal $pass:literal: $sentence:literal at $place:literal, $input:literal => $answer:literal, help $hint:literal
+    ($among:expr; $($number:literal $pass:literal: $sentence:literal $(quoted $quoted:literal)?
+        at $place:literal, $input:literal => $answer:literal, help $hint:literal
         $(, wrong $($wrong:literal)* why $why:literal rule $section:literal mended $($mended:literal)*)?;)*) => {
         Some(match $among {
             $($number => &Entry {
                 number: $number,
                 pass: $pass,
                 sentence: $sentence,
+                quoted: concat!($($quoted)?),
                 place: $place,
                 input: $input,
                 answer: $answer,
@@ -67,7 +71,7 @@ fn token_entry(number: u16) -> Option<&'static Entry>
 {
     entry_among! {
         number;
-        101 "tokens": "a byte is not allowed here"
+        101 "tokens": "a byte is not allowed here" quoted "is not allowed here"
             at "the line of the byte", "!" => 1,
             help "outside comments only letters, digits, spaces and the punctuation of the language are allowed; a comment is (* .. *)",
             wrong "PROGRAM P" "LD %IX0.0 // start" "ST %QX0.0" "END_PROGRAM"
@@ -83,19 +87,19 @@ fn token_entry(number: u16) -> Option<&'static Entry>
             wrong "PROGRAM P" "(* LD %IX0.1 (* stop *) *)" "LD %IX0.0" "ST %QX0.0" "END_PROGRAM"
             why "the first *) would end the outer comment too, and what follows it would be executed" rule "2.1"
             mended "PROGRAM P" "(* LD %IX0.1, stop *)" "LD %IX0.0" "ST %QX0.0" "END_PROGRAM";
-        104 "tokens": "an identifier has two underscores in a row, one at its end, or more than 32 characters"
+        104 "tokens": "an identifier has two underscores in a row, one at its end, or more than 32 characters" quoted "has more than 32 characters"
             at "the line of the token", "_" => 1,
             help "an identifier has at most 32 letters, digits and single underscores, and no underscore at its end",
             wrong "PROGRAM Bag__filling" "LD %IX0.0" "ST %QX0.0" "END_PROGRAM"
             why "one underscore and two look alike, and would be two names" rule "2.2"
             mended "PROGRAM Bag_filling" "LD %IX0.0" "ST %QX0.0" "END_PROGRAM";
-        105 "tokens": "a number is malformed or out of range"
+        105 "tokens": "a number is malformed or out of range" quoted "is not a number"
             at "the line of the token", "+" => 1,
             help "write an integer from -2147483648 to 2147483647, such as 12, -7 or 16#FF, or BOOL#0 or BOOL#1",
             wrong "PROGRAM P" "LD %ID1" "GE 1.5" "AND %IX1.5" "ST %QX0.0" "END_PROGRAM"
             why "numbers are integers: a weight is counted in units of its last decimal, so with 3 decimals 1.5 kg is 1500" rule "2.2"
             mended "PROGRAM P" "LD %ID1" "GE 1500" "AND %IX1.5" "ST %QX0.0" "END_PROGRAM";
-        106 "tokens": "a duration is malformed or out of range"
+        106 "tokens": "a duration is malformed or out of range" quoted "is not a valid duration, or is out of range"
             at "the line of the token", "T#" => 1,
             help "write days to milliseconds in order, such as T#1d2h3m4s5ms, or one with a point, such as T#1.5s",
             wrong "PROGRAM P" "VAR t : TON; END_VAR" "CAL t(IN := %IX0.0, PT := T#5, Q => %QX0.0)" "END_PROGRAM"
@@ -116,7 +120,7 @@ fn reading_entry(number: u16) -> Option<&'static Entry>
 {
     entry_among! {
         number;
-        201 "reader": "a token is unexpected"
+        201 "reader": "a token is unexpected" quoted "is unexpected here"
             at "the line of the first token with which the text can't go on", "x" => 1,
             help "an instruction is `label: OPERATOR operand`; `name : TYPE;` is declared between VAR and END_VAR",
             wrong "PROGRAM P" "LD %IX0.0;" "ST %QX0.0;" "END_PROGRAM"
@@ -144,7 +148,7 @@ fn reading_entry(number: u16) -> Option<&'static Entry>
             wrong "PROGRAM P" "LD %IX0.0" "AND( %IX0.1" "RETCN" ")" "ST %QX0.0" "END_PROGRAM"
             why "the operator waits for its `)`: who leaves the parenthesis would leave it undone" rule "3.1"
             mended "PROGRAM P" "LD %IX0.1" "RETCN" "AND %IX0.0" "ST %QX0.0" "END_PROGRAM";
-        206 "reader": "a parenthesis is not closed, or none is open"
+        206 "reader": "a parenthesis is not closed, or none is open" quoted "the parenthesis is not closed"
             at "the line of the ); the line of the innermost opening", "PROGRAM P)" => 1,
             help "write one ) on a line of its own for each ( that is open",
             wrong "PROGRAM P" "LD %IX0.0" "AND( %IX0.1" "OR %IX0.2" "ST %QX0.0" "END_PROGRAM"
@@ -156,7 +160,7 @@ fn reading_entry(number: u16) -> Option<&'static Entry>
             wrong "PROGRAM P" "LD %IX0.0" "AND( %IX0.1 (9 times)" ") (9 times)" "ST %QX0.0" "END_PROGRAM"
             why "each open parenthesis keeps a result until its `)`, and the machine has room for 8" rule "10"
             mended "PROGRAM P" "LD %IX0.0" "AND( %IX0.1 (8 times)" ") (8 times)" "ST %QX0.0" "END_PROGRAM";
-        208 "reader": "there are more than 64 units, or more than 1024 lines in a unit"
+        208 "reader": "there are more than 64 units, or more than 1024 lines in a unit" quoted "the unit has more than 1024 lines"
             at "the line of the unit's keyword, or of the line that is too many", "(64 times FUNCTION_BLOCK a END_FUNCTION_BLOCK, a line each, then PROGRAM)" => 65,
             help "split the body: a unit may have 1024 lines, a text 64 units",
             wrong "PROGRAM P" "LD %ID1 (1025 times)" "END_PROGRAM"
@@ -172,7 +176,7 @@ fn declaration_entry(number: u16) -> Option<&'static Entry>
 {
     entry_among! {
         number;
-        301 "tables": "a name is declared twice"
+        301 "tables": "a name is declared twice" quoted "is declared twice"
             at "the second name", "PROGRAM P / VAR a, a : BOOL; END_VAR / END_PROGRAM" => 2,
             help "choose another name; letter case makes no difference",
             wrong "PROGRAM P" "VAR Fill : BOOL; fill : TON; END_VAR" "CAL fill(IN := %IX0.0, PT := T#2s, Q => Fill)" "LD Fill" "ST %QX0.0"
@@ -180,44 +184,45 @@ fn declaration_entry(number: u16) -> Option<&'static Entry>
             why "letter case makes no difference, so both would have one name" rule "7.1"
             mended "PROGRAM P" "VAR full : BOOL; fill : TON; END_VAR" "CAL fill(IN := %IX0.0, PT := T#2s, Q => full)" "LD full" "ST %QX0.0"
             "END_PROGRAM";
-        302 "tables": "the type is unknown or is not allowed here"
+        302 "tables": "the type is unknown or is not allowed here" quoted "is not a type of this language"
             at "the type", "PROGRAM P / VAR a : b; END_VAR / END_PROGRAM" => 2,
             help "types are BOOL, DINT, TIME, and in VAR R_TRIG, SR, RS, CTU, TON, TOF, TP and the blocks above",
             wrong "PROGRAM P" "VAR n : INT; END_VAR" "LD n" "ADD 1" "ST n" "ST %QD0" "END_PROGRAM"
             why "nothing is converted, so there is one type for whole numbers, of 32 bits" rule "7.2"
             mended "PROGRAM P" "VAR n : DINT; END_VAR" "LD n" "ADD 1" "ST n" "ST %QD0" "END_PROGRAM";
-        303 "tables": "the initial value does not fit the type"
+        303 "tables": "the initial value does not fit the type" quoted "is not an initial value of this type"
             at "the literal", "PROGRAM P / VAR a : BOOL := 2; END_VAR / END_PROGRAM" => 2,
             help "a BOOL takes TRUE, FALSE, 0 or 1, a DINT an integer, a TIME a duration, such as T#500ms",
             wrong "PROGRAM P" "VAR t : TON; pause : TIME := 500; END_VAR" "CAL t(IN := %IX0.0, PT := pause, Q => %QX0.0)" "END_PROGRAM"
             why "nothing is converted, and a number has no unit" rule "7.2"
             mended "PROGRAM P" "VAR t : TON; pause : TIME := T#500ms; END_VAR" "CAL t(IN := %IX0.0, PT := pause, Q => %QX0.0)" "END_PROGRAM";
-        304 "tables": "there is no such address"
+        304 "tables": "there is no such address" quoted "is not an address of this machine"
             at "the address", "PROGRAM P / LD % / END_PROGRAM" => 2,
             help "the inputs are %IX0.0 to %IX0.15, %IX1.0 to %IX1.5 and %ID0 to %ID2, the outputs %QX0.0 to %QX0.15 and %QD0 to %QD3",
             wrong "PROGRAM P" "LD %IX0.0" "ST %MX0.0" "LD %MX0.0" "ST %QX0.0" "END_PROGRAM"
             why "addresses are those of the terminals and of the indicator; what a program keeps has a name" rule "7.3"
             mended "PROGRAM P" "VAR kept : BOOL; END_VAR" "LD %IX0.0" "ST kept" "LD kept" "ST %QX0.0" "END_PROGRAM";
-        305 "tables": "an address is not allowed in a function block"
+        305 "tables": "an address is not allowed in a function block" quoted "cannot be used in a function block"
             at "the address", "FUNCTION_BLOCK B / LD %IX0.0 / END_FUNCTION_BLOCK / PROGRAM P / END_PROGRAM" => 2,
             help "declare a VAR_INPUT or VAR_OUTPUT in the block, and pass the address in its CAL",
             wrong "FUNCTION_BLOCK Lamp" "LD %IX0.0" "ST %QX0.0" "END_FUNCTION_BLOCK" "PROGRAM P" "VAR l : Lamp; END_VAR" "CAL l" "END_PROGRAM"
             why "a block may have many instances, and all would read and write the same terminals" rule "7.3"
             mended "FUNCTION_BLOCK Lamp" "VAR_INPUT on : BOOL; END_VAR" "VAR_OUTPUT lit : BOOL; END_VAR" "LD on" "ST lit" "END_FUNCTION_BLOCK"
             "PROGRAM P" "VAR l : Lamp; END_VAR" "CAL l(on := %IX0.0, lit => %QX0.0)" "END_PROGRAM";
-        306 "tables": "a unit has more than 256 variables, or a frame more than 4096 places"
+        306 "tables": "a unit has more than 256 variables, or a frame more than 4096 places" quoted "makes a frame of more than 4096 places"
             at "the name that is too many", "(PROGRAM P, on line 2 a VAR section with 257 names of type BOOL, END_PROGRAM)" => 2,
             help "use fewer variables or instances: a unit may have 256 variables, a frame 4096 places",
             wrong "PROGRAM P" "VAR v1, v2, .., v257 : DINT; END_VAR" "END_PROGRAM"
             why "the machine has room for so many values" rule "7.4"
             mended "PROGRAM P" "VAR v1 : DINT; END_VAR" "LD v1" "ADD 1" "ST v1" "ST %QD0" "END_PROGRAM";
-        307 "tables": "the name is a reserved word"
+        307 "tables": "the name is a reserved word" quoted "is a reserved word"
             at "the name", "PROGRAM R / END_PROGRAM" => 1,
             help "choose another name: operators, keywords and types are reserved; letter case makes no difference",
             wrong "PROGRAM P" "VAR r : BOOL; END_VAR" "LD %IX0.0" "ST r" "LD r" "ST %QX0.0" "END_PROGRAM"
             why "R is an operator, in any letter case: a line that begins with it would have two meanings" rule "7.1"
             mended "PROGRAM P" "VAR ready : BOOL; END_VAR" "LD %IX0.0" "ST ready" "LD ready" "ST %QX0.0" "END_PROGRAM";
         308 "tables": "the function block is declared below, or is this one itself"
+            quoted "is a function block that is declared below, or this one itself"
             at "the type", "FUNCTION_BLOCK B / VAR a : B; END_VAR / END_FUNCTION_BLOCK / PROGRAM P / END_PROGRAM" => 2,
             help "move the block above the unit that uses it; a block cannot contain itself",
             wrong "FUNCTION_BLOCK Line" "VAR m : Motor; END_VAR" "CAL m" "END_FUNCTION_BLOCK" "FUNCTION_BLOCK Motor" "END_FUNCTION_BLOCK" "PROGRAM P"
@@ -235,7 +240,7 @@ fn body_entry(number: u16) -> Option<&'static Entry>
 {
     entry_among! {
         number;
-        401 "verify": "the name is not declared"
+        401 "verify": "the name is not declared" quoted "is not declared in this unit"
             at "the line of the instruction", "PROGRAM P / LD x / END_PROGRAM" => 2,
             help "declare the name in VAR, VAR_INPUT or VAR_OUTPUT of this unit",
             wrong "PROGRAM P" "VAR full : BOOL; END_VAR" "LD %IX0.0" "ST ful" "LD full" "ST %QX0.0" "END_PROGRAM"
@@ -253,42 +258,42 @@ fn body_entry(number: u16) -> Option<&'static Entry>
             wrong "PROGRAM P" "AND %IX0.0" "AND %IX0.1" "ST %QX0.0" "END_PROGRAM"
             why "a body begins with no result, and keeps none from the scan before; where paths meet, each has to bring the same type" rule "6"
             mended "PROGRAM P" "LD %IX0.0" "AND %IX0.1" "ST %QX0.0" "END_PROGRAM";
-        404 "verify": "this may not be written"
+        404 "verify": "this may not be written" quoted "cannot be written"
             at "the line of the instruction", "PROGRAM P / ST 1 / END_PROGRAM" => 2,
             help "only variables, outputs, and inputs of instances can be written",
             wrong "PROGRAM P" "LD TRUE" "ST %IX0.0" "END_PROGRAM"
             why "an input says what is at its terminal, and what is written to it would be lost in the next scan" rule "7.5"
             mended "PROGRAM P" "LD TRUE" "ST %QX0.0" "END_PROGRAM";
-        405 "verify": "this may not be read"
+        405 "verify": "this may not be read" quoted "cannot be read"
             at "the line of the instruction", "PROGRAM P / VAR t : TON; END_VAR / LD t.IN / END_PROGRAM" => 3,
             help "only the outputs of an instance can be read",
             wrong "PROGRAM P" "VAR t : TON; END_VAR" "CAL t(IN := %IX0.0, PT := T#2s)" "LD t.IN" "ST %QX0.0" "END_PROGRAM"
             why "inputs are there for the block; what a caller may know of it is in its outputs" rule "7.5"
             mended "PROGRAM P" "VAR t : TON; END_VAR" "CAL t(IN := %IX0.0, PT := T#2s)" "LD t.Q" "ST %QX0.0" "END_PROGRAM";
-        406 "verify": "no line below has the label"
+        406 "verify": "no line below has the label" quoted "is not a label of this unit"
             at "the line of the jump", "PROGRAM P / JMP L / END_PROGRAM" => 2, help "jumps only go forward: put the label on a line below the jump",
             wrong "PROGRAM P" "VAR n : DINT; END_VAR" "again: LD n" "ADD 1" "ST n" "LT 10" "JMPC again" "LD n" "ST %QD0" "END_PROGRAM"
             why "jumps lead down only, so that each scan ends within a bound that is known before; the program runs again in the next scan" rule "4"
             mended "PROGRAM P" "VAR n : DINT; END_VAR" "LD n" "GE 10" "JMPC done" "LD n" "ADD 1" "ST n" "done: LD n" "ST %QD0" "END_PROGRAM";
-        407 "verify": "the label is used twice in this body"
+        407 "verify": "the label is used twice in this body" quoted "is the label of two lines of this unit"
             at "the line of the second label", "PROGRAM P / L: / L: / END_PROGRAM" => 3,
             help "choose another label; letter case makes no difference",
             wrong "PROGRAM P" "LD %IX0.0" "JMPCN skip" "S %QX0.0" "skip: LD %IX0.1" "JMPCN skip" "R %QX0.0" "skip:" "END_PROGRAM"
             why "a jump to it would have two places to go to" rule "7.7"
             mended "PROGRAM P" "LD %IX0.0" "JMPCN stop" "S %QX0.0" "stop: LD %IX0.1" "JMPCN done" "R %QX0.0" "done:" "END_PROGRAM";
-        408 "verify": "the divisor is not a whole-number literal, or it is 0"
+        408 "verify": "the divisor is not a whole-number literal, or it is 0" quoted "is not a valid divisor"
             at "the line of the instruction", "PROGRAM P / LD 1 / DIV 0 / END_PROGRAM" => 3,
             help "DIV and MOD take a literal other than 0, such as DIV 10; to compare a quotient, MUL the other side instead",
             wrong "PROGRAM P" "VAR parts : DINT := 3; END_VAR" "LD 100" "DIV parts" "ST %QD0" "END_PROGRAM"
             why "a variable can be 0 when the program runs, and no scan may fail" rule "6"
             mended "PROGRAM P" "LD 100" "DIV 3" "ST %QD0" "END_PROGRAM";
-        409 "verify": "the block has no input or output of that name"
+        409 "verify": "the block has no input or output of that name" quoted "is not an input or output of this block"
             at "the line of the call", "PROGRAM P / VAR t : TON; END_VAR / CAL t(x := 1) / END_PROGRAM" => 3,
             help "`:=` takes the names that a block has in VAR_INPUT, `=>` those that it has in VAR_OUTPUT",
             wrong "PROGRAM P" "VAR t : TON; END_VAR" "CAL t(IN := %IX0.0, PT := T#2s, Q := %QX0.0)" "END_PROGRAM"
             why "`:=` passes a value to an input before the block runs, `=>` takes that of an output after it" rule "4"
             mended "PROGRAM P" "VAR t : TON; END_VAR" "CAL t(IN := %IX0.0, PT := T#2s, Q => %QX0.0)" "END_PROGRAM";
-        410 "verify": "an input or output is passed twice"
+        410 "verify": "an input or output is passed twice" quoted "is passed twice in this call"
             at "the line of the call", "PROGRAM P / VAR t : TON; END_VAR / CAL t(IN := 1, IN := 1) / END_PROGRAM" => 3,
             help "name each input and output once",
             wrong "PROGRAM P" "VAR t : TON; END_VAR" "CAL t(IN := %IX0.0, IN := %IX0.1, PT := T#2s, Q => %QX0.0)" "END_PROGRAM"
@@ -339,18 +344,18 @@ fn log_entry(number: u16) -> Option<&'static Entry>
 {
     entry_among! {
         number;
-        601 "log": "the row does not have three fields, or the first row is not ms,kind,data"
+        601 "log": "the row does not have three fields, or the first row is not ms,kind,data" quoted "the row has fewer than three fields"
             at "the row", "(the empty log)" => 1,
             help "the first row is ms,kind,data; every other row has two commas as well, even without data, such as 50,S,";
-        602 "log": "the time is not a number of milliseconds below 2^40"
+        602 "log": "the time is not a number of milliseconds below 2^40" quoted "is above 1099511627775, the greatest time"
             at "the row", "row ,S," => 2, help "a row is ms,kind,data; ms is a whole number of milliseconds, 0 to 1099511627775";
-        603 "log": "the time is before that of the row above"
+        603 "log": "the time is before that of the row above" quoted "is before the time of the row above"
             at "the row", "rows 1,S, / 0,S," => 3, help "sort the rows by their times";
-        604 "log": "the kind is not C, L, I, S or P"
+        604 "log": "the kind is not C, L, I, S or P" quoted "is not a kind"
             at "the row", "row 0,," => 2, help "a row is ms,kind,data; the kinds are C, L, I, S and P";
-        605 "log": "the counts are not a whole number from -8388608 to 8388607"
+        605 "log": "the counts are not a whole number from -8388608 to 8388607" quoted "is not from -8388608 to 8388607"
             at "the row", "row 0,C," => 2, help "the counts are -8388608 to 8388607";
-        606 "log": "the data is not hexadecimal, or of the wrong length"
+        606 "log": "the data is not hexadecimal, or of the wrong length" quoted "the data is longer than 4096 bytes"
             at "the row", "row 0,I," => 2, help "an L row has pairs of hexadecimal digits, for at most 4096 bytes, an I row four digits";
         607 "log": "there are more than 1000000 rows"
             at "the row", "(the heading row and 1000000 rows 0,S,)" => 1000001, help "split the log: it may have 1000000 rows";
