@@ -1,4 +1,4 @@
-ghost use Rattle.std.specs.Prelude.{◌≡◌, IfSome, is_some};
+ghost use Rattle.std.specs.Prelude.{◌≡◌, ◌||◌, IfSome, is_some};
 ghost use Rattle.wc_diag_texts.specs.Numbers.{is_from, is_refusal};
 
 /// All that is said of a refusal by its number alone. docs/REFUSALS.md has the same, and a script holds one against the other.
@@ -57,9 +57,7 @@ pub fn entry_of(number: u16) -> Option<&'static Entry>
         201..=208 => reading_entry(number),
         301..=308 => declaration_entry(number),
         401..=411 => body_entry(number),
-        501..=508 => plate_entry(number),
-        601..=609 => log_entry(number),
-        701..=702 => job_entry(number),
+        501..=508 | 601..=609 | 701..=702 => input_entry(number),
         _ => None,
     }
 }
@@ -85,7 +83,7 @@ fn token_entry(number: u16) -> Option<&'static Entry>
         103 "tokens": "comments cannot be nested"
             at "the line of the outer (*", "(*(*" => 1, help "close the comment with *) before the next one opens, or delete the inner (* and *)",
             wrong "PROGRAM P" "(* LD %IX0.1 (* stop *) *)" "LD %IX0.0" "ST %QX0.0" "END_PROGRAM"
-            why "the first *) would end the outer comment too, and what follows it would be executed" rule "2.1"
+            why "the first *) would end the outer comment too, and what follows it would be read as program" rule "2.1"
             mended "PROGRAM P" "(* LD %IX0.1, stop *)" "LD %IX0.0" "ST %QX0.0" "END_PROGRAM";
         104 "tokens": "an identifier has two underscores in a row, one at its end, or more than 32 characters" quoted "has more than 32 characters"
             at "the line of the token", "_" => 1,
@@ -310,9 +308,10 @@ fn body_entry(number: u16) -> Option<&'static Entry>
     }
 }
 
-/// The refusals of a plate.
-fn plate_entry(number: u16) -> Option<&'static Entry>
-    ensures known { is_some result ≡ is_from 501 508 number }
+/// The refusals of a plate, a log, a job and of files.
+fn input_entry(number: u16) -> Option<&'static Entry>
+    ensures known { is_some result
+        ≡ (is_from 501 508 number || is_from 601 609 number || is_from 701 702 number) }
     ensures number { IfSome result (λ entry. entry.now.number ≡ number) }
 {
     entry_among! {
@@ -334,16 +333,6 @@ fn plate_entry(number: u16) -> Option<&'static Entry>
             at "0", "plate A with span_counts = 11999" => 0, help "zero_counts is -8388608 to 8388607, span_counts four times max / e to 8000000";
         508 "plate": "window must be 2 to 16"
             at "0", "plate A with window = 1" => 0, help "window is 2 to 16";
-    }
-}
-
-/// The refusals of a log.
-fn log_entry(number: u16) -> Option<&'static Entry>
-    ensures known { is_some result ≡ is_from 601 609 number }
-    ensures number { IfSome result (λ entry. entry.now.number ≡ number) }
-{
-    entry_among! {
-        number;
         601 "log": "the row does not have three fields, or the first row is not ms,kind,data" quoted "the row has fewer than three fields"
             at "the row", "(the empty log)" => 1,
             help "the first row is ms,kind,data; every other row has two commas as well, even without data, such as 50,S,";
@@ -364,16 +353,6 @@ fn log_entry(number: u16) -> Option<&'static Entry>
         609 "log": "there is no next program to change to"
             at "the row", "row 0,P," => 2,
             help "name the next program by --next of run, trace or show, or in a job by @next before @log; one run changes its program once";
-    }
-}
-
-/// The refusals of a job and of files.
-fn job_entry(number: u16) -> Option<&'static Entry>
-    ensures known { is_some result ≡ is_from 701 702 number }
-    ensures number { IfSome result (λ entry. entry.now.number ≡ number) }
-{
-    entry_among! {
-        number;
         701 "job": "a job has the lines @plate, @program and @log in this order, and begins with @plate"
             at "0", "(the empty job)" => 0,
             help "a job is a line @plate and the plate, a line @program and the program, a line @log and the log; each of the three is on a line of its own, in lower case";
