@@ -302,7 +302,8 @@ fn body_entry(number: u16) -> Option<&'static Entry>
             at "the line of the unit's keyword", "(the text below the table) of docs/REFUSALS.md: nineteen blocks, of which each calls the one before twice, and a program that calls the last one twice" => 94,
             help "call fewer blocks: the longest path through a unit may have 1000000 steps",
             wrong "FUNCTION_BLOCK Part" "LD 0 (1000 times)" "END_FUNCTION_BLOCK" "PROGRAM P" "VAR a : Part; END_VAR" "CAL a (1000 times)"
-            "END_PROGRAM" why "each scan has to end in time, and each step takes some" rule "5"
+            "END_PROGRAM"
+            why "each scan has to end in time, and each step takes some" rule "5"
             mended "FUNCTION_BLOCK Part" "LD 0 (1000 times)" "END_FUNCTION_BLOCK" "PROGRAM P" "VAR a : Part; END_VAR" "CAL a (100 times)"
             "END_PROGRAM";
     }
