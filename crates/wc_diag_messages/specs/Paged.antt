@@ -1,6 +1,7 @@
 -- The page of a refusal: its lines, its number, and the answer with that number, are pinned; of the
 -- words that they are those of one entry of the catalogue, each in its line (the profile's own).
 use Rattle.std.specs.Prelude.{◌≡◌, ℕ, List, [], ◌∷◌, ◌++◌, codes, if◌then◌else◌}
+use Rattle.std.specs.List.{flat_map}
 use Rattle.wc_diag_messages.specs.Locations.{number_text}
 use Rattle.wc_diag_messages.specs.Plain.{shown_text}
 use Rattle.wc_diag_texts.specs.Numbers.{is_from}
@@ -9,6 +10,18 @@ use Rattle.wc_diag_texts.specs.declared.catalogue.Entry.{Entry}
 -- a line: what it says, and its words
 abbrev pub page_line : List ℕ → List ℕ → List ℕ
 page_line name words = shown_text name ++ shown_text (codes ": ") ++ shown_text words ++ (10 ∷ [])
+
+-- a line of words alone
+abbrev pub shown_line : List ℕ → List ℕ
+shown_line words = shown_text words ++ (10 ∷ [])
+
+-- lines of words alone, each by its bytes
+abbrev pub page_lines : {X : Type 0} → (X → List ℕ) → List X → List ℕ
+page_lines bytes_of lines = flat_map (λ line. shown_line (bytes_of line)) lines
+
+-- what to write instead, and a usual text with the text mended
+abbrev pub help_lines : {X : Type 0} → List ℕ → (X → List ℕ) → List X → List ℕ
+help_lines hint bytes_of usual = page_line (codes "help") hint ++ page_lines bytes_of usual
 
 -- the first line: the number, and what it means
 abbrev pub number_line : ℕ → List ℕ → List ℕ
@@ -48,4 +61,4 @@ pub record ReportsPage (number : ℕ) (bytes : List ℕ) : Type 0 where
   pub all :
       bytes ≡ number_line entry.number entry.sentence.now ++ raised_lines (raised_at entry)
       ++ plate_line entry.number plate ++ answer_line entry.number entry.answer
-      ++ page_line (codes "help") entry.hint.now
+      ++ help_lines entry.hint.now (λ line. line.now) entry.usual.now

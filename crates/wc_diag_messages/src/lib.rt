@@ -18,7 +18,6 @@ mod short;
 mod warned;
 mod warned_lines;
 mod warned_object;
-mod warned_page;
 mod warned_parts;
 mod warning_entries;
 
@@ -26,7 +25,6 @@ pub use explaining::explained;
 pub use jobs::{JobSection, section_of};
 pub use left_out::warnings_left_out;
 pub use message::{Message, shown};
-pub use page::page as page_of;
+pub use page::{page as page_of, warning_page};
 pub use warned::warning_message;
-pub use warned_page::warning_page;
 pub use wc_diag_spans::{Evidence, Part, Refusal};

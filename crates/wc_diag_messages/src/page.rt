@@ -1,8 +1,10 @@
 ghost use Rattle.std.specs.Prelude.{◌≡◌, ◌++◌, IfOk, IfSome, OnOk, is_some};
-ghost use Rattle.wc_diag_messages.specs.Paged.{ReportsPage, answer_line, raised_at, raised_lines, number_line, page_line, plate_line};
-ghost use Rattle.wc_diag_texts.specs.Numbers.{is_refusal};
+ghost use Rattle.wc_diag_messages.specs.Paged.{ReportsPage, answer_line, help_lines, number_line, page_line, page_lines, plate_line, raised_at, raised_lines, shown_line};
+ghost use Rattle.wc_diag_texts.specs.Numbers.{is_from, is_refusal};
 
 use crate::message::Message;
+use crate::warned_lines::write_warning_number;
+use crate::warning_entries::{WarningEntry, warning_of};
 use std::alloc::{AllocError, Global};
 use wc_diag_texts::{Entry, entry_of};
 
@@ -12,7 +14,7 @@ fn plate_a() -> &'static str {
 }
 
 /// Writes a line of a page: what it says, and its words.
-pub(crate) fn write_line(message: &mut Message, name: &str, words: &str) -> Result<(), AllocError>
+fn write_line(message: &mut Message, name: &str, words: &str) -> Result<(), AllocError>
     ensures { OnOk result (message.new.bytes.items
         ≡ message.old.bytes.items ++ page_line name.now words.now) }
 {
@@ -20,6 +22,35 @@ pub(crate) fn write_line(message: &mut Message, name: &str, words: &str) -> Resu
     message.say(": ")?;
     message.say(words)?;
     message.end_line()
+}
+
+/// Writes a line of words alone.
+fn write_words(message: &mut Message, words: &str) -> Result<(), AllocError>
+    ensures { OnOk result (message.new.bytes.items
+        ≡ message.old.bytes.items ++ shown_line words.now) }
+{
+    message.say(words)?;
+    message.end_line()
+}
+
+/// Writes lines of words alone.
+fn write_lines(message: &mut Message, lines: &[&str]) -> Result<(), AllocError>
+    ensures { OnOk result (message.new.bytes.items
+        ≡ message.old.bytes.items ++ page_lines (λ line. line.now) lines.now) }
+{
+    for line in lines {
+        write_words(message, line)?;
+    }
+    Ok(())
+}
+
+/// Writes what to write instead, and a usual text with the text mended.
+fn write_help(message: &mut Message, hint: &str, usual: &[&str]) -> Result<(), AllocError>
+    ensures { OnOk result (message.new.bytes.items
+        ≡ message.old.bytes.items ++ help_lines hint.now (λ line. line.now) usual.now) }
+{
+    write_line(message, "help", hint)?;
+    write_lines(message, usual)
 }
 
 /// Writes the number, and what it means.
@@ -74,12 +105,12 @@ fn page_message(alloc: Global, entry: &Entry) -> Result<Message, AllocError>
     write_raised(&mut message, entry)?;
     write_plate(&mut message, entry.number, plate)?;
     write_answer(&mut message, entry.number, entry.answer)?;
-    write_line(&mut message, "help", entry.hint)?;
+    write_help(&mut message, entry.hint, entry.usual)?;
     Ok(message)
 }
 
 /// The page of a refusal, if there is one of that number: what it means, where it is raised, a smallest input with its
-/// answer, and what to write instead. The error is out of memory.
+/// answer, what to write instead, and of a program a usual text with the text mended. The error is out of memory.
 pub fn page(alloc: Global, number: u16) -> Result<Option<Message>, AllocError>
     ensures known { IfOk result (λ page. is_some page ≡ is_refusal number) }
     ensures reported { IfOk result
@@ -87,6 +118,33 @@ pub fn page(alloc: Global, number: u16) -> Result<Option<Message>, AllocError>
 {
     match entry_of(number) {
         Some(entry) => match page_message(alloc, entry) {
+            Ok(message) => Ok(Some(message)),
+            Err(error) => Err(error),
+        },
+        None => Ok(None),
+    }
+}
+
+/// The page of a warning, as it is printed.
+fn warned_message(alloc: Global, entry: &WarningEntry) -> Result<Message, AllocError> {
+    let mut message = Message::new(alloc);
+    write_warning_number(&mut message, entry.number)?;
+    message.say(": ")?;
+    message.say(entry.subject)?;
+    message.say(entry.sentence)?;
+    message.end_line()?;
+    write_line(&mut message, "place", entry.place)?;
+    write_line(&mut message, "example (` / ` is a line end)", entry.input)?;
+    write_help(&mut message, entry.hint, entry.usual)?;
+    Ok(message)
+}
+
+/// The page of a warning, if there is one of that number. The error is out of memory.
+pub fn warning_page(alloc: Global, number: u8) -> Result<Option<Message>, AllocError>
+    ensures { IfOk result (λ page. is_some page ≡ is_from 1 9 number) }
+{
+    match warning_of(number) {
+        Some(entry) => match warned_message(alloc, entry) {
             Ok(message) => Ok(Some(message)),
             Err(error) => Err(error),
         },

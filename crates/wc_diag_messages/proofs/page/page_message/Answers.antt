@@ -8,5 +8,5 @@ returns c =
       entry = c.args.entry.now;
       is = refl;
       plate = c.plate_a-plate.result.now;
-      all = five_excerpts _ _ _ _ _ _ _ _ _ _ _ c.new-message.ensures.nothing c.in_ok-write_number.ensures c.in_ok-write_raised.ensures c.in_ok-write_plate.ensures c.in_ok-write_answer.ensures c.in_ok-write_line.ensures;
+      all = five_excerpts _ _ _ _ _ _ _ _ _ _ _ c.new-message.ensures.nothing c.in_ok-write_number.ensures c.in_ok-write_raised.ensures c.in_ok-write_plate.ensures c.in_ok-write_answer.ensures c.in_ok-write_help.ensures;
     }
