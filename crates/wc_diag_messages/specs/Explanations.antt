@@ -74,7 +74,7 @@ place_line margin name line alongside =
 -- which page says more
 abbrev pub page_text : ℕ → List ℕ
 page_text number =
-    shown_text (codes " (run `explain ") ++ number_text number
+    shown_text (codes " (run `narbeddo explain ") ++ number_text number
     ++ shown_text (codes "` for more)") ++ (10 ∷ [])
 
 -- the last line: what to write instead, and the page that says more

@@ -57,7 +57,7 @@ warning_headline number reported =
 -- the last line: what to write instead, and the page that says more
 abbrev pub warning_help : ℕ → List ℕ → List ℕ
 warning_help number advice =
-    shown_text (codes "help: ") ++ advice ++ shown_text (codes " (run `explain ")
+    shown_text (codes "help: ") ++ advice ++ shown_text (codes " (run `narbeddo explain ")
     ++ warning_number number ++ (shown_text (codes "` for more)") ++ (10 ∷ []))
 
 -- a warning for people

@@ -67,7 +67,7 @@ fn write_page(message: &mut Message, number: u16) -> Result<(), AllocError>
     ensures { OnOk result (message.new.bytes.items
         ≡ message.old.bytes.items ++ page_text number) }
 {
-    message.say(" (run `explain ")?;
+    message.say(" (run `narbeddo explain ")?;
     message.count(number as usize)?;
     message.say("` for more)")?;
     message.end_line()

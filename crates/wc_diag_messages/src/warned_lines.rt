@@ -71,7 +71,7 @@ fn write_help(message: &mut Message, number: u8, advice: &Message) -> Result<(),
 {
     message.say("help: ")?;
     message.append(advice)?;
-    message.say(" (run `explain ")?;
+    message.say(" (run `narbeddo explain ")?;
     write_warning_number(message, number)?;
     end_help(message)
 }

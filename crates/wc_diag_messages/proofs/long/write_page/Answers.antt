@@ -5,6 +5,6 @@ use Rattle.wc_diag_messages.specs.Plain.{shown_text}
 
 pub returns : goal.returns
 returns c =
-    four_after c.end_line.result c.args.message.now.bytes.items (shown_text (codes " (run `explain ")) (shown_text (decimal c.args.number)) (shown_text (codes "` for more)")) (10 ∷ [])
+    four_after c.end_line.result c.args.message.now.bytes.items (shown_text (codes " (run `narbeddo explain ")) (shown_text (decimal c.args.number)) (shown_text (codes "` for more)")) (10 ∷ [])
     c.say.new.self.bytes.items c.count.new.self.bytes.items c.say-2.new.self.bytes.items c.end_line.new.self.bytes.items
     c.in_ok-say.ensures.all c.in_ok-count.ensures c.in_ok-say-2.ensures.all c.end_line.ensures
