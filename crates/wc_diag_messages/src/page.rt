@@ -126,16 +126,16 @@ pub fn page(alloc: Global, number: u16) -> Result<Option<Message>, AllocError>
 }
 
 /// The page of a warning, as it is printed.
-fn warned_message(alloc: Global, entry: &WarningEntry) -> Result<Message, AllocError> {
+fn warned_message(alloc: Global, warning: &WarningEntry) -> Result<Message, AllocError> {
     let mut message = Message::new(alloc);
-    write_warning_number(&mut message, entry.number)?;
+    write_warning_number(&mut message, warning.number)?;
     message.say(": ")?;
-    message.say(entry.subject)?;
-    message.say(entry.sentence)?;
+    message.say(warning.subject)?;
+    message.say(warning.sentence)?;
     message.end_line()?;
-    write_line(&mut message, "place", entry.place)?;
-    write_line(&mut message, "example (` / ` is a line end)", entry.input)?;
-    write_help(&mut message, entry.hint, entry.usual)?;
+    write_line(&mut message, "place", warning.place)?;
+    write_line(&mut message, "example (` / ` is a line end)", warning.input)?;
+    write_help(&mut message, warning.hint, warning.usual)?;
     Ok(message)
 }
 
