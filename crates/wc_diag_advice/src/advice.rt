@@ -7,10 +7,9 @@ use crate::near::{
 use std::alloc::{AllocError, Global};
 use wc_built_in::{Keyword, keyword_named, variable_at};
 use wc_diag_mistakes::{
-    block_of, excerpt, first_word, following, follows_leaving, is_near, line_of, prefix, sets,
-    word_before, words_at,
+    Refused, excerpt, first_word, following, follows_leaving, is_near, line_of, word_before,
 };
-use wc_diag_stops::{Brought, RefusalSpan};
+use wc_diag_stops::Brought;
 use wc_diag_texts::{
     Case, InstructionValues, NameValues, empty_path_advice, hint_of, instruction_text, name_text,
 };
@@ -37,10 +36,9 @@ fn exchanged_advice(alloc: Global, word: &[u8]) -> Result<String, AllocError> {
 }
 
 /// How to set an input that is used as an operator: the instance is the word after it.
-fn setting_advice(alloc: Global, text: &[u8], span: &RefusalSpan) -> Result<String, AllocError> {
-    let input = short_words(excerpt(text, span.start, span.length));
-    let rest = following(text, span.start.saturating_add(span.length));
-    let instance = short_words(first_word(rest));
+fn setting_advice(alloc: Global, refused: &Refused<'_, '_>) -> Result<String, AllocError> {
+    let input = short_words(refused.token());
+    let instance = short_words(first_word(refused.rest()));
     if input.is_empty() || instance.is_empty() {
         return Ok(String::new(alloc));
     }
@@ -50,13 +48,11 @@ fn setting_advice(alloc: Global, text: &[u8], span: &RefusalSpan) -> Result<Stri
 /// What to write for lines of STL: around them a unit too, if none starts above.
 fn frame_advice(
     alloc: Global,
-    text: &[u8],
-    number: u16,
-    span: &RefusalSpan,
+    refused: &Refused<'_, '_>,
     mistake: Case,
 ) -> Result<String, AllocError> {
-    let above = prefix(text, span.start);
-    match hint_of(number, mistake) {
+    let above = refused.above();
+    match hint_of(refused.number, mistake) {
         Some(hint) if !has_word(above, b"PROGRAM") && !has_word(above, b"FUNCTION_BLOCK") => {
             instruction_text(alloc, InstructionValues::Framed(hint))
         }
@@ -64,20 +60,20 @@ fn frame_advice(
     }
 }
 
-/// What to write at a label before a place; empty if something may lead to it.
-fn unreached_label_advice(alloc: Global, text: &[u8], place: usize) -> Result<String, AllocError> {
-    let colon = prefix(text, place).trim_ascii_end().len().saturating_sub(1);
-    let label = short_words(word_before(text, colon));
-    if label.is_empty() || !follows_leaving(text, line_of(text, colon)) {
+/// What to write at the label before the slice; empty if something may lead to it.
+fn unreached_label_advice(alloc: Global, refused: &Refused<'_, '_>) -> Result<String, AllocError> {
+    let colon = refused.above().trim_ascii_end().len().saturating_sub(1);
+    let label = short_words(word_before(refused.text, colon));
+    if label.is_empty() || !follows_leaving(refused.text, line_of(refused.text, colon)) {
         return Ok(String::new(alloc));
     }
     instruction_text(alloc, InstructionValues::UnreachedLabel(label))
 }
 
 /// What to write if no path is known to a label, or one alone, which brings nothing.
-fn path_advice(alloc: Global, text: &[u8], span: &RefusalSpan) -> Result<String, AllocError> {
-    match span.paths {
-        None => unreached_label_advice(alloc, text, span.start),
+fn path_advice(alloc: Global, refused: &Refused<'_, '_>) -> Result<String, AllocError> {
+    match refused.span.paths {
+        None => unreached_label_advice(alloc, refused),
         Some(paths) if paths.other.is_none() && matches!(paths.first.brought, Brought::Nothing) => {
             empty_path_advice(alloc, paths.first.line)
         }
@@ -95,17 +91,14 @@ fn colon_advice(alloc: Global, word: &[u8]) -> Result<String, AllocError> {
 }
 
 /// The likely END_VAR for a word almost like it; empty if the word before is not one.
-fn section_advice(alloc: Global, text: &[u8], span: &RefusalSpan) -> Result<String, AllocError> {
-    let word = word_before(text, span.start);
+fn section_advice(alloc: Global, refused: &Refused<'_, '_>) -> Result<String, AllocError> {
+    let word = refused.word_before();
     if is_word(b"END_VAR", word) || !is_near(b"END_VAR", word) {
         return Ok(String::new(alloc));
     }
     // The word is on the last line above the token that has more than blanks.
-    let above = prefix(text, span.start).trim_ascii_end();
-    name_text(
-        alloc,
-        NameValues::NearEnd(short_words(word), line_of(text, above.len())),
-    )
+    let line = line_of(refused.text, refused.above().trim_ascii_end().len());
+    name_text(alloc, NameValues::NearEnd(short_words(word), line))
 }
 
 /// Whether an address is one of an output; nothing if it is not one of an input either.
@@ -146,23 +139,20 @@ fn bit_advice(alloc: Global, address: &[u8]) -> Result<String, AllocError> {
 }
 
 /// What to write for a field that a block does not have.
-fn field_advice(alloc: Global, text: &[u8], span: &RefusalSpan) -> Result<String, AllocError> {
-    let block = block_of(text, span);
+fn field_advice(alloc: Global, refused: &Refused<'_, '_>) -> Result<String, AllocError> {
+    let block = refused.block();
     if block.is_empty() {
-        return point_advice(alloc, text, span);
+        return point_advice(alloc, refused);
     }
-    let word = offending_at(text, span);
-    let instance = first_word(word);
-    let dot = instance.len().saturating_add(1);
-    let before = excerpt(word, 0, dot);
-    let name = field_of(word);
+    let word = refused.offending();
+    let before = excerpt(word, 0, first_word(word).len().saturating_add(1));
+    let wanted = (before, field_of(word));
     member_advice(
         alloc,
-        text,
+        refused.units,
         block.as_bytes(),
-        sets(text, span),
-        before,
-        name,
+        refused.sets(),
+        wanted,
     )
 }
 
@@ -173,67 +163,62 @@ fn field_of(word: &[u8]) -> &[u8] {
 }
 
 /// What to write for a name in the list of a call that the block does not have.
-fn formal_advice(alloc: Global, text: &[u8], span: &RefusalSpan) -> Result<String, AllocError> {
-    let block = block_of(text, span);
+fn formal_advice(alloc: Global, refused: &Refused<'_, '_>) -> Result<String, AllocError> {
+    let block = refused.block();
     if block.is_empty() {
         return Ok(String::new(alloc));
     }
-    let name = offending_at(text, span);
-    member_advice(alloc, text, block.as_bytes(), span.is_passed, b"", name)
-}
-
-/// The offending slice, also if it is on a line below.
-fn offending_at<'a>(text: &'a [u8], span: &RefusalSpan) -> &'a [u8] {
-    match span.below {
-        Some(below) => words_at(text, Some(below)).as_bytes(),
-        None => excerpt(text, span.start, span.length),
-    }
+    let wanted: (&[u8], &[u8]) = (b"", refused.offending());
+    member_advice(
+        alloc,
+        refused.units,
+        block.as_bytes(),
+        refused.span.is_passed,
+        wanted,
+    )
 }
 
 /// What to write for a field in a VAR of a block of the text, which nothing outside reads or sets; empty if it is none.
-fn unseen_advice(alloc: Global, text: &[u8], span: &RefusalSpan) -> Result<String, AllocError> {
-    let (block, name) = (block_of(text, span), field_of(offending_at(text, span)));
-    if block.is_empty() || name.is_empty() || span.formal.is_some() {
+fn unseen_advice(alloc: Global, refused: &Refused<'_, '_>) -> Result<String, AllocError> {
+    let (block, name) = (refused.block(), field_of(refused.offending()));
+    if block.is_empty() || name.is_empty() || refused.span.formal.is_some() {
         return Ok(String::new(alloc));
     }
-    hidden_advice(alloc, text, block.as_bytes(), name, sets(text, span))
+    hidden_advice(alloc, refused.units, block.as_bytes(), name, refused.sets())
 }
 
 /// What to write for an instance that is a target: one of its inputs.
-fn target_advice(alloc: Global, text: &[u8], span: &RefusalSpan) -> Result<String, AllocError> {
-    let instance = short_words(offending_at(text, span));
-    let block = words_at(text, span.block).as_bytes();
-    let input = input_of(alloc, text, block)?;
+fn target_advice(alloc: Global, refused: &Refused<'_, '_>) -> Result<String, AllocError> {
+    let instance = short_words(refused.offending());
+    let block = refused.words_at(refused.span.block).as_bytes();
+    let input = input_of(alloc, refused.units, block)?;
     if input.is_empty() {
-        return member_advice(alloc, text, block, true, b"", b"");
+        return member_advice(alloc, refused.units, block, true, (&[], &[]));
     }
     name_text(alloc, NameValues::Input(instance, &input))
 }
 
 /// What to write for a name that is not declared, by what it is used for.
-fn undeclared_advice(alloc: Global, text: &[u8], span: &RefusalSpan) -> Result<String, AllocError> {
-    let wanted = match keyword_named(word_before(text, span.start)) {
-        _ if sets(text, span) => Wanted::Target,
-        Some(Keyword::Call(_)) if span.formal.is_none() => Wanted::Instance,
+fn undeclared_advice(alloc: Global, refused: &Refused<'_, '_>) -> Result<String, AllocError> {
+    let wanted = match keyword_named(refused.word_before()) {
+        _ if refused.sets() => Wanted::Target,
+        Some(Keyword::Call(_)) if refused.span.formal.is_none() => Wanted::Instance,
         _ => Wanted::Value,
     };
-    advice_for(alloc, text, offending_at(text, span), span.start, wanted)
+    advice_for(alloc, refused, wanted)
 }
 
 /// What to write for a declaration with its type before its name.
-fn declaration_advice(
-    alloc: Global,
-    text: &[u8],
-    span: &RefusalSpan,
-) -> Result<String, AllocError> {
-    let name = short_words(excerpt(text, span.start, span.length));
-    let kind = short_words(word_before(text, span.start));
+fn declaration_advice(alloc: Global, refused: &Refused<'_, '_>) -> Result<String, AllocError> {
+    let name = short_words(refused.token());
+    let kind = short_words(refused.word_before());
     instruction_text(alloc, InstructionValues::TypeFirst(name, kind))
 }
 
 /// What to write for a name between quotation marks.
-fn unquoted_advice(alloc: Global, text: &[u8], span: &RefusalSpan) -> Result<String, AllocError> {
-    let name = short_words(first_word(following(text, span.start.saturating_add(1))));
+fn unquoted_advice(alloc: Global, refused: &Refused<'_, '_>) -> Result<String, AllocError> {
+    let after = refused.span.start.saturating_add(1);
+    let name = short_words(first_word(following(refused.text, after)));
     instruction_text(alloc, InstructionValues::Unquoted(name))
 }
 
@@ -248,27 +233,25 @@ fn duration_advice(alloc: Global, word: &[u8]) -> Result<String, AllocError> {
 /// What to write instead at a token (up to 304), with the available values; empty: nothing beyond the hint.
 fn advice_of_token(
     alloc: Global,
-    text: &[u8],
-    number: u16,
-    span: &RefusalSpan,
+    refused: &Refused<'_, '_>,
     mistake: Case,
 ) -> Result<String, AllocError> {
-    let word = excerpt(text, span.start, span.length);
-    match (number, mistake) {
-        (201, Case::NoOperator) => operator_advice(alloc, text, word, span.start),
+    let word = refused.token();
+    match (refused.number, mistake) {
+        (201, Case::NoOperator) => operator_advice(alloc, refused),
         (201, Case::LabelWithoutColon) => colon_advice(alloc, word),
         (201, Case::NoUnit) => unit_advice(alloc, word),
         (201, Case::ConditionSpelling) => exchanged_advice(alloc, word),
-        (201, Case::InputOperator) => setting_advice(alloc, text, span),
-        (201, Case::OpenSection) => section_advice(alloc, text, span),
-        (101, Case::QuotedName) => unquoted_advice(alloc, text, span),
-        (201, Case::TypeFirst) => declaration_advice(alloc, text, span),
-        (201, Case::BareInputs) => input_advice(alloc, text, span),
-        (201, Case::NoAddress) => number_advice(alloc, text, span),
+        (201, Case::InputOperator) => setting_advice(alloc, refused),
+        (201, Case::OpenSection) => section_advice(alloc, refused),
+        (101, Case::QuotedName) => unquoted_advice(alloc, refused),
+        (201, Case::TypeFirst) => declaration_advice(alloc, refused),
+        (201, Case::BareInputs) => input_advice(alloc, refused),
+        (201, Case::NoAddress) => number_advice(alloc, refused),
         (101, Case::StatementAssign | Case::StatementComparison)
         | (105, Case::StatementAddress)
-        | (201, Case::StatementList) => { frame_advice(alloc, text, number, span, mistake) }
-        (302, Case::Plain) => type_advice(alloc, text, word, span.start),
+        | (201, Case::StatementList) => frame_advice(alloc, refused, mistake),
+        (302, Case::Plain) => type_advice(alloc, refused),
         (304, Case::NoSuchBit) => bit_advice(alloc, word),
         _ => Ok(String::new(alloc)),
     }
@@ -277,22 +260,21 @@ fn advice_of_token(
 /// What to write instead, with the available values; empty: nothing beyond the hint.
 pub fn advice_at(
     alloc: Global,
-    text: &[u8],
-    number: u16,
-    span: &RefusalSpan,
+    refused: &Refused<'_, '_>,
     mistake: Case,
 ) -> Result<String, AllocError> {
-    let word = offending_at(text, span);
-    match (number, mistake) {
-        (403, Case::AtLabel) => path_advice(alloc, text, span),
-        (401, Case::Plain) => undeclared_advice(alloc, text, span),
-        (401, Case::BlockType) => instance_advice(alloc, text, word, span.start),
-        (402, Case::InstanceTarget) => target_advice(alloc, text, span),
-        (402, Case::Unpassed(Kind::Dint, Kind::Time)) => duration_advice(alloc, word),
-        (404 | 405, _) => unseen_advice(alloc, text, span),
-        (401, Case::Field) => field_advice(alloc, text, span),
-        (406, Case::Plain) => label_advice(alloc, text, word, span.start),
-        (409, Case::NotOfBlock(_) | Case::NotOfOwnBlock) => formal_advice(alloc, text, span),
-        _ => advice_of_token(alloc, text, number, span, mistake),
+    match (refused.number, mistake) {
+        (403, Case::AtLabel) => path_advice(alloc, refused),
+        (401, Case::Plain) => undeclared_advice(alloc, refused),
+        (401, Case::BlockType) => instance_advice(alloc, refused),
+        (402, Case::InstanceTarget) => target_advice(alloc, refused),
+        (402, Case::Unpassed(Kind::Dint, Kind::Time)) => {
+            duration_advice(alloc, refused.offending())
+        }
+        (404 | 405, _) => unseen_advice(alloc, refused),
+        (401, Case::Field) => field_advice(alloc, refused),
+        (406, Case::Plain) => label_advice(alloc, refused),
+        (409, Case::NotOfBlock(_) | Case::NotOfOwnBlock) => formal_advice(alloc, refused),
+        _ => advice_of_token(alloc, refused, mistake),
     }
 }

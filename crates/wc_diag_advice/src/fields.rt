@@ -2,24 +2,26 @@ use crate::advice::short_words;
 use crate::near::{Wanted, has_word, near_name};
 use std::alloc::{AllocError, Global};
 use wc_built_in::variable_at;
-use wc_diag_mistakes::{block_with, excerpt, first_word, following, prefix, word_before, words_at};
-use wc_diag_stops::RefusalSpan;
+use wc_diag_mistakes::{Refused, block_with, first_word, following, prefix, word_before};
 use wc_diag_texts::{InstructionValues, NameValues, instruction_text, name_text};
 
 /// The greatest bit of a number that is not negative.
 const GREATEST_BIT: u32 = 30;
 
+/// The name that the unit declares and that is spelled almost as this one; empty if none is.
+fn near_at<'t>(refused: &Refused<'t, '_>, name: &str, wanted: Wanted) -> &'t str {
+    let near = near_name(refused.units, name.as_bytes(), refused.span.start, wanted);
+    str::from_utf8(near).unwrap_or("")
+}
+
 /// What to write for a name before a point that the unit does not declare, and the name after it.
 fn undeclared_advice(
     alloc: Global,
-    text: &[u8],
-    place: usize,
+    refused: &Refused<'_, '_>,
     name: &str,
     field: &str,
 ) -> Result<String, AllocError> {
-    let near = str::from_utf8(near_name(text, name.as_bytes(), place, Wanted::Instance)).unwrap_or(
-        "",
-    );
+    let near = near_at(refused, name, Wanted::Instance);
     if !near.is_empty() {
         let full = format!(in alloc; "{near}.{field}")?;
         return name_text(alloc, NameValues::Near(&full));
@@ -28,47 +30,35 @@ fn undeclared_advice(
     if block.is_empty() {
         return name_text(alloc, NameValues::NoGlobal(name, field));
     }
-    match str::from_utf8(near_name(text, name.as_bytes(), place, Wanted::Value)) {
-        Ok(near) if !near.is_empty() => {
-            name_text(alloc, NameValues::NearOrInstance(near, field, name, block))
-        }
-        _ => name_text(alloc, NameValues::NewInstance(name, block)),
+    let near = near_at(refused, name, Wanted::Value);
+    if near.is_empty() {
+        return name_text(alloc, NameValues::NewInstance(name, block));
     }
+    name_text(alloc, NameValues::NearOrInstance(near, field, name, block))
 }
 
 /// What to write for a name before a point that is not of an instance.
-pub(crate) fn point_advice(
-    alloc: Global,
-    text: &[u8],
-    span: &RefusalSpan,
-) -> Result<String, AllocError> {
-    let word = match span.below {
-        Some(below) => words_at(text, Some(below)).as_bytes(),
-        None => excerpt(text, span.start, span.length),
-    };
+pub(crate) fn point_advice(alloc: Global, refused: &Refused<'_, '_>) -> Result<String, AllocError> {
+    let word = refused.offending();
     let name = first_word(word);
     let after = following(word, name.len().saturating_add(1)).trim_ascii();
     let (name, field) = (short_words(name), short_words(after));
-    let kind = words_at(text, span.block);
+    let kind = refused.words_at(refused.span.block);
     if name.is_empty() || field.is_empty() {
         return Ok(String::new(alloc));
     }
     if !kind.is_empty() {
         return name_text(alloc, NameValues::NoFields(name, kind));
     }
-    undeclared_advice(alloc, text, span.start, name, field)
+    undeclared_advice(alloc, refused, name, field)
 }
 
 /// What to write for the inputs of a call without parentheses.
-pub(crate) fn input_advice(
-    alloc: Global,
-    text: &[u8],
-    span: &RefusalSpan,
-) -> Result<String, AllocError> {
-    let input = short_words(excerpt(text, span.start, span.length));
-    let instance = short_words(word_before(text, span.start));
-    let rest = following(text, span.start.saturating_add(span.length));
-    if !rest.trim_ascii_start().starts_with(b":=") || input.is_empty() || instance.is_empty() {
+pub(crate) fn input_advice(alloc: Global, refused: &Refused<'_, '_>) -> Result<String, AllocError> {
+    let input = short_words(refused.token());
+    let instance = short_words(refused.word_before());
+    let is_assigned = refused.rest().trim_ascii_start().starts_with(b":=");
+    if !is_assigned || input.is_empty() || instance.is_empty() {
         return Ok(String::new(alloc));
     }
     instruction_text(alloc, InstructionValues::BareInput(instance, input))
@@ -114,12 +104,11 @@ fn is_foreign_area(name: &[u8]) -> bool {
 /// What to write for a number after a point: an address, with or without its `%`, or a bit of a number.
 pub(crate) fn number_advice(
     alloc: Global,
-    text: &[u8],
-    span: &RefusalSpan,
+    refused: &Refused<'_, '_>,
 ) -> Result<String, AllocError> {
-    let digits = excerpt(text, span.start, span.length);
-    let above = prefix(text, span.start).trim_ascii_end();
-    let name = short_words(word_before(text, above.len().saturating_sub(1)));
+    let digits = refused.token();
+    let above = refused.above().trim_ascii_end();
+    let name = short_words(word_before(above, above.len().saturating_sub(1)));
     if name.is_empty() {
         return Ok(String::new(alloc));
     }
@@ -128,7 +117,7 @@ pub(crate) fn number_advice(
         return name_text(alloc, NameValues::Near(&address));
     }
     let start = above.len().saturating_sub(name.len()).saturating_sub(1);
-    if is_foreign_area(name.as_bytes()) && !has_word(prefix(text, start), name.as_bytes()) {
+    if is_foreign_area(name.as_bytes()) && !has_word(prefix(above, start), name.as_bytes()) {
         return instruction_text(alloc, InstructionValues::ForeignBit(name));
     }
     match bit_of(digits) {

@@ -1,11 +1,9 @@
 use crate::advice::short_words;
-use crate::near::{ends_section, has_word, keyword_on};
-use memchr::memchr;
+use crate::near::has_word;
 use std::alloc::{AllocError, Global};
-use wc_built_in::{Keyword, standard_block};
-use wc_diag_mistakes::{first_word, prefix};
+use wc_built_in::standard_block;
 use wc_diag_texts::{Case, NameValues, hint_of, name_text};
-use wc_model::{Section, StandardBlock};
+use wc_model::{Decl, Section, StandardBlock, Unit};
 
 /// This number of bytes of a list of names is printed at most.
 const LONGEST_LIST: usize = 40;
@@ -60,45 +58,40 @@ fn add_name(list: &mut String, name: &[u8], most: usize) -> Result<(), AllocErro
 }
 
 /// Adds the names of a declaration.
-fn add_declared(list: &mut String, declaration: &[u8], most: usize) -> Result<(), AllocError> {
-    let Some(colon) = memchr(b':', declaration) else {
-        return Ok(());
-    };
-    for name in prefix(declaration, colon).split(|byte| *byte == b',') {
-        add_name(list, name.trim_ascii(), most)?;
+fn add_names(list: &mut String, declaration: &Decl<'_>, most: usize) -> Result<(), AllocError> {
+    for name in &declaration.names {
+        add_name(list, name.text, most)?;
     }
     Ok(())
 }
 
-/// Adds the names of the declarations of a line.
-fn add_line(list: &mut String, line: &[u8], most: usize) -> Result<(), AllocError> {
-    for declaration in line.split(|byte| *byte == b';') {
-        add_declared(list, declaration, most)?;
+/// Adds the names that a unit declares in a kind of section.
+fn add_declared(
+    list: &mut String,
+    unit: &Unit<'_>,
+    wanted: Section,
+    most: usize,
+) -> Result<(), AllocError> {
+    for declaration in &unit.declarations {
+        if declaration.section == wanted {
+            add_names(list, declaration, most)?;
+        }
     }
     Ok(())
 }
 
-/// Adds the names that a block of the text declares in a kind of section: once over the text, line by line.
+/// Adds the names that a block of that name declares in a kind of section.
 fn add_declarations(
     list: &mut String,
-    text: &[u8],
+    units: &[Unit<'_>],
     block: &[u8],
     wanted: Section,
     most: usize,
 ) -> Result<(), AllocError> {
-    let (mut in_block, mut in_section) = (false, false);
-    for line in text.split(|byte| *byte == b'\n') {
-        let line = line.trim_ascii();
-        let (keyword, rest) = keyword_on(line);
-        match keyword {
-            Some(Keyword::UnitStart(_)) => in_block = first_word(rest).eq_ignore_ascii_case(block),
-            Some(Keyword::SectionStart(section)) => in_section = in_block && section == wanted,
-            _ => {}
+    for unit in units {
+        if unit.name.text.eq_ignore_ascii_case(block) {
+            add_declared(list, unit, wanted, most)?;
         }
-        if in_section {
-            add_line(list, rest, most)?;
-        }
-        in_section &= !ends_section(line);
     }
     Ok(())
 }
@@ -106,13 +99,13 @@ fn add_declarations(
 /// The names that a block of the text declares in a kind of section, with commas between: no more than follow that number of bytes.
 fn names_in(
     alloc: Global,
-    text: &[u8],
+    units: &[Unit<'_>],
     block: &[u8],
     wanted: Section,
     most: usize,
 ) -> Result<String, AllocError> {
     let mut list = String::new(alloc);
-    add_declarations(&mut list, text, block, wanted, most)?;
+    add_declarations(&mut list, units, block, wanted, most)?;
     Ok(list)
 }
 
@@ -128,21 +121,21 @@ fn named(alloc: Global, word: &str, sign: &str, names: &str) -> Result<String, A
 }
 
 /// The inputs of a block of the text, in words.
-fn own_inputs(alloc: Global, text: &[u8], block: &[u8]) -> Result<String, AllocError> {
-    let inputs = names_in(alloc, text, block, Section::Input, LONGEST_LIST)?;
+fn own_inputs(alloc: Global, units: &[Unit<'_>], block: &[u8]) -> Result<String, AllocError> {
+    let inputs = names_in(alloc, units, block, Section::Input, LONGEST_LIST)?;
     named(alloc, "input", ":=", &inputs)
 }
 
 /// Its outputs.
-fn own_outputs(alloc: Global, text: &[u8], block: &[u8]) -> Result<String, AllocError> {
-    let outputs = names_in(alloc, text, block, Section::Output, LONGEST_LIST)?;
+fn own_outputs(alloc: Global, units: &[Unit<'_>], block: &[u8]) -> Result<String, AllocError> {
+    let outputs = names_in(alloc, units, block, Section::Output, LONGEST_LIST)?;
     named(alloc, "output", "=>", &outputs)
 }
 
 /// What a block of the text has, in words.
-fn own_members(alloc: Global, text: &[u8], block: &[u8]) -> Result<String, AllocError> {
-    let inputs = own_inputs(alloc, text, block)?;
-    let outputs = own_outputs(alloc, text, block)?;
+fn own_members(alloc: Global, units: &[Unit<'_>], block: &[u8]) -> Result<String, AllocError> {
+    let inputs = own_inputs(alloc, units, block)?;
+    let outputs = own_outputs(alloc, units, block)?;
     name_text(
         alloc,
         NameValues::Members(str::from_utf8(block).unwrap_or("it"), &inputs, &outputs),
@@ -154,69 +147,61 @@ fn members_said(block: StandardBlock) -> &'static str {
     hint_of(409, Case::NotOfBlock(block)).unwrap_or("")
 }
 
-/// What a standard block has, after the likely member, which follows what names its instance.
-fn near_advice(
+/// What to write for a name that a standard block does not have, which follows what names its instance.
+fn standard_advice(
     alloc: Global,
     block: StandardBlock,
-    instance: &[u8],
-    near: &str,
+    is_input: bool,
+    (instance, name): (&[u8], &[u8]),
 ) -> Result<String, AllocError> {
+    let near = near_member(block, is_input, name);
+    if near.is_empty() {
+        return format!(in alloc; "{}", members_said(block));
+    }
     let instance = str::from_utf8(instance).unwrap_or("");
     let likely = format!(in alloc; "{instance}{near}")?;
     name_text(alloc, NameValues::NearOf(&likely, members_said(block)))
 }
 
-/// What to write for a name that a standard block does not have.
-fn standard_advice(
-    alloc: Global,
-    block: StandardBlock,
-    is_input: bool,
-    instance: &[u8],
-    name: &[u8],
-) -> Result<String, AllocError> {
-    let near = near_member(block, is_input, name);
-    if near.is_empty() {
-        format!(in alloc; "{}", members_said(block))
-    } else {
-        near_advice(alloc, block, instance, near)
-    }
-}
-
-/// What to write for a name that a block does not have as an input, or as an output: a near one, and what the block has.
+/// What to write for a name that a block does not have as an input, or as an output: a near one, and what the block has. What names its
+/// instance comes before the name.
 pub(crate) fn member_advice(
     alloc: Global,
-    text: &[u8],
+    units: &[Unit<'_>],
     block: &[u8],
     is_input: bool,
-    instance: &[u8],
-    name: &[u8],
+    wanted: (&[u8], &[u8]),
 ) -> Result<String, AllocError> {
     match standard_block(block) {
-        Some(standard) => standard_advice(alloc, standard, is_input, instance, name),
-        None => own_members(alloc, text, block),
+        Some(standard) => standard_advice(alloc, standard, is_input, wanted),
+        None => own_members(alloc, units, block),
     }
 }
 
 /// The first input of a block; empty if it has none.
-pub(crate) fn input_of(alloc: Global, text: &[u8], block: &[u8]) -> Result<String, AllocError> {
+pub(crate) fn input_of(
+    alloc: Global,
+    units: &[Unit<'_>],
+    block: &[u8],
+) -> Result<String, AllocError> {
     match standard_block(block) {
         Some(standard) => {
             let first = members_of(standard, true).first().copied().unwrap_or("");
             format!(in alloc; "{first}")
         }
-        None => names_in(alloc, text, block, Section::Input, 0),
+        None => names_in(alloc, units, block, Section::Input, 0),
     }
 }
 
 /// What to write for a variable in VAR of a block of the text, which is to be set or read outside; empty if it is none.
 pub(crate) fn hidden_advice(
     alloc: Global,
-    text: &[u8],
+    units: &[Unit<'_>],
     block: &[u8],
     name: &[u8],
     is_set: bool,
 ) -> Result<String, AllocError> {
-    let own = names_in(alloc, text, block, Section::Own, usize::MAX)?;
+    let own = names_in(alloc, units, block, Section::Own, usize::MAX)?;
     if !has_word(own.as_bytes(), name) {
         return Ok(String::new(alloc));
     }

@@ -7,7 +7,7 @@ pub four_excerpts : (a b c d start first second third all : List ℕ) → start 
 four_excerpts a b c d start first second third all none e f g h = rw (h, g, f, e, none) refl
 
 -- four parts after what was there, the last of which may fail
-pub four_after : {E : Type 0} (r : Result Unit E) (old a b c d first second third all : List ℕ) → first ≡ old ++ a → second ≡ first ++ b → third ≡ second ++ c → OnOk r (all ≡ third ++ d)
+pub four_after : {E X : Type 0} (r : Result Unit E) (old a b c d first second third all : List X) → first ≡ old ++ a → second ≡ first ++ b → third ≡ second ++ c → OnOk r (all ≡ third ++ d)
     → OnOk r (all ≡ old ++ (a ++ b ++ c ++ d))
 four_after (Ok x) old a b c d first second third all e f g h =
     rw (h, g, f, e, append_assoc old a b, append_assoc old (a ++ b) c, append_assoc old (a ++ b ++ c) d) refl
@@ -25,16 +25,8 @@ pub five_excerpts : {X : Type 0} (a b c d e start first second third fourth all 
     → all ≡ a ++ b ++ c ++ d ++ e
 five_excerpts a b c d e start first second third fourth all none f g h i j = rw (j, i, h, g, f, none) refl
 
--- three parts and four after what was there
-pub three_after : {X : Type 0} (old a b c first second all : List X) → first ≡ old ++ a → second ≡ first ++ b → all ≡ second ++ c → all ≡ old ++ (a ++ b ++ c)
-three_after old a b c first second all e f g = rw (g, f, e, append_assoc old a b, append_assoc old (a ++ b) c) refl
-
-pub fourth_after : {X : Type 0} (old a b c d first second third all : List X) → first ≡ old ++ a → second ≡ first ++ b → third ≡ second ++ c → all ≡ third ++ d → all ≡ old ++ (a ++ b ++ c ++ d)
-fourth_after old a b c d first second third all e f g h =
-    rw (h, g, f, e, append_assoc old a b, append_assoc old (a ++ b) c, append_assoc old (a ++ b ++ c) d) refl
-
--- seven parts in an empty message
-pub seven_excerpts : (a b c d e f g start first second third fourth fifth sixth all : List ℕ) → start ≡ [] → first ≡ start ++ a → second ≡ first ++ b → third ≡ second ++ c → fourth ≡ third ++ d
-    → fifth ≡ fourth ++ e → sixth ≡ fifth ++ f → all ≡ sixth ++ g
-    → all ≡ a ++ b ++ c ++ d ++ e ++ f ++ g
-seven_excerpts a b c d e f g start first second third fourth fifth sixth all none h i j k l m n = rw (n, m, l, k, j, i, h, none) refl
+-- six parts in an empty message
+pub six_excerpts : (a b c d e f start first second third fourth fifth all : List ℕ) → start ≡ [] → first ≡ start ++ a → second ≡ first ++ b → third ≡ second ++ c → fourth ≡ third ++ d
+    → fifth ≡ fourth ++ e → all ≡ fifth ++ f
+    → all ≡ a ++ b ++ c ++ d ++ e ++ f
+six_excerpts a b c d e f start first second third fourth fifth all none h i j k l m = rw (m, l, k, j, i, h, none) refl

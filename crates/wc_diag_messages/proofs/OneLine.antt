@@ -9,11 +9,15 @@ use Rattle.wc_diag_spans.specs.declared.diagnostic.TextSpan.{TextSpan}
 use Rattle.wc_diag_spans.specs.declared.refusal.Part.{Part}
 use Rattle.wc_diag_spans.specs.declared.refusal.Part.TheVariants.{Job, Plate, Program, Next, Log}
 use Rattle.wc_diag_spans.specs.declared.refusal.Refusal.{Refusal}
-use Rattle.wc_diag_messages.specs.Explanations.{QuotesAndSays, left_out_text, line_text, quoted_text}
-use Rattle.wc_diag_messages.specs.Formats.{HasNoControls, after_colon, helped_text, position_text, short_text}
+use Rattle.wc_diag_messages.specs.Explanations.{QuotesAndSays, left_out_text, line_text, numbered, opening, quoted_text}
+use Rattle.wc_diag_messages.specs.Formats.{after_colon, helped_text, position_text, short_text}
+use Rattle.wc_diag_messages.specs.Known.{IsKnown, IsPrintable}
 use Rattle.wc_diag_messages.specs.Locations.{column_text, counted_name, counted_text, heading, number_text, place_text, row_text, section_text}
-use Rattle.wc_diag_messages.specs.Plain.{IsShown, acts, column_of, escaped_byte, escaped_text, hex_digit, is_calm, is_control, passes, shown_text, with_spaces, words_after}
-use Rattle.wc_diag_messages.specs.Warned.{named_text, text_span_text, warning_line, warning_number}
+use Rattle.wc_diag_messages.specs.Plain.{HasNoControls, IsShown, acts, column_of, escaped_byte, escaped_text, hex_digit, is_calm, is_control, passes, shown_text, with_spaces, words_after}
+use Rattle.wc_diag_messages.specs.Warned.{KnowsWarning}
+use Rattle.wc_diag_messages.specs.declared.parts.Parts.{Parts}
+use Rattle.wc_diag_messages.specs.declared.parts.Severity.{Severity}
+use Rattle.wc_diag_warnings.specs.declared.warning.Warning.{Warning}
 
 -- of two texts joined
 pub joined : (xs ys : List ℕ) → HasNoControls xs → HasNoControls ys → HasNoControls (xs ++ ys)
@@ -156,53 +160,47 @@ line_above line =
     (joined (shown_text (codes ":")) (number_text line) (bytes_shown (codes ":")) (bytes_shown (decimal line)))
 
 -- where it is
-position_above : (refusal : Refusal) (line : ℕ) (shown : List ℕ) (text_span : Option TextSpan) → HasNoControls (position_text refusal line shown text_span)
-position_above refusal line shown text_span =
-    let place = place_text refusal.in_job refusal.part refusal.place in
-    either (line == 0) (after_colon place) (line_text line ++ column_text shown text_span) (colon_above place (place_above refusal.in_job refusal.part refusal.place))
-    (joined (line_text line) (column_text shown text_span) (line_above line) (column_above shown text_span))
+position_above : (parts : Parts) → HasNoControls parts.place.bytes.items → HasNoControls (position_text parts)
+position_above parts h =
+    let shown = parts.diagnostic.shown.items in
+    let text_span = parts.diagnostic.text_span in
+    either (parts.line == 0) (after_colon parts.place.bytes.items) (line_text parts.line ++ column_text shown text_span) (colon_above parts.place.bytes.items h)
+    (joined (line_text parts.line) (column_text shown text_span) (line_above parts.line) (column_above shown text_span))
 
--- a refusal on one line
-pub short_above : (refusal : Refusal) (line : ℕ) (shown : List ℕ) (text_span : Option TextSpan) (reported : List ℕ) → HasNoControls reported
-    → HasNoControls (short_text refusal.name.now (position_text refusal line shown text_span) refusal.number reported)
-short_above refusal line shown text_span reported h =
-    let name = shown_text refusal.name.now in
-    let position = position_text refusal line shown text_span in
-    let opening = shown_text (codes ": error[") in
-    let number = number_text refusal.number in
-    let closing = shown_text (codes "]: ") in
-    let a = joined name position (bytes_shown refusal.name.now) (position_above refusal line shown text_span) in
-    let b = joined (name ++ position) opening a (bytes_shown (codes ": error[")) in
-    let c = joined (name ++ position ++ opening) number b (bytes_shown (decimal refusal.number)) in
-    let d = joined (name ++ position ++ opening ++ number) closing c (bytes_shown (codes "]: ")) in
-    joined (name ++ position ++ opening ++ number ++ closing) reported d h
+-- its number
+numbered_above : (severity : Severity) (number : ℕ) → HasNoControls (numbered severity number)
+numbered_above severity number =
+    joined (shown_text (opening severity) ++ number_text number) (shown_text (codes "]: "))
+    (joined (shown_text (opening severity)) (number_text number) (bytes_shown (opening severity)) (bytes_shown (decimal number))) (bytes_shown (codes "]: "))
 
--- the number of a warning, and its name
-number_above : (number : ℕ) → HasNoControls (warning_number number)
-number_above number = joined (shown_text (codes "W")) (number_text number) (bytes_shown (codes "W")) (bytes_shown (decimal number))
+-- all of it on one line
+pub short_above : (name : List ℕ) (parts : Parts) → IsPrintable parts → HasNoControls (short_text name parts)
+short_above name parts is =
+    let file = shown_text name in
+    let position = position_text parts in
+    let colon = shown_text (codes ": ") in
+    let number = numbered parts.severity parts.number in
+    let said = helped_text parts.reported.bytes.items parts.advice.bytes.items in
+    let a = joined file position (bytes_shown name) (position_above parts is.place) in
+    let b = joined (file ++ position) colon a (bytes_shown (codes ": ")) in
+    let c = joined (file ++ position ++ colon) number b (numbered_above parts.severity parts.number) in
+    joined (file ++ position ++ colon ++ number) said c (helped_above parts.reported.bytes.items parts.advice.bytes.items is.reported is.advice)
 
-named_above : (name : List ℕ) → HasNoControls (named_text name)
-named_above [] = tt
-named_above (byte ∷ rest) =
-    let mark = shown_text (codes "`") in
-    let text = shown_text (byte ∷ rest) in
-    let a = joined mark text (bytes_shown (codes "`")) (bytes_shown (byte ∷ rest)) in
-    let b = joined (mark ++ text) mark a (bytes_shown (codes "`")) in
-    joined (mark ++ text ++ mark) (shown_text (codes " ")) b (bytes_shown (codes " "))
+-- what is known of a refusal or a warning
+pub refusal_prints : (refusal : Refusal) (parts : Parts) → IsKnown refusal parts → IsPrintable parts
+refusal_prints refusal parts known =
+    record {
+      within = known.found.within;
+      reported = reported_above parts.diagnostic.subject.items parts.reported.bytes.items known.says;
+      place = subst HasNoControls (sym known.place_is) (place_above refusal.in_job refusal.part refusal.place);
+      advice = shown_above parts.advice.bytes.items known.advice_is;
+    }
 
--- what is suspicious
-pub warned_above : (name said reported : List ℕ) → reported ≡ named_text name ++ shown_text said → HasNoControls reported
-warned_above name said reported e = subst HasNoControls (sym e) (joined (named_text name) (shown_text said) (named_above name) (bytes_shown said))
-
--- a warning on one line
-pub warning_line_above : (file : List ℕ) (line : ℕ) (shown : List ℕ) (text_span : Option TextSpan) (number : ℕ) (reported : List ℕ) → HasNoControls reported → HasNoControls (warning_line file (text_span_text line shown text_span) number reported)
-warning_line_above file line shown text_span number reported h =
-    let name = shown_text file in
-    let position = text_span_text line shown text_span in
-    let opening = shown_text (codes ": warning[") in
-    let closing = shown_text (codes "]: ") in
-    let a = joined name position (bytes_shown file) (joined (line_text line) (column_text shown text_span) (line_above line) (column_above shown text_span)) in
-    let b = joined (name ++ position) opening a (bytes_shown (codes ": warning[")) in
-    let c = joined (name ++ position ++ opening) (warning_number number) b (number_above number) in
-    let d = joined (name ++ position ++ opening ++ warning_number number) closing c (bytes_shown (codes "]: ")) in
-    joined (name ++ position ++ opening ++ warning_number number ++ closing) reported d h
+pub warning_prints : (text : List ℕ) (warning : Warning) (parts : Parts) → KnowsWarning text warning parts → IsPrintable parts
+warning_prints text warning parts knows =
+    record {
+      within = knows.within;
+      reported = reported_above warning.name.now parts.reported.bytes.items knows.says;
+      place = subst HasNoControls (sym knows.place_is) tt;
+      advice = shown_above parts.advice.bytes.items knows.advice_is;
+    }

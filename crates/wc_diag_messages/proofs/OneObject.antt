@@ -5,14 +5,13 @@ use Rattle.std.specs.Char.{digit_char}
 use Rattle.json.specs.Print.{begins, ends, escape, escape_byte, escape_letter, print, print_from, quoted, separator, token_text}
 use Rattle.json.specs.Token as json_token
 use Rattle.json.specs.Token.{Token}
-use Rattle.wc_diag_spans.specs.declared.diagnostic.Diagnostic.{Diagnostic}
-use Rattle.wc_diag_spans.specs.declared.refusal.Refusal.{Refusal}
 use Rattle.wc_diag_messages.proofs.OneLine.{decimal_above, digit_above, joined}
-use Rattle.wc_diag_messages.specs.Formats.{HasNoControls, column_after, first_column, number_if_any, number_member, object_tokens, position_members, text_if_any, text_member, word_members}
-use Rattle.wc_diag_messages.specs.Locations.{place_text}
-use Rattle.wc_diag_messages.specs.Warned.{left_out_tokens, text_span_members, warning_members, warning_tokens}
-use Rattle.wc_diag_messages.specs.declared.warned_parts.WarningParts.{WarningParts}
-use Rattle.wc_diag_warnings.specs.declared.warning.Warning.{Warning}
+use Rattle.wc_diag_messages.specs.Formats.{column_after, first_column, number_if_any, number_member, object_tokens, position_members, severity_members, text_if_any, text_member, word_members}
+use Rattle.wc_diag_messages.specs.Plain.{HasNoControls}
+use Rattle.wc_diag_messages.specs.Warned.{left_out_tokens}
+use Rattle.wc_diag_messages.specs.declared.parts.Parts.{Parts}
+use Rattle.wc_diag_messages.specs.declared.parts.Severity.{Severity}
+use Rattle.wc_diag_messages.specs.declared.parts.Severity.TheVariants.{Error, Warning}
 
 -- the letter of a short escape is not a control
 letter_chosen : (a b c d e f : Bool) (x : ℕ) → (a ≡ true → 31 < x) → nat_lt 0 (cond a x (cond b 98 (cond c 102 (cond d 110 (cond e 114 (cond f 116 0)))))) ≡ true
@@ -82,33 +81,42 @@ text_if_any_clean name (byte ∷ rest) = text_clean name (byte ∷ rest)
 number_if_any_clean : (name : List ℕ) (value : ℕ) → AreClean (number_if_any name value)
 number_if_any_clean name value = either_clean (value == 0) [] (number_member name value) tt (number_clean name value)
 
-position_clean : (refusal : Refusal) (line : ℕ) (diagnostic : Diagnostic) → AreClean (position_members refusal line diagnostic)
-position_clean refusal line diagnostic =
-    let a = number_if_any (codes "line") line in
-    let b = number_if_any (codes "column") (first_column diagnostic.shown.items diagnostic.text_span) in
-    let c = number_if_any (codes "endColumn") (column_after diagnostic.text_span diagnostic.shown.items) in
-    let place = place_text refusal.in_job refusal.part refusal.place in
-    let first = both_clean a b (number_if_any_clean (codes "line") line) (number_if_any_clean (codes "column") (first_column diagnostic.shown.items diagnostic.text_span)) in
-    let second = both_clean (a ++ b) c first (number_if_any_clean (codes "endColumn") (column_after diagnostic.text_span diagnostic.shown.items)) in
+position_clean : (parts : Parts) → AreClean (position_members parts)
+position_clean parts =
+    let shown = parts.diagnostic.shown.items in
+    let text_span = parts.diagnostic.text_span in
+    let a = number_if_any (codes "line") parts.line in
+    let b = number_if_any (codes "column") (first_column shown text_span) in
+    let c = number_if_any (codes "endColumn") (column_after text_span shown) in
+    let place = parts.place.bytes.items in
+    let first = both_clean a b (number_if_any_clean (codes "line") parts.line) (number_if_any_clean (codes "column") (first_column shown text_span)) in
+    let second = both_clean (a ++ b) c first (number_if_any_clean (codes "endColumn") (column_after text_span shown)) in
     both_clean (a ++ b ++ c) (text_if_any (codes "place") place) second (text_if_any_clean (codes "place") place)
 
-words_clean : (number : ℕ) (reported advice : List ℕ) → AreClean (word_members number reported advice)
-words_clean number reported advice =
-    let a = number_member (codes "number") number in
-    let b = text_member (codes "sentence") reported in
-    let first = both_clean a b (number_clean (codes "number") number) (text_clean (codes "sentence") reported) in
-    both_clean (a ++ b) (text_if_any (codes "hint") advice) first (text_if_any_clean (codes "hint") advice)
+severity_clean : (severity : Severity) → AreClean (severity_members severity)
+severity_clean Error = tt
+severity_clean Warning = text_clean (codes "severity") (codes "warning")
 
--- all of an object
-object_clean : (refusal : Refusal) (name : List ℕ) (line : ℕ) (diagnostic : Diagnostic) (reported advice : List ℕ) → AreClean (object_tokens refusal name line diagnostic reported advice)
-object_clean refusal name line diagnostic reported advice =
+words_clean : (parts : Parts) → AreClean (word_members parts)
+words_clean parts =
+    let reported = parts.reported.bytes.items in
+    let advice = parts.advice.bytes.items in
+    let a = severity_members parts.severity in
+    let b = number_member (codes "number") parts.number in
+    let c = text_member (codes "sentence") reported in
+    let first = both_clean a b (severity_clean parts.severity) (number_clean (codes "number") parts.number) in
+    let second = both_clean (a ++ b) c first (text_clean (codes "sentence") reported) in
+    both_clean (a ++ b ++ c) (text_if_any (codes "hint") advice) second (text_if_any_clean (codes "hint") advice)
+
+-- four groups of members of an object
+object_clean : (name : List ℕ) (one other : List Token) → AreClean one → AreClean other
+    → AreClean ((json_token.begin_object ∷ text_member (codes "file") name) ++ one ++ other ++ (json_token.end_object ∷ []))
+object_clean name one other h k =
     let opening = json_token.begin_object ∷ text_member (codes "file") name in
-    let position = position_members refusal line diagnostic in
-    let words = word_members refusal.number reported advice in
     let first : AreClean opening = ((lit< tt, tt), text_clean (codes "file") name) in
-    let second = both_clean opening position first (position_clean refusal line diagnostic) in
-    let third = both_clean (opening ++ position) words second (words_clean refusal.number reported advice) in
-    both_clean (opening ++ position ++ words) (json_token.end_object ∷ []) third ((lit< tt, tt), tt)
+    let second = both_clean opening one first h in
+    let third = both_clean (opening ++ one) other second k in
+    both_clean (opening ++ one ++ other) (json_token.end_object ∷ []) third ((lit< tt, tt), tt)
 
 -- a comma, if any
 comma : (b : Bool) → HasNoControls (cond b (44 ∷ []) [])
@@ -123,57 +131,16 @@ printed_above after_value (token ∷ rest) h =
     joined (separator after_value token) (token_text token ++ print_from (ends token) rest) (comma (after_value && begins token))
     (joined (token_text token) (print_from (ends token) rest) h.0 (printed_above (ends token) rest h.1))
 
--- an object is printed so
-pub object_above : (refusal : Refusal) (name : List ℕ) (line : ℕ) (diagnostic : Diagnostic) (reported advice : List ℕ) (tokens : List Token) → tokens ≡ object_tokens refusal name line diagnostic reported advice
-    → HasNoControls (print tokens)
-object_above refusal name line diagnostic reported advice tokens e =
+-- objects are printed so
+pub object_above : (parts : Parts) (name : List ℕ) (tokens : List Token) → tokens ≡ object_tokens parts name → HasNoControls (print tokens)
+object_above parts name tokens e =
     subst (λ (ts : List Token). HasNoControls (print ts)) (sym e)
-    (printed_above false (object_tokens refusal name line diagnostic reported advice) (object_clean refusal name line diagnostic reported advice))
+    (printed_above false (object_tokens parts name) (object_clean name (position_members parts) (word_members parts) (position_clean parts) (words_clean parts)))
 
--- the members of a warning
-text_span_clean : (line : ℕ) (diagnostic : Diagnostic) → AreClean (text_span_members line diagnostic)
-text_span_clean line diagnostic =
-    let a = number_if_any (codes "line") line in
-    let b = number_if_any (codes "column") (first_column diagnostic.shown.items diagnostic.text_span) in
-    let c = number_if_any (codes "endColumn") (column_after diagnostic.text_span diagnostic.shown.items) in
-    let first = both_clean a b (number_if_any_clean (codes "line") line) (number_if_any_clean (codes "column") (first_column diagnostic.shown.items diagnostic.text_span)) in
-    both_clean (a ++ b) c first (number_if_any_clean (codes "endColumn") (column_after diagnostic.text_span diagnostic.shown.items))
-
-warned_clean : (number : ℕ) (reported advice : List ℕ) → AreClean (warning_members number reported advice)
-warned_clean number reported advice =
-    let a = text_member (codes "severity") (codes "warning") in
-    let b = number_member (codes "number") number in
-    let c = text_member (codes "sentence") reported in
-    let first = both_clean a b (text_clean (codes "severity") (codes "warning")) (number_clean (codes "number") number) in
-    let second = both_clean (a ++ b) c first (text_clean (codes "sentence") reported) in
-    both_clean (a ++ b ++ c) (text_member (codes "hint") advice) second (text_clean (codes "hint") advice)
-
-warning_clean : (name : List ℕ) (warning : Warning) (parts : WarningParts) → AreClean (warning_tokens name warning parts)
-warning_clean name warning parts =
-    let opening = json_token.begin_object ∷ text_member (codes "file") name in
-    let position = text_span_members parts.diagnostic.line parts.diagnostic in
-    let words = warning_members warning.number parts.reported.bytes.items parts.advice.bytes.items in
-    let first : AreClean opening = ((lit< tt, tt), text_clean (codes "file") name) in
-    let second = both_clean opening position first (text_span_clean parts.diagnostic.line parts.diagnostic) in
-    let third = both_clean (opening ++ position) words second (warned_clean warning.number parts.reported.bytes.items parts.advice.bytes.items) in
-    both_clean (opening ++ position ++ words) (json_token.end_object ∷ []) third ((lit< tt, tt), tt)
-
--- a warning is printed so
-pub warning_above : (name : List ℕ) (warning : Warning) (parts : WarningParts) (tokens : List Token) → tokens ≡ warning_tokens name warning parts → HasNoControls (print tokens)
-warning_above name warning parts tokens e =
-    subst (λ (ts : List Token). HasNoControls (print ts)) (sym e) (printed_above false (warning_tokens name warning parts) (warning_clean name warning parts))
-
--- the number of those left out
-left_out_clean : (name : List ℕ) (count : ℕ) → AreClean (left_out_tokens name count)
-left_out_clean name count =
-    let opening = json_token.begin_object ∷ text_member (codes "file") name in
+pub left_out_above : (count : ℕ) (name : List ℕ) (tokens : List Token) → tokens ≡ left_out_tokens count name → HasNoControls (print tokens)
+left_out_above count name tokens e =
     let severity = text_member (codes "severity") (codes "warning") in
     let left = number_member (codes "leftOut") count in
-    let first : AreClean opening = ((lit< tt, tt), text_clean (codes "file") name) in
-    let second = both_clean opening severity first (text_clean (codes "severity") (codes "warning")) in
-    let third = both_clean (opening ++ severity) left second (number_clean (codes "leftOut") count) in
-    both_clean (opening ++ severity ++ left) (json_token.end_object ∷ []) third ((lit< tt, tt), tt)
-
-pub left_out_above : (name : List ℕ) (count : ℕ) (tokens : List Token) → tokens ≡ left_out_tokens name count → HasNoControls (print tokens)
-left_out_above name count tokens e =
-    subst (λ (ts : List Token). HasNoControls (print ts)) (sym e) (printed_above false (left_out_tokens name count) (left_out_clean name count))
+    subst (λ (ts : List Token). HasNoControls (print ts)) (sym e)
+    (printed_above false (left_out_tokens count name)
+    (object_clean name severity left (text_clean (codes "severity") (codes "warning")) (number_clean (codes "leftOut") count)))

@@ -1,14 +1,15 @@
--- What is said of a refusal: its number, what is named, the line, the column, the excerpt and the
--- page are pinned; the words between them are not (the profile's own).
+-- What is said of a refusal or a warning, for people: the number, what is named, the line, the column, the excerpt and
+-- the page are pinned; the words between them are not (the profile's own).
 use Rattle.std.specs.Prelude.{◌≡◌, ℕ, ◌+◌, ◌-◌, ◌==◌, ◌&&◌, min, Bool, true, false, nat_lt, List, [], ◌∷◌, ◌++◌, codes, length, take, if◌then◌else◌}
-use Rattle.wc_diag_spans.specs.Finds.{Finds}
-use Rattle.wc_diag_spans.specs.declared.diagnostic.Diagnostic.{Diagnostic}
 use Rattle.wc_diag_spans.specs.declared.refusal.Part.{Part}
 use Rattle.wc_diag_spans.specs.declared.refusal.Part.TheVariants.{Job, Plate, Program, Next, Log}
 use Rattle.wc_diag_spans.specs.declared.refusal.Refusal.{Refusal}
 use Rattle.wc_diag_messages.specs.Excerpts.{excerpt_text}
 use Rattle.wc_diag_messages.specs.Locations.{alongside_text, margin_text, number_text}
 use Rattle.wc_diag_messages.specs.Plain.{IsShown, shown_text}
+use Rattle.wc_diag_messages.specs.declared.parts.Parts.{Parts}
+use Rattle.wc_diag_messages.specs.declared.parts.Severity.{Severity}
+use Rattle.wc_diag_messages.specs.declared.parts.Severity.TheVariants.{Error, Warning}
 
 -- the part is a program
 abbrev pub is_program : Part → Bool
@@ -50,17 +51,18 @@ quoted_text (byte ∷ rest) =
 abbrev pub QuotesAndSays : List ℕ → List ℕ → Type 0
 QuotesAndSays subject reported = (said : List ℕ) × IsShown said × (reported ≡ quoted_text subject ++ said)
 
--- what was found of a refusal in the current text, and what is said of it: what is quoted is pinned,
--- the rest is words
-pub record Knows (refusal : Refusal) (diagnostic : Diagnostic) (reported : List ℕ) : Type 0 where
-  pub found : Finds refusal diagnostic
-  pub says : QuotesAndSays diagnostic.subject.items reported
+-- what comes before the number: that of a warning is after its W
+abbrev pub opening : Severity → List ℕ
+opening Error = codes "error["
+opening Warning = codes "warning[W"
+
+-- the number
+abbrev pub numbered : Severity → ℕ → List ℕ
+numbered severity number = shown_text (opening severity) ++ number_text number ++ shown_text (codes "]: ")
 
 -- the first line: the number, and what is wrong
-abbrev pub headline : ℕ → List ℕ → List ℕ
-headline number reported =
-    shown_text (codes "error[") ++ number_text number ++ shown_text (codes "]: ")
-    ++ reported ++ (10 ∷ [])
+abbrev pub headline : Parts → List ℕ
+headline parts = numbered parts.severity parts.number ++ parts.reported.bytes.items ++ (10 ∷ [])
 
 -- a line after the name of what it is in; nothing if none is known
 abbrev pub line_text : ℕ → List ℕ
@@ -71,28 +73,27 @@ abbrev pub place_line : List ℕ → List ℕ → ℕ → List ℕ → List ℕ
 place_line margin name line alongside =
     margin ++ shown_text (codes "--> ") ++ shown_text name ++ line_text line ++ alongside ++ (10 ∷ [])
 
+-- what comes before the number of the page that says more
+abbrev pub page_opening : Severity → List ℕ
+page_opening Error = codes " (run `narbeddo explain "
+page_opening Warning = codes " (run `narbeddo explain W"
+
 -- which page says more
-abbrev pub page_text : ℕ → List ℕ
-page_text number =
-    shown_text (codes " (run `narbeddo explain ") ++ number_text number
+abbrev pub page_text : Severity → ℕ → List ℕ
+page_text severity number =
+    shown_text (page_opening severity) ++ number_text number
     ++ shown_text (codes "` for more)") ++ (10 ∷ [])
 
 -- the last line: what to write instead, and the page that says more
-abbrev pub help_line : ℕ → List ℕ → List ℕ
-help_line number advice = shown_text (codes "help: ") ++ advice ++ page_text number
+abbrev pub help_line : Parts → List ℕ
+help_line parts =
+    shown_text (codes "help: ") ++ parts.advice.bytes.items ++ page_text parts.severity parts.number
 
--- a message about a refusal
-pub record Explains (refusal : Refusal) (bytes : List ℕ) : Type 0 where
-  pub diagnostic : Diagnostic
-  pub reported : List ℕ
-  pub knows : Knows refusal diagnostic reported
-  pub words : List ℕ
-  pub words_are : IsShown words
-  pub line : ℕ
-  pub line_is : line ≡ named_line refusal diagnostic.line
-  pub advice : List ℕ
-  pub advice_is : IsShown advice
-  pub all :
-      bytes ≡ headline refusal.number reported
-      ++ place_line (margin_text line) refusal.name.now line (alongside_text refusal diagnostic.shown.items diagnostic.text_span)
-      ++ excerpt_text line diagnostic.shown.items diagnostic.text_span words ++ help_line refusal.number advice
+-- a message about these parts of what has that name
+abbrev pub long_text : List ℕ → Parts → List ℕ
+long_text name parts =
+    headline parts
+    ++ place_line (margin_text parts.line) name parts.line
+    (alongside_text parts.diagnostic.shown.items parts.diagnostic.text_span parts.place.bytes.items)
+    ++ excerpt_text parts.line parts.diagnostic.shown.items parts.diagnostic.text_span parts.expected.bytes.items
+    ++ help_line parts

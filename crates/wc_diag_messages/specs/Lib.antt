@@ -7,5 +7,4 @@ pub mod Explanations
 pub mod Known
 pub mod Formats
 pub mod Paged
-pub mod Spotted
 pub mod Warned

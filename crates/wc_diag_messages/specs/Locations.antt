@@ -4,7 +4,6 @@ use Rattle.std.specs.Fmt.{decimal}
 use Rattle.wc_diag_spans.specs.declared.diagnostic.TextSpan.{TextSpan}
 use Rattle.wc_diag_spans.specs.declared.refusal.Part.{Part}
 use Rattle.wc_diag_spans.specs.declared.refusal.Part.TheVariants.{Job, Plate, Program, Next, Log}
-use Rattle.wc_diag_spans.specs.declared.refusal.Refusal.{Refusal}
 use Rattle.wc_diag_messages.specs.Plain.{column_of, shown_text}
 
 -- a number as it is written
@@ -64,6 +63,5 @@ in_brackets [] = []
 in_brackets (byte ∷ rest) = shown_text (codes " (") ++ (byte ∷ rest) ++ shown_text (codes ")")
 
 -- what follows the line: the column, and the place that is counted
-abbrev pub alongside_text : Refusal → List ℕ → Option TextSpan → List ℕ
-alongside_text refusal line text_span =
-    column_text line text_span ++ in_brackets (place_text refusal.in_job refusal.part refusal.place)
+abbrev pub alongside_text : List ℕ → Option TextSpan → List ℕ → List ℕ
+alongside_text line text_span place = column_text line text_span ++ in_brackets place

@@ -1,5 +1,5 @@
 -- What a message may hold: characters that a terminal only shows. (The profile's own; the characters are those of Unicode in UTF-8.)
-use Rattle.std.specs.Prelude.{◌≡◌, ℕ, ◌+◌, ◌/◌, ◌%◌, Bool, true, false, not, ◌==◌, ◌||◌, ◌&&◌, nat_le, nat_lt, if◌then◌else◌, List, [], ◌∷◌, ◌++◌, count_by, map, take}
+use Rattle.std.specs.Prelude.{◌≡◌, ◌<◌, ℕ, ◌+◌, ◌/◌, ◌%◌, Bool, true, false, not, ◌==◌, ◌||◌, ◌&&◌, nat_le, nat_lt, if◌then◌else◌, List, [], ◌∷◌, ◌++◌, count_by, map, take}
 use Rattle.std.specs.List.{flat_map}
 use Rattle.std.specs.Str.{is_utf8}
 use Rattle.wc_view_trace_rows.specs.Shown.{acting_length}
@@ -81,3 +81,14 @@ column_of line place = (if is_utf8 line then characters (take place line) else p
 abbrev pub words_after : List ℕ → List ℕ → List ℕ
 words_after mark [] = []
 words_after mark (byte ∷ rest) = mark ++ (byte ∷ rest)
+
+-- no byte is a control of ASCII, a line feed least of all
+abbrev pub HasNoControls : List ℕ → Type 0
+HasNoControls [] = Unit {0}
+HasNoControls (byte ∷ bytes) = (31 < byte) × HasNoControls bytes
+
+-- these bytes are one line with its line feed
+pub record IsOneLine (bytes : List ℕ) : Type 0 where
+  pub line : List ℕ
+  pub ends : bytes ≡ line ++ (10 ∷ [])
+  pub controls : HasNoControls line

@@ -1,11 +1,12 @@
 ghost use Rattle.std.specs.Prelude.{◌≡◌, ◌-◌, ◌++◌, IfOk, OnOk, drop, take};
 ghost use Rattle.wc_diag_messages.specs.Excerpts.{bar_line, columns, excerpt_text, first_shown, marked_text, marks, quoted_line, shown_part, text_span_start};
+ghost use Rattle.wc_diag_messages.specs.Locations.{margin_text};
 
 use crate::message::Message;
-use crate::placing::margin;
+use crate::parts::Parts;
 use crate::plain::{characters, passes, with_spaces};
 use std::alloc::{AllocError, Global};
-use wc_diag_spans::{Diagnostic, TextSpan};
+use wc_diag_spans::TextSpan;
 
 /// The number of bytes of a line, or of what is quoted, that are shown at most.
 pub(crate) const WIDEST: usize = 120;
@@ -133,24 +134,22 @@ fn write_quoted(message: &mut Message, number: u32, part: &[u8]) -> Result<(), A
 pub(crate) fn write_excerpt(
     alloc: Global,
     message: &mut Message,
-    number: u32,
-    diagnostic: &Diagnostic,
-    words: &Message,
+    margin: &Message,
+    parts: &Parts,
 ) -> Result<(), AllocError>
+    requires { margin.now.bytes.items ≡ margin_text parts.now.line }
     ensures { OnOk result (message.new.bytes.items
         ≡ message.old.bytes.items
-        ++ excerpt_text number diagnostic.now.shown.items diagnostic.now.text_span words.now.bytes.items) }
+        ++ excerpt_text parts.now.line parts.now.diagnostic.shown.items
+        parts.now.diagnostic.text_span parts.now.expected.bytes.items) }
 {
-    if diagnostic.shown.is_empty() {
+    let line = &parts.diagnostic.shown;
+    if line.is_empty() {
         return Ok(());
     }
-    let margin = margin(alloc, number)?;
-    write_bar(message, &margin, &Message::new(alloc))?;
-    write_quoted(
-        message,
-        number,
-        shown_part(&diagnostic.shown, diagnostic.text_span),
-    )?;
-    let marked = marks_under(alloc, &diagnostic.shown, diagnostic.text_span, words)?;
-    write_bar(message, &margin, &marked)
+    let text_span = parts.diagnostic.text_span;
+    let marked = marks_under(alloc, line, text_span, &parts.expected)?;
+    write_bar(message, margin, &Message::new(alloc))?;
+    write_quoted(message, parts.line, shown_part(line, text_span))?;
+    write_bar(message, margin, &marked)
 }

@@ -1,31 +1,29 @@
 ghost use Rattle.std.specs.Prelude.{IfOk};
-ghost use Rattle.wc_diag_messages.specs.Formats.{IsCalmIn, IsPlainIn, Reports};
-ghost use Rattle.wc_diag_messages.specs.Known.{IsKnown};
+ghost use Rattle.wc_diag_messages.specs.Formats.{IsCalmIn, IsPlainIn, Prints, Reports};
+ghost use Rattle.wc_diag_messages.specs.Known.{IsPrintable};
+ghost use Rattle.wc_diag_messages.specs.Warned.{Warns};
 
 use crate::long::long;
 use crate::object::object;
 use crate::parts::{Parts, parts_of};
 use crate::short::short;
+use crate::warned_parts::warning_parts;
 use std::alloc::{AllocError, Global};
 use wc_diag_spans::Refusal;
 use wc_diag_texts::Format;
+use wc_diag_warnings::Warning;
 
-/// What is known of a refusal, in that format.
-fn reported_in(
-    alloc: Global,
-    format: Format,
-    refusal: &Refusal<'_>,
-    parts: &Parts,
-) -> Result<Vec<u8>, AllocError>
-    requires { IsKnown refusal.now parts.now }
-    ensures all { IfOk result (λ bytes. Reports format refusal.now bytes.items) }
+/// What is said of what has that name, in that format.
+fn printed(alloc: Global, format: Format, name: &[u8], parts: &Parts) -> Result<Vec<u8>, AllocError>
+    requires { IsPrintable parts.now }
+    ensures all { IfOk result (λ bytes. Prints format name.now parts.now bytes.items) }
     ensures plain { IfOk result (λ bytes. IsPlainIn format bytes.items) }
     ensures calm { IfOk result (λ bytes. IsCalmIn format bytes.items) }
 {
     match format {
-        Format::Long => Ok(long(alloc, refusal, parts)?.into_bytes()),
-        Format::Short => Ok(short(alloc, refusal, parts)?.into_bytes()),
-        Format::Json => object(alloc, refusal, parts),
+        Format::Long => Ok(long(alloc, name, parts)?.into_bytes()),
+        Format::Short => Ok(short(alloc, name, parts)?.into_bytes()),
+        Format::Json => object(alloc, name, parts),
     }
 }
 
@@ -40,5 +38,23 @@ pub fn explained(
     ensures calm { IfOk result (λ bytes. IsCalmIn format bytes.items) }
 {
     let parts = parts_of(alloc, refusal)?;
-    reported_in(alloc, format, refusal, &parts)
+    printed(alloc, format, refusal.name, &parts)
+}
+
+/// What is said of a warning of a file's text, in that format: its number, the file, its line, the column, its name and the
+/// line of the text. Each line ends with a line feed. The error is out of memory.
+pub fn warning_message(
+    alloc: Global,
+    format: Format,
+    file: &[u8],
+    text: &[u8],
+    warning: &Warning<'_>,
+) -> Result<Vec<u8>, AllocError>
+    ensures all { IfOk result
+        (λ bytes. Warns format file.now text.now warning.now bytes.items) }
+    ensures plain { IfOk result (λ bytes. IsPlainIn format bytes.items) }
+    ensures calm { IfOk result (λ bytes. IsCalmIn format bytes.items) }
+{
+    let parts = warning_parts(alloc, text, warning)?;
+    printed(alloc, format, file, &parts)
 }

@@ -1,9 +1,9 @@
 ghost use Rattle.std.specs.Prelude.{◌≡◌, [], IfOk, OnOk};
-ghost use Rattle.wc_diag_messages.specs.Formats.{IsCalmIn, IsNameOf, IsPlainIn};
-ghost use Rattle.wc_diag_messages.specs.Warned.{CountsLeftOut, LeavesOut, ReportsLeftOut, ReportsLeftOutInJson, ReportsLeftOutShortly, left_out_tokens};
+ghost use Rattle.wc_diag_messages.specs.Formats.{IsCalmIn, IsObjectOf, IsPlainIn};
+ghost use Rattle.wc_diag_messages.specs.Warned.{CountsLeftOut, LeavesOut, ReportsLeftOut, ReportsLeftOutShortly, left_out_tokens};
 
-use crate::message::{Message, shown};
-use crate::object::{line_of, write_number, write_text};
+use crate::message::Message;
+use crate::object::{line_of, name_text, write_number, write_text};
 use json::Writer;
 use std::alloc::{AllocError, Global};
 use wc_diag_texts::Format;
@@ -49,7 +49,7 @@ fn short_line(alloc: Global, file: &[u8], count: usize) -> Result<Message, Alloc
 fn write_object(writer: &mut Writer, name: &str, count: usize) -> Result<(), AllocError>
     requires { writer.old.tokens ≡ [] }
     ensures before { writer.new.before ≡ writer.old.before }
-    ensures tokens { OnOk result (writer.new.tokens ≡ left_out_tokens name.now count) }
+    ensures tokens { OnOk result (writer.new.tokens ≡ left_out_tokens count name.now) }
 {
     writer.begin_object()?;
     write_text(writer, "file", name)?;
@@ -59,29 +59,15 @@ fn write_object(writer: &mut Writer, name: &str, count: usize) -> Result<(), All
     Ok(())
 }
 
-/// Likewise as an object on one line, of the file of that name.
-fn named_object(alloc: Global, file: &[u8], name: &str, count: usize) -> Result<Vec<u8>, AllocError>
-    requires { IsNameOf file.now name.now }
-    ensures { IfOk result (λ bytes. ReportsLeftOutInJson file.now count bytes.items) }
-{
-    let _file = file;
-    let mut writer = Writer::new(Vec::new(alloc));
-    write_object(&mut writer, name, count)?;
-    let line = line_of(writer)?;
-    Ok(line)
-}
-
 /// Likewise as an object on one line.
 fn object(alloc: Global, file: &[u8], count: usize) -> Result<Vec<u8>, AllocError>
-    ensures { IfOk result (λ bytes. ReportsLeftOutInJson file.now count bytes.items) }
+    ensures { IfOk result (λ bytes. IsObjectOf (left_out_tokens count) file.now bytes.items) }
 {
-    match str::from_utf8(file) {
-        Ok(name) => named_object(alloc, file, name, count),
-        Err(_) => {
-            let name = shown(alloc, file)?;
-            named_object(alloc, file, name.as_str(), count)
-        }
-    }
+    let name = name_text(alloc, file)?;
+    let mut writer = Writer::new(Vec::new(alloc));
+    write_object(&mut writer, &name, count)?;
+    let line = line_of(writer)?;
+    Ok(line)
 }
 
 /// The number of warnings of a file left out, in that format, on a line with its line feed. The error is out of memory.

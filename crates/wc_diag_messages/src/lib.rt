@@ -15,16 +15,13 @@ mod parts;
 mod placing;
 mod plain;
 mod short;
-mod warned;
 mod warned_lines;
-mod warned_object;
 mod warned_parts;
 mod warning_entries;
 
-pub use explaining::explained;
+pub use explaining::{explained, warning_message};
 pub use jobs::{JobSection, section_of};
 pub use left_out::warnings_left_out;
 pub use message::{Message, shown};
 pub use page::{page as page_of, warning_page};
-pub use warned::warning_message;
 pub use wc_diag_spans::{Evidence, Part, Refusal};

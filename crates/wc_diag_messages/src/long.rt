@@ -1,122 +1,88 @@
-ghost use Rattle.std.specs.Prelude.{◌≡◌, ◌≤◌, [], ◌++◌, IfOk, IfSome, OnOk, length};
-ghost use Rattle.wc_diag_messages.specs.Explanations.{Explains, headline, help_line, page_text, place_line};
-ghost use Rattle.wc_diag_messages.specs.Known.{IsKnown};
-ghost use Rattle.wc_diag_messages.specs.Locations.{alongside_text, margin_text};
+ghost use Rattle.std.specs.Prelude.{◌≡◌, ◌++◌, IfOk, OnOk};
+ghost use Rattle.wc_diag_messages.specs.Explanations.{headline, help_line, long_text, numbered, opening, page_opening, page_text};
+ghost use Rattle.wc_diag_spans.specs.Finds.{IsWithin};
 
 use crate::excerpts::write_excerpt;
 use crate::message::Message;
-use crate::parts::Parts;
-use crate::placing::{alongside, margin, write_line};
+use crate::parts::{Parts, Severity};
+use crate::placing::{margin, write_place_line};
 use std::alloc::{AllocError, Global};
-use wc_diag_spans::Refusal;
+
+/// What comes before the number: that of a warning is after its W.
+fn opening(severity: Severity) -> &'static str
+    ensures { result.now ≡ opening severity }
+{
+    match severity {
+        Severity::Error => "error[",
+        Severity::Warning => "warning[W",
+    }
+}
+
+/// Writes the number.
+pub(crate) fn write_number(
+    message: &mut Message,
+    severity: Severity,
+    number: u16,
+) -> Result<(), AllocError>
+    ensures { OnOk result (message.new.bytes.items
+        ≡ message.old.bytes.items ++ numbered severity number) }
+{
+    message.say(opening(severity))?;
+    message.count(number as usize)?;
+    message.say("]: ")
+}
 
 /// Writes the number and what is wrong.
-fn write_headline(message: &mut Message, number: u16, reported: &Message) -> Result<(), AllocError>
+fn write_headline(message: &mut Message, parts: &Parts) -> Result<(), AllocError>
     ensures { OnOk result (message.new.bytes.items
-        ≡ message.old.bytes.items ++ headline number reported.now.bytes.items) }
+        ≡ message.old.bytes.items ++ headline parts.now) }
 {
-    message.say("error[")?;
-    message.count(number as usize)?;
-    message.say("]: ")?;
-    message.append(reported)?;
+    write_number(message, parts.severity, parts.number)?;
+    message.append(&parts.reported)?;
     message.end_line()
 }
 
-/// Writes the line with what is named.
-pub(crate) fn write_place_line(
-    message: &mut Message,
-    margin: &Message,
-    name: &[u8],
-    line: u32,
-    alongside: &Message,
-) -> Result<(), AllocError>
-    ensures { OnOk result (message.new.bytes.items
-        ≡ message.old.bytes.items
-        ++ place_line margin.now.bytes.items name.now line alongside.now.bytes.items) }
+/// What comes before the number of the page that says more.
+fn page_opening(severity: Severity) -> &'static str
+    ensures { result.now ≡ page_opening severity }
 {
-    message.append(margin)?;
-    message.say("--> ")?;
-    message.add(name)?;
-    write_line(message, line)?;
-    message.append(alongside)?;
-    message.end_line()
-}
-
-/// Writes where it is wrong.
-fn write_place(
-    alloc: Global,
-    message: &mut Message,
-    refusal: &Refusal<'_>,
-    parts: &Parts,
-) -> Result<(), AllocError>
-    requires { IfSome parts.now.diagnostic.text_span
-        (λ text_span. text_span.start ≤ length parts.now.diagnostic.shown.items) }
-    ensures { OnOk result (message.new.bytes.items
-        ≡ message.old.bytes.items
-        ++ place_line (margin_text parts.now.line) refusal.now.name.now parts.now.line
-        (alongside_text refusal.now parts.now.diagnostic.shown.items
-        parts.now.diagnostic.text_span)) }
-{
-    let margin = margin(alloc, parts.line)?;
-    let alongside = alongside(alloc, refusal, &parts.diagnostic)?;
-    write_place_line(message, &margin, refusal.name, parts.line, &alongside)
+    match severity {
+        Severity::Error => " (run `narbeddo explain ",
+        Severity::Warning => " (run `narbeddo explain W",
+    }
 }
 
 /// Writes which page says more.
-fn write_page(message: &mut Message, number: u16) -> Result<(), AllocError>
+fn write_page(message: &mut Message, severity: Severity, number: u16) -> Result<(), AllocError>
     ensures { OnOk result (message.new.bytes.items
-        ≡ message.old.bytes.items ++ page_text number) }
+        ≡ message.old.bytes.items ++ page_text severity number) }
 {
-    message.say(" (run `narbeddo explain ")?;
+    message.say(page_opening(severity))?;
     message.count(number as usize)?;
     message.say("` for more)")?;
     message.end_line()
 }
 
 /// Writes what to write instead, and the page that says more.
-fn write_help(message: &mut Message, number: u16, advice: &Message) -> Result<(), AllocError>
+fn write_help(message: &mut Message, parts: &Parts) -> Result<(), AllocError>
     ensures { OnOk result (message.new.bytes.items
-        ≡ message.old.bytes.items ++ help_line number advice.now.bytes.items) }
+        ≡ message.old.bytes.items ++ help_line parts.now) }
 {
     message.say("help: ")?;
-    message.append(advice)?;
-    write_page(message, number)
-}
-
-/// Writes what is wrong, where, the line with its offending slice, and what to write instead.
-fn write_explanation(
-    alloc: Global,
-    message: &mut Message,
-    refusal: &Refusal<'_>,
-    parts: &Parts,
-) -> Result<(), AllocError>
-    requires known { IsKnown refusal.now parts.now }
-    requires empty { message.old.bytes.items ≡ [] }
-    ensures { OnOk result (Explains refusal.now message.new.bytes.items) }
-{
-    write_headline(message, refusal.number, &parts.reported)?;
-    write_place(alloc, message, refusal, parts)?;
-    write_excerpt(
-        alloc,
-        message,
-        parts.line,
-        &parts.diagnostic,
-        &parts.expected,
-    )?;
-    write_help(message, refusal.number, &parts.advice)?;
-    Ok(())
+    message.append(&parts.advice)?;
+    write_page(message, parts.severity, parts.number)
 }
 
 /// What is wrong, where, the line with its offending slice, and what to write instead.
-pub(crate) fn long(
-    alloc: Global,
-    refusal: &Refusal<'_>,
-    parts: &Parts,
-) -> Result<Message, AllocError>
-    requires { IsKnown refusal.now parts.now }
-    ensures { IfOk result (λ message. Explains refusal.now message.bytes.items) }
+pub(crate) fn long(alloc: Global, name: &[u8], parts: &Parts) -> Result<Message, AllocError>
+    requires { IsWithin parts.now.diagnostic }
+    ensures { IfOk result (λ message. message.bytes.items ≡ long_text name.now parts.now) }
 {
+    let margin = margin(alloc, parts.line)?;
     let mut message = Message::new(alloc);
-    write_explanation(alloc, &mut message, refusal, parts)?;
+    write_headline(&mut message, parts)?;
+    write_place_line(&mut message, &margin, name, parts)?;
+    write_excerpt(alloc, &mut message, &margin, parts)?;
+    write_help(&mut message, parts)?;
     Ok(message)
 }

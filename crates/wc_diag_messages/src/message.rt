@@ -2,7 +2,6 @@ ghost use Rattle.std.specs.Prelude.{◌≡◌, ◌<◌, ◌/◌, ◌%◌, ◌∷
 ghost use Rattle.std.specs.Fmt.{decimal};
 ghost use Rattle.std.specs.List.{list_all};
 ghost use Rattle.std.specs.Str.{is_utf8};
-ghost use Rattle.wc_diag_messages.specs.Formats.{helped_text};
 ghost use Rattle.wc_diag_messages.specs.Plain.{IsShown, acts_nowhere, escaped_byte, escaped_text, hex_digit, is_plain, passes, shown_text, with_spaces, words_after};
 
 use crate::plain::{has_tab, passes, with_spaces};
@@ -219,19 +218,6 @@ impl Message {
         }
         self.say(mark)?;
         self.append(words)
-    }
-
-    /// Adds what is reported, and after it what to write instead, if that is known.
-    pub(crate) fn append_helped(
-        &mut self,
-        reported: &Message,
-        advice: &Message,
-    ) -> Result<(), AllocError>
-        ensures { OnOk result (self.new.bytes.items ≡ self.old.bytes.items
-            ++ helped_text reported.now.bytes.items advice.now.bytes.items) }
-    {
-        self.append(reported)?;
-        self.say_before("; help: ", advice)
     }
 
     /// Ends the line.

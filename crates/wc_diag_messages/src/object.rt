@@ -1,16 +1,16 @@
-ghost use Rattle.std.specs.Prelude.{◌≡◌, ◌≤◌, ◌∷◌, ◌++◌, [], IfOk, IfSome, OnOk, length};
+ghost use Rattle.std.specs.Prelude.{◌≡◌, ◌∷◌, ◌++◌, [], IfOk, OnOk};
+ghost use Rattle.std.specs.String.{string_bytes};
 ghost use Rattle.json.specs.Lex.{tokens};
 ghost use Rattle.json.specs.Print.{print};
-ghost use Rattle.wc_diag_messages.specs.Formats.{IsNameOf, ReportsInJson, column_after, first_column, number_if_any, number_member, object_tokens, position_members, text_if_any, text_member, word_members};
-ghost use Rattle.wc_diag_messages.specs.Known.{IsKnown};
+ghost use Rattle.wc_diag_messages.specs.Formats.{IsNameOf, IsObjectOf, column_after, first_column, number_if_any, number_member, object_tokens, position_members, severity_members, text_if_any, text_member, word_members};
+ghost use Rattle.wc_diag_spans.specs.Finds.{IsWithin};
 
 use crate::message::{Message, shown};
-use crate::parts::Parts;
-use crate::placing::place_words;
+use crate::parts::{Parts, Severity};
 use crate::plain::column_of;
 use json::Writer;
 use std::alloc::{AllocError, Global};
-use wc_diag_spans::{Diagnostic, Refusal};
+use wc_diag_spans::Diagnostic;
 
 /// Writes a member with a text.
 pub(crate) fn write_text(writer: &mut Writer, name: &str, text: &str) -> Result<(), AllocError>
@@ -45,11 +45,7 @@ pub(crate) fn write_number(writer: &mut Writer, name: &str, number: usize) -> Re
 }
 
 /// Writes a member with a number that is not 0.
-pub(crate) fn write_number_if_any(
-    writer: &mut Writer,
-    name: &str,
-    number: usize,
-) -> Result<(), AllocError>
+fn write_number_if_any(writer: &mut Writer, name: &str, number: usize) -> Result<(), AllocError>
     ensures before { writer.new.before ≡ writer.old.before }
     ensures tokens { OnOk result (writer.new.tokens
         ≡ writer.old.tokens ++ number_if_any name.now number) }
@@ -61,9 +57,8 @@ pub(crate) fn write_number_if_any(
 }
 
 /// The column of the offending slice, counted from 1; 0 if there is none.
-pub(crate) fn first_column(diagnostic: &Diagnostic) -> usize
-    requires { IfSome diagnostic.now.text_span
-        (λ text_span. text_span.start ≤ length diagnostic.now.shown.items) }
+fn first_column(diagnostic: &Diagnostic) -> usize
+    requires { IsWithin diagnostic.now }
     ensures { result
         ≡ first_column diagnostic.now.shown.items diagnostic.now.text_span }
 {
@@ -74,7 +69,7 @@ pub(crate) fn first_column(diagnostic: &Diagnostic) -> usize
 }
 
 /// The column after the offending slice on its line; 0 if there is none.
-pub(crate) fn column_after(diagnostic: &Diagnostic) -> usize
+fn column_after(diagnostic: &Diagnostic) -> usize
     ensures { result ≡ column_after diagnostic.now.text_span diagnostic.now.shown.items }
 {
     match diagnostic.text_span {
@@ -87,60 +82,53 @@ pub(crate) fn column_after(diagnostic: &Diagnostic) -> usize
 }
 
 /// Writes where it is wrong.
-fn write_position(
-    alloc: Global,
-    writer: &mut Writer,
-    refusal: &Refusal<'_>,
-    parts: &Parts,
-) -> Result<(), AllocError>
-    requires { IfSome parts.now.diagnostic.text_span
-        (λ text_span. text_span.start ≤ length parts.now.diagnostic.shown.items) }
+fn write_position(writer: &mut Writer, parts: &Parts) -> Result<(), AllocError>
+    requires { IsWithin parts.now.diagnostic }
     ensures before { writer.new.before ≡ writer.old.before }
     ensures tokens { OnOk result (writer.new.tokens
-        ≡ writer.old.tokens
-        ++ position_members refusal.now parts.now.line parts.now.diagnostic) }
+        ≡ writer.old.tokens ++ position_members parts.now) }
 {
     write_number_if_any(writer, "line", parts.line as usize)?;
     write_number_if_any(writer, "column", first_column(&parts.diagnostic))?;
     write_number_if_any(writer, "endColumn", column_after(&parts.diagnostic))?;
-    let place = place_words(alloc, refusal)?;
-    write_words_if_any(writer, "place", &place)?;
-    Ok(())
+    write_words_if_any(writer, "place", &parts.place)
+}
+
+/// Writes that a warning is one.
+fn write_severity(writer: &mut Writer, severity: Severity) -> Result<(), AllocError>
+    ensures before { writer.new.before ≡ writer.old.before }
+    ensures tokens { OnOk result (writer.new.tokens
+        ≡ writer.old.tokens ++ severity_members severity) }
+{
+    match severity {
+        Severity::Error => Ok(()),
+        Severity::Warning => write_text(writer, "severity", "warning"),
+    }
 }
 
 /// Writes what is wrong, and what to write instead.
-fn write_reported(writer: &mut Writer, number: u16, parts: &Parts) -> Result<(), AllocError>
+fn write_reported(writer: &mut Writer, parts: &Parts) -> Result<(), AllocError>
     ensures before { writer.new.before ≡ writer.old.before }
     ensures tokens { OnOk result (writer.new.tokens
-        ≡ writer.old.tokens
-        ++ word_members number parts.now.reported.bytes.items parts.now.advice.bytes.items) }
+        ≡ writer.old.tokens ++ word_members parts.now) }
 {
-    write_number(writer, "number", number as usize)?;
+    write_severity(writer, parts.severity)?;
+    write_number(writer, "number", parts.number as usize)?;
     write_text(writer, "sentence", parts.reported.as_str())?;
-    write_words_if_any(writer, "hint", &parts.advice)?;
-    Ok(())
+    write_words_if_any(writer, "hint", &parts.advice)
 }
 
-/// Writes the object of a refusal of what has that name.
-fn write_object(
-    alloc: Global,
-    writer: &mut Writer,
-    refusal: &Refusal<'_>,
-    parts: &Parts,
-    name: &str,
-) -> Result<(), AllocError>
-    requires text_span { IfSome parts.now.diagnostic.text_span
-        (λ text_span. text_span.start ≤ length parts.now.diagnostic.shown.items) }
+/// Writes the object of what has that name.
+fn write_object(writer: &mut Writer, name: &str, parts: &Parts) -> Result<(), AllocError>
+    requires within { IsWithin parts.now.diagnostic }
     requires empty { writer.old.tokens ≡ [] }
     ensures before { writer.new.before ≡ writer.old.before }
-    ensures tokens { OnOk result (writer.new.tokens
-        ≡ object_tokens refusal.now name.now parts.now.line parts.now.diagnostic
-        parts.now.reported.bytes.items parts.now.advice.bytes.items) }
+    ensures tokens { OnOk result (writer.new.tokens ≡ object_tokens parts.now name.now) }
 {
     writer.begin_object()?;
     write_text(writer, "file", name)?;
-    write_position(alloc, writer, refusal, parts)?;
-    write_reported(writer, refusal.number, parts)?;
+    write_position(writer, parts)?;
+    write_reported(writer, parts)?;
     writer.end_object()?;
     Ok(())
 }
@@ -156,37 +144,28 @@ pub(crate) fn line_of(writer: Writer) -> Result<Vec<u8>, AllocError>
     Ok(bytes)
 }
 
-/// A refusal of what has that name, as an object on one line.
-fn named_object(
-    alloc: Global,
-    refusal: &Refusal<'_>,
-    parts: &Parts,
-    name: &str,
-) -> Result<Vec<u8>, AllocError>
-    requires known { IsKnown refusal.now parts.now }
-    requires name { IsNameOf refusal.now.name.now name.now }
-    ensures { IfOk result (λ bytes. ReportsInJson refusal.now bytes.items) }
+/// A name as it is if it is UTF-8; else as a message shows it.
+pub(crate) fn name_text(alloc: Global, name: &[u8]) -> Result<String, AllocError>
+    ensures { IfOk result (λ text. IsNameOf name.now (string_bytes text)) }
 {
-    let mut writer = Writer::new(Vec::new(alloc));
-    write_object(alloc, &mut writer, refusal, parts, name)?;
-    let line = line_of(writer)?;
-    Ok(line)
-}
-
-/// A refusal as a JSON object on one line.
-pub(crate) fn object(
-    alloc: Global,
-    refusal: &Refusal<'_>,
-    parts: &Parts,
-) -> Result<Vec<u8>, AllocError>
-    requires { IsKnown refusal.now parts.now }
-    ensures { IfOk result (λ bytes. ReportsInJson refusal.now bytes.items) }
-{
-    match str::from_utf8(refusal.name) {
-        Ok(name) => named_object(alloc, refusal, parts, name),
+    match str::from_utf8(name) {
+        Ok(text) => text.to_owned(alloc),
         Err(_) => {
-            let name = shown(alloc, refusal.name)?;
-            named_object(alloc, refusal, parts, name.as_str())
+            let shown = shown(alloc, name)?;
+            shown.as_str().to_owned(alloc)
         }
     }
+}
+
+/// What is said of what has that name, as a JSON object on one line.
+pub(crate) fn object(alloc: Global, name: &[u8], parts: &Parts) -> Result<Vec<u8>, AllocError>
+    requires { IsWithin parts.now.diagnostic }
+    ensures { IfOk result
+        (λ bytes. IsObjectOf (object_tokens parts.now) name.now bytes.items) }
+{
+    let name = name_text(alloc, name)?;
+    let mut writer = Writer::new(Vec::new(alloc));
+    write_object(&mut writer, &name, parts)?;
+    let line = line_of(writer)?;
+    Ok(line)
 }

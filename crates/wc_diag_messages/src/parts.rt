@@ -4,19 +4,34 @@ ghost use Rattle.wc_diag_messages.specs.Known.{IsKnown};
 ghost use Rattle.wc_diag_messages.specs.Plain.{IsShown};
 
 use crate::excerpts::{WIDEST, excerpt};
-use crate::message::{Message, shown};
-use crate::placing::named_line;
+use crate::message::Message;
+use crate::placing::{named_line, place_words};
 use std::alloc::{AllocError, Global};
 use wc_diag_spans::{Diagnostic, Refusal, find};
 use wc_diag_texts::{Case, entry_of, hint_of, sentence_of, words_of};
 
-/// What is said of a refusal, in whatever format.
+/// Whether something is refused, or accepted and suspicious.
+#[derive(Clone, Copy)]
+pub(crate) enum Severity {
+    /// It is refused.
+    Error,
+    /// It is suspicious.
+    Warning,
+}
+
+/// What is said of a refusal or a warning, in whatever format.
 #[derive(Drop)]
 pub(crate) struct Parts {
-    /// What exactly is wrong.
+    /// Which of them it is.
+    pub(crate) severity: Severity,
+    /// Its number.
+    pub(crate) number: u16,
+    /// The line that is shown with its offending slice.
     pub(crate) diagnostic: Diagnostic,
     /// The line in what is named; 0 if it is not known.
     pub(crate) line: u32,
+    /// The place by which a refusal is counted, if it is not that line.
+    pub(crate) place: Message,
     /// What is wrong, in words.
     pub(crate) reported: Message,
     /// What could be there; empty if that is not known.
@@ -83,60 +98,57 @@ fn write_detail(message: &mut Message, detail: &str) -> Result<(), AllocError>
     message.say(detail)
 }
 
+/// Words as they are shown.
+pub(crate) fn said_as(alloc: Global, words: &str) -> Result<Message, AllocError>
+    ensures { IfOk result (λ message. IsShown message.bytes.items) }
+{
+    let mut message = Message::new(alloc);
+    message.say(words)?;
+    Ok(message)
+}
+
 /// What is said of what is quoted.
 fn statement_of(alloc: Global, number: u16, diagnostic: &Diagnostic) -> Result<Message, AllocError>
     ensures { IfOk result (λ message. IsShown message.bytes.items) }
 {
-    let mut message = Message::new(alloc);
     if matches!(diagnostic.case, Case::Detailed) {
-        message.say(&diagnostic.detail)?;
-        return Ok(message);
+        return said_as(alloc, &diagnostic.detail);
     }
-    message.say(sentence(number, diagnostic))?;
+    let mut message = said_as(alloc, sentence(number, diagnostic))?;
     write_detail(&mut message, &diagnostic.detail)?;
     Ok(message)
 }
 
-/// What is wrong, in words.
-fn reported_of(alloc: Global, number: u16, diagnostic: &Diagnostic) -> Result<Message, AllocError>
-    ensures { IfOk result
-        (λ reported. QuotesAndSays diagnostic.now.subject.items reported.bytes.items) }
-{
-    let said = statement_of(alloc, number, diagnostic)?;
-    let mut message = Message::new(alloc);
-    write_subject(&mut message, &diagnostic.subject)?;
-    message.append(&said)?;
-    Ok(message)
-}
-
-/// What is wrong, what could be there, and what to write instead.
-fn said_of(
+/// What is wrong, in words: the slice that is quoted, and what is said of it.
+pub(crate) fn reported_of(
     alloc: Global,
-    number: u16,
-    diagnostic: &Diagnostic,
-) -> Result<(Message, Message, Message), AllocError>
-    ensures reported { IfOk result
-        (λ words. QuotesAndSays diagnostic.now.subject.items words.0.bytes.items) }
-    ensures expected { IfOk result (λ words. IsShown words.1.bytes.items) }
-    ensures advice { IfOk result (λ words. IsShown words.2.bytes.items) }
+    subject: &[u8],
+    said: &Message,
+) -> Result<Message, AllocError>
+    requires { IsShown said.now.bytes.items }
+    ensures { IfOk result (λ reported. QuotesAndSays subject.now reported.bytes.items) }
 {
-    let reported = reported_of(alloc, number, diagnostic)?;
-    let expected = shown(alloc, words_of(diagnostic.expected).as_bytes())?;
-    let advice = shown(alloc, hint(number, diagnostic).as_bytes())?;
-    Ok((reported, expected, advice))
+    let mut message = Message::new(alloc);
+    write_subject(&mut message, subject)?;
+    message.append(said)?;
+    Ok(message)
 }
 
 /// What is said of a refusal.
 pub(crate) fn parts_of(alloc: Global, refusal: &Refusal<'_>) -> Result<Parts, AllocError>
     ensures { IfOk result (λ parts. IsKnown refusal.now parts) }
 {
+    let number = refusal.number;
     let diagnostic = find(alloc, refusal)?;
-    let (reported, expected, advice) = said_of(alloc, refusal.number, &diagnostic)?;
+    let said = statement_of(alloc, number, &diagnostic)?;
     Ok(Parts {
+        severity: Severity::Error,
+        number,
         line: named_line(refusal, diagnostic.line),
-        reported,
-        expected,
-        advice,
+        place: place_words(alloc, refusal)?,
+        reported: reported_of(alloc, &diagnostic.subject, &said)?,
+        expected: said_as(alloc, words_of(diagnostic.expected))?,
+        advice: said_as(alloc, hint(number, &diagnostic))?,
         diagnostic,
     })
 }

@@ -1,11 +1,13 @@
-ghost use Rattle.std.specs.Prelude.{◌≡◌, ◌≤◌, ◌++◌, IfOk, IfSome, OnOk, length};
-ghost use Rattle.wc_diag_messages.specs.Explanations.{is_program, line_text, line_under, named_line};
+ghost use Rattle.std.specs.Prelude.{◌≡◌, ◌++◌, IfOk, OnOk};
+ghost use Rattle.wc_diag_spans.specs.Finds.{IsWithin};
+ghost use Rattle.wc_diag_messages.specs.Explanations.{is_program, line_text, line_under, named_line, place_line};
 ghost use Rattle.wc_diag_messages.specs.Locations.{alongside_text, column_text, counted_name, counted_text, heading, in_brackets, margin_text, place_text, row_text, section_text};
 
 use crate::message::Message;
+use crate::parts::Parts;
 use crate::plain::column_of;
 use std::alloc::{AllocError, Global};
-use wc_diag_spans::{Diagnostic, Part, Refusal, TextSpan};
+use wc_diag_spans::{Diagnostic, Part, Refusal};
 
 /// Whether the part is a program.
 fn is_program(part: Part) -> bool
@@ -59,8 +61,7 @@ pub(crate) fn write_line(message: &mut Message, line: u32) -> Result<(), AllocEr
 
 /// Writes the column of the offending slice.
 pub(crate) fn write_column(message: &mut Message, diagnostic: &Diagnostic) -> Result<(), AllocError>
-    requires { IfSome diagnostic.now.text_span
-        (λ text_span. text_span.start ≤ length diagnostic.now.shown.items) }
+    requires { IsWithin diagnostic.now }
     ensures { OnOk result (message.new.bytes.items
         ≡ message.old.bytes.items
         ++ column_text diagnostic.now.shown.items diagnostic.now.text_span) }
@@ -162,20 +163,25 @@ fn write_in_brackets(message: &mut Message, words: &Message) -> Result<(), Alloc
     message.say(")")
 }
 
-/// The column of the offending slice, and the place by which the refusal is counted.
-pub(crate) fn alongside(
-    alloc: Global,
-    refusal: &Refusal<'_>,
-    diagnostic: &Diagnostic,
-) -> Result<Message, AllocError>
-    requires { IfSome diagnostic.now.text_span
-        (λ text_span. text_span.start ≤ length diagnostic.now.shown.items) }
-    ensures { IfOk result (λ message. message.bytes.items
-        ≡ alongside_text refusal.now diagnostic.now.shown.items diagnostic.now.text_span) }
+/// Writes the line with what is named, the line in it, the column, and the place by which a refusal is counted.
+pub(crate) fn write_place_line(
+    message: &mut Message,
+    margin: &Message,
+    name: &[u8],
+    parts: &Parts,
+) -> Result<(), AllocError>
+    requires { IsWithin parts.now.diagnostic }
+    ensures { OnOk result (message.new.bytes.items
+        ≡ message.old.bytes.items
+        ++ place_line margin.now.bytes.items name.now parts.now.line
+        (alongside_text parts.now.diagnostic.shown.items parts.now.diagnostic.text_span
+        parts.now.place.bytes.items)) }
 {
-    let counted = place_words(alloc, refusal)?;
-    let mut message = Message::new(alloc);
-    write_column(&mut message, diagnostic)?;
-    write_in_brackets(&mut message, &counted)?;
-    Ok(message)
+    message.append(margin)?;
+    message.say("--> ")?;
+    message.add(name)?;
+    write_line(message, parts.line)?;
+    write_column(message, &parts.diagnostic)?;
+    write_in_brackets(message, &parts.place)?;
+    message.end_line()
 }

@@ -1,26 +1,15 @@
-ghost use Rattle.std.specs.Prelude.{◌≡◌, ◌≤◌, ◌++◌, ℕ, [], true, List, IfOk, IfSome, None, OnOk, drop, length, take, unwrap_or};
+ghost use Rattle.std.specs.Prelude.{◌≡◌, ◌≤◌, [], true, IfOk, IfSome, None, drop, length, take, unwrap_or};
 ghost use Rattle.wc_diag_spans.specs.Lines.{line_of_number};
-ghost use Rattle.wc_diag_messages.specs.Plain.{shown_text};
-ghost use Rattle.wc_diag_messages.specs.Warned.{KnowsWarning, IsNamedThere, named_text};
+ghost use Rattle.wc_diag_messages.specs.Warned.{KnowsWarning, IsNamedThere};
 
 use crate::excerpts::excerpt;
-use crate::message::{Message, shown};
+use crate::message::Message;
+use crate::parts::{Parts, Severity, reported_of, said_as};
 use crate::warning_entries::warning_of;
 use std::alloc::{AllocError, Global};
 use wc_diag_spans::{Diagnostic, TextSpan, blanked, line_at};
 use wc_diag_texts::{Case, Expected};
 use wc_diag_warnings::Warning;
-
-/// What is said of a warning, in whatever format.
-#[derive(Drop)]
-pub(crate) struct WarningParts {
-    /// The line that is shown with its offending slice.
-    pub(crate) diagnostic: Diagnostic,
-    /// What is suspicious, in words.
-    pub(crate) reported: Message,
-    /// What to write instead.
-    pub(crate) advice: Message,
-}
 
 /// The line of that number, without its end; nothing if the text has none.
 fn line_shown(alloc: Global, text: &[u8], line: u32) -> Result<Vec<u8>, AllocError>
@@ -135,29 +124,6 @@ fn hint(number: u8) -> &'static str {
     }
 }
 
-/// Writes the name of which a warning is, if it is of one.
-fn write_name(message: &mut Message, name: &[u8]) -> Result<(), AllocError>
-    ensures { OnOk result (message.new.bytes.items
-        ≡ message.old.bytes.items ++ named_text name.now) }
-{
-    if name.is_empty() {
-        return Ok(());
-    }
-    message.quote(name)?;
-    message.say(" ")
-}
-
-/// What is suspicious, in words.
-fn reported_of(alloc: Global, warning: &Warning<'_>) -> Result<Message, AllocError>
-    ensures { IfOk result (λ reported. (said : List ℕ) × (reported.bytes.items
-        ≡ named_text warning.now.name.now ++ shown_text said)) }
-{
-    let mut message = Message::new(alloc);
-    write_name(&mut message, warning.name)?;
-    message.say(sentence(warning.number))?;
-    Ok(message)
-}
-
 /// The line that is shown of a warning, with its offending slice.
 fn diagnostic_of(
     alloc: Global,
@@ -194,15 +160,19 @@ pub(crate) fn warning_parts(
     alloc: Global,
     text: &[u8],
     warning: &Warning<'_>,
-) -> Result<WarningParts, AllocError>
+) -> Result<Parts, AllocError>
     ensures { IfOk result (λ parts. KnowsWarning text.now warning.now parts) }
 {
     let diagnostic = diagnostic_of(alloc, text, warning)?;
-    let reported = reported_of(alloc, warning)?;
-    let advice = shown(alloc, hint(warning.number).as_bytes())?;
-    Ok(WarningParts {
+    let said = said_as(alloc, sentence(warning.number))?;
+    Ok(Parts {
+        severity: Severity::Warning,
+        number: u16::from(warning.number),
+        line: diagnostic.line,
+        place: Message::new(alloc),
+        reported: reported_of(alloc, warning.name, &said)?,
+        expected: Message::new(alloc),
+        advice: said_as(alloc, hint(warning.number))?,
         diagnostic,
-        reported,
-        advice,
     })
 }

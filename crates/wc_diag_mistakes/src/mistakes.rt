@@ -1,10 +1,10 @@
 use crate::durations::{is_long_duration, mistaken_units};
-use crate::slices::{excerpt, following, line_of, prefix};
+use crate::refused::Refused;
+use crate::slices::{following, prefix};
 use crate::types::{is_conditional, type_hint};
 use crate::unreached::{after_label, block_line, is_unreached, keyword_of};
 use crate::words::{first_word, is_near, letters_at_end, word_before};
 use wc_built_in::{Keyword, elementary_type, keyword_named, standard_block};
-use wc_diag_stops::RefusalSpan;
 use wc_diag_texts::{Case, Expected};
 use wc_model::{Kind, UnitKind, is_word};
 
@@ -42,18 +42,6 @@ fn is_among(words: &[u8], text: &[u8]) -> bool {
     words
         .split(|byte| *byte == b' ')
         .any(|word| is_word(word, text))
-}
-
-/// What is before a place on its line.
-fn line_before(text: &[u8], start: usize) -> &[u8] {
-    let above = prefix(text, start);
-    for count in 0..above.len() {
-        let place = above.len() - count;
-        if above[place - 1] == b'\n' {
-            return following(above, place);
-        }
-    }
-    above
 }
 
 /// A `=` in place of something else, by what is before it on its line.
@@ -249,19 +237,18 @@ fn is_label(rest: &[u8]) -> bool {
     line.is_empty() || is_operator(first_word(line))
 }
 
+/// Whether a line is a jump to a label.
+fn is_jump(line: &[u8], label: &[u8]) -> bool {
+    let line = line.trim_ascii();
+    let operator = first_word(line);
+    let target = first_word(following(line, operator.len()));
+    matches!(keyword_named(operator), Some(Keyword::Jump(_))) && target.eq_ignore_ascii_case(label)
+}
+
 /// Whether a line of a text is a jump to a label.
 fn has_jump(text: &[u8], label: &[u8]) -> bool {
-    for line in text.split(|byte| *byte == b'\n') {
-        let line = line.trim_ascii();
-        let operator = first_word(line);
-        let target = first_word(following(line, operator.len()));
-        if matches!(keyword_named(operator), Some(Keyword::Jump(_)))
-            && target.eq_ignore_ascii_case(label)
-        {
-            return true;
-        }
-    }
-    false
+    text.split(|byte| *byte == b'\n')
+        .any(|line| is_jump(line, label))
 }
 
 /// Whether a word is an operator.
@@ -314,21 +301,6 @@ fn mistaken_before(before: &[u8], expected: Expected) -> Option<Case> {
 /// Whether a word is the name of a type.
 fn is_type(word: &[u8]) -> bool {
     elementary_type(word).is_some() || standard_block(word).is_some()
-}
-
-/// Whether nothing but blanks is between a place and the line end before it.
-fn begins_line(text: &[u8], start: usize) -> bool {
-    line_before(text, start).trim_ascii().is_empty() && prefix(text, start).contains(&b'\n')
-}
-
-/// Whether the unit around a place is the program: whether the line above it that begins a unit does so with PROGRAM.
-pub fn is_in_program(text: &[u8], place: usize) -> bool {
-    for line in prefix(text, place).rsplit(|byte| *byte == b'\n') {
-        if let Some(Keyword::UnitStart(kind)) = keyword_named(first_word(line)) {
-            return matches!(kind, UnitKind::Program);
-        }
-    }
-    false
 }
 
 /// Something after the program.
@@ -445,10 +417,10 @@ fn is_digit(byte: Option<&u8>) -> bool {
 }
 
 /// Whether a token is a comma between two digits.
-fn is_decimal_comma(text: &[u8], start: usize, token: &[u8]) -> bool {
-    token.starts_with(b",")
-        && is_digit(prefix(text, start).last())
-        && is_digit(following(text, start).get(1))
+fn is_decimal_comma(refused: &Refused<'_, '_>) -> bool {
+    refused.token().starts_with(b",")
+        && is_digit(refused.above().last())
+        && is_digit(refused.rest().first())
 }
 
 /// Whether a text ends with `%`, letters and digits.
@@ -472,9 +444,9 @@ fn mistaken_closing(before: &[u8]) -> Case {
 }
 
 /// A mistake that an unexpected token shows by where it is, and else by itself.
-fn mistaken_at(text: &[u8], span: RefusalSpan, token: &[u8]) -> Case {
-    match mistaken_by_place(text, span, token) {
-        Case::Closing => mistaken_closing(line_before(text, span.start)),
+fn mistaken_at(refused: &Refused<'_, '_>) -> Case {
+    match mistaken_by_place(refused) {
+        Case::Closing => mistaken_closing(refused.line_before()),
         mistake => mistake,
     }
 }
@@ -496,11 +468,12 @@ fn mistaken_after(before: &[u8], token: &[u8], expected: Expected) -> Option<Cas
 }
 
 /// Whether a name is after its type on a line of declarations.
-fn is_type_first(text: &[u8], span: RefusalSpan, before: &[u8], token: &[u8]) -> bool {
+fn is_type_first(refused: &Refused<'_, '_>) -> bool {
+    let (before, token) = (refused.word_before(), refused.token());
     matches!(token.first(), Some(b'A'..=b'Z' | b'a'..=b'z' | b'_'))
         && keyword_named(token).is_none()
-        && !begins_line(text, span.start)
-        && (is_type(before) || block_line(text, before).is_some())
+        && !refused.begins_line()
+        && (is_type(before) || block_line(refused.text, before).is_some())
 }
 
 /// A word after VAR that this language does not have.
@@ -513,41 +486,35 @@ fn mistaken_section(word: &[u8]) -> Option<Case> {
 }
 
 /// What a token shows on its line, before what the word before it shows.
-fn mistaken_first(text: &[u8], span: RefusalSpan, before: &[u8], token: &[u8]) -> Option<Case> {
-    match span.expected {
-        Expected::CommaOrColon if is_type_first(text, span, before, token) => Some(Case::TypeFirst),
-        Expected::CommaOrColon => mistaken_section(token),
-        expected => mistaken_after(line_before(text, span.start), token, expected),
+fn mistaken_first(refused: &Refused<'_, '_>) -> Option<Case> {
+    match refused.span.expected {
+        Expected::CommaOrColon if is_type_first(refused) => Some(Case::TypeFirst),
+        Expected::CommaOrColon => mistaken_section(refused.token()),
+        expected => mistaken_after(refused.line_before(), refused.token(), expected),
     }
 }
 
 /// Likewise, wherever the opening of a parenthesis is.
-fn mistaken_by_place(text: &[u8], span: RefusalSpan, token: &[u8]) -> Case {
-    let before = word_before(text, span.start);
-    if let Some(mistake) = mistaken_first(text, span, before, token) {
+fn mistaken_by_place(refused: &Refused<'_, '_>) -> Case {
+    if let Some(mistake) = mistaken_first(refused) {
         return mistake;
     }
-    match (mistaken_before(before, span.expected), span.expected) {
+    let (token, expected) = (refused.token(), refused.span.expected);
+    match (mistaken_before(refused.word_before(), expected), expected) {
         (Some(mistake), _) => mistake,
-        (None, Expected::AssignOrSemicolon | Expected::Semicolon)
-            if begins_line(text, span.start) => { Case::DeclarationAbove }
-        (None, Expected::LineEnd | Expected::Semicolon)
-            if is_decimal_comma(text, span.start, token) => {
-            if ends_address(prefix(text, span.start)) {
+        (None, Expected::AssignOrSemicolon | Expected::Semicolon) if refused.begins_line() => {
+            Case::DeclarationAbove
+        }
+        (None, Expected::LineEnd | Expected::Semicolon) if is_decimal_comma(refused) => {
+            if ends_address(refused.above()) {
                 Case::AddressComma
             } else {
                 Case::DecimalComma
             }
         }
         (None, Expected::Instruction | Expected::InstructionOrLineEnd)
-            if token.starts_with(b"(") && begins_unit(line_before(text, span.start)) => {
-            Case::UnitList
-        }
-        (None, expected) => mistaken_token(
-            token,
-            following(text, span.start.saturating_add(span.length)),
-            expected,
-        ),
+            if token.starts_with(b"(") && begins_unit(refused.line_before()) => { Case::UnitList }
+        (None, expected) => mistaken_token(token, refused.rest(), expected),
     }
 }
 
@@ -645,10 +612,10 @@ fn mistaken_value(text: &[u8], start: usize) -> Case {
     }
 }
 
-/// A function block that is not declared above: `first` is the line on which the text declares one of that name, if that is sure.
-fn mistaken_block(text: &[u8], name: &[u8], start: usize) -> Case {
-    match block_line(text, name) {
-        Some(line) if line > line_of(text, start) => Case::BlockBelow,
+/// A function block that is not declared above, if that is sure.
+fn mistaken_block(refused: &Refused<'_, '_>) -> Case {
+    match block_line(refused.text, refused.token()) {
+        Some(line) if line > refused.line() => Case::BlockBelow,
         Some(_) => Case::BlockInItself,
         None => Case::Plain,
     }
@@ -712,49 +679,50 @@ pub fn names_type(word: &[u8]) -> bool {
     standard_block(word).is_some()
 }
 
+/// Which mistake a word shows that only a colon could follow.
+fn mistaken_label(refused: &Refused<'_, '_>) -> Case {
+    let token = refused.token();
+    match mistaken_operator(token, refused.rest()) {
+        Case::LabelWithoutColon if !has_jump(refused.above(), token) => Case::NoOperator,
+        Case::OpenBlock if refused.is_in_program() => Case::OpenProgram,
+        mistake => mistake,
+    }
+}
+
 /// Which mistake a refusal of the tokens or of the reading refers to.
-fn mistake_in_reading(text: &[u8], number: u16, span: RefusalSpan, case: Case) -> Case {
-    let rest = following(text, span.start);
-    let token = excerpt(text, span.start, span.length);
-    match (number, span.expected) {
-        (101, _) => mistaken_byte(line_before(text, span.start), rest, case),
-        (105, _) => {
-            let before = word_before(text, span.start);
-            mistaken_number(before, token, following(rest, span.length), case)
+fn mistake_in_reading(refused: &Refused<'_, '_>, case: Case) -> Case {
+    let (token, rest) = (refused.token(), refused.rest());
+    match (refused.number, refused.span.expected) {
+        (101, _) => {
+            let from = following(refused.text, refused.span.start);
+            mistaken_byte(refused.line_before(), from, case)
         }
-        (106, _) => mistaken_duration(token, following(rest, span.length), case),
-        (201, Expected::LabelColon) => {
-            match mistaken_operator(token, following(rest, span.length)) {
-                Case::LabelWithoutColon if !has_jump(prefix(text, span.start), token) => {
-                    Case::NoOperator
-                }
-                Case::OpenBlock if is_in_program(text, span.start) => Case::OpenProgram,
-                mistake => mistake,
-            }
-        }
+        (105, _) => mistaken_number(refused.word_before(), token, rest, case),
+        (106, _) => mistaken_duration(token, rest, case),
+        (201, Expected::LabelColon) => mistaken_label(refused),
         (201, Expected::CommaPointOrClosing | Expected::CommaOrClosing)
-            if keyword_named(token).is_some() && begins_line(text, span.start) => { Case::OpenList }
-        (201, _) => mistaken_at(text, span, token),
+            if keyword_named(token).is_some() && refused.begins_line() => { Case::OpenList }
+        (201, _) => mistaken_at(refused),
         (202, _) => mistaken_end(token),
-        (203, _) => mistaken_program(text, token, case),
+        (203, _) => mistaken_program(refused.text, token, case),
         _ => case,
     }
 }
 
 /// Which mistake a refusal of a later pass refers to.
-fn mistake_in_rules(text: &[u8], number: u16, span: RefusalSpan, case: Case) -> Case {
-    let token = excerpt(text, span.start, span.length);
-    match number {
+fn mistake_in_rules(refused: &Refused<'_, '_>, case: Case) -> Case {
+    let (text, token, span) = (refused.text, refused.token(), refused.span);
+    match refused.number {
         302 => mistaken_type(token),
         303 => mistaken_value(text, span.start),
-        308 => mistaken_block(text, token, span.start),
+        308 => mistaken_block(refused),
         304 => mistaken_address(token),
-        402 => type_hint(text, token, span),
+        402 => type_hint(refused),
         403 if is_conditional(token) => Case::NoCondition,
-        403 if prefix(text, span.start).trim_ascii_end().last() == Some(&b':') => Case::AtLabel,
-        403 if is_unreached(text, line_of(text, span.start)) => Case::Unreached,
+        403 if refused.above().trim_ascii_end().last() == Some(&b':') => Case::AtLabel,
+        403 if is_unreached(text, refused.line()) => Case::Unreached,
         404 => match mistaken_target(token) {
-            Case::Plain if is_in_program(text, span.start) => Case::ProgramInput,
+            Case::Plain if refused.is_in_program() => Case::ProgramInput,
             mistake => mistake,
         },
         406 if span.first != 0 => Case::LabelAbove,
@@ -765,11 +733,11 @@ fn mistake_in_rules(text: &[u8], number: u16, span: RefusalSpan, case: Case) -> 
     }
 }
 
-/// Which mistake a refusal of that number and case refers to at a slice of the text: its hint.
-pub fn mistake_at(text: &[u8], number: u16, span: RefusalSpan, case: Case) -> Case {
-    if number < 300 {
-        mistake_in_reading(text, number, span, case)
+/// Which mistake a refusal refers to that breaks a rule in that way: its hint.
+pub fn mistake_at(refused: &Refused<'_, '_>, case: Case) -> Case {
+    if refused.number < 300 {
+        mistake_in_reading(refused, case)
     } else {
-        mistake_in_rules(text, number, span, case)
+        mistake_in_rules(refused, case)
     }
 }

@@ -1,7 +1,8 @@
+use crate::refused::Refused;
 use crate::slices::prefix;
 use crate::words::letters_at_end;
 use wc_built_in::{Keyword, keyword_named};
-use wc_diag_stops::{RefusalSpan, ResultKind};
+use wc_diag_stops::ResultKind;
 use wc_diag_texts::Case;
 use wc_model::{Condition, Kind, Operator, Storing, is_word};
 
@@ -181,50 +182,30 @@ fn loads_bit(line: &[u8]) -> bool {
     matches!(line.last(), Some(b'0' | b'1')) && is_word(operator_before(line, end), b"LD")
 }
 
-/// Whether the line above that of a place, blank ones apart, loads such a number.
-fn follows_bit(text: &[u8], start: usize) -> bool {
-    let (above, _) = text.split_at(start.min(text.len()));
-    for line in above.rsplit(|byte| *byte == b'\n').skip(1) {
-        let line = line.trim_ascii_end();
-        if !line.is_empty() {
-            return loads_bit(line);
-        }
-    }
-    false
-}
-
-/// Whether what a refusal refers to is to be set: the target of a store, or in the list of a call the name of an input or what takes an
-/// output.
-pub fn sets(text: &[u8], span: &RefusalSpan) -> bool {
-    match span.formal {
-        Some(_) => !span.is_passed,
-        None => matches!(
-            family_of(operator_before(text, span.start)),
-            Family::Store | Family::StoreNegated | Family::Set
-        ),
-    }
+/// Whether the line above the last of these, blank ones apart, loads such a number.
+fn follows_bit(above: &[u8]) -> bool {
+    above
+        .rsplit(|byte| *byte == b'\n')
+        .skip(1)
+        .map(|line| line.trim_ascii_end())
+        .find(|line| !line.is_empty())
+        .is_some_and(loads_bit)
 }
 
 /// What to write if types do not match: by the operator, the type of the operand and that of the result.
-pub(crate) fn type_hint(text: &[u8], token: &[u8], span: RefusalSpan) -> Case {
+pub(crate) fn type_hint(refused: &Refused<'_, '_>) -> Case {
+    let span = refused.span;
+    let family = family_of(refused.operator());
     match (span.case, span.result) {
         (Case::Unpassed(_, kind), _) if !span.is_passed => Case::ReadOutput(kind),
-        (Case::Instance, _) if sets(text, &span) => Case::InstanceTarget,
-        (Case::Untaken(Kind::Dint), _) if is_bit(token) => Case::TruthLiteral,
-        (Case::Unlike(Kind::Bool) | Case::Result, _) if follows_bit(text, span.start) => {
+        (Case::Instance, _) if refused.sets() => Case::InstanceTarget,
+        (Case::Untaken(Kind::Dint), _) if is_bit(refused.token()) => Case::TruthLiteral,
+        (Case::Unlike(Kind::Bool) | Case::Result, _) if follows_bit(refused.above()) => {
             Case::TruthLiteral
         }
-        (Case::Untaken(kind), _) => {
-            untaken_hint(family_of(operator_before(text, span.start)), kind)
-        }
-        (Case::Unlike(kind), Some(result)) => {
-            unlike_hint(
-                family_of(operator_before(text, span.start)),
-                kind,
-                result.kind,
-            )
-        }
-        (Case::Result, Some(result)) => result_hint(family_of(token), result.kind),
+        (Case::Untaken(kind), _) => untaken_hint(family, kind),
+        (Case::Unlike(kind), Some(result)) => unlike_hint(family, kind, result.kind),
+        (Case::Result, Some(result)) => result_hint(family_of(refused.token()), result.kind),
         (Case::Closing, inside) => closing_hint(inside, span.outer),
         (case, _) => case,
     }

@@ -2,31 +2,23 @@ use crate::excerpts::{is_listed, line_at, span_of};
 use wc_diag_stops::Slice;
 use wc_diag_texts::Case;
 use wc_lexer::Token;
-use wc_model::{Decl, Source, Unit, Word};
+use wc_model::{Decl, Source, Word};
 
 /// Whether a declaration has a name.
 fn declares(declaration: &Decl<'_>, name: &[u8]) -> bool {
-    for word in &declaration.names {
-        if word.text.eq_ignore_ascii_case(name) {
-            return true;
-        }
-    }
-    false
-}
-
-/// The type with which a unit declares a name.
-fn type_in<'a>(unit: &Unit<'a>, name: &[u8]) -> Option<Word<'a>> {
-    for declaration in &unit.declarations {
-        if declares(declaration, name) {
-            return Some(declaration.type_name);
-        }
-    }
-    None
+    declaration
+        .names
+        .iter()
+        .any(|word| word.text.eq_ignore_ascii_case(name))
 }
 
 /// The type with which a unit of that number declares a name; each line of the tree is a place.
 fn type_of<'a>(source: &Source<'a>, unit: usize, name: &[u8]) -> Option<Word<'a>> {
-    type_in(source.units.get(unit)?, name)
+    let declarations = &source.units.get(unit)?.declarations;
+    let declaration = declarations
+        .iter()
+        .find(|declaration| declares(declaration, name))?;
+    Some(declaration.type_name)
 }
 
 /// The instance that a slice of an instruction refers to: that of a field, or of the call.

@@ -20,12 +20,10 @@ struct Above<'a, 't> {
 
 /// Where the first label of a unit is; the greatest place if it has none.
 fn first_label(unit: &Unit<'_>) -> u32 {
-    for line in &unit.body {
-        if let Some(label) = &line.label {
-            return label.line;
-        }
-    }
-    u32::MAX
+    unit.body
+        .iter()
+        .find_map(|line| line.label)
+        .map_or(u32::MAX, |label| label.line)
 }
 
 /// The condition of the jump or the return that a line is, if it is one.
@@ -74,12 +72,10 @@ fn path_of_jump(above: &Above<'_, '_>, count: usize, line: &[Token<'_>]) -> Path
 
 /// The last line that has tokens; none of them if no line has any.
 fn last_line<'a, 't>(tokens: &'t [Token<'a>]) -> &'t [Token<'a>] {
-    for line in tokens.rsplit(|token| matches!(token.shape, Shape::LineEnd)) {
-        if !line.is_empty() {
-            return line;
-        }
-    }
-    tokens_at(tokens, 0, 0)
+    tokens
+        .rsplit(|token| matches!(token.shape, Shape::LineEnd))
+        .find(|line| !line.is_empty())
+        .unwrap_or(tokens_at(tokens, 0, 0))
 }
 
 /// The path from the line above the label, if that line goes on.
@@ -189,12 +185,11 @@ fn paths_from(above: &Above<'_, '_>, label: &[u8]) -> Option<LabelPaths> {
 
 /// The number of line ends at the end of some tokens.
 fn line_ends(tokens: &[Token<'_>]) -> usize {
-    for count in 0..tokens.len() {
-        if !matches!(tokens[tokens.len() - count - 1].shape, Shape::LineEnd) {
-            return count;
-        }
-    }
-    tokens.len()
+    tokens
+        .iter()
+        .rev()
+        .take_while(|token| matches!(token.shape, Shape::LineEnd))
+        .count()
 }
 
 /// The label at the end of some tokens, line ends apart, and the number of tokens before it.

@@ -30,11 +30,7 @@ pub(crate) fn unit_at(source: &Source<'_>, place: u32) -> usize
 
 /// The number of these names up to a place.
 fn names_until(names: &[Word<'_>], place: u32) -> usize {
-    let mut count = 0_usize;
-    for word in names {
-        count = count.saturating_add(usize::from(word.line <= place));
-    }
-    count
+    names.iter().filter(|word| word.line <= place).count()
 }
 
 /// The number of variables of a unit up to a place.
@@ -54,56 +50,16 @@ pub(crate) fn case_of_capacity(source: &Source<'_>, place: u32) -> Case {
     }
 }
 
-/// Where the first unit is that has the name before a place.
-fn unit_before(source: &Source<'_>, name: &[u8], place: u32) -> Option<u32> {
-    for unit in &source.units {
-        let found = place_before(&unit.name, name, place);
-        if found.is_some() {
-            return found;
-        }
-    }
-    None
-}
-
 /// Where the first of these names is that is this one, before a place.
 fn name_before(names: &[Word<'_>], name: &[u8], place: u32) -> Option<u32> {
-    for word in names {
-        let found = place_before(word, name, place);
-        if found.is_some() {
-            return found;
-        }
-    }
-    None
-}
-
-/// Where the first variable of a unit is that has the name before a place.
-fn variable_before(unit: &Unit<'_>, name: &[u8], place: u32) -> Option<u32> {
-    for declaration in &unit.declarations {
-        let found = name_before(&declaration.names, name, place);
-        if found.is_some() {
-            return found;
-        }
-    }
-    None
+    names
+        .iter()
+        .find_map(|word| place_before(word, name, place))
 }
 
 /// Where the label of a line is, if it is this name and is before a place.
-fn label_on(line: &Line<'_>, name: &[u8], place: u32) -> Option<u32> {
-    match &line.label {
-        Some(label) => place_before(label, name, place),
-        None => None,
-    }
-}
-
-/// Where the first label of a unit is that has the name before a place.
-fn label_before(unit: &Unit<'_>, name: &[u8], place: u32) -> Option<u32> {
-    for line in &unit.body {
-        let found = label_on(line, name, place);
-        if found.is_some() {
-            return found;
-        }
-    }
-    None
+fn label_before(line: &Line<'_>, name: &[u8], place: u32) -> Option<u32> {
+    place_before(line.label.as_ref()?, name, place)
 }
 
 /// Where the first of two is that have the name at a place: units or variables (301), labels (407), the label of a jump (406).
@@ -113,10 +69,22 @@ pub(crate) fn first_of_two(
     name: &[u8],
     place: u32,
 ) -> Option<u32> {
-    match (number, source.units.get(unit_at(source, place))) {
-        (301, Some(unit)) if unit.name.line == place => unit_before(source, name, place),
-        (301, Some(unit)) => variable_before(unit, name, place),
-        (406 | 407, Some(unit)) => label_before(unit, name, place),
+    let unit = source.units.get(unit_at(source, place))?;
+    match number {
+        301 if unit.name.line == place => {
+            source
+                .units
+                .iter()
+                .find_map(|unit| place_before(&unit.name, name, place))
+        }
+        301 => unit
+            .declarations
+            .iter()
+            .find_map(|names| name_before(&names.names, name, place)),
+        406 | 407 => unit
+            .body
+            .iter()
+            .find_map(|line| label_before(line, name, place)),
         _ => None,
     }
 }

@@ -2,8 +2,8 @@ ghost use Rattle.std.specs.Prelude.{◌≡◌, ◌≤◌, ◌<◌, IfOk, IfSome,
 ghost use Rattle.wc_diag_spans.specs.Lines.{column_at};
 ghost use Rattle.wc_diag_mistakes.specs.Slices.{IsAt};
 ghost use Rattle.wc_diag_spans.specs.OffendingTokens.{HasLaterTextSpan, HasStop};
-ghost use Rattle.wc_diag_places.specs.LaterTextSpans.{RefusesLater};
-ghost use Rattle.wc_diag_stops.specs.ReadingTextSpans.{StopsReading};
+ghost use Rattle.wc_diag_stops.specs.ReadingTextSpans.{AreReadByPlaces};
+ghost use Rattle.wc_model.specs.Language.Views.{text_view};
 
 use crate::diagnostic::Diagnostic;
 use crate::lines::column_at;
@@ -12,14 +12,14 @@ use std::alloc::{AllocError, Global};
 use wc_built_in::{Keyword, keyword_named};
 use wc_diag_advice::advice_at;
 use wc_diag_mistakes::{
-    BYTE_ORDER_MARK, blanked, block_line, block_with, case_of_excerpt, difference_said, excerpt,
-    following, follows_leaving, is_unreached, line_of, mistake_at, names_operator, names_type,
-    prefix, word_before, words_at,
+    BYTE_ORDER_MARK, Refused, blanked, block_line, block_with, case_of_excerpt, difference_said,
+    excerpt, following, follows_leaving, is_unreached, line_of, mistake_at, names_operator,
+    names_type, prefix, word_before,
 };
-use wc_diag_places::{read_by_places, text_span_in};
+use wc_diag_places::{SpannedSource, read_by_places, text_span_in};
 use wc_diag_stops::{Brought, LabelPaths, PathToLabel, RefusalSpan, stop_of};
 use wc_diag_texts::{Case, Expected, Paths, PlaceValues, paths_text, place_text, sentence_of};
-use wc_model::{Fault, Kind, is_word};
+use wc_model::{Fault, Kind, Unit, is_word};
 
 /// In which way a word does not begin a line, if only a colon could follow it.
 fn case_of_word(word: &[u8]) -> Case {
@@ -43,22 +43,20 @@ fn case_of_token(token: &[u8]) -> Case {
 }
 
 /// Whether a call names a function block of the text.
-fn calls_block(text: &[u8], start: usize, name: &[u8]) -> bool {
-    matches!(
-        keyword_named(word_before(text, start)),
-        Some(Keyword::Call(_))
-    ) && block_line(text, name).is_some()
+fn calls_block(refused: &Refused<'_, '_>) -> bool {
+    matches!(keyword_named(refused.word_before()), Some(Keyword::Call(_)))
+        && block_line(refused.text, refused.token()).is_some()
 }
 
-/// In which way a rule is broken at a slice of the text.
-fn case_at(number: u16, text: &[u8], span: RefusalSpan) -> Case {
-    let token = excerpt(text, span.start, span.length);
+/// In which way a rule is broken at the slice of a text.
+fn case_at(refused: &Refused<'_, '_>) -> Case {
+    let (number, token, span) = (refused.number, refused.token(), refused.span);
     match (number, span.expected) {
-        (101..=107, _) => case_of_excerpt(number, following(text, span.start), token),
+        (101..=107, _) => case_of_excerpt(number, following(refused.text, span.start), token),
         (201, Expected::CommaOrColon) if is_word(b"PERSISTENT", token) => Case::LeftOut,
         (201, Expected::LabelColon) => case_of_word(token),
         (201..=208, _) => case_of_token(token),
-        (401, _) if names_type(token) || calls_block(text, span.start, token) => Case::BlockType,
+        (401, _) if names_type(token) || calls_block(refused) => Case::BlockType,
         _ => span.case,
     }
 }
@@ -128,35 +126,31 @@ fn character_length(text: &[u8]) -> usize {
 }
 
 /// The number of bytes of a slice that are quoted: none if its sentence is given alone.
-fn quoted_length(text: &[u8], number: u16, case: Case, span: &RefusalSpan) -> usize {
-    match (number, case) {
+fn quoted_length(refused: &Refused<'_, '_>, case: Case) -> usize {
+    let span = refused.span;
+    match (refused.number, case) {
         (101, Case::ByteOrderMark) => BYTE_ORDER_MARK.len(),
         (101, Case::NoBreakSpace) => 0,
-        (101, Case::Byte(128..)) => character_length(following(text, span.start)),
+        (101, Case::Byte(128..)) => character_length(following(refused.text, span.start)),
         (201, Case::LineEnd | Case::Constant | Case::Persistent | Case::Retain) | (202..=208, _) =>
             0,
         (403, Case::AtLabel | Case::Unreached | Case::Plain) => 0,
-        _ if span.below.is_some() || sentence_of(number, case).is_none() => 0,
-        (402, _) if names_operator(text, span) => 0,
+        (number, _) if span.below.is_some() || sentence_of(number, case).is_none() => 0,
+        (402, _) if names_operator(refused) => 0,
         _ => span.length,
     }
 }
 
 /// What follows the sentence of a refusal on a line: which parenthesis is open, where the first of two is.
-fn detail_of(
-    alloc: Global,
-    text: &[u8],
-    number: u16,
-    line: u32,
-    span: &RefusalSpan,
-) -> Result<String, AllocError> {
+fn detail_of(alloc: Global, refused: &Refused<'_, '_>, line: u32) -> Result<String, AllocError> {
+    let (number, first) = (refused.number, refused.span.first);
     if number == 205 {
-        if let Some(lines) = lines_to_opening(prefix(text, span.start)) {
+        if let Some(lines) = lines_to_opening(refused.above()) {
             return place_text(alloc, PlaceValues::OpenSince(line.saturating_sub(lines)));
         }
     }
-    if span.first != 0 && number != 406 {
-        return place_text(alloc, PlaceValues::FirstLine(span.first));
+    if first != 0 && number != 406 {
+        return place_text(alloc, PlaceValues::FirstLine(first));
     }
     Ok(String::new(alloc))
 }
@@ -214,17 +208,14 @@ fn paths_said<'a>(
     }
 }
 
-/// Which paths to the label before a place bring what; empty if that is not sure.
-fn label_text(
-    alloc: Global,
-    text: &[u8],
-    place: usize,
-    paths: Option<LabelPaths>,
-) -> Result<String, AllocError> {
-    let above = prefix(text, place).trim_ascii_end();
-    let colon = above.len().saturating_sub(1);
+/// Which paths to the label before the slice bring what; empty if that is not sure.
+fn label_text(alloc: Global, refused: &Refused<'_, '_>) -> Result<String, AllocError> {
+    let (text, colon) = (
+        refused.text,
+        refused.above().trim_ascii_end().len().saturating_sub(1),
+    );
     let label = str::from_utf8(word_before(text, colon)).unwrap_or("");
-    match paths_said(text, label, line_of(text, colon), paths) {
+    match paths_said(text, label, line_of(text, colon), refused.span.paths) {
         Some(said) if !label.is_empty() => paths_text(alloc, said),
         _ => Ok(String::new(alloc)),
     }
@@ -241,53 +232,47 @@ fn block_text(alloc: Global, text: &[u8], name: &[u8]) -> Result<String, AllocEr
 /// What is said in place of the sentence, with the available values; empty: nothing.
 fn said_there(
     alloc: Global,
-    text: &[u8],
-    number: u16,
-    span: &RefusalSpan,
+    refused: &Refused<'_, '_>,
     case: Case,
     mistake: Case,
 ) -> Result<String, AllocError> {
-    let word = excerpt(text, span.start, span.length);
+    let word = refused.token();
     match mistake {
-        Case::LabelAbove => place_text(alloc, PlaceValues::LabelLine(span.first)),
-        Case::AtLabel => label_text(alloc, text, span.start, span.paths),
-        Case::BlockBelow => block_text(alloc, text, word),
+        Case::LabelAbove => place_text(alloc, PlaceValues::LabelLine(refused.span.first)),
+        Case::AtLabel => label_text(alloc, refused),
+        Case::BlockBelow => block_text(alloc, refused.text, word),
         Case::InputOperator => place_text(alloc, PlaceValues::InputOf(block_of_input(word))),
         Case::StatementAddress => place_text(
             alloc,
             PlaceValues::ForeignAddress(
-                str::from_utf8(word_before(text, span.start)).unwrap_or(""),
+                str::from_utf8(refused.word_before()).unwrap_or(""),
                 str::from_utf8(word).unwrap_or(""),
             ),
         ),
-        _ => difference_said(alloc, text, number, span, case),
+        _ => difference_said(alloc, refused, case),
     }
 }
 
 /// Likewise for the offending slice, if it is on a line below.
 fn said_of(
     alloc: Global,
-    text: &[u8],
-    number: u16,
-    span: &RefusalSpan,
+    refused: &Refused<'_, '_>,
     case: Case,
     mistake: Case,
 ) -> Result<String, AllocError> {
-    let said = said_there(alloc, text, number, span, case, mistake)?;
-    let Some(below) = span.below else {
+    let said = said_there(alloc, refused, case, mistake)?;
+    let Some(below) = refused.span.below else {
         return Ok(said);
     };
-    let sentence = match sentence_of(number, case) {
+    let sentence = match sentence_of(refused.number, case) {
         Some(sentence) if said.is_empty() => sentence,
         _ => &said,
     };
     if sentence.is_empty() {
         return Ok(String::new(alloc));
     }
-    place_text(
-        alloc,
-        PlaceValues::Below(words_at(text, Some(below)), below.line, sentence),
-    )
+    let word = refused.words_at(Some(below));
+    place_text(alloc, PlaceValues::Below(word, below.line, sentence))
 }
 
 /// The case by which the headline is made: what is said in place of the sentence is in the detail.
@@ -303,44 +288,41 @@ fn case_reported(said: &str, case: Case) -> Case {
 fn detail_or(
     alloc: Global,
     said: String,
-    text: &[u8],
-    number: u16,
+    refused: &Refused<'_, '_>,
     line: u32,
-    span: &RefusalSpan,
 ) -> Result<String, AllocError> {
     if said.is_empty() {
-        return detail_of(alloc, text, number, line, span);
+        return detail_of(alloc, refused, line);
     }
     Ok(said)
 }
 
-/// Says what is wrong with a slice of a text whose comments are blanks: what is found is the number of bytes to quote, and the mistake.
+/// Says what is wrong with a slice of a text: what is found is the number of bytes to quote, and the mistake.
 fn say_of_excerpt(
     alloc: Global,
     diagnostic: &mut Diagnostic,
-    text: &[u8],
-    number: u16,
-    span: RefusalSpan,
+    refused: &Refused<'_, '_>,
 ) -> Result<(usize, Case), AllocError>
     ensures text_span { diagnostic.new.text_span ≡ diagnostic.old.text_span }
     ensures line { diagnostic.new.line ≡ diagnostic.old.line }
 {
-    let case = case_at(number, text, span);
-    let mistake = mistake_at(text, number, span, case);
-    diagnostic.expected = expected_at(span.expected, mistake);
+    let case = case_at(refused);
+    let mistake = mistake_at(refused, case);
+    diagnostic.expected = expected_at(refused.span.expected, mistake);
     let case = case_said(case, mistake);
-    let said = said_of(alloc, text, number, &span, case, mistake)?;
+    let said = said_of(alloc, refused, case, mistake)?;
     diagnostic.case = case_reported(&said, case);
-    diagnostic.detail = detail_or(alloc, said, text, number, diagnostic.line, &span)?;
-    diagnostic.advice = advice_at(alloc, text, number, &span, mistake)?;
-    Ok((quoted_length(text, number, case, &span), mistake))
+    diagnostic.detail = detail_or(alloc, said, refused, diagnostic.line)?;
+    diagnostic.advice = advice_at(alloc, refused, mistake)?;
+    Ok((quoted_length(refused, case), mistake))
 }
 
-/// Points to the slice at which a pass refuses a text, and says what is wrong with it.
+/// Points to the slice at which a pass refuses a text, and says what is wrong with it; if it was read, it was read into these units.
 fn point_to_excerpt(
     alloc: Global,
     diagnostic: &mut Diagnostic,
     text: &[u8],
+    units: &[Unit<'_>],
     number: u16,
     span: RefusalSpan,
 ) -> Result<(), AllocError>
@@ -351,29 +333,59 @@ fn point_to_excerpt(
 {
     diagnostic.point(column_at(text, span.start), span.length);
     let searched = blanked(alloc, text)?;
-    let (length, mistake) = say_of_excerpt(alloc, diagnostic, &searched, number, span)?;
+    let refused = Refused {
+        text: &searched,
+        units,
+        number,
+        span,
+    };
+    let (length, mistake) = say_of_excerpt(alloc, diagnostic, &refused)?;
     let case = diagnostic.case;
     diagnostic.report(excerpt(text, span.start, length), case)?;
     diagnostic.hint = mistake;
     Ok(())
 }
 
-/// Where a pass refuses a text, by the number of the refusal: the reading or a later one; nothing if none does.
-fn span_in(alloc: Global, text: &[u8], number: u16) -> Result<Option<RefusalSpan>, AllocError>
-    ensures stops { number < 300 → IfOk result
-        (λ found. IfSome found
-        (λ span. StopsReading text.now span.fault span.start span.length span.expected)) }
-    ensures refuses { 300 ≤ number → IfOk result
-        (λ found. IfSome found
-        (λ span. RefusesLater text.now span.fault span.start span.length)) }
+/// What was found, if it is the fault of that number on that line.
+fn fault_of(
+    found: Option<RefusalSpan>,
+    number: u16,
+    line: u32,
+) -> Result<Option<RefusalSpan>, AllocError>
+    ensures { IfOk result (λ kept. IfSome kept
+        (λ span. (found ≡ Some span) × (span.fault ≡ Fault.Refused number line))) }
 {
-    if number < 300 {
-        return Ok(stop_of(alloc, text));
+    let Some(span) = found else {
+        return Ok(None);
+    };
+    match span.fault {
+        Fault::Refused {
+            number: reported,
+            place,
+        } if reported == number && place == line => Ok(Some(span)),
+        Fault::Memory => Err(AllocError),
+        _ => Ok(None),
     }
-    match read_by_places(alloc, text) {
-        Ok(spanned_source) => Ok(text_span_in(alloc, &spanned_source)),
-        Err(Fault::Memory) => Err(AllocError),
-        Err(_) => Ok(None),
+}
+
+/// Finds the fault of a text that was read on its line: where a later pass refuses it.
+fn find_later_fault(
+    alloc: Global,
+    diagnostic: &mut Diagnostic,
+    text: &[u8],
+    read: &SpannedSource<'_>,
+    number: u16,
+) -> Result<(), AllocError>
+    requires none { diagnostic.old.text_span ≡ None }
+    requires read { AreReadByPlaces text.now read.now.tokens.items (text_view read.now.source) }
+    ensures { IfOk result
+        (λ _. HasLaterTextSpan text.now number diagnostic.old.line diagnostic.new) }
+{
+    match fault_of(text_span_in(alloc, read), number, diagnostic.line)? {
+        Some(span) => {
+            point_to_excerpt(alloc, diagnostic, text, &read.source.units, number, span)
+        }
+        None => Ok(()),
     }
 }
 
@@ -393,17 +405,15 @@ pub(crate) fn find_program_fault(
     if diagnostic.line == 0 {
         return Ok(());
     }
-    let Some(span) = span_in(alloc, text, number)? else {
-        return Ok(());
-    };
-    match span.fault {
-        Fault::Refused {
-            number: reported,
-            place,
-        } if reported == number && place == diagnostic.line => {
-            point_to_excerpt(alloc, diagnostic, text, number, span)
-        }
-        Fault::Memory => Err(AllocError),
-        _ => Ok(()),
+    if number < 300 {
+        return match fault_of(stop_of(alloc, text), number, diagnostic.line)? {
+            Some(span) => point_to_excerpt(alloc, diagnostic, text, &[], number, span),
+            None => Ok(()),
+        };
+    }
+    match read_by_places(alloc, text) {
+        Ok(read) => find_later_fault(alloc, diagnostic, text, &read, number),
+        Err(Fault::Memory) => Err(AllocError),
+        Err(_) => Ok(()),
     }
 }

@@ -12,8 +12,10 @@ use crate::refusal::{Evidence, Part, Refusal};
 use crate::rows::{report_row, shown_row};
 use std::alloc::{AllocError, Global};
 use wc_diag_advice::watched_advice;
-use wc_diag_mistakes::{blanked, excerpt};
+use wc_diag_mistakes::{excerpt, first_word};
+use wc_diag_places::{SpannedSource, read_by_places};
 use wc_diag_texts::Case;
+use wc_model::Fault;
 use wc_record::RefusedRow;
 
 /// Finds the fault of a text in its part.
@@ -131,6 +133,28 @@ fn find_text(alloc: Global, refusal: &Refusal<'_>, text: &[u8]) -> Result<Diagno
     Ok(diagnostic)
 }
 
+/// Which variable of a program that was read a watched name may be; empty if none is near, or if the program has its first word.
+fn near_advice(alloc: Global, read: &SpannedSource<'_>, name: &[u8]) -> Result<String, AllocError> {
+    let word = first_word(name);
+    if read
+        .tokens
+        .iter()
+        .any(|token| token.text.eq_ignore_ascii_case(word))
+    {
+        return Ok(String::new(alloc));
+    }
+    watched_advice(alloc, &read.source.units, name)
+}
+
+/// Likewise of a program's text; empty if it can't be read.
+fn name_advice(alloc: Global, program: &[u8], name: &[u8]) -> Result<String, AllocError> {
+    match read_by_places(alloc, program) {
+        Ok(read) => near_advice(alloc, &read, name),
+        Err(Fault::Memory) => Err(AllocError),
+        Err(_) => Ok(String::new(alloc)),
+    }
+}
+
 /// What is wrong with a list of names: no program has the one that is there.
 fn find_name(
     alloc: Global,
@@ -147,7 +171,7 @@ fn find_name(
     if !name.is_empty() {
         diagnostic.report(name, Case::Watched)?;
     }
-    diagnostic.advice = watched_advice(alloc, &blanked(alloc, program)?, name)?;
+    diagnostic.advice = name_advice(alloc, program, name)?;
     diagnostic.hint = Case::Watched;
     diagnostic.point(start, length);
     diagnostic.line = 1;
