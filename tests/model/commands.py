@@ -41,11 +41,11 @@ def check(content, path=False, following=None):
     return "".join(line + "\n" for line in lines), 0
 
 
-def run_files(plate, program, log, following=None, last=None, watch=()):
+def run_files(plate, program, log, following=None, last=None, watch=(), changes=False):
     """`wc run`."""
     plate, program = read_plate(plate), read_program(program)
     new = None if following is None else read_program(following)
-    return run(plate, log, program, new, last, watch)
+    return run(plate, log, program, new, last, watch, changes)
 
 
 def line_files(plate, log):

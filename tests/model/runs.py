@@ -90,9 +90,9 @@ def watched(machine, names):
     return found
 
 
-def run(plate, log, program=None, following=None, last=None, watch=()):
+def run(plate, log, program=None, following=None, last=None, watch=(), changes=False):
     """The report of a run as a text, and the exit status."""
-    scale, lines, scans, refused = Scale(plate, program, following), [], [], None
+    scale, lines, scans, refused, before = Scale(plate, program, following), [], [], None, None
     for name in watch:
         if not find(program, name) and not (following and find(following, name)):
             return "refused 401 0\n", 1
@@ -100,7 +100,11 @@ def run(plate, log, program=None, following=None, last=None, watch=()):
         for number, ms, kind, data in rows(log):
             line = scale.row(number, ms, kind, data)
             if line and kind == "S" and watch:
-                line += "\n" + " ".join([f"V {ms}", *watched(scale.machine, watch)])
+                values = watched(scale.machine, watch)
+                line += "\n" + " ".join([f"V {ms}", *values])
+                if changes and values == before:
+                    continue
+                before = values
             if line:
                 (scans if kind == "S" and last is not None else lines).append(line)
     except Refused as fault:

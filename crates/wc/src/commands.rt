@@ -18,7 +18,7 @@ use wc_view_decode::{DecodeFault, DecodeFormat, decode as decode_report};
 use wc_view_picture::show_files;
 use wc_view_preview::preview_files;
 use wc_view_trace::{Chosen, TraceFormat, trace_files};
-use wc_view_watch::{UnknownName, watch_files};
+use wc_view_watch::{UnknownName, WatchChoice, watch_files};
 
 /// Writes what is still gathered, and returns how the command ended: the exit status.
 fn finish(
@@ -170,7 +170,7 @@ pub(crate) fn run_words(
 ) -> u8
     requires asked { asked (texts_of _words.now)
         ≡ run plate.now files.program.now (option_map (λ next. next.now) files.next)
-        files.log.now last None }
+        files.log.now last None false }
     requires format { format_asked (texts_of _words.now) ≡ Some session.format }
     requires so_many { IfSome last (λ n. (1 ≤ n) × (n ≤ 1000)) }
 {
@@ -184,11 +184,13 @@ pub(crate) fn run_words(
     finish_run(session, ending, &opened, row)
 }
 
-/// The variables that are watched, and the number of last scans, 1 to 1000, or `None` for every scan.
+/// The variables that are watched, the number of last scans, 1 to 1000, or `None` for every scan, and whether only the scans are
+/// printed at which they change.
 #[derive(Clone, Copy)]
 pub(crate) struct Watched<'a> {
     pub(crate) names: &'a str,
     pub(crate) last: Option<u16>,
+    pub(crate) changes: bool,
 }
 
 /// Runs the log in a file with a program as `run_words` does, and prints the values of variables after each scan: the exit
@@ -203,15 +205,19 @@ pub(crate) fn watch_words(
 ) -> u8
     requires asked { asked (texts_of _words.now)
         ≡ run plate.now files.program.now (option_map (λ next. next.now) files.next)
-        files.log.now watched.last (Some watched.names.now) }
+        files.log.now watched.last (Some watched.names.now) watched.changes }
     requires format { format_asked (texts_of _words.now) ≡ Some session.format }
     requires so_many { IfSome watched.last (λ n. (1 ≤ n) × (n ≤ 1000)) }
 {
     let mut opened = RunFiles::new(session, RunPaths::with_program(plate, files));
+    let choice = WatchChoice {
+        names: watched.names.as_bytes(),
+        last: watched.last,
+        changes: watched.changes,
+    };
     let answer = watch_files(
         session.rt.alloc(),
-        watched.names.as_bytes(),
-        watched.last,
+        choice,
         &mut opened.inputs,
         &mut Device::new(SharedWriter::new(session.gathered)),
         row,
@@ -294,27 +300,48 @@ pub(crate) fn trace_words(
     with_notes(session, status, &opened.sources())
 }
 
-/// Runs the log in a file, with a program and a next one if they are given, and writes a picture of it: the exit status.
+/// Runs the log in a file, with a program and a next one if they are given, and writes a picture of it, with the variables of a
+/// list of names if one is given: the exit status.
 pub(crate) fn show_words(
     session: Session<'_>,
     _words: &[String],
     row: &mut RefusedRow,
+    names: Option<&str>,
     paths: RunPaths<'_>,
 ) -> u8
     requires asked { asked (texts_of _words.now)
         ≡ show paths.plate.now (option_map (λ path. path.now) paths.program)
-        (option_map (λ path. path.now) paths.next) paths.log.now }
+        (option_map (λ path. path.now) paths.next) paths.log.now
+        (option_map (λ list. list.now) names.entry) }
     requires format { format_asked (texts_of _words.now) ≡ Some session.format }
 {
     let mut opened = RunFiles::new(session, paths);
-    let ending = show_files(
+    let answer = show_files(
         session.rt.alloc(),
+        bytes_of(names),
         &mut opened.inputs,
         &mut Device::new(SharedWriter::new(session.gathered)),
         row,
     );
-    let status = finish_run(session, ending, &opened, row);
+    let status = match answer {
+        Ok(ending) => finish_run(session, ending, &opened, row),
+        Err(unknown) => refuse_name(
+            session,
+            names.unwrap_or(""),
+            unknown,
+            &opened.sources(),
+            row,
+        ),
+    };
     with_notes(session, status, &opened.sources())
+}
+
+/// The bytes of a list of names, if one is given.
+fn bytes_of(names: Option<&str>) -> Option<&[u8]> {
+    match names {
+        Some(names) => Some(names.as_bytes()),
+        None => None,
+    }
 }
 
 /// How a command ends that decodes a report.

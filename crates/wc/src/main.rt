@@ -227,6 +227,7 @@ fn execute(session: Session<'_>, words: &[String], row: &mut RefusedRow, wanted:
             files,
             last,
             watch,
+            changes,
         } => match last {
             Some(number) if number < 1 || number > 1000 => WRONG_WORDS,
             last => match watch {
@@ -234,10 +235,15 @@ fn execute(session: Session<'_>, words: &[String], row: &mut RefusedRow, wanted:
                     session,
                     words,
                     row,
-                    Watched { names, last },
+                    Watched {
+                        names,
+                        last,
+                        changes,
+                    },
                     plate,
                     files,
                 ),
+                None if changes => WRONG_WORDS,
                 None => run_words(session, words, row, last, plate, files),
             },
         },
@@ -251,10 +257,12 @@ fn execute(session: Session<'_>, words: &[String], row: &mut RefusedRow, wanted:
             program,
             next,
             log,
+            watch,
         } => show_words(
             session,
             words,
             row,
+            watch,
             RunPaths {
                 plate,
                 program,

@@ -1,5 +1,5 @@
 -- The format that the arguments give, after a word or before it, and the arguments that are refused.
-use Rattle.std.proofs.Common.{◌≡◌, ◌∙◌, true, false, List, [], ◌∷◌, Option, Some, None, refl, ap, ap₂, subst, inl, inr, codes, option_map, unwrap_or}
+use Rattle.std.proofs.Common.{◌≡◌, ◌∙◌, true, List, [], ◌∷◌, Option, Some, None, refl, ap, ap₂, subst, inl, inr, codes, option_map, unwrap_or}
 use Rattle.std.specs.Option.{option_map_or, option_or}
 use Rattle.clap.specs.Words.{App, HasKind, Kinds, Row, Text, fault_of, first_of, is_simple, is_simple_and_free, matches_of, subcommand_of}
 use Rattle.clap.specs.Kinds.{or_else}
@@ -12,12 +12,13 @@ use Rattle.clap.specs.declared.parser.matches.ArgMatches.TheViews.{out-ArgMatche
 use Rattle.clap.specs.declared.parser.matches.SubCommand.{SubCommand}
 use Rattle.std.specs.Prelude.{Box}
 use Rattle.std.specs.Box.{box_value}
+use Rattle.clap.specs.declared.error.kind.ErrorKind.{ErrorKind}
 use Rattle.clap.specs.declared.error.kind.ErrorKind.TheVariants as kind
 use Rattle.clap.proofs.OnLiterals.{clap_on_literals}
 use Rattle.wc_diag_texts.specs.declared.format.Format.{Format}
 use Rattle.wc_diag_texts.specs.declared.format.Format.TheVariants.{Long}
 use Rattle.wc_arguments.specs.CommandLine.{command_line}
-use Rattle.wc_arguments.specs.Asked.{Asked, asked, asked_at, asked_by, fault_in, format_asked, format_in, format_named, lacks_program}
+use Rattle.wc_arguments.specs.Asked.{Asked, asked, asked_at, asked_by, fault_in, format_asked, format_in, faults_of, format_named}
 
 -- a format after the word that was found, else before it
 pub after_word : (raised : Option (Text × List Row)) (rows before : List Row) (v : Option Text) → Some rows ≡ option_map (λ p. p.1) raised → v ≡ first_of (codes "message") rows
@@ -83,12 +84,12 @@ format_is a words raised rows text format line matches given read =
 pub refused_format : (words : List Text) (e : Error) → fault_of command_line words ≡ [] → None ≡ format_asked words → kind_of e ≡ kind.InvalidValue → HasKind (fault_in words) e
 refused_format words e none asked is = rw (none, ← asked) (inr (inl is))
 
--- arguments that are parsed, with a known format, are refused if a next program is given alone
-pub refused_next : (words : List Text) (format : Format) (this : Asked) (e : Error) → fault_of command_line words ≡ [] → Some format ≡ format_asked words → this ≡ asked words
-    → true ≡ lacks_program this → kind_of e ≡ kind.MissingRequiredArgument → HasKind (fault_in words) e
-refused_next words format this e none given same lacks is = rw (none, ← given, ← same, ← lacks) (inr (inl is))
+-- arguments that are parsed, with a known format, are refused if their options don't go together
+pub refused_option : (words : List Text) (format : Format) (this : Asked) (e : Error) (fault : ErrorKind) → fault_of command_line words ≡ [] → Some format ≡ format_asked words → this ≡ asked words
+    → fault ∷ [] ≡ faults_of this → kind_of e ≡ fault → HasKind (fault_in words) e
+refused_option words format this e fault none given same faults is = rw (none, ← given, ← same, ← faults) (inr (inl is))
 
 -- and are not, if none is
 pub not_refused : (words : List Text) (format : Format) (this : Asked) → fault_of command_line words ≡ [] → Some format ≡ format_asked words → this ≡ asked words
-    → false ≡ lacks_program this → fault_in words ≡ []
+    → [] ≡ faults_of this → fault_in words ≡ []
 not_refused words format this none given same whole = rw (none, ← given, ← same, ← whole) refl

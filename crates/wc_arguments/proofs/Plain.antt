@@ -37,12 +37,12 @@ unfolding clap_on_literals
 preview_format name = (refl, refl, refl, refl)
 
 pub run_format : (name p q l : Text) → IsValue p → IsValue q → IsValue l
-    → asked (name ∷ codes "run" ∷ codes "--plate" ∷ p ∷ codes "--program" ∷ q ∷ codes "--log" ∷ l ∷ []) ≡ run p q None l None None
+    → asked (name ∷ codes "run" ∷ codes "--plate" ∷ p ∷ codes "--program" ∷ q ∷ codes "--log" ∷ l ∷ []) ≡ run p q None l None None false
 unfolding clap_on_literals
 run_format name p q l u v w = rw (u.0, u.1, u.2) (rw (v.0, v.1, v.2) (rw (w.0, w.1, w.2) refl))
 
 pub next_format : (name : Text) → Ask (name ∷ codes "run" ∷ codes "--plate" ∷ codes "a" ∷ codes "--program" ∷ codes "b" ∷ codes "--next" ∷ codes "c" ∷ codes "--log" ∷ codes "d" ∷ [])
-    (run (codes "a") (codes "b") (Some (codes "c")) (codes "d") None None) Long
+    (run (codes "a") (codes "b") (Some (codes "c")) (codes "d") None None false) Long
 unfolding clap_on_literals
 next_format name = (refl, refl, refl, refl)
 
@@ -52,23 +52,42 @@ unfolding clap_on_literals
 trace_format name = (refl, refl, refl, refl)
 
 pub watch_format : (name : Text) → asked (name ∷ codes "run" ∷ codes "--plate" ∷ codes "a" ∷ codes "--program" ∷ codes "b" ∷ codes "--log" ∷ codes "c" ∷ codes "--watch" ∷ codes "d,t.ET" ∷ [])
-    ≡ run (codes "a") (codes "b") None (codes "c") None (Some (codes "d,t.ET"))
+    ≡ run (codes "a") (codes "b") None (codes "c") None (Some (codes "d,t.ET")) false
 unfolding clap_on_literals
 watch_format name = refl
 
-pub show_format : (name : Text) → Ask (name ∷ codes "show" ∷ codes "--plate" ∷ codes "a" ∷ codes "--log" ∷ codes "b" ∷ []) (show (codes "a") None None (codes "b")) Long
+pub changes_format : (name : Text) → asked (name ∷ codes "run" ∷ codes "--plate" ∷ codes "a" ∷ codes "--program" ∷ codes "b" ∷ codes "--log" ∷ codes "c" ∷ codes "--watch" ∷ codes "d" ∷ codes "--changes" ∷ [])
+    ≡ run (codes "a") (codes "b") None (codes "c") None (Some (codes "d")) true
+unfolding clap_on_literals
+changes_format name = refl
+
+pub changes_alone_format : (name : Text) → fault_in (name ∷ codes "run" ∷ codes "--plate" ∷ codes "a" ∷ codes "--program" ∷ codes "b" ∷ codes "--log" ∷ codes "c" ∷ codes "--changes" ∷ []) ≡ kind.MissingRequiredArgument ∷ []
+unfolding clap_on_literals
+changes_alone_format name = refl
+
+pub show_format : (name : Text) → Ask (name ∷ codes "show" ∷ codes "--plate" ∷ codes "a" ∷ codes "--log" ∷ codes "b" ∷ []) (show (codes "a") None None (codes "b") None) Long
 unfolding clap_on_literals
 show_format name = (refl, refl, refl, refl)
 
 pub drawn_format : (name : Text) → Ask (name ∷ codes "show" ∷ codes "--plate" ∷ codes "a" ∷ codes "--program" ∷ codes "b" ∷ codes "--log" ∷ codes "c" ∷ [])
-    (show (codes "a") (Some (codes "b")) None (codes "c")) Long
+    (show (codes "a") (Some (codes "b")) None (codes "c") None) Long
 unfolding clap_on_literals
 drawn_format name = (refl, refl, refl, refl)
 
 pub redrawn_format : (name : Text) → Ask (name ∷ codes "show" ∷ codes "--plate" ∷ codes "a" ∷ codes "--program" ∷ codes "b" ∷ codes "--next" ∷ codes "c" ∷ codes "--log" ∷ codes "d" ∷ [])
-    (show (codes "a") (Some (codes "b")) (Some (codes "c")) (codes "d")) Long
+    (show (codes "a") (Some (codes "b")) (Some (codes "c")) (codes "d") None) Long
 unfolding clap_on_literals
 redrawn_format name = (refl, refl, refl, refl)
+
+pub drawn_names_format : (name : Text) → Ask (name ∷ codes "show" ∷ codes "--plate" ∷ codes "a" ∷ codes "--program" ∷ codes "b" ∷ codes "--log" ∷ codes "c" ∷ codes "--watch" ∷ codes "d" ∷ [])
+    (show (codes "a") (Some (codes "b")) None (codes "c") (Some (codes "d"))) Long
+unfolding clap_on_literals
+drawn_names_format name = (refl, refl, refl, refl)
+
+pub many_names_format : (name : Text) → fault_in (name ∷ codes "show" ∷ codes "--plate" ∷ codes "a" ∷ codes "--program" ∷ codes "b" ∷ codes "--log" ∷ codes "c" ∷ codes "--watch" ∷ codes "d,e,f,g,h" ∷ [])
+    ≡ kind.InvalidValue ∷ []
+unfolding clap_on_literals
+many_names_format name = refl
 
 pub next_alone_format : (name : Text) → fault_in (name ∷ codes "show" ∷ codes "--plate" ∷ codes "a" ∷ codes "--next" ∷ codes "b" ∷ codes "--log" ∷ codes "c" ∷ []) ≡ kind.MissingRequiredArgument ∷ []
 unfolding clap_on_literals
@@ -100,6 +119,6 @@ unfolding clap_on_literals
 explain_format name = (refl, refl, refl, refl)
 
 pub last_format : (name : Text) → Ask (name ∷ codes "run" ∷ codes "--last" ∷ codes "10" ∷ codes "--log" ∷ codes "a" ∷ codes "--program" ∷ codes "b" ∷ codes "--plate=c" ∷ [])
-    (run (codes "c") (codes "b") None (codes "a") (Some 10) None) Long
+    (run (codes "c") (codes "b") None (codes "a") (Some 10) None false) Long
 unfolding clap_on_literals
 last_format name = (refl, refl, refl, refl)

@@ -1,6 +1,7 @@
 -- Which command is asked for by which arguments, the first of which is the program's own name.
 use Rattle.std.specs.Prelude.{◌≡◌, ◌==◌, ℕ, Bool, true, false, List, [], ◌∷◌, map, Option, Some, None}
-use Rattle.std.specs.Prelude.{codes, if◌then◌else◌, is_some, option_and_then, option_map, unwrap_or}
+use Rattle.std.specs.List.{count_by}
+use Rattle.std.specs.Prelude.{codes, if◌then◌else◌, is_some, nat_lt, option_and_then, option_map, unwrap_or}
 use Rattle.std.specs.Prelude.{String}
 use Rattle.std.specs.Prelude.{string_bytes}
 use Rattle.std.specs.declared.alloc.Global.{Global}
@@ -57,14 +58,15 @@ pub data Asked : Type 0 where
   -- wanted, and whether warnings are refused
   check : Text → Option Text → Bool → Bool → Asked
   -- the files of a plate, a program, a next program if one is given, and a log, the number of scans
-  -- that are wanted, and the names of the variables that are watched
-  run : Text → Text → Option Text → Text → Option ℕ → Option Text → Asked
+  -- that are wanted, the names of the variables that are watched, and whether those scans alone are
+  -- wanted at which these change
+  run : Text → Text → Option Text → Text → Option ℕ → Option Text → Bool → Asked
   -- the files of a run whose scans are shown, in the same order, and which: the moment, the number of the
   -- scan, the first moment and the last
   trace : Text → Text → Option Text → Text → Option ℕ → Option ℕ → Option ℕ → Option ℕ → Asked
   -- the files of a plate, a program and a next program if they are given, and a log, of whose run a
-  -- picture is wanted
-  show : Text → Option Text → Option Text → Text → Asked
+  -- picture is wanted, and the names of the variables that are drawn
+  show : Text → Option Text → Option Text → Text → Option Text → Asked
   -- a report from standard input, and whether a table is wanted
   decode : Bool → Asked
   -- the number of a refusal or of a warning
@@ -84,7 +86,7 @@ asked_at word given =
     else (if bytes_eq word (codes "run")
     then run (file_in (codes "plate") given) (file_in (codes "program") given)
     (first_of (codes "next") given) (file_in (codes "log") given)
-    (number_in (codes "last") given) (first_of (codes "watch") given)
+    (number_in (codes "last") given) (first_of (codes "watch") given) (flag_in (codes "changes") given)
     else (if bytes_eq word (codes "trace")
     then trace (file_in (codes "plate") given) (file_in (codes "program") given)
     (first_of (codes "next") given) (file_in (codes "log") given)
@@ -92,7 +94,7 @@ asked_at word given =
     (wide_number_in (codes "from") given) (wide_number_in (codes "to") given)
     else (if bytes_eq word (codes "show")
     then show (file_in (codes "plate") given) (first_of (codes "program") given)
-    (first_of (codes "next") given) (file_in (codes "log") given)
+    (first_of (codes "next") given) (file_in (codes "log") given) (first_of (codes "watch") given)
     else (if bytes_eq word (codes "decode") then decode (flag_in (codes "csv") given)
     else (if bytes_eq word (codes "explain")
     then explain (file_in (codes "number") given)
@@ -115,15 +117,15 @@ abbrev pub view : Wanted → Asked
 view wanted.Job = job
 view (wanted.Check program next paths deny) =
     check program.now (option_map (λ path. path.now) next) paths deny
-view (wanted.Run plate files last watch) =
+view (wanted.Run plate files last watch changes) =
     run plate.now files.program.now (option_map (λ next. next.now) files.next) files.log.now last
-    (option_map (λ names. names.now) watch)
+    (option_map (λ names. names.now) watch) changes
 view (wanted.Trace plate files chosen) =
     trace plate.now files.program.now (option_map (λ next. next.now) files.next) files.log.now
     chosen.at chosen.scan chosen.from chosen.to
-view (wanted.Show plate program next log) =
+view (wanted.Show plate program next log watch) =
     show plate.now (option_map (λ path. path.now) program) (option_map (λ path. path.now) next)
-    log.now
+    log.now (option_map (λ names. names.now) watch)
 view (wanted.Decode table) = decode table
 view (wanted.Explain number) = explain number.now
 view (wanted.Line plate log) = line plate.now log.now
@@ -146,21 +148,34 @@ abbrev pub format_asked : List Text → Option Format
 format_asked words = option_map_or format_named
     (format_in (subcommand_of command_line words) (matches_of command_line words)) (Some Long)
 
--- a next program is given, and none whose place it could take
-abbrev pub lacks_program : Asked → Bool
-lacks_program (show plate None (Some next) log) = true
-lacks_program this = false
+-- An option is given, and not the one that it needs: a next program and none whose place it could take,
+-- names and no program that has them, changes of no names.
+abbrev pub lacks_option : Asked → Bool
+lacks_option (show plate None (Some next) log watch) = true
+lacks_option (show plate None None log (Some names)) = true
+lacks_option (run plate program next log last None true) = true
+lacks_option this = false
+
+-- more names, between commas, than a picture has lanes for
+abbrev pub has_many_names : Asked → Bool
+has_many_names (show plate program next log (Some names)) =
+    nat_lt 3 (count_by (λ byte. byte == 44) names)
+has_many_names this = false
+
+-- the kind of fault of the options together, if there is one
+abbrev pub faults_of : Asked → Kinds
+faults_of this = if lacks_option this then kind.MissingRequiredArgument ∷ []
+    else (if has_many_names this then kind.InvalidValue ∷ [] else [])
 
 -- the kinds of fault by which the arguments are refused, those of the first step that fails
 abbrev pub fault_in : List Text → Kinds
 fault_in words = or_else (fault_of command_line words) (if is_some (format_asked words)
-    then (if lacks_program (asked words) then kind.MissingRequiredArgument ∷ [] else [])
-    else kind.InvalidValue ∷ [])
+    then faults_of (asked words) else kind.InvalidValue ∷ [])
 
 -- the arguments are not refused, and ask for this, and for refusals in this format
 abbrev pub Ask : List Text → Asked → Format → Type 0
 Ask words this format = (asked words ≡ this) × (format_asked words ≡ Some format)
-    × (fault_of command_line words ≡ []) × (lacks_program this ≡ false)
+    × (fault_of command_line words ≡ []) × (faults_of this ≡ [])
 
 -- an argument that does not begin with a hyphen (45), so that it is not an option
 abbrev pub IsPlain : Text → Type 0

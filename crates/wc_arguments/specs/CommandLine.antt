@@ -53,13 +53,14 @@ check_word = with_rule (with_rule (with_rule (with_rule (with_rule (new_app (cod
     (place (codes "program"))) (value_option (codes "next"))) (flag (codes "path")))
     (flag (codes "deny-warnings"))) message_option
 
--- `run --plate FILE --program FILE [--next FILE] --log FILE [--last N] [--watch NAMES]
+-- `run --plate FILE --program FILE [--next FILE] --log FILE [--last N] [--watch NAMES [--changes]]
 -- [--message FORM]`, N from 1 to 1000
 abbrev pub run_word : App
-run_word = with_rule (with_rule (with_rule (with_rule (with_rule (with_rule (with_rule
+run_word = with_rule (with_rule (with_rule (with_rule (with_rule (with_rule (with_rule (with_rule
     (new_app (codes "run")) (file_option (codes "plate"))) (file_option (codes "program")))
     (value_option (codes "next"))) (file_option (codes "log")))
-    (number_option (codes "last") 1 1000)) (value_option (codes "watch"))) message_option
+    (number_option (codes "last") 1 1000)) (value_option (codes "watch"))) (flag (codes "changes")))
+    message_option
 
 -- `trace --plate FILE --program FILE [--next FILE] --log FILE [--at MS] [--scan N] [--from MS] [--to MS]
 -- [--message FORM]`
@@ -70,11 +71,12 @@ trace_word = with_rule (with_rule (with_rule (with_rule (with_rule (with_rule (w
     (wide_number_option (codes "at"))) (wide_number_option (codes "scan")))
     (wide_number_option (codes "from"))) (wide_number_option (codes "to"))) message_option
 
--- `show --plate FILE [--program FILE [--next FILE]] --log FILE [--message FORM]`
+-- `show --plate FILE [--program FILE [--next FILE] [--watch NAMES]] --log FILE [--message FORM]`
 abbrev pub show_word : App
-show_word = with_rule (with_rule (with_rule (with_rule (with_rule (new_app (codes "show"))
-    (file_option (codes "plate"))) (value_option (codes "program"))) (value_option (codes "next")))
-    (file_option (codes "log"))) message_option
+show_word = with_rule (with_rule (with_rule (with_rule (with_rule (with_rule
+    (new_app (codes "show")) (file_option (codes "plate"))) (value_option (codes "program")))
+    (value_option (codes "next"))) (file_option (codes "log"))) (value_option (codes "watch")))
+    message_option
 
 -- `line --plate FILE --log FILE [--message FORM]`
 abbrev pub line_word : App

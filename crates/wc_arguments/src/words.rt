@@ -1,8 +1,9 @@
-ghost use Rattle.std.specs.Prelude.{◌≡◌, IfOk, Some, codes, false, option_map};
-ghost use Rattle.std.specs.Option.{option_map_or};
+ghost use Rattle.std.specs.Prelude.{◌≡◌, ◌==◌, IfOk, Some, codes, false, is_some, option_map};
+ghost use Rattle.std.specs.List.{count_by};
+ghost use Rattle.std.specs.Option.{option_map_or, option_to_list};
 ghost use Rattle.clap.specs.Words.{FailsBy, app_of, fault_of, first_of, found_of, rows_of, subcommand_rows_of};
 ghost use Rattle.wc_arguments.specs.Asked.{asked, asked_at, asked_by, fault_in, file_in, flag_in};
-ghost use Rattle.wc_arguments.specs.Asked.{format_asked, format_in, format_named, lacks_program, number_in, texts_of, view};
+ghost use Rattle.wc_arguments.specs.Asked.{format_asked, format_in, format_named, faults_of, has_many_names, lacks_option, number_in, texts_of, view};
 ghost use Rattle.wc_arguments.specs.Asked.{wide_number_in};
 ghost use Rattle.wc_arguments.specs.CommandLine.{command_line};
 
@@ -37,12 +38,13 @@ pub enum Wanted<'a> {
         deny: bool,
     },
     /// A run of a log with a program, which prints all or a number of last scans, and with each the values of variables, if
-    /// their names are given.
+    /// their names are given; if `changes` says so, only the scans at which these change.
     Run {
         plate: &'a str,
         files: ProgramFiles<'a>,
         last: Option<u16>,
         watch: Option<&'a str>,
+        changes: bool,
     },
     /// A run of a log with a program, of which the scans that are chosen are shown item by item.
     Trace {
@@ -50,12 +52,14 @@ pub enum Wanted<'a> {
         files: ProgramFiles<'a>,
         chosen: ScanChoice,
     },
-    /// A picture of a run of a log, with a program, and with the next one if it is changed, or with none.
+    /// A picture of a run of a log, with a program, and with the next one if it is changed, or with none; with the values of
+    /// variables, if their names are given.
     Show {
         plate: &'a str,
         program: Option<&'a str>,
         next: Option<&'a str>,
         log: &'a str,
+        watch: Option<&'a str>,
     },
     /// A report from standard input for people, or as a table.
     Decode {
@@ -88,8 +92,15 @@ pub struct AskedCommand<'a> {
 /// What is said of an unknown format.
 const NO_FORMAT: &str = "expected long, short or json after '--message'";
 
-/// What is said if a next program is given alone.
-const NO_PROGRAM: &str = "'--next' is given without '--program'";
+/// What is said if an option is given without the one that it needs.
+const NEXT_ALONE: &str = "'--next' is given without '--program'";
+
+const WATCH_ALONE: &str = "'--watch' is given without '--program'";
+
+const CHANGES_ALONE: &str = "'--changes' is given without '--watch'";
+
+/// What is said if there are too many lanes.
+const MANY_NAMES: &str = "'--watch' of 'show' takes at most four names";
 
 /// The whole command line.
 fn command<'a>(alloc: Global, title: Title) -> Result<Command<'a>, AllocError>
@@ -189,6 +200,7 @@ fn wanted_by<'a>(word: &str, matches: &ArgMatches<'a>) -> Wanted<'a>
             files: program_files(matches),
             last: number(matches, "last"),
             watch: optional_file(matches, "watch"),
+            changes: is_given(matches, "changes"),
         },
         "trace" => Wanted::Trace {
             plate: file(matches, "plate"),
@@ -200,6 +212,7 @@ fn wanted_by<'a>(word: &str, matches: &ArgMatches<'a>) -> Wanted<'a>
             program: optional_file(matches, "program"),
             next: optional_file(matches, "next"),
             log: file(matches, "log"),
+            watch: optional_file(matches, "watch"),
         },
         "decode" => Wanted::Decode {
             table: is_given(matches, "csv"),
@@ -259,18 +272,61 @@ fn format_of(text: Option<&str>) -> Option<Format>
     }
 }
 
-/// Whether a next program is given, and none whose place it could take.
-fn lacks_program(wanted: &Wanted<'_>) -> bool
-    ensures { result ≡ lacks_program (view wanted.now) }
+/// What is said of an option that is given without the one that it needs, if there is one.
+fn lacking(wanted: &Wanted<'_>) -> Option<&'static str>
+    ensures { is_some result ≡ lacks_option (view wanted.now) }
 {
     match wanted {
         Wanted::Show {
             program: None,
             next: Some(_),
             ..
-        } => true,
+        } => Some(NEXT_ALONE),
+        Wanted::Show {
+            program: None,
+            watch: Some(_),
+            ..
+        } => Some(WATCH_ALONE),
+        Wanted::Run {
+            watch: None,
+            changes: true,
+            ..
+        } => Some(CHANGES_ALONE),
+        _ => None,
+    }
+}
+
+/// Whether more names are given than a picture has lanes for.
+fn has_many_names(wanted: &Wanted<'_>) -> bool
+    ensures { result ≡ has_many_names (view wanted.now) }
+{
+    match wanted {
+        Wanted::Show {
+            watch: Some(names),
+            ..
+        } => commas(names.as_bytes()) > 3,
         _ => false,
     }
+}
+
+/// The number of commas in a list.
+fn commas(list: &[u8]) -> usize
+    ensures { result ≡ count_by (λ byte. byte == 44) list.now }
+{
+    list.iter().filter(|byte| **byte == b',').count()
+}
+
+/// What is wrong with the options together, if anything is, and the kind of that fault.
+fn misused(wanted: &Wanted<'_>) -> Option<(ErrorKind, &'static str)>
+    ensures { option_to_list (option_map (λ fault. fault.0) result) ≡ faults_of (view wanted.now) }
+{
+    if let Some(what) = lacking(wanted) {
+        return Some((ErrorKind::MissingRequiredArgument, what));
+    }
+    if has_many_names(wanted) {
+        return Some((ErrorKind::InvalidValue, MANY_NAMES));
+    }
+    None
 }
 
 /// What the command line reads of these arguments, and the format they name; or a fault in them, or help or the version that
@@ -293,7 +349,7 @@ fn read_by<'a>(
     }
 }
 
-/// What the command line reads of these arguments; or a fault in them, one of their format or a missing program too.
+/// What the command line reads of these arguments; or a fault in them, one of their format or a missing option too.
 fn asked_by<'a>(line: &mut Command<'a>, words: &'a [String]) -> Result<AskedCommand<'a>, Error>
     requires { app_of line.old ≡ command_line }
     ensures asked { IfOk result (λ request. view request.wanted ≡ asked (texts_of words.now)) }
@@ -306,12 +362,10 @@ fn asked_by<'a>(line: &mut Command<'a>, words: &'a [String]) -> Result<AskedComm
         Err(error) => return Err(error),
     };
     match format {
-        Some(format) => {
-            if lacks_program(&wanted) {
-                return Err(line.error(ErrorKind::MissingRequiredArgument, NO_PROGRAM)?);
-            }
-            Ok(AskedCommand { wanted, format })
-        }
+        Some(format) => match misused(&wanted) {
+            Some((kind, what)) => Err(line.error(kind, what)?),
+            None => Ok(AskedCommand { wanted, format }),
+        },
         None => Err(line.error(ErrorKind::InvalidValue, NO_FORMAT)?),
     }
 }

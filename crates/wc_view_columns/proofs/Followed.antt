@@ -9,7 +9,8 @@ use Rattle.std.specs.Prelude.{option_map}
 use Rattle.wc_model.specs.Instrument.Answers.{command_of}
 use Rattle.wc_sma.specs.Seen.{command_view}
 use Rattle.wc_sma.specs.declared.command.Command.{Command}
-use Rattle.wc_view_columns.specs.Followed.{AreAnswered, AreAt, AreCounted, HasFollowed, IsMarked, added, after_answer, count_of, is_refusal, tares_cleared, tares_not_set, tares_set, zeros_not_set, zeros_set}
+use Rattle.wc_view_columns.specs.Followed.{AreAnswered, AreAt, AreCounted, HasFollowed, IsMarked, added, after_answer, count_of, is_refusal, mark_of, tares_cleared, tares_not_set, tares_set, zeros_not_set, zeros_set}
+use Rattle.wc_view_columns.proofs.Totals.{last_of_more}
 use Rattle.wc_view_columns.specs.Happened.{counted}
 use Rattle.wc_view_columns.specs.declared.events.Events.{Events}
 use Rattle.wc_view_columns.specs.declared.events.Request.{Request}
@@ -29,13 +30,13 @@ one_more : (f : Command → Bool → ℕ) (requests : List Request) (r : Request
 one_more f requests r =
     sum_by-append (λ (q : Request). f q.command (is_refusal q.answer)) requests (r ∷ []) ∙ omega arith
 
-last_of_more : (first : Option Request) (requests : List Request) (r : Request) → last_or first (requests ++ r ∷ []) ≡ Some r
-last_of_more first [] r = refl
-last_of_more first (q ∷ requests) r = last_of_more (Some q) requests r
+latest_of_more : (first : Option Request) (requests : List Request) (r : Request) → last_or first (requests ++ r ∷ []) ≡ Some r
+latest_of_more first [] r = refl
+latest_of_more first (q ∷ requests) r = latest_of_more (Some q) requests r
 
-pub request_counted : (made : List Request) (r : Request) (old marked : Events) (total : ℕ) → AreCounted made old → IsMarked r.command (is_refusal r.answer) old marked
+pub request_counted : (made : List Request) (r : Request) (old marked : Events) (total : ℕ) → AreCounted made old → IsMarked r.ms r.command (is_refusal r.answer) old marked
     → total ≡ counted (marked.requests + 1)
-    → AreCounted (made ++ r ∷ []) (record { zeros = marked.zeros; zeros_refused = marked.zeros_refused; tares = marked.tares; tares_refused = marked.tares_refused; clears = marked.clears; changes = marked.changes; scans = marked.scans; steps = marked.steps; requests = total; last = Some r })
+    → AreCounted (made ++ r ∷ []) (record { zeros = marked.zeros; zeros_refused = marked.zeros_refused; tares = marked.tares; tares_refused = marked.tares_refused; clears = marked.clears; changes = marked.changes; marked = marked.marked; scans = marked.scans; steps = marked.steps; requests = total; last = Some r })
 request_counted made r old marked total are mark is = record {
   zeros = more_counted old.zeros marked.zeros _ _ _ are.zeros mark.zeros (one_more zeros_set made r);
   zeros_refused = more_counted old.zeros_refused marked.zeros_refused _ _ _ are.zeros_refused mark.zeros_refused (one_more zeros_not_set made r);
@@ -43,8 +44,9 @@ request_counted made r old marked total are mark is = record {
   tares_refused = more_counted old.tares_refused marked.tares_refused _ _ _ are.tares_refused mark.tares_refused (one_more tares_not_set made r);
   clears = more_counted old.clears marked.clears _ _ _ are.clears mark.clears (one_more tares_cleared made r);
   requests = more_counted old.requests total (length made) 1 (length (made ++ r ∷ [])) are.requests (is ∙ ap (λ n. counted (n + 1)) mark.requests) (length-append made (r ∷ []));
-  last = sym (last_of_more None made r);
+  last = sym (latest_of_more None made r);
   changes = mark.changes ∙ are.changes;
+  marked = last_of_more (λ (q : Request). mark_of q.ms q.command) made r old.marked marked.marked are.marked mark.marked;
   scans = mark.scans ∙ are.scans;
   steps = mark.steps ∙ are.steps;
 }

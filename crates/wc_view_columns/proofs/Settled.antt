@@ -88,6 +88,7 @@ settled xs ys x state are = record {
   inputs = bits_again (λ h. h.inputs) xs ys x state.inputs are.inputs;
   outputs = bits_again (λ h. h.outputs.bits) xs ys x state.outputs are.outputs;
   words = λ other i within. are.words other i within ∙ words_again (λ h. get_or h.outputs.words i (pos 0)) xs ys x;
+  variables = λ i within. are.variables i within ∙ spans_again (λ h. get_or h.variables i None) xs ys x;
 }
 
 -- so of rows and what the last of them left, before others

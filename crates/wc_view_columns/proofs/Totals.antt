@@ -8,7 +8,6 @@ use Rattle.wc_view_columns.proofs.Together.{greatest_of}
 use Rattle.wc_view_columns.specs.Happened.{AreBoth, counted}
 use Rattle.wc_view_columns.specs.Rows.{AreTogether, nothing}
 use Rattle.wc_view_columns.specs.declared.events.Events.{Events}
-use Rattle.wc_view_columns.specs.declared.events.Request.{Request}
 
 -- a count of both
 both_counted : (a b c m n k : ℕ) → a ≡ counted m → b ≡ counted n → c ≡ counted (a + b) → k ≡ m + n → c ≡ counted k
@@ -41,24 +40,24 @@ last_else : {A : Type 0} (o : Option A) (xs : List A) → option_or (last_or Non
 last_else o [] = refl
 last_else o (x ∷ xs) = some_last x o xs
 
-last_of_both : (earlier later : List Events) (a b c : Option Request) → a ≡ last_or None (filter_map (λ e. e.last) earlier)
-    → b ≡ last_or None (filter_map (λ e. e.last) later) → c ≡ option_or b a → c ≡ last_or None (filter_map (λ e. e.last) (earlier ++ later))
-last_of_both earlier later a b c e f g =
-    let xs : List Request = filter_map (λ e. e.last) earlier in
-    let ys : List Request = filter_map (λ e. e.last) later in
+last_of_both : {X A : Type 0} (given : X → Option A) (earlier later : List X) (a b c : Option A) → a ≡ last_or None (filter_map given earlier)
+    → b ≡ last_or None (filter_map given later) → c ≡ option_or b a → c ≡ last_or None (filter_map given (earlier ++ later))
+last_of_both given earlier later a b c e f g =
+    let xs = filter_map given earlier in
+    let ys = filter_map given later in
     g ∙ (λ i. option_or (f i) (e i)) ∙ last_else (last_or None xs) ys ∙ sym (last_or-append None xs ys)
-    ∙ ap (last_or None) (sym (filter_map-append (λ e. e.last) earlier later))
+    ∙ ap (last_or None) (sym (filter_map-append given earlier later))
 
-one_last : (o p : Option Request) → option_or o p ≡ last_or p (cons_option o [])
+one_last : {A : Type 0} (o p : Option A) → option_or o p ≡ last_or p (cons_option o [])
 one_last None p = refl
 one_last (Some x) p = refl
 
-last_of_more : (earlier : List Events) (one : Events) (a c : Option Request) → a ≡ last_or None (filter_map (λ e. e.last) earlier)
-    → c ≡ option_or one.last a → c ≡ last_or None (filter_map (λ e. e.last) (earlier ++ one ∷ []))
-last_of_more earlier one a c e g =
-    let xs : List Request = filter_map (λ e. e.last) earlier in
-    g ∙ ap (option_or one.last) e ∙ one_last one.last (last_or None xs) ∙ sym (last_or-append None xs (cons_option one.last []))
-    ∙ ap (last_or None) (sym (filter_map-append (λ e. e.last) earlier (one ∷ [])))
+pub last_of_more : {X A : Type 0} (given : X → Option A) (earlier : List X) (one : X) (a c : Option A) → a ≡ last_or None (filter_map given earlier)
+    → c ≡ option_or (given one) a → c ≡ last_or None (filter_map given (earlier ++ one ∷ []))
+last_of_more given earlier one a c e g =
+    let xs = filter_map given earlier in
+    g ∙ ap (option_or (given one)) e ∙ one_last (given one) (last_or None xs) ∙ sym (last_or-append None xs (cons_option (given one) []))
+    ∙ ap (last_or None) (sym (filter_map-append given earlier (one ∷ [])))
 
 pub both_together : (earlier later : List Events) (a b c : Events) → AreTogether earlier a → AreTogether later b → AreBoth a b c → AreTogether (earlier ++ later) c
 both_together earlier later a b c first second both = record {
@@ -71,7 +70,8 @@ both_together earlier later a b c first second both = record {
   scans = sum_counted (λ e. e.scans) earlier later a.scans b.scans c.scans first.scans second.scans both.scans;
   requests = sum_counted (λ e. e.requests) earlier later a.requests b.requests c.requests first.requests second.requests both.requests;
   steps = both.steps ∙ (λ i. max (first.steps i) (second.steps i)) ∙ sym (greatest_of (λ (e : Events). e.steps) earlier later);
-  last = last_of_both earlier later a.last b.last c.last first.last second.last both.last;
+  marked = last_of_both (λ e. e.marked) earlier later a.marked b.marked c.marked first.marked second.marked both.marked;
+  last = last_of_both (λ e. e.last) earlier later a.last b.last c.last first.last second.last both.last;
 }
 
 pub one_together : (earlier : List Events) (a one c : Events) → AreTogether earlier a → AreBoth a one c → AreTogether (earlier ++ one ∷ []) c
@@ -85,7 +85,8 @@ one_together earlier a one c first both = record {
   scans = more_counted (λ e. e.scans) earlier one a.scans c.scans first.scans both.scans;
   requests = more_counted (λ e. e.requests) earlier one a.requests c.requests first.requests both.requests;
   steps = both.steps ∙ ap (λ n. max n one.steps) first.steps ∙ sym (greatest_of (λ (e : Events). e.steps) earlier (one ∷ []) ∙ omega arith);
-  last = last_of_more earlier one a.last c.last first.last both.last;
+  marked = last_of_more (λ e. e.marked) earlier one a.marked c.marked first.marked both.marked;
+  last = last_of_more (λ e. e.last) earlier one a.last c.last first.last both.last;
 }
 
 pub none_together : AreTogether [] nothing
@@ -96,6 +97,7 @@ none_together = record {
   tares_refused = refl;
   clears = refl;
   changes = refl;
+  marked = refl;
   scans = refl;
   steps = refl;
   requests = refl;

@@ -9,7 +9,7 @@ use Rattle.wc_view_columns.specs.Rows.{AreTogether}
 use Rattle.wc_view_columns.specs.declared.columns.Column.{Column}
 use Rattle.wc_view_columns.specs.declared.events.Events.{Events}
 use Rattle.wc_view_columns.specs.declared.lanes.Lane.{Lane}
-use Rattle.wc_view_columns.specs.declared.lanes.Lane.TheVariants.{Motion, Over, Under, Invalid, Requests, Input, Output, Word, Scans}
+use Rattle.wc_view_columns.specs.declared.lanes.Lane.TheVariants.{Motion, Over, Under, Invalid, Requests, Input, Output, Word, Variable, Scans}
 
 -- each column is of its own rows, of which these are what held, or what happened
 abbrev pub AreOf : {X : Type 0} → (List X → Column → Type 0) → List (List X) → List Column → Type 0
@@ -59,7 +59,7 @@ abbrev pub bit_level : Bits → ℕ → Level
 bit_level bits i = level_of (bit_at bits.high i == 1) (bit_at bits.low i == 1)
 
 -- A lane's level in a column: of a flag, that it was set after one of the rows; of a bit, whether it was 1, 0 or both. The
--- lanes of requests, words and scans have none.
+-- lanes of requests, words, variables and scans have none.
 abbrev pub IsLevelOf : Lane → Column → Level → Type 0
 IsLevelOf Motion column level = level ≡ level_of column.state.motion (not column.state.motion)
 IsLevelOf Over column level = level ≡ level_of column.state.over (not column.state.over)
@@ -69,4 +69,5 @@ IsLevelOf Requests column level = level ≡ Low
 IsLevelOf (Input i) column level = level ≡ bit_level column.state.inputs i
 IsLevelOf (Output i) column level = level ≡ bit_level column.state.outputs i
 IsLevelOf (Word i) column level = level ≡ Low
+IsLevelOf (Variable i) column level = level ≡ Low
 IsLevelOf Scans column level = level ≡ Low

@@ -1,6 +1,7 @@
 -- The requests of the line with their answers, and what they count. (The profile's own.)
 use Rattle.std.specs.Prelude.{◌≡◌, ℕ, zero, suc, ◌+◌, Bool, true, false, List, [], ◌∷◌, Option, Some, None, map, drop, length}
-use Rattle.std.specs.List.{last_or, sum_by}
+use Rattle.std.specs.List.{filter_map, last_or, sum_by}
+use Rattle.std.specs.Option.{option_or}
 use Rattle.wc_model.specs.Instrument.Answers.{command_of}
 use Rattle.wc_sma.specs.Seen.{command_view}
 use Rattle.wc_sma.specs.declared.command.Command.{Command}
@@ -48,6 +49,13 @@ abbrev pub tares_cleared : Command → Bool → ℕ
 tares_cleared Clear refused = 1
 tares_cleared command refused = 0
 
+-- when it was, if it counts as one of these
+abbrev pub mark_of : ℕ → Command → Option ℕ
+mark_of ms Zero = Some ms
+mark_of ms TakeTare = Some ms
+mark_of ms Clear = Some ms
+mark_of ms command = None
+
 -- how many of some requests count so
 abbrev pub count_of : (Command → Bool → ℕ) → List Request → ℕ
 count_of f requests = sum_by (λ r. f r.command (is_refusal r.answer)) requests
@@ -59,6 +67,7 @@ pub record AreCounted (made : List Request) (events : Events) : Type 0 where
   pub tares : events.tares ≡ counted (count_of tares_set made)
   pub tares_refused : events.tares_refused ≡ counted (count_of tares_not_set made)
   pub clears : events.clears ≡ counted (count_of tares_cleared made)
+  pub marked : events.marked ≡ last_or None (filter_map (λ r. mark_of r.ms r.command) made)
   pub requests : events.requests ≡ counted (length made)
   pub last : events.last ≡ last_or None made
   pub changes : events.changes ≡ 0
@@ -71,12 +80,13 @@ added count zero = count
 added count (suc more) = counted (count + suc more)
 
 -- a request of this command counts as it does, and nothing else changes
-pub record IsMarked (command : Command) (refused : Bool) (old new : Events) : Type 0 where
+pub record IsMarked (ms : ℕ) (command : Command) (refused : Bool) (old new : Events) : Type 0 where
   pub zeros : new.zeros ≡ added old.zeros (zeros_set command refused)
   pub zeros_refused : new.zeros_refused ≡ added old.zeros_refused (zeros_not_set command refused)
   pub tares : new.tares ≡ added old.tares (tares_set command refused)
   pub tares_refused : new.tares_refused ≡ added old.tares_refused (tares_not_set command refused)
   pub clears : new.clears ≡ added old.clears (tares_cleared command refused)
+  pub marked : new.marked ≡ option_or (mark_of ms command) old.marked
   pub requests : new.requests ≡ old.requests
   pub last : new.last ≡ old.last
   pub changes : new.changes ≡ old.changes

@@ -11,7 +11,8 @@ use Rattle.wc_model.specs.Instrument.Plates.{PlateData}
 use Rattle.wc_model.specs.Instrument.WeighingHistories.{History}
 use Rattle.wc_model.specs.declared.image.Outputs.{Outputs}
 
--- what holds after a row: the weights that are valid, the net weight only while a tare is active, and the image
+-- what holds after a row: the weights that are valid, the net weight only while a tare is active, the image, and the numbers of
+-- the variables that are drawn, if they have one
 pub record Held : Type 0 where
   pub gross : Option ℤ
   pub net : Option ℤ
@@ -21,10 +22,11 @@ pub record Held : Type 0 where
   pub invalid : Bool
   pub inputs : ℕ
   pub outputs : Outputs
+  pub variables : List (Option ℤ)
 
 -- so of a scale of this plate and history
-abbrev pub held_at : PlateData → History → ℕ → Outputs → Held
-held_at p history inputs outputs = record {
+abbrev pub held_at : PlateData → History → ℕ → Outputs → List (Option ℤ) → Held
+held_at p history inputs outputs variables = record {
   gross = indication.gross p history;
   net = if indication.is_tare_active p history then indication.net p history else None;
   motion = not (indication.is_stable p history);
@@ -33,6 +35,7 @@ held_at p history inputs outputs = record {
   invalid = not (indication.is_valid p history);
   inputs = inputs;
   outputs = outputs;
+  variables = variables;
 }
 
 -- Which bits were 1 in one of some values, which were 0 in one, and the last value.
@@ -52,3 +55,4 @@ pub record IsStateOf (held : List Held) (state : State) : Type 0 where
   pub inputs : AreBitsOf (map (λ h. h.inputs) held) state.inputs
   pub outputs : AreBitsOf (map (λ h. h.outputs.bits) held) state.outputs
   pub words : (other : Span) (i : ℕ) → i < 4 → Some (get_or state.words i other) ≡ span_of (map (λ h. get_or h.outputs.words i (pos 0)) held)
+  pub variables : (i : ℕ) → i < 4 → get_or state.variables i None ≡ span_of (filter_map (λ h. get_or h.variables i None) held)

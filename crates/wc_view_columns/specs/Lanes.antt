@@ -1,11 +1,11 @@
 -- Which lanes a picture has. (The profile's own.)
-use Rattle.std.specs.Prelude.{◌==◌, Bool, true, false, not, List, [], ◌∷◌, Option, Some, None, slice_get, int_lt}
+use Rattle.std.specs.Prelude.{◌==◌, Bool, true, false, not, List, [], ◌∷◌, Option, Some, None, slice_get, is_some, int_lt}
 use Rattle.wc_view_columns.specs.Columns.{bit_level}
 use Rattle.wc_view_columns.specs.declared.bits.Level.{Level}
 use Rattle.wc_view_columns.specs.declared.bits.Level.TheVariants.{Low, Both, High}
 use Rattle.wc_view_columns.specs.declared.columns.Column.{Column}
 use Rattle.wc_view_columns.specs.declared.lanes.Lane.{Lane}
-use Rattle.wc_view_columns.specs.declared.lanes.Lane.TheVariants.{Motion, Over, Under, Invalid, Requests, Input, Output, Word, Scans}
+use Rattle.wc_view_columns.specs.declared.lanes.Lane.TheVariants.{Motion, Over, Under, Invalid, Requests, Input, Output, Word, Variable, Scans}
 use Rattle.wc_view_columns.specs.declared.span.Span.{Span}
 
 -- all lanes, from above
@@ -16,7 +16,7 @@ all_lanes =
     ∷ Input 8 ∷ Input 9 ∷ Input 10 ∷ Input 11 ∷ Input 12 ∷ Input 13 ∷ Input 14 ∷ Input 15
     ∷ Output 0 ∷ Output 1 ∷ Output 2 ∷ Output 3 ∷ Output 4 ∷ Output 5 ∷ Output 6 ∷ Output 7
     ∷ Output 8 ∷ Output 9 ∷ Output 10 ∷ Output 11 ∷ Output 12 ∷ Output 13 ∷ Output 14 ∷ Output 15
-    ∷ Word 0 ∷ Word 1 ∷ Word 2 ∷ Word 3 ∷ Scans ∷ []
+    ∷ Word 0 ∷ Word 1 ∷ Word 2 ∷ Word 3 ∷ Variable 0 ∷ Variable 1 ∷ Variable 2 ∷ Variable 3 ∷ Scans ∷ []
 
 -- whether something was both so and not so
 abbrev pub is_both : Level → Bool
@@ -29,7 +29,13 @@ abbrev pub has_changed : Option Span → Bool
 has_changed None = false
 has_changed (Some span) = int_lt span.least span.greatest
 
--- Whether something is to be seen in a lane, of what all columns are as one: something held or happened, or a value changed.
+-- whether a variable that is drawn had a number
+abbrev pub has_number : Option (Option Span) → Bool
+has_number None = false
+has_number (Some span) = is_some span
+
+-- Whether something is to be seen in a lane, of what all columns are as one: something held or happened, a value changed, or
+-- a variable that is to be drawn had one.
 abbrev pub is_shown : Column → Lane → Bool
 is_shown all Motion = all.state.motion
 is_shown all Over = all.state.over
@@ -39,4 +45,5 @@ is_shown all Requests = not (all.events.requests == 0)
 is_shown all (Input i) = is_both (bit_level all.state.inputs i)
 is_shown all (Output i) = is_both (bit_level all.state.outputs i)
 is_shown all (Word i) = has_changed (slice_get all.state.words i)
+is_shown all (Variable i) = has_number (slice_get all.state.variables i)
 is_shown all Scans = not (all.events.scans == 0)

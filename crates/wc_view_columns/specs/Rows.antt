@@ -50,6 +50,7 @@ pub record AreTogether (events : List Events) (all : Events) : Type 0 where
   pub tares_refused : all.tares_refused ≡ counted (sum_by (λ e. e.tares_refused) events)
   pub clears : all.clears ≡ counted (sum_by (λ e. e.clears) events)
   pub changes : all.changes ≡ counted (sum_by (λ e. e.changes) events)
+  pub marked : all.marked ≡ last_or None (filter_map (λ e. e.marked) events)
   pub scans : all.scans ≡ counted (sum_by (λ e. e.scans) events)
   pub steps : all.steps ≡ fold max 0 (map (λ e. e.steps) events)
   pub requests : all.requests ≡ counted (sum_by (λ e. e.requests) events)
@@ -68,7 +69,7 @@ column_count start power (row ∷ rows) = max (column_number start power row.ms 
 
 -- nothing happened
 abbrev pub nothing : Events
-nothing = record { zeros = 0; zeros_refused = 0; tares = 0; tares_refused = 0; clears = 0; changes = 0; scans = 0; steps = 0; requests = 0; last = None }
+nothing = record { zeros = 0; zeros_refused = 0; tares = 0; tares_refused = 0; clears = 0; changes = 0; marked = None; scans = 0; steps = 0; requests = 0; last = None }
 
 -- in this column this holds, and nothing happened
 abbrev pub holding : State → Column

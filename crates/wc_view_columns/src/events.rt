@@ -1,6 +1,6 @@
 ghost use Rattle.std.specs.Prelude.{◌≡◌, ◌+◌, [], ◌∷◌, ◌++◌, List, max};
 ghost use Rattle.std.specs.Option.{option_or};
-ghost use Rattle.wc_view_columns.specs.Followed.{AreCounted, IsMarked, is_refusal, is_refused};
+ghost use Rattle.wc_view_columns.specs.Followed.{AreCounted, IsMarked, is_refusal, is_refused, mark_of};
 ghost use Rattle.wc_view_columns.specs.Happened.{AreBoth, counted};
 ghost use Rattle.wc_view_columns.specs.Rows.{nothing};
 ghost use Rattle.wc_view_columns.specs.declared.events.Request.{Request};
@@ -39,6 +39,16 @@ fn is_refusal(answer: Option<Answer>) -> bool
     }
 }
 
+/// When a request sets a zero or a tare, is refused that, or clears the tare.
+fn mark_of(request: &Request) -> Option<u64>
+    ensures { result ≡ mark_of request.now.ms request.now.command }
+{
+    match request.command {
+        Command::Zero | Command::TakeTare | Command::Clear => Some(request.ms),
+        _ => None,
+    }
+}
+
 /// The later request, if there is one, else the earlier.
 fn last_of(earlier: Option<Request>, later: Option<Request>) -> Option<Request>
     ensures { result ≡ option_or later earlier }
@@ -57,6 +67,8 @@ pub struct Events {
     pub clears: u32,
     /// How often the program was changed.
     pub changes: u32,
+    /// When the last of these was, in milliseconds.
+    pub marked: Option<u64>,
     pub scans: u32,
     /// The steps of the longest scan.
     pub steps: u32,
@@ -78,6 +90,7 @@ impl Events {
             tares_refused: 0,
             clears: 0,
             changes: 0,
+            marked: None,
             scans: 0,
             steps: 0,
             requests: 0,
@@ -97,6 +110,7 @@ impl Events {
             tares_refused: self.tares_refused.saturating_add(later.tares_refused),
             clears: self.clears.saturating_add(later.clears),
             changes: self.changes.saturating_add(later.changes),
+            marked: later.marked.or(self.marked),
             scans: self.scans.saturating_add(later.scans),
             steps: self.steps.max(later.steps),
             requests: self.requests.saturating_add(later.requests),
@@ -123,10 +137,12 @@ impl Events {
         self.last = Some(request);
     }
 
-    /// Counts what a request did.
+    /// Counts what a request did, and keeps when.
     fn mark(&mut self, request: Request)
-        ensures { IsMarked request.command (is_refusal request.answer) self.old self.new }
+        ensures { IsMarked request.ms request.command (is_refusal request.answer) self.old
+            self.new }
     {
+        self.marked = mark_of(&request).or(self.marked);
         match (request.command, is_refusal(request.answer)) {
             (Command::Zero, true) => self.zeros_refused = self.zeros_refused.saturating_add(1),
             (Command::Zero, false) => self.zeros = self.zeros.saturating_add(1),

@@ -8,7 +8,7 @@ ghost use Rattle.wc_view_columns.specs.declared.events.Events.{Events};
 
 use crate::bits::Level;
 use crate::columns::Column;
-use Lane::{Input, Invalid, Motion, Output, Over, Requests, Scans, Under, Word};
+use Lane::{Input, Invalid, Motion, Output, Over, Requests, Scans, Under, Variable, Word};
 use std::alloc::{AllocError, Global};
 use std::fmt;
 
@@ -26,6 +26,8 @@ pub enum Lane {
     Output(u32),
     /// `%QD` of that number.
     Word(usize),
+    /// The variable of that number, counted from 0.
+    Variable(usize),
     Scans,
 }
 
@@ -40,6 +42,7 @@ impl fmt::Display for Lane {
             Lane::Input(number) => write!(f, "%IX0.{number}"),
             Lane::Output(number) => write!(f, "%QX0.{number}"),
             Lane::Word(number) => write!(f, "%QD{number}"),
+            Lane::Variable(number) => write!(f, "variable {number}"),
             Lane::Scans => write!(f, "steps"),
         }
     }
@@ -94,6 +97,10 @@ impl Lane {
                 Some(word) => word.varies(),
                 None => false,
             },
+            Lane::Variable(number) => match all.state.variables.get(number) {
+                Some(variable) => variable.is_some(),
+                None => false,
+            },
             Lane::Scans => all.events.scans != 0,
         }
     }
@@ -129,7 +136,7 @@ pub fn whole(columns: &[Column]) -> Option<Column>
 }
 
 /// All lanes, from above.
-const LANES: [Lane; 42] = [
+const LANES: [Lane; 46] = [
     Motion,
     Over,
     Under,
@@ -171,11 +178,15 @@ const LANES: [Lane; 42] = [
     Word(1),
     Word(2),
     Word(3),
+    Variable(0),
+    Variable(1),
+    Variable(2),
+    Variable(3),
     Scans,
 ];
 
 /// All lanes.
-fn all_lanes() -> [Lane; 42]
+fn all_lanes() -> [Lane; 46]
     ensures { result ≡ all_lanes }
 {
     LANES

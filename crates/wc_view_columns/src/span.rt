@@ -6,14 +6,14 @@ ghost use Rattle.wc_view_columns.specs.Spans.{span_of};
 /// The least, the greatest and the last of some numbers.
 #[derive(Clone, Copy, PartialEq, Eq)]
 pub struct Span {
-    pub least: i32,
-    pub greatest: i32,
-    pub last: i32,
+    pub least: i64,
+    pub greatest: i64,
+    pub last: i64,
 }
 
 impl Span {
     /// Of one number.
-    pub(crate) fn at(number: i32) -> Span
+    pub(crate) fn at(number: i64) -> Span
         ensures least { result.least ≡ number }
         ensures greatest { result.greatest ≡ number }
         ensures last { result.last ≡ number }
@@ -26,7 +26,7 @@ impl Span {
     }
 
     /// Of one number or none.
-    pub(crate) fn of(number: Option<i32>) -> Option<Span>
+    pub(crate) fn of(number: Option<i64>) -> Option<Span>
         ensures { result ≡ span_of (option_to_list number) }
     {
         match number {

@@ -1,4 +1,5 @@
-ghost use Rattle.std.specs.Prelude.{◌≡◌, ◌<◌, ◌||◌, ℕ, ℤ, pos, List, [], ◌∷◌, ◌++◌, Some, None, get_or, if◌then◌else◌};
+ghost use Rattle.std.specs.Prelude.{◌≡◌, ◌<◌, ◌||◌, ℕ, ℤ, pos, List, [], ◌∷◌, ◌++◌, Option, Some, None, get_or, if◌then◌else◌};
+ghost use Rattle.std.specs.Option.{option_to_list};
 ghost use Rattle.wc_view_columns.specs.Held.{Held, IsStateOf, held_at};
 ghost use Rattle.wc_view_columns.specs.Spans.{span_of};
 ghost use Rattle.wc_view_columns.specs.declared.span.Span.{Span};
@@ -28,6 +29,15 @@ pub struct State {
     pub inputs: Bits,
     pub outputs: Bits,
     pub words: [Span; 4],
+    /// The numbers of the variables that are drawn: none of one that no program has, or is not there.
+    pub variables: [Option<Span>; 4],
+}
+
+/// The span of one word.
+fn word_span(word: i32) -> Span
+    ensures { Some result ≡ span_of (word ∷ []) }
+{
+    Span::at(i64::from(word))
 }
 
 /// The spans of four words.
@@ -35,13 +45,52 @@ fn words_of(outputs: &Outputs) -> [Span; 4]
     ensures { (other : Span) (i : ℕ) → i < 4
         → Some (get_or result i other) ≡ span_of (get_or outputs.now.words i (pos 0) ∷ []) }
 {
-    let [first, second, third, fourth] = outputs.words;
+    let words = &outputs.words;
     [
-        Span::at(first),
-        Span::at(second),
-        Span::at(third),
-        Span::at(fourth),
+        word_span(words[0]),
+        word_span(words[1]),
+        word_span(words[2]),
+        word_span(words[3]),
     ]
+}
+
+/// The spans of the numbers of four variables.
+fn variables_of(numbers: [Option<i64>; 4]) -> [Option<Span>; 4]
+    ensures { (i : ℕ) → i < 4
+        → get_or result i None ≡ span_of (option_to_list (get_or numbers i None)) }
+{
+    let [first, second, third, fourth] = numbers;
+    [
+        Span::of(first),
+        Span::of(second),
+        Span::of(third),
+        Span::of(fourth),
+    ]
+}
+
+/// The spans of the numbers of some variables and then of others.
+fn joined_variables(earlier: [Option<Span>; 4], later: [Option<Span>; 4]) -> [Option<Span>; 4]
+    ensures { (numbers others : ℕ → List ℤ)
+        → ((i : ℕ) → i < 4 → get_or earlier i None ≡ span_of (numbers i))
+        → ((i : ℕ) → i < 4 → get_or later i None ≡ span_of (others i))
+        → (i : ℕ) → i < 4 → get_or result i None ≡ span_of (numbers i ++ others i) }
+{
+    [
+        join(earlier[0], later[0]),
+        join(earlier[1], later[1]),
+        join(earlier[2], later[2]),
+        join(earlier[3], later[3]),
+    ]
+}
+
+/// A weight with 64 bits.
+fn widened(weight: Option<i32>) -> Option<i64>
+    ensures { result ≡ weight }
+{
+    match weight {
+        Some(weight) => Some(i64::from(weight)),
+        None => None,
+    }
 }
 
 /// The spans of some words and then of others.
@@ -82,14 +131,21 @@ fn net_of(indicator: &Indicator) -> Option<i32>
 }
 
 impl State {
-    /// What holds at an indicator, with these inputs and outputs.
-    pub fn at(indicator: &Indicator, inputs: u16, outputs: &Outputs) -> State
-        ensures { (p : PlateData) (history : History) → RepresentsHistory indicator.now p history
-            → IsStateOf (held_at p history inputs outputs.now ∷ []) result }
+    /// What holds at an indicator, with these inputs and outputs, and these numbers of variables.
+    pub fn at(
+        indicator: &Indicator,
+        inputs: u16,
+        outputs: &Outputs,
+        variables: [Option<i64>; 4],
+    ) -> State
+        ensures { (p : PlateData) (history : History) (numbers : List (Option ℤ))
+            → RepresentsHistory indicator.now p history
+            → ((i : ℕ) → i < 4 → get_or variables i None ≡ get_or numbers i None)
+            → IsStateOf (held_at p history inputs outputs.now numbers ∷ []) result }
     {
         State {
-            gross: Span::of(indicator.gross()),
-            net: Span::of(net_of(indicator)),
+            gross: Span::of(widened(indicator.gross())),
+            net: Span::of(widened(net_of(indicator))),
             motion: !indicator.stable(),
             over: indicator.over(),
             under: indicator.under(),
@@ -97,6 +153,7 @@ impl State {
             inputs: Bits::at(inputs),
             outputs: Bits::at(outputs.bits),
             words: words_of(outputs),
+            variables: variables_of(variables),
         }
     }
 
@@ -115,6 +172,7 @@ impl State {
             inputs: self.inputs.joined(later.inputs),
             outputs: self.outputs.joined(later.outputs),
             words: joined_words(self.words, later.words),
+            variables: joined_variables(self.variables, later.variables),
         }
     }
 }

@@ -9,6 +9,8 @@ pub(crate) enum Curve {
     Net,
     /// An output word.
     Word(usize),
+    /// A variable.
+    Variable(usize),
 }
 
 /// The height over which a curve is drawn, in tenths, and the numbers at its edges.
@@ -22,14 +24,8 @@ pub(crate) struct Range {
 
 impl Range {
     /// Where a number is, in tenths.
-    fn y(&self, number: i32) -> u64 {
-        height_at(
-            self.top,
-            self.height,
-            self.low,
-            self.high,
-            i64::from(number),
-        )
+    fn y(&self, number: i64) -> u64 {
+        height_at(self.top, self.height, self.low, self.high, number)
     }
 }
 
@@ -40,6 +36,7 @@ impl Curve {
             Curve::Gross => column.state.gross,
             Curve::Net => column.state.net,
             Curve::Word(number) => column.state.words.get(number).copied(),
+            Curve::Variable(number) => *column.state.variables.get(number)?,
         }
     }
 }
@@ -56,7 +53,7 @@ fn put_span(out: &mut Sheet, range: &Range, span: Span) {
 }
 
 /// Goes on with a curve at a column from the height where it is, or none.
-fn put_step(out: &mut Sheet, range: &Range, x: u64, at: Option<i32>, span: Option<Span>) {
+fn put_step(out: &mut Sheet, range: &Range, x: u64, at: Option<i64>, span: Option<Span>) {
     match (at, span) {
         (Some(at), Some(span)) => {
             if span.varies() || span.last != at {

@@ -11,10 +11,13 @@ const GAP: u64 = 60;
 /// Where the first lane begins, in tenths.
 const FIRST: u64 = TOP + HEIGHT + 120;
 
+/// The height of a lane of numbers, in tenths.
+const NUMBERS: u64 = 400;
+
 /// The height of a lane in tenths, without the gap below it.
 fn height(lane: Lane) -> u64 {
     match lane {
-        Lane::Word(_) | Lane::Scans => 400,
+        Lane::Word(_) | Lane::Variable(_) | Lane::Scans => NUMBERS,
         Lane::Requests => 240,
         _ => 120,
     }
@@ -79,25 +82,26 @@ fn put_alongside(out: &mut Sheet, top: u64) {
     out.text_at("<text x=\"858\" y=\"", top.saturating_add(240));
 }
 
-/// Puts the lane of an output word, between its least and its greatest number.
-fn put_word(out: &mut Sheet, view: &View<'_>, all: &Column, number: usize, top: u64) {
-    let Some(span) = all.state.words.get(number) else {
+/// Puts the lane of an output word or of a variable, between its least and its greatest number.
+fn put_numbers(out: &mut Sheet, view: &View<'_>, all: &Column, curve: Curve, top: u64) {
+    let Some(span) = curve.span(all) else {
         return;
     };
-    let (least, greatest) = (span.least, span.greatest);
     let range = Range {
         top,
-        height: height(Lane::Word(number)),
-        low: i64::from(least),
-        high: i64::from(greatest),
+        height: NUMBERS,
+        low: span.least,
+        high: span.greatest,
     };
     out.path("curve");
-    put_curve(out, view, &range, Curve::Word(number));
+    put_curve(out, view, &range, curve);
     out.end_path();
     put_alongside(out, top);
-    out.signed(least);
-    out.put(" to ");
-    out.signed(greatest);
+    out.signed(span.least);
+    if span.varies() {
+        out.put(" to ");
+        out.signed(span.greatest);
+    }
     out.end_text();
 }
 
@@ -159,11 +163,19 @@ fn put_scans(out: &mut Sheet, view: &View<'_>, top: u64) {
     }
 }
 
-/// Puts a lane's name, and the line on which it is.
-fn put_name(out: &mut Sheet, lane: Lane, top: u64) {
+/// Puts a lane's name.
+fn put_name(out: &mut Sheet, view: &View<'_>, lane: Lane) {
+    match lane {
+        Lane::Variable(number) => out.bytes(view.variable(number)),
+        _ => out.name(lane),
+    }
+}
+
+/// Puts the line on which a lane is, with its name.
+fn put_line(out: &mut Sheet, view: &View<'_>, lane: Lane, top: u64) {
     let middle = top.saturating_add(height(lane) / 2).saturating_add(40);
     out.text_at("<text class=\"name\" x=\"122\" y=\"", middle);
-    out.name(lane);
+    put_name(out, view, lane);
     out.end_text();
     out.path("grid");
     out.go_to(LEFT, top.saturating_add(height(lane)));
@@ -173,10 +185,11 @@ fn put_name(out: &mut Sheet, lane: Lane, top: u64) {
 
 /// Puts a lane.
 fn put_lane(out: &mut Sheet, view: &View<'_>, all: &Column, lane: Lane, top: u64) {
-    put_name(out, lane, top);
+    put_line(out, view, lane, top);
     match lane {
         Lane::Requests => put_requests(out, view, top, height(lane)),
-        Lane::Word(number) => put_word(out, view, all, number, top),
+        Lane::Word(number) => put_numbers(out, view, all, Curve::Word(number), top),
+        Lane::Variable(number) => put_numbers(out, view, all, Curve::Variable(number), top),
         Lane::Scans => put_scans(out, view, top),
         _ => put_flat(out, view, lane, top),
     }
@@ -187,7 +200,7 @@ pub(crate) fn put_lanes(out: &mut Sheet, view: &View<'_>, all: &Column, lanes: &
     let mut top = FIRST;
     for lane in lanes {
         out.put("<g data-lane=\"");
-        out.name(*lane);
+        put_name(out, view, *lane);
         out.put("\">\n");
         put_lane(out, view, all, *lane, top);
         out.put("</g>\n");

@@ -59,6 +59,21 @@ fn put_bound(out: &mut Sheet, view: &View<'_>, events: &Events) {
     }
 }
 
+/// Puts when something was done: of several the last.
+fn put_time(out: &mut Sheet, events: &Events) {
+    let Some(ms) = events.marked else {
+        return;
+    };
+    let mut count = 0_u32;
+    for (number, _letter, _words) in marks_of(events) {
+        count = count.saturating_add(number);
+    }
+    if count > 1 {
+        out.put("up to ");
+    }
+    out.moment(ms);
+}
+
 /// Puts the mark of a column over the height of the curves, with its letters at a height above.
 fn put_mark(out: &mut Sheet, view: &View<'_>, index: usize, events: &Events, y: Option<u64>) {
     let x = view.x(index);
@@ -69,7 +84,7 @@ fn put_mark(out: &mut Sheet, view: &View<'_>, index: usize, events: &Events, y: 
     out.put("<g class=\"");
     out.put(look);
     out.put("\"><title>");
-    out.moment(view.moment(index));
+    put_time(out, events);
     put_words(out, events);
     put_bound(out, view, events);
     out.put("</title><path d=\"");

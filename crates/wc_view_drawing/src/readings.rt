@@ -10,10 +10,10 @@ fn put_weight(out: &mut Sheet, scale: &WeightScale, name: &str, span: Option<Spa
     out.put("\n");
     out.put(name);
     out.put(" ");
-    out.weight(i64::from(span.least), scale.decimals);
+    out.weight(span.least, scale.decimals);
     if span.varies() {
         out.put(" to ");
-        out.weight(i64::from(span.greatest), scale.decimals);
+        out.weight(span.greatest, scale.decimals);
     }
     out.put(" ");
     out.put(scale.unit);
@@ -51,6 +51,18 @@ fn put_ports(out: &mut Sheet, state: &State) {
     }
 }
 
+/// Puts the numbers of the variables that are drawn, as they were last.
+fn put_variables(out: &mut Sheet, view: &View<'_>, state: &State) {
+    for (number, variable) in state.variables.iter().enumerate() {
+        if let Some(span) = variable {
+            out.put("\n");
+            out.bytes(view.variable(number));
+            out.put(" ");
+            out.signed(span.last);
+        }
+    }
+}
+
 /// Puts what held from one column up to another, for a pointer that is there.
 fn put_reading(
     out: &mut Sheet,
@@ -73,6 +85,7 @@ fn put_reading(
     put_weight(out, &view.scale, "net", column.state.net);
     put_status(out, &column.state);
     put_ports(out, &column.state);
+    put_variables(out, view, &column.state);
     out.put("</title></rect>\n");
 }
 

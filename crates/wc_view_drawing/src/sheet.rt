@@ -57,6 +57,13 @@ impl Sheet {
         self.keep(written);
     }
 
+    /// Puts the characters of a name, which are of one byte each.
+    pub(crate) fn bytes(&mut self, name: &[u8]) {
+        for byte in name {
+            self.letter(char::from(*byte));
+        }
+    }
+
     /// Puts a whole number.
     pub(crate) fn whole(&mut self, number: u64) {
         let written = write!(self.text, "{number}");
@@ -73,7 +80,7 @@ impl Sheet {
     }
 
     /// Puts a whole number that may be below zero.
-    pub(crate) fn signed(&mut self, number: i32) {
+    pub(crate) fn signed(&mut self, number: i64) {
         let written = write!(self.text, "{number}");
         self.keep(written);
     }

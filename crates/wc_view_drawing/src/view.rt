@@ -51,6 +51,8 @@ pub struct View<'p> {
     pub(crate) width: u64,
     pub(crate) scale: WeightScale,
     pub(crate) steps: RunSteps,
+    /// The names of the variables that are drawn, between commas.
+    names: &'p [u8],
     /// The weights at the lower and the upper edge.
     low: i64,
     high: i64,
@@ -80,17 +82,19 @@ pub(crate) fn part(length: u64, some: u64, whole: u64) -> u64 {
 }
 
 impl<'p> View<'p> {
-    /// A view with space for all weights and zero, for Max if it is not far above, and a little more.
+    /// A view with space for all weights and zero, for Max if it is not far above, and a little more. The variables of the columns
+    /// have these names, between commas.
     pub fn new(
         columns: &'p [Column],
         start: u64,
         width: u64,
         plate: Option<Plate>,
         steps: RunSteps,
+        names: &'p [u8],
     ) -> View<'p> {
         let scale = WeightScale::of(plate);
         let (least, greatest) = match weights(columns) {
-            Some(span) => (i64::from(span.least), i64::from(span.greatest)),
+            Some(span) => (span.least, span.greatest),
             None => (0, 0),
         };
         let low = least.min(0);
@@ -102,6 +106,7 @@ impl<'p> View<'p> {
             width,
             scale,
             steps,
+            names,
             low: low.saturating_sub(capacity),
             high: high.saturating_add(capacity).saturating_add(1),
         }
@@ -137,6 +142,16 @@ impl<'p> View<'p> {
         self.columns
             .iter()
             .position(|column| column.events.changes != 0)
+    }
+
+    /// The name of the variable of that number, counted from 0.
+    pub(crate) fn variable(&self, number: usize) -> &'p [u8] {
+        for (index, name) in self.names.split(|byte| *byte == b',').enumerate() {
+            if index == number {
+                return name;
+            }
+        }
+        b""
     }
 
     /// The weights at the lower and the upper edge.

@@ -1,5 +1,5 @@
 -- What a picture has seen of a run: its rows, in the columns of their time. (The profile's own.)
-use Rattle.std.specs.Prelude.{◌≡◌, ℕ, pos, List, [], ◌∷◌, ◌++◌, Option, Some, None, length, max, option_map}
+use Rattle.std.specs.Prelude.{◌≡◌, ⊤, ℕ, ℤ, Bool, true, pos, List, [], ◌∷◌, ◌++◌, Option, Some, None, length, max, option_map}
 use Rattle.wc_model.specs.Instrument.Plates.{PlateData}
 use Rattle.wc_model.specs.Instrument.Requests.{requests_in}
 use Rattle.wc_model.specs.Run.ProcessImage.{inputs_of}
@@ -7,7 +7,7 @@ use Rattle.wc_model.specs.Run.Rows.{RowData, Counts, Bytes, Inputs, Scan, Change
 use Rattle.wc_model.specs.Say.ProgramReport.{Logic}
 use Rattle.wc_model.specs.Say.Report.{ReportLine, AnswerLine, ScanLine}
 use Rattle.wc_model.specs.declared.image.Outputs.{Outputs}
-use Rattle.wc_run.specs.Logics.{lines_of_row}
+use Rattle.wc_run.specs.Logics.{lines_of_row, logic_after}
 use Rattle.wc_sma.specs.Representation.{HasRead}
 use Rattle.wc_view_columns.specs.Followed.{HasFollowed}
 use Rattle.wc_view_columns.specs.Happened.{counted}
@@ -18,6 +18,10 @@ use Rattle.wc_view_columns.specs.declared.events.Events.{Events}
 use Rattle.wc_view_columns.specs.declared.line.TimeLine.{TimeLine}
 use Rattle.wc_view_drawing.specs.declared.steps.ScanSteps.{ScanSteps}
 use Rattle.wc_view_picture.specs.declared.picture.Picture.{Picture}
+use Rattle.wc_view_watch.specs.Plans.{numbers_of}
+use Rattle.wc_view_watch.specs.Unknown.{begins_with as names_begin}
+use Rattle.wc_view_watch.specs.Watching.{FitLogic, HasRefused as names_refused}
+use Rattle.wc_view_watch.specs.declared.watched_names.WatchedNames.{WatchedNames}
 
 -- outputs none of which is set
 abbrev pub no_outputs : Outputs
@@ -41,9 +45,9 @@ scan_in (ScanLine ms steps outputs ∷ lines) = record nothing { scans = 1; step
 scan_in (AnswerLine ms bytes ∷ lines) = scan_in lines
 
 -- a change of the program, if one runs
-abbrev pub change_of : Option Logic → Events
-change_of None = nothing
-change_of (Some logic) = record nothing { changes = 1 }
+abbrev pub change_of : ℕ → Option Logic → Events
+change_of ms None = nothing
+change_of ms (Some logic) = record nothing { changes = 1; marked = Some ms }
 
 -- the most steps of a scan, with those of the scan in some lines
 abbrev pub most_with : List ReportLine → ℕ → ℕ
@@ -91,19 +95,43 @@ HasHappened plate logic past row (Bytes bytes) events =
     (at : ℕ) × HasFollowed row.ms (requests_in (line_bytes past) bytes) (answer_of_row plate past row) at events
 HasHappened plate logic past row (Inputs inputs) events = events ≡ nothing
 HasHappened plate logic past row Scan events = events ≡ scan_in (lines_of_row plate logic past row)
-HasHappened plate logic past row Change events = events ≡ change_of logic
+HasHappened plate logic past row Change events = events ≡ change_of row.ms logic
+
+-- the list of the names whose variables are drawn, if there is one
+abbrev pub list_of : Picture → Option (List ℕ)
+list_of picture = option_map (λ list. list.now) picture.list
+
+-- a run begins if none of them is unknown
+abbrev pub begins_with : Option (List ℕ) → Option Logic → Bool
+begins_with None logic = true
+begins_with (Some list) logic = names_begin list logic
+
+-- they mean what they mean in the logic
+abbrev pub AreNamesOf : Option (List ℕ) → WatchedNames → Option Logic → Type 0
+AreNamesOf None names logic = ⊤
+AreNamesOf (Some list) names logic = FitLogic names list logic
+
+-- the first unknown one was found
+abbrev pub HasRefused : Option (List ℕ) → Picture → Option Logic → Type 0
+HasRefused None picture logic = ⊥
+HasRefused (Some list) picture logic = names_refused list picture.names logic
+
+-- the numbers of the variables after the rows so far
+abbrev pub numbers_after : Option (List ℕ) → PlateData → Option Logic → Past → List (Option ℤ)
+numbers_after None plate logic past = []
+numbers_after (Some list) plate logic past = numbers_of list (logic_after plate logic past)
 
 -- a row of the picture is that of the log, after those so far: at its time, with what then holds and what happened at it
-pub record IsRowOf (plate : PlateData) (logic : Option Logic) (past : Past) (row : LogRow) (shown : Row) : Type 0 where
+pub record IsRowOf (list : Option (List ℕ)) (plate : PlateData) (logic : Option Logic) (past : Past) (row : LogRow) (shown : Row) : Type 0 where
   pub ms : shown.ms ≡ row.ms
-  pub held : shown.held ≡ held_at plate (history_of (row ∷ past)) (inputs_of (row ∷ past)) (outputs_after plate logic (row ∷ past))
+  pub held : shown.held ≡ held_at plate (history_of (row ∷ past)) (inputs_of (row ∷ past)) (outputs_after plate logic (row ∷ past)) (numbers_after list plate logic (row ∷ past))
   pub events : HasHappened plate logic past row row.brings shown.events
 
 -- the rows of the picture are those of the log so far, in the order of the log
-abbrev pub AreRowsOf : PlateData → Option Logic → Past → List Row → Type 0
-AreRowsOf plate logic [] rows = rows ≡ []
-AreRowsOf plate logic (row ∷ past) rows =
-    (before : List Row) × ((shown : Row) × (rows ≡ before ++ (shown ∷ [])) × AreRowsOf plate logic past before × IsRowOf plate logic past row shown)
+abbrev pub AreRowsOf : Option (List ℕ) → PlateData → Option Logic → Past → List Row → Type 0
+AreRowsOf list plate logic [] rows = rows ≡ []
+AreRowsOf list plate logic (row ∷ past) rows =
+    (before : List Row) × ((shown : Row) × (rows ≡ before ++ (shown ∷ [])) × AreRowsOf list plate logic past before × IsRowOf list plate logic past row shown)
 
 -- The columns are those of the rows, whose times never go back in a log; there are none before the first row.
 abbrev pub IsTimeOf : List Row → Option TimeLine → Type 0
@@ -128,4 +156,5 @@ pub record HasSeen (picture : Picture) (plate : PlateData) (logic : Option Logic
   pub running : most_of picture.running ≡ option_map (λ running. most_after plate logic past) logic
   pub before : most_of picture.before ≡ replaced_after plate logic past
   pub count : picture.rows ≡ counted (length past)
-  pub line : (rows : List Row) × AreRowsOf plate logic past rows × IsTimeOf rows picture.line
+  pub names : AreNamesOf (list_of picture) picture.names (logic_after plate logic past)
+  pub line : (rows : List Row) × AreRowsOf (list_of picture) plate logic past rows × IsTimeOf rows picture.line

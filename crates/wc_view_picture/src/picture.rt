@@ -1,13 +1,15 @@
-ghost use Rattle.std.specs.Prelude.{◌≡◌, ◌∷◌, ◌++◌, ℕ, List, OnOk, Option, is_some, option_map};
+ghost use Rattle.std.specs.Prelude.{◌≡◌, ◌<◌, ◌∷◌, ◌++◌, ℕ, List, None, OnOk, Option, get_or, is_some, option_map};
 ghost use Rattle.wc_model.specs.Instrument.Plates.{PlateData};
 ghost use Rattle.wc_model.specs.Run.Rows.{Past, line_bytes};
 ghost use Rattle.wc_model.specs.Say.ProgramReport.{Logic};
 ghost use Rattle.wc_model.specs.Say.Report.{answer_line};
 ghost use Rattle.wc_record.specs.Views.{head_data_view};
+ghost use Rattle.wc_run.specs.Logics.{logic_after};
 ghost use Rattle.wc_run.specs.Observing.{IsShown, lines_of_scan, row_of};
 ghost use Rattle.wc_run.specs.Representation.{Represents};
 ghost use Rattle.wc_sma.specs.Representation.{HasRead};
-ghost use Rattle.wc_view_picture.specs.Seen.{HasHappened, HasSeen, IsNew, most_at, most_of, most_with, replaced_at};
+ghost use Rattle.wc_view_picture.specs.Runs.{IsUnknownOf};
+ghost use Rattle.wc_view_picture.specs.Seen.{AreNamesOf, HasHappened, HasRefused, HasSeen, IsNew, list_of, most_at, most_of, most_with, numbers_after, replaced_at};
 
 use crate::rows::{change_of, inputs_after, keep, outputs_after, scan_of, steps_after};
 use std::alloc::{AllocError, Global};
@@ -19,12 +21,16 @@ use wc_run::{Observer, Program, RowSeen, RunFault, Scale, write_text};
 use wc_store::SlotStore;
 use wc_view_columns::{Column, Events, State, TimeLine, Tracker};
 use wc_view_drawing::{RunSteps, ScanSteps, View, draw};
+use wc_view_watch::{UnknownName, WatchedNames};
 
 /// Observes a run, and after its rows writes a picture of it. What is kept of the rows is allocated at the first of
 /// them.
 #[derive(Drop)]
-pub(crate) struct Picture {
+pub(crate) struct Picture<'n> {
     alloc: Global,
+    /// The names of the variables that are drawn, if there are any, and what they mean.
+    list: Option<&'n [u8]>,
+    names: WatchedNames<'n>,
     line: Option<TimeLine>,
     plate: Option<Plate>,
     inputs: u16,
@@ -48,13 +54,16 @@ fn program_bound(loaded: &Loaded<'_>) -> u32 {
     loaded.bound(units - 1)
 }
 
-impl Picture {
-    /// Before the first row. It takes no memory.
-    pub(crate) fn new(alloc: Global) -> Picture
-        ensures { IsNew result }
+impl<'n> Picture<'n> {
+    /// Before the first row, of a run of which the variables of these names are drawn. It takes no memory.
+    pub(crate) fn new(alloc: Global, list: Option<&'n [u8]>) -> Picture<'n>
+        ensures new { IsNew result }
+        ensures names { list_of result ≡ option_map (λ list. list.now) list.entry }
     {
         Picture {
             alloc,
+            list,
+            names: WatchedNames::new(alloc),
             line: None,
             plate: None,
             inputs: 0,
@@ -68,6 +77,14 @@ impl Picture {
             tracker: Tracker::new(),
             rows: 0,
         }
+    }
+
+    /// The first name that no program has, if a run did not begin for that.
+    pub(crate) fn unknown(&self) -> UnknownName
+        ensures { (logic : Option Logic) (list : Option (List ℕ))
+            → HasRefused list self.now logic → IsUnknownOf list logic result }
+    {
+        self.names.unknown()
     }
 
     /// What happened at a row.
@@ -85,7 +102,7 @@ impl Picture {
         match seen.row.kind {
             HeadKind::Bytes => self.tracker.follow(seen.row.ms, seen.bytes, seen.answer),
             HeadKind::Scan => scan_of(&seen.scan),
-            HeadKind::Change => change_of(self.running.is_some()),
+            HeadKind::Change => change_of(self.running.is_some(), seen.row.ms),
             HeadKind::Counts(_) | HeadKind::Inputs(_) => Events::none(),
         }
     }
@@ -127,6 +144,32 @@ impl Picture {
         self.running = steps_after(&seen.scan, self.running);
     }
 
+    /// At a row that changes the program the names are those of the next one.
+    fn turn_names(&mut self, seen: &RowSeen<'_>)
+        ensures same { let names = self.new.names in
+            self.new ≡ record self.old { names = names } }
+        ensures names { (plate : PlateData) (logic : Option Logic) (past : Past)
+            → AreNamesOf (list_of self.old) self.old.names (logic_after plate logic past)
+            → AreNamesOf (list_of self.old) self.new.names
+            (logic_after plate logic (row_of seen.now ∷ past)) }
+    {
+        self.names.turn(seen);
+    }
+
+    /// The numbers of the variables that are drawn.
+    fn numbers(&self, scale: &Scale<'_, SlotStore>) -> [Option<i64>; 4]
+        ensures { (plate : PlateData) (logic : Option Logic) (past : Past)
+            → Represents scale.now plate logic past
+            → AreNamesOf (list_of self.now) self.now.names (logic_after plate logic past)
+            → (i : ℕ) → i < 4 → get_or result i None
+            ≡ get_or (numbers_after (list_of self.now) plate logic past) i None }
+    {
+        match self.list {
+            Some(_) => self.names.numbers(scale.machine()),
+            None => [None; 4],
+        }
+    }
+
     /// Keeps what a row brought.
     fn follow(&mut self, seen: &RowSeen<'_>, scale: &Scale<'_, SlotStore>) -> Result<(), AllocError>
         ensures seen { OnOk result ((plate : PlateData) (logic : Option Logic) (past : Past)
@@ -138,11 +181,12 @@ impl Picture {
         let indicator = scale.indicator();
         let events = self.events(seen);
         self.turn(seen);
+        self.turn_names(seen);
         self.inputs = inputs_after(seen.row.kind, self.inputs);
         self.outputs = outputs_after(&seen.scan, self.outputs);
         self.rows = self.rows.saturating_add(1);
         self.plate = Some(*indicator.plate());
-        let state = State::at(indicator, self.inputs, &self.outputs);
+        let state = State::at(indicator, self.inputs, &self.outputs, self.numbers(scale));
         let row = Column { state, events };
         keep(self.alloc, &mut self.line, seen.row.ms, row)
     }
@@ -168,19 +212,24 @@ impl Picture {
             Some(line) => (line.columns(), line.start(), line.width()),
             None => (&[] as &[Column], 0, 1),
         };
-        let view = View::new(columns, start, width, self.plate, self.run_steps());
+        let names = self.list.unwrap_or(b"");
+        let view = View::new(columns, start, width, self.plate, self.run_steps(), names);
         draw(self.alloc, &view, self.rows, refusal)
     }
 }
 
-impl<W: ByteOut> Observer<SlotStore, W> for Picture {
+impl<W: ByteOut> Observer<SlotStore, W> for Picture<'_> {
     ghost use Rattle.std.specs.Prelude.{◌≡◌, ⊤, false};
     ghost use Rattle.wc_run.specs.Reports.{silent_plan};
-    ghost use Rattle.wc_view_picture.specs.Seen.{HasSeen, IsNew};
+    ghost use Rattle.wc_view_picture.specs.Seen.{HasRefused, HasSeen, IsNew, begins_with, list_of};
 
     ghost settings = { λ _. tt };
 
     ghost plan = { λ picture. silent_plan };
+
+    ghost begins = { λ picture logic. begins_with (list_of picture) logic };
+
+    ghost has_refused = { λ old new logic. HasRefused (list_of old) new logic };
 
     ghost is_new = { λ picture. IsNew picture };
 
@@ -204,7 +253,10 @@ impl<W: ByteOut> Observer<SlotStore, W> for Picture {
         if let Some(next) = next {
             self.next_bound = program_bound(next.loaded);
         }
-        Ok(())
+        match self.list {
+            Some(list) => self.names.begin(self.alloc, list, first, next),
+            None => Ok(()),
+        }
     }
 
     fn looks_at(&self, _ms: u64) -> bool {

@@ -68,12 +68,13 @@ pub(crate) fn scan_of(scan: &Option<ScanSeen>) -> Events
 }
 
 /// A change of the program, if one runs.
-pub(crate) fn change_of(runs: bool) -> Events
-    ensures { (logic : Option Logic) → runs ≡ is_some logic → result ≡ change_of logic }
+pub(crate) fn change_of(runs: bool, ms: u64) -> Events
+    ensures { (logic : Option Logic) → runs ≡ is_some logic → result ≡ change_of ms logic }
 {
     let mut events = Events::none();
     if runs {
         events.changes = 1;
+        events.marked = Some(ms);
     }
     events
 }

@@ -4,7 +4,7 @@ use Rattle.std.proofs.lemmas.Grind.{flat_map-append}
 use Rattle.std.proofs.lemmas.List.{append_assoc, take-append-drop, take_all, take_more}
 use Rattle.std.proofs.lemmas.Option.{get_or_from_slice_get, slice_get-map, slice_get_within}
 use Rattle.std.specs.List.{flat_map, onto_first, position_from}
-use Rattle.std.specs.Prelude.{◌==◌, ◌||◌, is_some, not, option_and_then, option_map, slice_get}
+use Rattle.std.specs.Prelude.{◌==◌, ◌||◌, ℤ, get_or, is_some, not, option_and_then, option_map, slice_get}
 use Rattle.wc_model.specs.Language.Tree.{Text}
 use Rattle.wc_names.proofs.Lists.{from_index}
 use Rattle.wc_text_variables.proofs.Readings.{known}
@@ -30,6 +30,21 @@ meaning_at f all names index name are there = ap (λ xs. slice_get xs index) are
 pub same_meaning : (f : List ℕ → Option NamedVariable) (all : List (Option NamedVariable)) (names : List (List ℕ)) (index : ℕ) (name : List ℕ) (w : Option NamedVariable) → all ≡ map f names
     → slice_get names index ≡ Some name → slice_get all index ≡ Some w → f name ≡ w
 same_meaning f all names index name w are there found = let e : Some (f name) ≡ Some w = sym (meaning_at f all names index name are there) ∙ found in cc (e)
+
+-- so of what is looked up by the number of a name
+pub named_at : (f : List ℕ → Option NamedVariable) (g : List ℕ → Option ℤ) (all : List (Option NamedVariable)) (names : List (List ℕ)) (index : ℕ) (w : Option NamedVariable) → all ≡ map f names
+    → slice_get all index ≡ Some w → (name : List ℕ) × (f name ≡ w) × (get_or (map g names) index None ≡ g name)
+named_at f g all names index w are found = by (slice_get names index) refl
+  where
+    by : (o : Option (List ℕ)) → slice_get names index ≡ o → (name : List ℕ) × (f name ≡ w) × (get_or (map g names) index None ≡ g name)
+    by None there =
+        let none : Some w ≡ None = sym found ∙ ap (λ xs. slice_get xs index) are ∙ slice_get-map f names index ∙ ap (option_map f) there in
+        absurd (cc (none))
+    by (Some name) there = (
+      name,
+      same_meaning f all names index name w are there found,
+      get_or_from_slice_get (map g names) index (g name) None (slice_get-map g names index ∙ ap (option_map g) there),
+    )
 
 -- the names from one on are it, and those after it
 rest_at : (names : List (List ℕ)) (index : ℕ) (name : List ℕ) → slice_get names index ≡ Some name → drop index names ≡ name ∷ drop (index + 1) names

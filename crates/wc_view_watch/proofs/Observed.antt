@@ -1,5 +1,5 @@
 -- What an observer that watches variables has seen, step by step.
-use Rattle.std.proofs.Common.{◌≡◌, ◌≤◌, ◌+◌, ℕ, List, [], length, Option, Some, None, refl, sym, ap, subst, ◌∙◌, arith}
+use Rattle.std.proofs.Common.{◌≡◌, ◌≤◌, ◌+◌, ℕ, Bool, Bor, List, [], length, Option, Some, None, refl, sym, ap, subst, ◌∙◌, arith}
 use Rattle.std.specs.Prelude.{IfSome, option_map, reverse, slice_get}
 use Rattle.wc_controller.proofs.Allowing.{known_more, on_known}
 use Rattle.wc_controller.specs.InputStates.{Reader, observed_by}
@@ -8,20 +8,35 @@ use Rattle.wc_model.specs.Instrument.Plates.{PlateData}
 use Rattle.wc_model.specs.Language.Tree.{Text}
 use Rattle.wc_model.specs.Run.Rows.{Past}
 use Rattle.wc_model.specs.Say.ProgramReport.{Logic, first_logic}
+use Rattle.wc_run.specs.Logics.{logic_after}
 use Rattle.wc_run.specs.Observing.{onto, text_in_all}
 use Rattle.wc_view_watch.proofs.LookUps.{start_more, start_within}
 use Rattle.wc_view_watch.proofs.Rows.{past_again}
 use Rattle.wc_view_watch.specs.Names.{names_in}
-use Rattle.wc_view_watch.specs.Plans.{end_text, scans_so_far, watch_plan}
+use Rattle.wc_view_watch.specs.Plans.{end_text, last_values, scans_so_far, watch_plan}
 use Rattle.wc_view_watch.specs.Runs.{watch_observed}
 use Rattle.wc_view_watch.specs.Unknown.{IsFirstUnknown, begins_with}
+use Rattle.wc_view_watch.specs.Watching.{FitLogic, HasSeen, KeepsLast, KeepsValues}
+use Rattle.wc_view_watch.specs.declared.watched_names.WatchedNames.{WatchedNames}
 use Rattle.wc_view_watch.specs.declared.names.UnknownName.{UnknownName}
 use Rattle.wc_view_watch.specs.declared.watcher.Watcher.{Watcher}
 
 -- after the last row
-pub end_is : (watcher : Watcher) (plate : PlateData) (logic : Option Logic) (past : Past) (text : List ℕ) → text ≡ end_text watcher.number (scans_so_far watcher.list.now plate logic past)
-    → text ≡ end_text watcher.number (scans_so_far watcher.list.now plate logic (reverse (onto past [])))
-end_is watcher plate logic past text is = is ∙ ap (λ rows. end_text watcher.number (scans_so_far watcher.list.now plate logic rows)) (sym (past_again past))
+pub end_is : (watcher : Watcher) (plate : PlateData) (logic : Option Logic) (past : Past) (text : List ℕ) → text ≡ end_text watcher.number (scans_so_far watcher.list.now watcher.changes plate logic past)
+    → text ≡ end_text watcher.number (scans_so_far watcher.list.now watcher.changes plate logic (reverse (onto past [])))
+end_is watcher plate logic past text is = is ∙ ap (λ rows. end_text watcher.number (scans_so_far watcher.list.now watcher.changes plate logic rows)) (sym (past_again past))
+
+-- after a row
+pub seen_after : (old new : Watcher) (names : WatchedNames) (plate : PlateData) (logic : Option Logic) (past : Past) → new.list ≡ old.list → new.number ≡ old.number → new.changes ≡ old.changes
+    → new.names ≡ names → FitLogic names old.list.now (logic_after plate logic past) → KeepsLast new.last old.number (scans_so_far old.list.now old.changes plate logic past)
+    → KeepsValues new.changes new.values (last_values old.list.now plate logic past) → HasSeen new plate logic past
+seen_after old new names plate logic past list number changes same fit scans values = record {
+  names = subst (λ (l : Bor (List ℕ)). FitLogic new.names l.now (logic_after plate logic past)) (sym list) (subst (λ n. FitLogic n old.list.now (logic_after plate logic past)) (sym same) fit);
+  scans = subst (λ (l : Bor (List ℕ)). KeepsLast new.last new.number (scans_so_far l.now new.changes plate logic past)) (sym list)
+      (subst (λ c. KeepsLast new.last new.number (scans_so_far old.list.now c plate logic past)) (sym changes)
+      (subst (λ n. KeepsLast new.last n (scans_so_far old.list.now old.changes plate logic past)) (sym number) scans));
+  values = subst (λ (l : Bor (List ℕ)). KeepsValues new.changes new.values (last_values l.now plate logic past)) (sym list) values;
+}
 
 -- an unknown name is inside its list
 name_inside : (list : List ℕ) (logic : Option Logic) (name : UnknownName) → IsFirstUnknown list logic name → name.start + name.length ≤ length list
@@ -52,6 +67,7 @@ programs_more (Some program) next P Q f h =
     on_known program.bytes _ _ (λ text k. known_more next _ _ (λ known m. (m.0, m.1, logic_more m.0 known P Q f m.2)) k) h
 
 -- the observer of a run with these names
-pub observed_is : (watcher : Watcher) (names : List ℕ) (last : Option ℕ) → watcher.list.now ≡ names → watcher.number ≡ last
-    → observed_by (λ (w : Watcher). watch_plan w.list.now w.number) (λ w logic. begins_with w.list.now logic) watcher ≡ watch_observed names last
-observed_is watcher names last listed numbered = λ i. record { written = text_in_all (watch_plan (listed i) (numbered i)); begins = begins_with (listed i) }
+pub observed_is : (watcher : Watcher) (names : List ℕ) (changes : Bool) (last : Option ℕ) → watcher.list.now ≡ names → watcher.number ≡ last → watcher.changes ≡ changes
+    → observed_by (λ (w : Watcher). watch_plan w.list.now w.changes w.number) (λ w logic. begins_with w.list.now logic) watcher ≡ watch_observed names changes last
+observed_is watcher names changes last listed numbered chosen =
+    λ i. record { written = text_in_all (watch_plan (listed i) (chosen i) (numbered i)); begins = begins_with (listed i) }

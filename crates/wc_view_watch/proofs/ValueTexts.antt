@@ -1,7 +1,7 @@
 -- The text of a value that is watched.
 use Rattle.std.proofs.Common.{◌≡◌, ℕ, List, [], ◌∷◌, ◌++◌, false, Option, Some, None, refl, ap, ◌∙◌}
 use Rattle.std.proofs.lemmas.List.{append_assoc}
-use Rattle.std.specs.Prelude.{is_some}
+use Rattle.std.specs.Prelude.{is_some, option_and_then}
 use Rattle.wc_view_changes.specs.ChangeReport.{content_text}
 use Rattle.wc_text_flat.specs.Contents.{number_in}
 use Rattle.wc_machine.specs.Machines.{MachineState, RepresentsText}
@@ -14,7 +14,7 @@ use Rattle.wc_model.specs.declared.value.Value.{Value}
 use Rattle.wc_text_variables.proofs.Readings.{Reads, reads}
 use Rattle.wc_text_variables.specs.Numbered.{variable_named}
 use Rattle.wc_text_variables.specs.Names.{named_location}
-use Rattle.wc_view_watch.specs.Values.{text_at, value_text}
+use Rattle.wc_view_watch.specs.Values.{number_named, text_at, value_text}
 use Rattle.wc_text_variables.specs.declared.variables.NamedVariable.{NamedVariable}
 
 -- the number at the place is that of the value, and its text is what is written
@@ -45,6 +45,13 @@ shows_nothing text store name e = by (named_location text name) refl e
   where
     by : (place : Option Location) → named_location text name ≡ place → is_some place ≡ false → value_text text store name ≡ []
     by None is f = ap (λ (place : Option Location). elim place as (λ x. List ℕ) [ Some p ↦ 32 ∷ (name ++ 61 ∷ text_at store p) | None ↦ [] ]) is
+    by (Some place) is f = absurd (cc (f))
+
+pub no_number : (text : Text) (store : Store) (name : List ℕ) → is_some (named_location text name) ≡ false → number_named text store name ≡ None
+no_number text store name e = by (named_location text name) refl e
+  where
+    by : (place : Option Location) → named_location text name ≡ place → is_some place ≡ false → number_named text store name ≡ None
+    by None is f = ap (option_and_then (number_in store)) is
     by (Some place) is f = absurd (cc (f))
 
 -- a space, a name, `=` and a text, put one after another

@@ -1,9 +1,10 @@
 -- The line with the values that are watched. (The profile's own.)
-use Rattle.std.specs.Prelude.{ℕ, List, [], ◌∷◌, ◌++◌, Some, None, codes, decimal}
+use Rattle.std.specs.Prelude.{ℕ, ℤ, List, [], ◌∷◌, ◌++◌, Option, Some, None, codes, decimal, map, option_and_then}
 use Rattle.std.specs.List.{flat_map}
 use Rattle.wc_view_changes.specs.ChangeReport.{content_text}
 use Rattle.wc_model.specs.Language.Store.{Location, Store}
 use Rattle.wc_model.specs.Language.Tree.{Text}
+use Rattle.wc_text_flat.specs.Contents.{number_in}
 use Rattle.wc_text_variables.specs.Names.{named_location}
 use Rattle.wc_view_watch.specs.Names.{names_in}
 
@@ -15,6 +16,18 @@ text_at store place = elim (store place) [ Some content ↦ content_text content
 abbrev pub value_text : Text → Store → List ℕ → List ℕ
 value_text text store name = elim (named_location text name) [ Some place ↦ 32 ∷ (name ++ 61 ∷ text_at store place) | None ↦ [] ]
 
--- `V`, the milliseconds, and the names of the list in its order
+-- the names of the list in its order
+abbrev pub values_in : List ℕ → Text → Store → List ℕ
+values_in list text store = flat_map (value_text text store) (names_in list)
+
+-- the number that a name's variable holds, if it has one in the text
+abbrev pub number_named : Text → Store → List ℕ → Option ℤ
+number_named text store name = option_and_then (number_in store) (named_location text name)
+
+-- those of the names of a list
+abbrev pub numbers_in : List ℕ → Text → Store → List (Option ℤ)
+numbers_in list text store = map (number_named text store) (names_in list)
+
+-- `V`, the milliseconds, and the names
 abbrev pub values_line : List ℕ → Text → Store → ℕ → List ℕ
-values_line list text store ms = codes "V " ++ (decimal ms ++ (flat_map (value_text text store) (names_in list) ++ 10 ∷ []))
+values_line list text store ms = codes "V " ++ (decimal ms ++ (values_in list text store ++ 10 ∷ []))

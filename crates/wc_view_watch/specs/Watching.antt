@@ -1,5 +1,5 @@
 -- What an observer that watches variables has looked up, and what it has kept. (No rule of the language.)
-use Rattle.std.specs.Prelude.{◌≡◌, ⊤, ℕ, List, [], map, Option, Some, None, option_map}
+use Rattle.std.specs.Prelude.{◌≡◌, ⊤, ℕ, Bool, true, List, [], map, Option, Some, None, option_map, if◌then◌else◌}
 use Rattle.wc_machine.specs.Machines.{MachineState, RepresentsText}
 use Rattle.wc_model.specs.Instrument.Plates.{PlateData}
 use Rattle.wc_model.specs.Language.Tree.{Text}
@@ -10,9 +10,10 @@ use Rattle.wc_run.specs.declared.fault.RunFault.{RunFault}
 use Rattle.wc_run.specs.declared.fault.RunFault.TheVariants.{Refused}
 use Rattle.wc_text_variables.specs.Numbered.{variable_named}
 use Rattle.wc_view_watch.specs.Names.{names_in}
-use Rattle.wc_view_watch.specs.Plans.{scans_so_far}
+use Rattle.wc_view_watch.specs.Plans.{last_values, scans_so_far}
 use Rattle.wc_view_watch.specs.Ring.{RingState, HoldsLast}
 use Rattle.wc_view_watch.specs.Unknown.{IsFirstUnknown}
+use Rattle.wc_view_watch.specs.declared.last_values.LastValues.{LastValues}
 use Rattle.wc_view_watch.specs.declared.names.UnknownName.{UnknownName}
 use Rattle.wc_view_watch.specs.declared.watched_names.WatchedNames.{WatchedNames}
 use Rattle.wc_view_watch.specs.declared.watcher.Watcher.{Watcher}
@@ -52,21 +53,36 @@ abbrev pub written_now : Option ℕ → List ℕ → List ℕ
 written_now None text = text
 written_now (Some number) text = []
 
--- the names are those of the logic after the rows so far, and the last scans of these rows are kept
+-- the values that are kept, if there are any
+abbrev pub kept_values : LastValues → Option (List ℕ)
+kept_values values = if values.there then Some values.values.items else None
+
+-- those that the last scan has left, if scans are compared
+abbrev pub KeepsValues : (changes : Bool) → LastValues → Option (List ℕ) → Type 0
+KeepsValues changes kept values = changes ≡ true → kept_values kept ≡ values
+
+-- the names are those of the logic after the rows so far, and the last scans of these rows and the values of the last one are kept
 pub record HasSeen (watcher : Watcher) (plate : PlateData) (logic : Option Logic) (past : Past) : Type 0 where
   pub names : FitLogic watcher.names watcher.list.now (logic_after plate logic past)
-  pub scans : KeepsLast watcher.last watcher.number (scans_so_far watcher.list.now plate logic past)
+  pub scans : KeepsLast watcher.last watcher.number (scans_so_far watcher.list.now watcher.changes plate logic past)
+  pub values : KeepsValues watcher.changes watcher.values (last_values watcher.list.now plate logic past)
+
+-- nothing was seen yet
+pub record IsNew (watcher : Watcher) : Type 0 where
+  pub scans : KeepsLast watcher.last watcher.number []
+  pub values : kept_values watcher.values ≡ None
 
 -- it watches what it watched
 pub record WatchesAs (old new : Watcher) : Type 0 where
   pub list : new.list ≡ old.list
   pub number : new.number ≡ old.number
+  pub changes : new.changes ≡ old.changes
 
 -- it refuses to begin with 401, and has found an unknown name
-abbrev pub RefusesFor : Watcher → RunFault → Type 0
-RefusesFor watcher (Refused number place) = (number ≡ 401) × (place ≡ 0) × ((name : UnknownName) × (watcher.unknown ≡ Some name))
-RefusesFor watcher fault = ⊥
+abbrev pub RefusesFor : WatchedNames → RunFault → Type 0
+RefusesFor names (Refused number place) = (number ≡ 401) × (place ≡ 0) × ((name : UnknownName) × (names.unknown ≡ Some name))
+RefusesFor names fault = ⊥
 
--- it has found a name of the list that is unknown, and has the first one
-abbrev pub HasRefused : List ℕ → Watcher → Option Logic → Type 0
-HasRefused list watcher logic = (name : UnknownName) × (watcher.unknown ≡ Some name) × IsFirstUnknown list logic name
+-- a name of the list was found that is unknown, and is the first one
+abbrev pub HasRefused : List ℕ → WatchedNames → Option Logic → Type 0
+HasRefused list names logic = (name : UnknownName) × (names.unknown ≡ Some name) × IsFirstUnknown list logic name

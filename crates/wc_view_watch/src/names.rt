@@ -25,7 +25,7 @@ pub(crate) fn names_of<'n>(alloc: Global, list: &'n [u8]) -> Result<Vec<&'n [u8]
 }
 
 /// A name that is in a list, or the first bytes of the list that it has.
-pub(crate) fn within(name: UnknownName, list: &[u8]) -> UnknownName
+pub fn within(name: UnknownName, list: &[u8]) -> UnknownName
     ensures inside { result.start + result.length ≤ length list.now }
     ensures same { name.start + name.length ≤ length list.now → result ≡ name }
 {

@@ -1,15 +1,18 @@
-ghost use Rattle.std.specs.Prelude.{◌≡◌, ◌<◌, ◌^◌, ◌++◌, ◌||◌, List, ℕ, IfOk, IsOkUnless, None, OnOk, Option, Some, flat_map, is_some, length, map, option_and_then, option_map, slice_get};
+ghost use Rattle.std.specs.Prelude.{◌≡◌, ◌<◌, ◌^◌, ◌++◌, ◌∷◌, ◌||◌, List, ℕ, IfErr, IfOk, IfSome, IsOkUnless, None, OnOk, Option, Some, get_or, is_some, length, map, option_and_then, option_copied, option_map, slice_get, true};
 ghost use Rattle.wc_machine.specs.Machines.{RepresentsText};
 ghost use Rattle.wc_model.specs.Language.Store.{Store as Contents};
 ghost use Rattle.wc_model.specs.Language.Tree.{Text};
 ghost use Rattle.wc_model.specs.Language.Views.{text_view};
-ghost use Rattle.wc_model.specs.Say.ProgramReport.{first_logic};
-ghost use Rattle.wc_run.specs.Logics.{text_of_next};
+ghost use Rattle.wc_model.specs.Instrument.Plates.{PlateData};
+ghost use Rattle.wc_model.specs.Run.Rows.{Past};
+ghost use Rattle.wc_model.specs.Say.ProgramReport.{Logic, first_logic};
+ghost use Rattle.wc_run.specs.Logics.{logic_after, text_of_next};
+ghost use Rattle.wc_run.specs.Observing.{RefusesToBegin, loaded_of, logic_of, row_of};
 ghost use Rattle.wc_text_variables.specs.Numbered.{variable_named};
-ghost use Rattle.wc_view_watch.specs.Names.{names_in};
-ghost use Rattle.wc_view_watch.specs.Unknown.{IsUnknown};
-ghost use Rattle.wc_view_watch.specs.Values.{value_text, values_line};
-ghost use Rattle.wc_view_watch.specs.Watching.{AreLookedUp, text_after};
+ghost use Rattle.wc_view_watch.specs.Unknown.{IsUnknown, begins_with};
+ghost use Rattle.wc_view_watch.specs.Plans.{numbers_of};
+ghost use Rattle.wc_view_watch.specs.Values.{numbers_in, value_text, values_in, values_line};
+ghost use Rattle.wc_view_watch.specs.Watching.{AreLookedUp, FitLogic, HasRefused, RefusesFor, RunsLogic, text_after};
 
 use crate::names::{UnknownName, names_of};
 use crate::values::put_value;
@@ -18,16 +21,21 @@ use std::alloc::Global;
 use wc_cost::Loaded;
 use wc_machine::Machine;
 use wc_model::{Fault, put_bytes};
+use wc_record::HeadKind;
 use wc_report::put_number;
+use wc_run::{Program, RowSeen, RunFault};
 use wc_store::SlotStore;
 use wc_text_variables::NamedVariable;
 
-/// The names that are watched, and what each of them means in the program that runs and in the next one, if one is left.
+/// The names of a list that are watched, and what each of them means in the program that runs and in the next one, if one is
+/// left.
 #[derive(Drop)]
-pub(crate) struct WatchedNames<'n> {
+pub struct WatchedNames<'n> {
     pub(crate) names: Vec<&'n [u8]>,
     pub(crate) watched: Vec<Option<NamedVariable>>,
     pub(crate) next: Option<Vec<Option<NamedVariable>>>,
+    /// The first name that no program has, if there is one.
+    pub(crate) unknown: Option<UnknownName>,
 }
 
 /// Puts a name and its value. `Memory` is the only fault.
@@ -79,6 +87,16 @@ fn is_watched(watched: &[Option<NamedVariable>], index: usize) -> bool
     }
 }
 
+/// What was loaded of a program, if there is one.
+fn loaded<'l, 't>(program: Option<Program<'l, 't>>) -> Option<&'l Loaded<'t>>
+    ensures { option_map (λ loaded. loaded.now) result ≡ loaded_of program.entry }
+{
+    match program {
+        Some(program) => Some(program.loaded),
+        None => None,
+    }
+}
+
 /// What the names mean in the next program, if there is one.
 fn all_watched_next(
     alloc: Global,
@@ -108,17 +126,20 @@ fn count_bytes(list: &[u8]) -> usize
 }
 
 impl<'n> WatchedNames<'n> {
-    /// No names.
-    pub(crate) fn new(alloc: Global) -> WatchedNames<'n> {
+    /// No names, before the programs are known.
+    pub fn new(alloc: Global) -> WatchedNames<'n>
+        ensures { result.unknown ≡ None }
+    {
         WatchedNames {
             names: Vec::new(alloc),
             watched: Vec::new(alloc),
             next: None,
+            unknown: None,
         }
     }
 
     /// Looks for the names of a list in the first program and in the next one. `Memory` is the only fault.
-    pub(crate) fn look(
+    fn look(
         alloc: Global,
         list: &'n [u8],
         first: &Loaded<'_>,
@@ -136,7 +157,87 @@ impl<'n> WatchedNames<'n> {
             names,
             watched,
             next,
+            unknown: None,
         })
+    }
+
+    /// Refuses to begin if a name is unknown.
+    fn refuse_unknown(&self) -> Result<(), RunFault>
+        ensures known { OnOk result (self.now.unknown ≡ None) }
+        ensures refused { IfErr result (RefusesFor self.now) }
+    {
+        match self.unknown {
+            Some(_) => Err(RunFault::Refused {
+                number: 401,
+                place: 0,
+            }),
+            None => Ok(()),
+        }
+    }
+
+    /// Looks for the names of a list, and for the first of them that no program has. `Memory` is the only fault.
+    fn look_up(
+        &mut self,
+        alloc: Global,
+        list: &'n [u8],
+        first: &Loaded<'_>,
+        next: Option<&Loaded<'_>>,
+    ) -> Result<(), Fault>
+        ensures names { OnOk result (FitLogic self.new list.now
+            (Some (first_logic (text_view first.now.source)
+            (text_of_next (option_map (λ loaded. loaded.now) next.entry))))) }
+        ensures unknown { OnOk result (IsUnknown list.now
+            (Some (first_logic (text_view first.now.source)
+            (text_of_next (option_map (λ loaded. loaded.now) next.entry)))) self.new.unknown) }
+        ensures memory { IsOkUnless result Fault.Memory }
+    {
+        match WatchedNames::look(alloc, list, first, next) {
+            Ok(names) => *self = names,
+            Err(fault) => return Err(fault),
+        }
+        self.unknown = self.find_unknown(list);
+        Ok(())
+    }
+
+    /// Looks for the names of a list, between commas, in the programs of a run, which does not begin if no program has one of
+    /// them. With no program no name is looked up. `Memory` is the only other fault.
+    pub fn begin(
+        &mut self,
+        alloc: Global,
+        list: &'n [u8],
+        first: Option<Program<'_, '_>>,
+        next: Option<Program<'_, '_>>,
+    ) -> Result<(), RunFault>
+        ensures looked_up { OnOk result (FitLogic self.new list.now
+            (logic_of (loaded_of first.entry) (loaded_of next.entry))) }
+        ensures begins { OnOk result (begins_with list.now
+            (logic_of (loaded_of first.entry) (loaded_of next.entry)) ≡ true) }
+        ensures refused { IfErr result (RefusesToBegin (begins_with list.now
+            (logic_of (loaded_of first.entry) (loaded_of next.entry)))
+            (HasRefused list.now self.new
+            (logic_of (loaded_of first.entry) (loaded_of next.entry)))) }
+    {
+        let Some(first) = first else {
+            return Ok(());
+        };
+        match self.look_up(alloc, list, first.loaded, loaded(next)) {
+            Ok(()) => {}
+            Err(_) => return Err(RunFault::Memory),
+        }
+        self.refuse_unknown()
+    }
+
+    /// The first name that no program has, if a run did not begin for that.
+    pub fn unknown(&self) -> UnknownName
+        ensures { IfSome self.now.unknown (λ name. result ≡ name) }
+    {
+        match self.unknown {
+            Some(name) => name,
+            None => UnknownName {
+                start: 0,
+                length: 0,
+            },
+        }
     }
 
     /// Whether the name of that number means something in the first program or in the next one.
@@ -156,7 +257,7 @@ impl<'n> WatchedNames<'n> {
     }
 
     /// The first name that no program has, if there is one.
-    pub(crate) fn unknown(&self, list: &[u8]) -> Option<UnknownName>
+    fn find_unknown(&self, list: &[u8]) -> Option<UnknownName>
         ensures { (text : Text) (next : Option Text) → AreLookedUp self.now list.now text next
             → IsUnknown list.now (Some (first_logic text next)) result }
     {
@@ -177,7 +278,7 @@ impl<'n> WatchedNames<'n> {
     }
 
     /// The next program, if one is left, takes the place of the first.
-    pub(crate) fn change(&mut self)
+    fn change(&mut self)
         ensures { (list : List ℕ) (text : Text) (next : Option Text)
             → AreLookedUp self.old list text next
             → AreLookedUp self.new list (text_after text next) None }
@@ -187,12 +288,59 @@ impl<'n> WatchedNames<'n> {
         }
     }
 
+    /// At a row that changes the program the next one takes the place of the first.
+    pub fn turn(&mut self, seen: &RowSeen<'_>)
+        ensures { (list : List ℕ) (plate : PlateData) (logic : Option Logic) (past : Past)
+            → FitLogic self.old list (logic_after plate logic past)
+            → FitLogic self.new list (logic_after plate logic (row_of seen.now ∷ past)) }
+    {
+        if let HeadKind::Change = seen.row.kind {
+            self.change();
+        }
+    }
+
+    /// The number that the variable of a name holds, by the name's number from 0; `None` if the program has no such name.
+    fn number(&self, machine: &Machine<'_, SlotStore>, index: usize) -> Option<i64>
+        ensures { (list : List ℕ) (text : Text) (next : Option Text) (store : Contents)
+            → AreLookedUp self.now list text next → RepresentsText machine.now text store
+            → result ≡ get_or (numbers_in list text store) index None }
+    {
+        match self.watched.get(index) {
+            Some(watched) => match watched {
+                Some(watched) => machine.number(watched.place),
+                None => None,
+            },
+            None => None,
+        }
+    }
+
+    /// The numbers that the first four names hold: 0 and 1 of FALSE and TRUE, milliseconds of a TIME. With no machine, which has
+    /// no program, there are none.
+    pub fn numbers(&self, machine: Option<&Machine<'_, SlotStore>>) -> [Option<i64>; 4]
+        ensures { (list : List ℕ) (logic : Option Logic) → FitLogic self.now list logic
+            → RunsLogic (option_copied machine.entry) logic
+            → (i : ℕ) → i < 4 → get_or result i None ≡ get_or (numbers_of list logic) i None }
+    {
+        match machine {
+            Some(machine) => [
+                self.number(machine, 0),
+                self.number(machine, 1),
+                self.number(machine, 2),
+                self.number(machine, 3),
+            ],
+            None => [None; 4],
+        }
+    }
+
     /// Puts the names that the program has, each with its value. `Memory` is the only fault.
-    fn put_values(&self, line: &mut Vec<u8>, machine: &Machine<'_, SlotStore>) -> Result<(), Fault>
+    pub(crate) fn put_values(
+        &self,
+        line: &mut Vec<u8>,
+        machine: &Machine<'_, SlotStore>,
+    ) -> Result<(), Fault>
         ensures puts { (list : List ℕ) (text : Text) (next : Option Text) (store : Contents)
             → AreLookedUp self.now list text next → RepresentsText machine.now text store
-            → OnOk result (line.new.items ≡ line.old.items
-            ++ flat_map (value_text text store) (names_in list)) }
+            → OnOk result (line.new.items ≡ line.old.items ++ values_in list text store) }
         ensures memory { IsOkUnless result Fault.Memory }
     {
         for index in 0..self.names.len() {

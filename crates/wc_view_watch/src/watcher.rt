@@ -1,24 +1,22 @@
-ghost use Rattle.std.specs.Prelude.{◌≡◌, ◌≤◌, ◌++◌, ◌∷◌, List, [], ℕ, IfErr, IfOk, IfSome, IsOkUnless, None, OnOk, Option, Some, option_copied, option_map};
+ghost use Rattle.std.specs.Prelude.{◌≡◌, ◌≤◌, ◌++◌, ◌∷◌, List, [], ℕ, IfOk, IfSome, IsOkUnless, None, OnOk, Option, Some, option_copied};
 ghost use Rattle.wc_model.specs.Instrument.Plates.{PlateData};
-ghost use Rattle.wc_model.specs.Language.Views.{text_view};
 ghost use Rattle.wc_model.specs.Run.Rows.{Past};
-ghost use Rattle.wc_model.specs.Say.ProgramReport.{Logic, first_logic};
-ghost use Rattle.wc_run.specs.Logics.{logic_after, text_of_next};
-ghost use Rattle.wc_run.specs.Observing.{IsShown, loaded_of, row_of};
+ghost use Rattle.wc_model.specs.Say.ProgramReport.{Logic};
+ghost use Rattle.wc_run.specs.Logics.{logic_after};
+ghost use Rattle.wc_run.specs.Observing.{IsShown, row_of};
 ghost use Rattle.wc_run.specs.Outputs.{line_of_record};
 ghost use Rattle.wc_run.specs.Representation.{Represents};
-ghost use Rattle.wc_view_watch.specs.Plans.{end_text, line_with_values, row_text, scans_so_far};
-ghost use Rattle.wc_view_watch.specs.Unknown.{IsUnknown};
-ghost use Rattle.wc_view_watch.specs.Watching.{FitLogic, KeepsLast, RefusesFor, RunsLogic, WatchesAs, written_now};
+ghost use Rattle.wc_view_watch.specs.Plans.{end_text, is_written, last_values, line_with_values, row_text, scans_so_far, values_of};
+ghost use Rattle.wc_view_watch.specs.Watching.{FitLogic, IsNew, KeepsLast, KeepsValues, RunsLogic, WatchesAs, written_now};
 
 use crate::last_texts::LastTexts;
-use crate::names::UnknownName;
+use crate::last_values::LastValues;
 use crate::watched_names::WatchedNames;
+use crate::watching::WatchChoice;
 use std::alloc::Global;
-use wc_cost::Loaded;
 use wc_machine::Machine;
 use wc_model::{ByteOut, Fault, put_bytes};
-use wc_record::{HeadKind, Record};
+use wc_record::Record;
 use wc_run::{Observer, Program, RowSeen, RunFault, Scale, put_answer, put_record, write_text};
 use wc_store::SlotStore;
 
@@ -32,10 +30,11 @@ const ALONGSIDE: usize = 24;
 pub(crate) struct Watcher<'n> {
     alloc: Global,
     list: &'n [u8],
+    pub(crate) names: WatchedNames<'n>,
     number: Option<u16>,
-    names: WatchedNames<'n>,
-    unknown: Option<UnknownName>,
+    changes: bool,
     last: Option<LastTexts>,
+    values: LastValues,
     text: Vec<u8>,
     scan: Vec<u8>,
 }
@@ -66,16 +65,6 @@ fn last_texts(alloc: Global, number: Option<u16>, length: usize) -> Result<Optio
     }
 }
 
-/// What was loaded of a program, if there is one.
-fn loaded<'l, 't>(program: Option<Program<'l, 't>>) -> Option<&'l Loaded<'t>>
-    ensures { option_map (λ loaded. loaded.now) result ≡ loaded_of program.entry }
-{
-    match program {
-        Some(program) => Some(program.loaded),
-        None => None,
-    }
-}
-
 /// Puts the line of a scan, and if a program runs that of its values.
 fn put_scan(
     text: &mut Vec<u8>,
@@ -102,93 +91,58 @@ fn put_scan(
     }
 }
 
+/// Whether a scan is written that this machine has made: every scan is, or if only changes are wanted one that leaves other values
+/// than the scan before. `Memory` is the only fault.
+fn is_written(
+    changes: bool,
+    values: &mut LastValues,
+    names: &WatchedNames<'_>,
+    machine: Option<&Machine<'_, SlotStore>>,
+) -> Result<bool, RunFault>
+    ensures written { (list : List ℕ) (logic : Option Logic) (before : Option (List ℕ))
+        → FitLogic names.now list logic → RunsLogic (option_copied machine.entry) logic
+        → KeepsValues changes values.old before
+        → IfOk result (λ written. written ≡ is_written changes before (values_of list logic)) }
+    ensures keeps { (list : List ℕ) (logic : Option Logic)
+        → FitLogic names.now list logic → RunsLogic (option_copied machine.entry) logic
+        → OnOk result (KeepsValues changes values.new (values_of list logic)) }
+    ensures memory { IsOkUnless result RunFault.Memory }
+{
+    if !changes {
+        return Ok(true);
+    }
+    let Some(machine) = machine else {
+        values.forget();
+        return Ok(true);
+    };
+    match values.keep(names, machine) {
+        Ok(differs) => Ok(differs),
+        Err(_) => Err(RunFault::Memory),
+    }
+}
+
 impl<'n> Watcher<'n> {
-    /// Before the first program is known, with the names to be watched, between commas. With `number` the last n scans are
-    /// written alone, 1 to 1000. `Memory` is the only fault.
-    pub(crate) fn new(
-        alloc: Global,
-        list: &'n [u8],
-        number: Option<u16>,
-    ) -> Result<Watcher<'n>, Fault>
-        requires few { IfSome number (λ n. (1 ≤ n) × (n ≤ 1000)) }
-        ensures watches { IfOk result
-            (λ watcher. (watcher.list.now ≡ list.now) × (watcher.number ≡ number)) }
-        ensures empty { IfOk result (λ watcher. KeepsLast watcher.last watcher.number []) }
+    /// Before the first program is known. `Memory` is the only fault.
+    pub(crate) fn new(alloc: Global, choice: WatchChoice<'n>) -> Result<Watcher<'n>, Fault>
+        requires few { IfSome choice.last (λ n. (1 ≤ n) × (n ≤ 1000)) }
+        ensures watches { IfOk result (λ watcher. (watcher.list.now ≡ choice.entry.names.now)
+            × (watcher.number ≡ choice.entry.last) × (watcher.changes ≡ choice.entry.changes)) }
+        ensures empty { IfOk result IsNew }
         ensures memory { IsOkUnless result Fault.Memory }
     {
-        match last_texts(alloc, number, scan_length(list)) {
+        match last_texts(alloc, choice.last, scan_length(choice.names)) {
             Ok(last) => Ok(Watcher {
                 alloc,
-                list,
-                number,
+                list: choice.names,
                 names: WatchedNames::new(alloc),
-                unknown: None,
+                number: choice.last,
+                changes: choice.changes,
                 last,
+                values: LastValues::new(alloc),
                 text: Vec::new(alloc),
                 scan: Vec::new(alloc),
             }),
             Err(fault) => Err(fault),
-        }
-    }
-
-    /// The first name that no program has, if a run did not begin for that.
-    pub(crate) fn unknown(&self) -> UnknownName
-        ensures { IfSome self.now.unknown (λ name. result ≡ name) }
-    {
-        match self.unknown {
-            Some(name) => name,
-            None => UnknownName {
-                start: 0,
-                length: 0,
-            },
-        }
-    }
-
-    /// Looks for the names in the programs. `Memory` is the only fault.
-    fn look(&mut self, first: &Loaded<'_>, next: Option<&Loaded<'_>>) -> Result<(), Fault>
-        ensures same { WatchesAs self.old self.new }
-        ensures last { self.new.last ≡ self.old.last }
-        ensures names { OnOk result (FitLogic self.new.names self.old.list.now
-            (Some (first_logic (text_view first.now.source)
-            (text_of_next (option_map (λ loaded. loaded.now) next.entry))))) }
-        ensures unknown { OnOk result (IsUnknown self.old.list.now
-            (Some (first_logic (text_view first.now.source)
-            (text_of_next (option_map (λ loaded. loaded.now) next.entry)))) self.new.unknown) }
-        ensures memory { IsOkUnless result Fault.Memory }
-    {
-        match WatchedNames::look(self.alloc, self.list, first, next) {
-            Ok(names) => self.names = names,
-            Err(fault) => return Err(fault),
-        }
-        self.unknown = self.names.unknown(self.list);
-        Ok(())
-    }
-
-    /// Refuses to begin if a name is unknown.
-    fn refuse_unknown(&self) -> Result<(), RunFault>
-        ensures known { OnOk result (self.now.unknown ≡ None) }
-        ensures refused { IfErr result (RefusesFor self.now) }
-    {
-        match self.unknown {
-            Some(_) => Err(RunFault::Refused {
-                number: 401,
-                place: 0,
-            }),
-            None => Ok(()),
-        }
-    }
-
-    /// At a change of the program the next one takes the place of the first.
-    fn turn(&mut self, seen: &RowSeen<'_>)
-        ensures same { WatchesAs self.old self.new }
-        ensures last { self.new.last ≡ self.old.last }
-        ensures names { (plate : PlateData) (logic : Option Logic) (past : Past)
-            → FitLogic self.old.names self.old.list.now (logic_after plate logic past)
-            → FitLogic self.new.names self.old.list.now
-            (logic_after plate logic (row_of seen.now ∷ past)) }
-    {
-        if let HeadKind::Change = seen.row.kind {
-            self.names.change();
         }
     }
 
@@ -203,6 +157,7 @@ impl<'n> Watcher<'n> {
             → self.new.text.items
             ≡ self.old.text.items ++ written_now self.old.number self.old.scan.items) }
         ensures names { self.new.names ≡ self.old.names }
+        ensures values { self.new.values ≡ self.old.values }
         ensures memory { IsOkUnless result RunFault.Memory }
     {
         match &mut self.last {
@@ -227,18 +182,33 @@ impl<'n> Watcher<'n> {
             → FitLogic self.old.names self.old.list.now
             (logic_after plate logic (row_of seen.now ∷ past))
             → KeepsLast self.old.last self.old.number
-            (scans_so_far self.old.list.now plate logic past)
+            (scans_so_far self.old.list.now self.old.changes plate logic past)
+            → KeepsValues self.old.changes self.old.values
+            (last_values self.old.list.now plate logic past)
             → self.new.text.items
-            ≡ row_text self.old.list.now self.old.number plate logic past (row_of seen.now)) }
+            ≡ row_text self.old.list.now self.old.changes self.old.number plate logic past
+            (row_of seen.now)) }
         ensures scans { OnOk result ((plate : PlateData) (logic : Option Logic) (past : Past)
             → IsShown seen.now plate logic past
             → Represents scale.now plate logic (row_of seen.now ∷ past)
             → FitLogic self.old.names self.old.list.now
             (logic_after plate logic (row_of seen.now ∷ past))
             → KeepsLast self.old.last self.old.number
-            (scans_so_far self.old.list.now plate logic past)
+            (scans_so_far self.old.list.now self.old.changes plate logic past)
+            → KeepsValues self.old.changes self.old.values
+            (last_values self.old.list.now plate logic past)
             → KeepsLast self.new.last self.old.number
-            (scans_so_far self.old.list.now plate logic (row_of seen.now ∷ past))) }
+            (scans_so_far self.old.list.now self.old.changes plate logic
+            (row_of seen.now ∷ past))) }
+        ensures values { OnOk result ((plate : PlateData) (logic : Option Logic) (past : Past)
+            → IsShown seen.now plate logic past
+            → Represents scale.now plate logic (row_of seen.now ∷ past)
+            → FitLogic self.old.names self.old.list.now
+            (logic_after plate logic (row_of seen.now ∷ past))
+            → KeepsValues self.old.changes self.old.values
+            (last_values self.old.list.now plate logic past)
+            → KeepsValues self.new.changes self.new.values
+            (last_values self.old.list.now plate logic (row_of seen.now ∷ past))) }
         ensures memory { IsOkUnless result RunFault.Memory }
     {
         self.text.clear();
@@ -250,7 +220,11 @@ impl<'n> Watcher<'n> {
         let Some(scan) = &seen.scan else {
             return Ok(());
         };
-        match put_scan(&mut self.scan, &self.names, &scan.record, scale.machine()) {
+        let machine = scale.machine();
+        if !is_written(self.changes, &mut self.values, &self.names, machine)? {
+            return Ok(());
+        }
+        match put_scan(&mut self.scan, &self.names, &scan.record, machine) {
             Ok(()) => self.keep_scan(),
             Err(fault) => Err(fault),
         }
@@ -275,20 +249,20 @@ impl<'n> Watcher<'n> {
 }
 
 impl<W: ByteOut> Observer<SlotStore, W> for Watcher<'_> {
-    ghost use Rattle.std.specs.Prelude.{◌≡◌, ⊤, [], false};
+    ghost use Rattle.std.specs.Prelude.{◌≡◌, ⊤, false};
     ghost use Rattle.wc_view_watch.specs.Plans.{watch_plan};
     ghost use Rattle.wc_view_watch.specs.Unknown.{begins_with};
-    ghost use Rattle.wc_view_watch.specs.Watching.{HasSeen, KeepsLast, HasRefused};
+    ghost use Rattle.wc_view_watch.specs.Watching.{HasSeen, HasRefused, IsNew};
 
     ghost settings = { λ _. tt };
 
-    ghost plan = { λ watcher. watch_plan watcher.list.now watcher.number };
+    ghost plan = { λ watcher. watch_plan watcher.list.now watcher.changes watcher.number };
 
     ghost begins = { λ watcher logic. begins_with watcher.list.now logic };
 
-    ghost has_refused = { λ old new logic. HasRefused old.list.now new logic };
+    ghost has_refused = { λ old new logic. HasRefused old.list.now new.names logic };
 
-    ghost is_new = { λ watcher. KeepsLast watcher.last watcher.number [] };
+    ghost is_new = { λ watcher. IsNew watcher };
 
     ghost has_seen = { λ watcher plate logic past. HasSeen watcher plate logic past };
 
@@ -301,14 +275,7 @@ impl<W: ByteOut> Observer<SlotStore, W> for Watcher<'_> {
         first: Option<Program<'_, '_>>,
         next: Option<Program<'_, '_>>,
     ) -> Result<(), RunFault> {
-        let Some(first) = first else {
-            return Ok(());
-        };
-        match self.look(first.loaded, loaded(next)) {
-            Ok(()) => {}
-            Err(_) => return Err(RunFault::Memory),
-        }
-        self.refuse_unknown()
+        self.names.begin(self.alloc, self.list, first, next)
     }
 
     fn looks_at(&self, _ms: u64) -> bool {
@@ -321,7 +288,7 @@ impl<W: ByteOut> Observer<SlotStore, W> for Watcher<'_> {
         scale: &Scale<'_, SlotStore>,
         writer: &mut W,
     ) -> Result<(), RunFault> {
-        self.turn(seen);
+        self.names.turn(seen);
         match self.put_row(seen, scale) {
             Ok(()) => write_text(&self.text, writer),
             Err(fault) => Err(fault),

@@ -13,8 +13,19 @@ use std::alloc::Global;
 use wc_controller::{Ending, Input, RefusedRow, RunInputs, run_files};
 use wc_model::{ByteIn, ByteOut};
 
+/// What is watched of a run, and which of its scans are written.
+#[derive(Clone, Copy)]
+pub struct WatchChoice<'n> {
+    /// The names of variables, between commas.
+    pub names: &'n [u8],
+    /// The number of last scans that are written alone, 1 to 1000; every scan, if there is none.
+    pub last: Option<u16>,
+    /// Of the scans those alone are written that leave other values than the scan before.
+    pub changes: bool,
+}
+
 /// Whether a run did not begin for a name that was to be watched.
-fn is_at_names(ending: &Ending) -> bool
+pub fn is_at_names(ending: &Ending) -> bool
     ensures names { result ≡ true → IsAt Input.Names ending.now }
     ensures others { result ≡ false → ¬ (IsAt Input.Names ending.now) }
 {
@@ -25,10 +36,10 @@ fn is_at_names(ending: &Ending) -> bool
     }
 }
 
-/// Runs a log with a program as `run_files` does, and watches variables: it writes the report, with every scan or the last
-/// `last` alone, 1 to 1000, and after the line of each scan one with the values of the variables. It begins with `V` and the
-/// milliseconds, and has each name with `=` and the value in the store that the scan left, as the language writes it; the
-/// names are as they are spelled in the list, which has commas between them. A name is an address, or leads from the program
+/// Runs a log with a program as `run_files` does, and watches variables: it writes the report, with the scans that are chosen,
+/// and after the line of each scan one with the values of the variables. The first scan is one at which they change. That line
+/// begins with `V` and the milliseconds, and has each name with `=` and the value in the store that the scan left, as the
+/// language writes it; the names are as they are spelled in the list, which has commas between them. A name is an address, or leads from the program
 /// through instances to a variable or to an input or output of a standard block, with a dot after each instance. If the
 /// program may change, a name may be that of a variable of the first or of the next program; a line has the names of the
 /// program that runs.
@@ -37,21 +48,22 @@ fn is_at_names(ending: &Ending) -> bool
 /// write fault and out of memory end the run, as they end that of a report.
 pub fn watch_files<P: ByteIn, T: ByteIn, N: ByteIn, L: ByteIn, W: ByteOut>(
     alloc: Global,
-    names: &[u8],
-    last: Option<u16>,
+    choice: WatchChoice<'_>,
     inputs: &mut RunInputs<P, T, N, L>,
     writer: &mut W,
     reported: &mut RefusedRow,
 ) -> Result<Ending, UnknownName>
-    requires few { IfSome last (λ n. (1 ≤ n) × (n ≤ 1000)) }
+    requires few { IfSome choice.last (λ n. (1 ≤ n) × (n ≤ 1000)) }
     // The name is the first one of the list that no program has.
     ensures unknown { IfErr result (λ name. OfPrograms inputs.old.program inputs.old.next
-        (λ logic. IsFirstUnknown names.now logic name)) }
-    ensures inside { IfErr result (λ name. name.start + name.length ≤ length names.now) }
+        (λ logic. IsFirstUnknown choice.entry.names.now logic name)) }
+    ensures inside { IfErr result
+        (λ name. name.start + name.length ≤ length choice.entry.names.now) }
     // It is refused before the log is read.
     ensures unread { IfErr result (λ name. inputs.new.log ≡ inputs.old.log) }
     // If a name is unknown, no run begins: `RunsAs` allows then the line of that refusal alone.
-    ensures runs { IfOk result (λ ending. RunsAs (watch_observed names.now last)
+    ensures runs { IfOk result (λ ending. RunsAs
+        (watch_observed choice.entry.names.now choice.entry.changes choice.entry.last)
         inputs.old inputs.new (fields_reported reported.new) ending
         (writer_of W.bytes_taken W.failure_count writer.old)
         (writer_of W.bytes_taken W.failure_count writer.new)) }
@@ -59,13 +71,13 @@ pub fn watch_files<P: ByteIn, T: ByteIn, N: ByteIn, L: ByteIn, W: ByteOut>(
     ensures named { IfOk result (λ ending. ¬ (IsAt Input.Names ending)) }
     ensures taken { TakesInputs inputs.old inputs.new }
 {
-    let mut watcher = match Watcher::new(alloc, names, last) {
+    let mut watcher = match Watcher::new(alloc, choice) {
         Ok(watcher) => watcher,
         Err(_) => return Ok(Ending::NoMemory),
     };
     let ending = run_files(alloc, &mut watcher, inputs, writer, reported);
     if is_at_names(&ending) {
-        return Err(within(watcher.unknown(), names));
+        return Err(within(watcher.names.unknown(), choice.names));
     }
     Ok(ending)
 }

@@ -1,4 +1,4 @@
-use Rattle.wc_arguments.proofs.Plain.{check_format, cut_at_format, cut_format, decode_format, deny_format, drawn_format, explain_format, job_format, last_format, line_format, next_alone_format, next_format, paths_format, plain, preview_format, redrawn_format, run_format, show_format, table_format, trace_format, watch_format}
+use Rattle.wc_arguments.proofs.Plain.{check_format, changes_alone_format, changes_format, cut_at_format, cut_format, decode_format, deny_format, drawn_format, drawn_names_format, explain_format, job_format, last_format, line_format, many_names_format, next_alone_format, next_format, paths_format, plain, preview_format, redrawn_format, run_format, show_format, table_format, trace_format, watch_format}
 use Rattle.wc_arguments.proofs.formats.plain_formats.Goals as goal
 
 pub returns : goal.returns
@@ -12,10 +12,14 @@ returns c = record {
   last = last_format;
   next = next_format;
   watch = watch_format;
+  changes = changes_format;
+  changes_alone = changes_alone_format;
   trace = trace_format;
   show = show_format;
   drawn = drawn_format;
   redrawn = redrawn_format;
+  drawn_names = drawn_names_format;
+  many_names = many_names_format;
   next_alone = next_alone_format;
   line = λ name p l h j. line_format name p l (plain p h) (plain l j);
   cut = λ name p l h j. cut_format name p l (plain p h) (plain l j);

@@ -1,19 +1,27 @@
-use Rattle.std.proofs.Common.{◌∙◌, sym}
+use Rattle.std.proofs.Common.{◌∙◌, Bor, List, Option, ℕ, ap, sym}
+use Rattle.clap.specs.declared.error.kind.ErrorKind.{ErrorKind}
+use Rattle.std.specs.Option.{option_to_list}
+use Rattle.std.specs.Prelude.{option_map}
 use Rattle.wc_arguments.specs.Asked.{texts_of, view}
-use Rattle.wc_arguments.proofs.FormatWords.{among, not_refused, refused_format, refused_next}
+use Rattle.wc_arguments.proofs.FormatWords.{among, not_refused, refused_format, refused_option}
 use Rattle.wc_arguments.proofs.words.asked_by.Goals as goal
+
+-- the kinds of what is wrong with the options
+abbrev faults : Option (ErrorKind × Bor (List ℕ)) → List ErrorKind
+faults found = option_to_list (option_map (λ fault. fault.0) found)
 
 pub returns-in-Err-clause-refused : goal.returns-in-Err-clause-refused
 returns-in-Err-clause-refused c = among _ _ c.in-Err.error c.in-Err.ensures.refused
 
-pub returns-then-lacks_program-clause-refused : goal.returns-then-lacks_program-clause-refused
-returns-then-lacks_program-clause-refused c =
-    refused_next (texts_of c.args.words.now) c.in-Some.format (view c.in-Ok.read.0) c.in_ok-error-in-Some.field-0 c.in-Ok.ensures.refused (sym c.in-Some.is ∙ c.in-Ok.ensures.format) c.in-Ok.ensures.asked
-    (sym c.if-lacks_program.true ∙ c.lacks_program.ensures) c.in_ok-error-in-Some.ensures.kind
+pub returns-in_ok-error-in-Some-misused-clause-refused : goal.returns-in_ok-error-in-Some-misused-clause-refused
+returns-in_ok-error-in-Some-misused-clause-refused c =
+    refused_option (texts_of c.args.words.now) c.in-Some.format (view c.in-Ok.read.0) c.in_ok-error-in-Some-misused.field-0 _ c.in-Ok.ensures.refused (sym c.in-Some.is ∙ c.in-Ok.ensures.format) c.in-Ok.ensures.asked
+    (ap faults (sym c.in-Some-misused.is) ∙ c.misused.ensures) c.in_ok-error-in-Some-misused.ensures.kind
 
-pub returns-else-lacks_program-clause-refused : goal.returns-else-lacks_program-clause-refused
-returns-else-lacks_program-clause-refused c =
-    not_refused (texts_of c.args.words.now) c.in-Some.format (view c.in-Ok.read.0) c.in-Ok.ensures.refused (sym c.in-Some.is ∙ c.in-Ok.ensures.format) c.in-Ok.ensures.asked (sym c.if-lacks_program.false ∙ c.lacks_program.ensures)
+pub returns-in-None-misused-clause-refused : goal.returns-in-None-misused-clause-refused
+returns-in-None-misused-clause-refused c =
+    not_refused (texts_of c.args.words.now) c.in-Some.format (view c.in-Ok.read.0) c.in-Ok.ensures.refused (sym c.in-Some.is ∙ c.in-Ok.ensures.format) c.in-Ok.ensures.asked
+    (ap faults (sym c.in-None-misused.is) ∙ c.misused.ensures)
 
 pub returns-in_ok-error-in-None-clause-refused : goal.returns-in_ok-error-in-None-clause-refused
 returns-in_ok-error-in-None-clause-refused c =

@@ -1,17 +1,37 @@
-use Rattle.std.proofs.Common.{subst, sym}
-use Rattle.std.specs.Prelude.{true}
-use Rattle.wc_controller.specs.InputRuns.{RunsUnsaid}
+use Rattle.std.proofs.Common.{◌≡◌, Bor, List, None, Option, false, subst, sym}
+use Rattle.std.specs.Prelude.{ℕ, option_map}
+use Rattle.wc_controller.proofs.RefusedNames.{stopped_at_names}
+use Rattle.wc_controller.specs.InputRuns.{RunsAs}
+use Rattle.wc_controller.specs.TakenLogs.{OfPrograms}
+use Rattle.wc_endings.specs.Endings.{IsAt, ending_of}
 use Rattle.wc_endings.specs.declared.ending.Ending.{Ending}
-use Rattle.wc_view_picture.proofs.Unrefused.{run_unrefused}
-use Rattle.wc_view_picture.proofs.showing.show_files.Goals as goal
+use Rattle.wc_endings.specs.declared.input.Input.TheVariants as input
 use Rattle.wc_record.specs.Reported.{fields_reported}
-use Rattle.wc_run.specs.Observing.{text_in_all}
-use Rattle.wc_run.specs.Reports.{silent_plan}
+use Rattle.wc_view_picture.proofs.Unrefused.{run_unrefused, unwritten}
+use Rattle.wc_view_picture.proofs.showing.show_files.Goals as goal
+use Rattle.wc_view_picture.specs.Runs.{IsUnknownOf, drawn, unsaid}
+use Rattle.wc_view_picture.specs.Seen.{HasRefused, begins_with, list_of}
+use Rattle.wc_view_watch.proofs.Observed.{programs_more}
 
-pub returns : goal.returns
-returns g c =
+pub returns-then-is_at_names-clause-unknown : goal.returns-then-is_at_names-clause-unknown
+returns-then-is_at_names-clause-unknown g c =
+    let answer = c.run_inputs-answer in
+    let list = list_of c.new-picture.result in
+    subst (λ (of : Option (List ℕ)). OfPrograms c.args.inputs.now.program c.args.inputs.now.next (λ logic. IsUnknownOf of logic c.unknown.result))
+    c.new-picture.ensures.names
+    (programs_more c.args.inputs.now.program c.args.inputs.now.next (λ logic. (begins_with list logic ≡ false) × HasRefused list answer.new.observer logic)
+    (λ logic. IsUnknownOf list logic c.unknown.result) (λ logic refused. c.unknown.ensures logic list refused.1)
+    (answer.ensures.refused
+    (stopped_at_names answer.result (ending_of answer.result) None None (unwritten answer.result)
+    (subst (λ (ending : Ending). IsAt input.Names ending) c.of-ending.ensures (c.is_at_names.ensures.names c.if-is_at_names.true)))))
+
+pub returns-clause-runs : goal.returns-clause-runs
+returns-clause-runs g c =
     let failures = g.W.ByteOut.failure_count in
     let ran = c.run_inputs-answer in
-    subst (λ (ending : Ending). RunsUnsaid c.args.inputs.now ran.new.inputs (fields_reported ran.new.reported) ending (failures c.args.writer.now) (failures ran.new.writer)) (sym c.of.ensures)
-    (run_unrefused (record { written = text_in_all silent_plan; begins = λ logic. true }) c.args.inputs.now ran.new.inputs (fields_reported ran.new.reported)
-    ran.result (failures c.args.writer.now) (failures ran.new.writer) ran.ensures.runs)
+    subst (λ (ending : Ending). RunsAs (drawn (option_map (λ (list : Bor (List ℕ)). list.now) c.args.names)) c.args.inputs.now ran.new.inputs (fields_reported ran.new.reported) ending (unsaid (failures c.args.writer.now)) (unsaid (failures ran.new.writer)))
+    (sym c.of-ending.ensures)
+    (subst (λ (of : Option (List ℕ)). RunsAs (drawn of) c.args.inputs.now ran.new.inputs (fields_reported ran.new.reported) (ending_of ran.result) (unsaid (failures c.args.writer.now))
+    (unsaid (failures ran.new.writer)))
+    c.new-picture.ensures.names
+    (run_unrefused (drawn (list_of c.new-picture.result)) c.args.inputs.now ran.new.inputs (fields_reported ran.new.reported) ran.result (failures c.args.writer.now) (failures ran.new.writer) ran.ensures.runs))

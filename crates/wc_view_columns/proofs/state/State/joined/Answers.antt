@@ -1,4 +1,4 @@
-use Rattle.std.proofs.Common.{map, get_or, pos}
+use Rattle.std.proofs.Common.{map, get_or, None, pos}
 use Rattle.std.specs.List.{filter_map}
 use Rattle.wc_view_columns.proofs.Together.{bits_on, flags_on, spans_on, words_on}
 use Rattle.wc_view_columns.proofs.state.State.joined.Goals as goal
@@ -16,4 +16,7 @@ returns c held others first second = record {
   words = λ other i within.
       words_on (λ h. get_or h.outputs.words i (pos 0)) held others _
       (c.joined_words.ensures (λ k. map (λ h. get_or h.outputs.words k (pos 0)) held) (λ k. map (λ h. get_or h.outputs.words k (pos 0)) others) first.words second.words other i within);
+  variables = λ i within.
+      spans_on (λ h. get_or h.variables i None) held others _
+      (c.joined_variables.ensures (λ k. filter_map (λ h. get_or h.variables k None) held) (λ k. filter_map (λ h. get_or h.variables k None) others) first.variables second.variables i within);
 }

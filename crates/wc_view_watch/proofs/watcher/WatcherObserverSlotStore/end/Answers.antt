@@ -8,5 +8,5 @@ pub returns-in-Ok-clause-writes : goal.returns-in-Ok-clause-writes
 returns-in-Ok-clause-writes g c = λ plate logic past seen.
     let old = c.args.self.now in
     subst (λ written. Writes written c.write_text.result (g.W.ByteOut.bytes_taken c.args.writer.now) (g.W.ByteOut.bytes_taken c.write_text.new.writer))
-    (c.deref.ensures.value ∙ end_is old plate logic past c.put_end.new.self.text.items (c.in-Ok.ensures.text (scans_so_far old.list.now plate logic past) seen.scans))
+    (c.deref.ensures.value ∙ end_is old plate logic past c.put_end.new.self.text.items (c.in-Ok.ensures.text (scans_so_far old.list.now old.changes plate logic past) seen.scans))
     c.write_text.ensures.writes

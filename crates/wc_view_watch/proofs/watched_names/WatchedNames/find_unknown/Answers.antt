@@ -2,7 +2,7 @@ use Rattle.std.proofs.Common.{◌≡◌, ◌+◌, ◌∙◌, Bor, List, Some, ap
 use Rattle.std.specs.Prelude.{ℕ, not, option_map, slice_get}
 use Rattle.wc_names.proofs.Lists.{got_some}
 use Rattle.wc_view_watch.proofs.LookUps.{found_here, found_later, is_known_at, name_at, start_more, start_within}
-use Rattle.wc_view_watch.proofs.watched_names.WatchedNames.unknown.Goals as goal
+use Rattle.wc_view_watch.proofs.watched_names.WatchedNames.find_unknown.Goals as goal
 use Rattle.wc_view_watch.specs.Names.{names_in}
 use Rattle.wc_view_watch.specs.Unknown.{is_unknown}
 

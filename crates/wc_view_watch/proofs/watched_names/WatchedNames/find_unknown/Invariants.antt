@@ -4,7 +4,7 @@ use Rattle.wc_model.specs.Language.Tree.{Text}
 use Rattle.wc_view_watch.specs.Names.{names_in}
 use Rattle.wc_view_watch.specs.Unknown.{is_unknown, with_commas}
 use Rattle.wc_view_watch.specs.Watching.{AreLookedUp}
-use Rattle.wc_view_watch.proofs.watched_names.WatchedNames.unknown.Given as goal
+use Rattle.wc_view_watch.proofs.watched_names.WatchedNames.find_unknown.Given as goal
 
 -- the next name begins there, and the names before it are known
 pub record SoFar (l : goal.Live-loop-index) : Type 0 where

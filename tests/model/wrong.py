@@ -1,0 +1,139 @@
+"""The wrong bodies of the legally relevant part, each as the same change of the model: by the edit that makes it of the code."""
+from contextlib import contextmanager
+from unittest import mock
+
+from . import indication, line, plate
+
+
+class Failed(Exception):
+    """A fault of a device that there was not."""
+
+
+def over_before_rounding(self):
+    """Over is also said of a load above Max by more than nine intervals before it is rounded."""
+    n = self.plate.intervals
+    return bool(self.samples) and (self.in_intervals(self.load()) > n + 9 or self.load() * n > self.plate.span_counts * (n + 9))
+
+
+def centre_depends_on_net(self):
+    """The centre of zero is that of the net weight."""
+    return bool(self.samples) and 4 * abs((self.load() - self.tare) * self.plate.intervals) <= self.plate.span_counts
+
+
+def tare_of(may_move=False, least=1, rounded=False):
+    """The tare command, which takes a moving load, one from a number of intervals on, or a rounded one."""
+
+    def set_tare(self):
+        if not self.samples or not (may_move or self.stable()) or not least <= self.in_intervals(self.load()) <= self.plate.intervals:
+            return False
+        self.tare, self.tare_active = self.load(), True
+        if rounded:
+            self.tare -= self.tare % (self.plate.span_counts // self.plate.intervals)
+        return True
+
+    return set_tare
+
+
+def zero_of(parts=50, keeps_tare=False):
+    """The zero command, which reaches to a part of the span, or keeps the tare."""
+
+    def set_zero(self):
+        away = abs(self.samples[-1] - self.plate.zero_counts) if self.samples else 0
+        if not self.stable() or parts * away > self.plate.span_counts:
+            return False
+        self.zero = self.samples[-1]
+        if not keeps_tare:
+            self.clear_tare()
+        return True
+
+    return set_zero
+
+
+def stable_within_a_whole_interval(self):
+    """The last samples may spread over a whole interval."""
+    last = self.samples[-self.plate.window :]
+    return len(last) == self.plate.window and (max(last) - min(last)) * self.plate.intervals <= self.plate.span_counts
+
+
+def ties_go_toward_zero(numerator, denominator):
+    """Of two whole numbers that are nearest the one nearer to 0."""
+    size = (2 * abs(numerator) + denominator - 1) // (2 * denominator)
+    return size if numerator >= 0 else -size
+
+
+def a_long_chunk_is_a_fault(self, content):
+    """More than a hundred bytes at once are a fault."""
+    if len(content) > 100:
+        raise Failed
+    return b"".join(self.take(byte) for byte in content)
+
+
+def request_cut_is_forgotten(self, content):
+    """What began with earlier bytes is forgotten."""
+    self.open = None
+    return b"".join(self.take(byte) for byte in content)
+
+
+def plate_with(change):
+    """A plate that is changed once it is read."""
+    read = plate.Plate.__init__
+
+    def made(self, values):
+        read(self, values)
+        change(self)
+
+    return made
+
+
+def interval_below_five_grams(unit, decimals, e):
+    """An interval of two grams is enough."""
+    allowed = (1, 2, 5) + ((10, 20, 50) if decimals in (0, 3) else ())
+    return e in allowed and e * plate.GRAMS[unit] >= 2 * 10**decimals
+
+
+def read_without(change):
+    """A plate of whose values some are changed before they are checked."""
+    read = plate.read_table
+    return lambda content: change(read(content))
+
+
+def without_a_note(values):
+    """A key `note` is passed over."""
+    return {key: value for key, value in values.items() if key != "note"}
+
+
+def a_part_is_left(numerator, denominator):
+    """A quotient whose rest does not count."""
+    return numerator // denominator, 0
+
+
+SCALE, LINE = indication.Indicator, line.Line
+# what each is in the model: where it is, its name, and the wrong body
+BODIES = {
+    "tools/edits/wc_plate/unit_is_cut": (plate.Plate, "__init__", plate_with(lambda self: setattr(self, "unit", self.unit[:1]))),
+    "tools/edits/wc_plate/interval_is_doubled": (plate.Plate, "__init__", plate_with(lambda self: setattr(self, "e", 2 * self.e))),
+    "tools/edits/wc_plate/interval_below_five_grams": (plate, "interval_allowed", interval_below_five_grams),
+    "tools/edits/wc_plate/part_of_an_interval_is_left": (plate, "divmod", a_part_is_left),
+    "tools/edits/wc_plate/other_keys_are_passed_over": (plate, "read_table", read_without(without_a_note)),
+    "tools/edits/wc_indicator/ties_go_toward_zero": (indication, "nearest", ties_go_toward_zero),
+    "wc_indicator/must-fail/over_before_rounding": (SCALE, "over", over_before_rounding),
+    "tools/edits/wc_indicator/stable_within_a_whole_interval": (SCALE, "stable", stable_within_a_whole_interval),
+    "tools/edits/wc_indicator/zero_within_four_percent": (SCALE, "set_zero", zero_of(parts=25)),
+    "wc_indicator/must-fail/zero_keeps_the_tare": (SCALE, "set_zero", zero_of(keeps_tare=True)),
+    "wc_indicator/must-fail/centre_depends_on_net": (SCALE, "centre_of_zero", centre_depends_on_net),
+    "tools/edits/wc_indicator/tare_value_is_gross": (SCALE, "tare_value", SCALE.gross),
+    "tools/edits/wc_indicator/tare_at_zero": (SCALE, "set_tare", tare_of(least=0)),
+    "tools/edits/wc_indicator/shown_is_always_gross": (SCALE, "shown", SCALE.gross),
+    "wc_indicator/must-fail/tare_in_motion": (SCALE, "set_tare", tare_of(may_move=True)),
+    "wc_indicator/must-fail/tare_is_rounded": (SCALE, "set_tare", tare_of(rounded=True)),
+    "wc_sma/must-fail/a_long_chunk_is_a_fault": (LINE, "feed", a_long_chunk_is_a_fault),
+    "wc_sma/must-fail/request_cut_is_forgotten": (LINE, "feed", request_cut_is_forgotten),
+}
+
+
+@contextmanager
+def body(name):
+    """The model with a wrong body in the place of the right one."""
+    place, known, wrong = BODIES[name]
+    with mock.patch.object(place, known, wrong, create=True):
+        yield
