@@ -1,4 +1,4 @@
-ghost use Rattle.std.specs.Prelude.{◌≡◌, ◌≤◌, IfSome, Some, None, option_map};
+ghost use Rattle.std.specs.Prelude.{◌≡◌, ◌≤◌, IfSome, Some, None, false, option_map};
 ghost use Rattle.wc_arguments.specs.Asked.{asked, check, cut, decode, format_asked, job, line, run, show, texts_of, trace};
 
 use crate::files::{KeptSource, RunFiles, RunPaths, cause_of, kept_cause, kept_source, read_of};
@@ -312,7 +312,7 @@ pub(crate) fn show_words(
     requires asked { asked (texts_of _words.now)
         ≡ show paths.plate.now (option_map (λ path. path.now) paths.program)
         (option_map (λ path. path.now) paths.next) paths.log.now
-        (option_map (λ list. list.now) names.entry) }
+        (option_map (λ list. list.now) names) }
     requires format { format_asked (texts_of _words.now) ≡ Some session.format }
 {
     let mut opened = RunFiles::new(session, paths);
