@@ -78,7 +78,7 @@ class Page {
     const inWords = () => this.see.run ? eventsText(this.see.run) : "";
     const text = name => [`${FILE_NAMES[name]}`, () => name === "log" ? this.log() : this.work.text(name), undefined, name];
     const files = [
-      ...["program", "plate", "scenario", "log", "next"].map(text), ["job.txt", () => this.job(), "all in one file, which the program takes"],
+      ...["program", "plate", "scenario", "log", "next"].map(text), ["job.txt", () => this.job(), "plate, programs and log in one file, which the program takes; the scenario is a file of its own"],
       ["picture.svg", () => written(["show"]), "the run, as `show` draws it"], ["report.txt", report, "what `run` prints"], ["report_in_words.txt", inWords, "what happened, and what the answers mean"],
       ["report_decoded.txt", () => decoded([]), "the report, as `decode` writes it"], ["report.csv", () => decoded(["--csv"]), "a table, for a spreadsheet"],
       ["trace.txt", () => written(["trace"]), "each scan line by line"], ["trace.jsonl", () => written(["trace", "--message", "json"]), "the same for programs"],

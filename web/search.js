@@ -39,7 +39,7 @@ export function asked(run, text) {
 
 function scanOf(run, number) {
   const index = run.numbers ? run.numbers.indexOf(number) : number - 1;
-  return index >= 0 && index < run.count ? { index } : { fault: `there is no scan ${number}: the last one is ${run.numbers?.at(-1) ?? run.count}` };
+  return index >= 0 && index < run.count ? { index } : { fault: `there is no scan ${number}: ${number < 1 ? "the first one is 1" : `the last one is ${run.numbers?.at(-1) ?? run.count}`}` };
 }
 
 // A value as it is typed, as the number that the run has for it; or a sentence.
