@@ -1,4 +1,4 @@
-"""The wrong bodies of the legally relevant part, each as the same change of the model: by the edit that makes it of the code."""
+"""The wrong bodies of the legally relevant part as changes of the model, each by the edit that makes it of the code."""
 from contextlib import contextmanager
 from unittest import mock
 
