@@ -116,7 +116,7 @@ at_start ended (state, act.EndField) place e h = cc
 at_start ended (state, act.Skip) place e h = cc
 at_start ended (state, act.Copy) place e h = cc
 
--- likewise for the text's end
+-- the text's end
 same_end : (b : Bool) (fields : Record) → AreAlike (cond b (Some (fields, st.StartRecord, [])) None) (cond b (Some (fields, st.StartRecord, [])) None)
 unfolding cut_from
 same_end true fields = inl (refl, refl, refl, (refl, refl))

@@ -1,14 +1,15 @@
 -- What is left of a log: its rows and its refusal, if the bytes of the reader are known.
-use Rattle.std.specs.Prelude.{◌≡◌, ◌≤◌, ◌<◌, ◌^◌, ◌⊎◌, ⊤, ℕ, ◌-◌, true, List, [], ◌∷◌, length, Option, Some, None, Result, Ok, Err}
+use Rattle.std.specs.Prelude.{◌≡◌, ◌≤◌, ◌<◌, ◌^◌, ◌⊎◌, ⊤, ℕ, ◌-◌, true, List, [], ◌∷◌, length, Option, Some, None, Result, Ok, Err, IfOk, IfSome}
 use Rattle.wc_model.specs.Run.Log.{Record, LogOf, log_of, log_after, last_moment, refused_at, with_row}
 use Rattle.wc_model.specs.Run.Rows.{LogRow}
 use Rattle.csv.specs.Reading.{reader_source}
 use Rattle.wc_record.specs.Bound.{is_exhausted}
 use Rattle.wc_record.specs.Reading.{HasRecords, borrowed}
-use Rattle.wc_record.specs.Views.{IsDataInRange}
+use Rattle.wc_record.specs.Views.{IsDataInRange, head_view}
 use Rattle.wc_record.specs.declared.log.LogEnd.{LogEnd}
 use Rattle.wc_record.specs.declared.log.LogEnd.TheVariants.{AllRead, Raised}
 use Rattle.wc_record.specs.declared.log.Rows.{Rows}
+use Rattle.wc_record.specs.declared.row_head.RowHead.{RowHead}
 use Rattle.wc_record.specs.declared.row_kind.LogFault.{LogFault}
 use Rattle.wc_record.specs.declared.row_kind.LogFault.TheVariants as fault
 
@@ -115,11 +116,29 @@ pub record IsNext {R : Type 0} (number ms : ℕ) (rows : Rows R) (row : LogRow) 
   pub early : row.ms < 2 ^ 40
   pub in_range : IsDataInRange row.brings
 
+-- an answer gives a row, or its head, that is the next: of that number, not before the last one
+abbrev pub GivesNext : {R A : Type 0} → (A → LogRow) → ℕ → Rows R → Answer A → Rows R → Type 0
+GivesNext view number old answer new = IfOk answer (λ given. IfSome given (λ row. IsNext number (last_ms old) new (view row)))
+
+-- an answer gives the head of the next row, whose bytes are borrowed with it
+abbrev pub GivesHead : {R : Type 0} → ℕ → Rows R → Answer RowHead → Rows R → Type 0
+GivesHead number old answer new = GivesNext (head_view (row_bytes new)) number old answer new
+
 -- a failed read has its cause in the reader: it has failed since, or its count of failures is
 -- at its end, or as much was read as may be
 abbrev pub HasCause : ℕ → ℕ → ℕ → ℕ → Type 0
 HasCause failures_before failures start spent = (failures_before < failures) ⊎ (failures ≡ 2 ^ 64 - 1) ⊎ (is_exhausted start spent ≡ true)
 
--- likewise for the reader that is borrowed
+-- a failed read of the borrowed reader has its cause in it
 abbrev pub HasCauseIn : {R : Type 0} → (R → ℕ) → (R → ℕ) → ℕ → Rows R → Type 0
 HasCauseIn failures spent before rows = HasCause before (count_in failures rows) (started_at rows) (count_in spent rows)
+
+-- a fault that is the cause of a failed read: the reader's, if it has one, else memory
+abbrev pub IsCause : {R : Type 0} → (R → ℕ) → (R → ℕ) → ℕ → Rows R → LogFault → Type 0
+IsCause failures spent before rows raised =
+    (raised ≡ fault.Read → HasCauseIn failures spent before rows) × (raised ≡ fault.Memory → HasCauseIn failures spent before rows → ⊥)
+    × ((raised ≡ fault.Read) ⊎ (raised ≡ fault.Memory))
+
+-- a failed read of the borrowed reader has its cause in what came since these rows
+abbrev pub HasCauseSince : {R : Type 0} → (R → ℕ) → (R → ℕ) → Rows R → Rows R → Type 0
+HasCauseSince failures spent old new = HasCauseIn failures spent (count_in failures old) new

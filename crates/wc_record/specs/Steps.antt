@@ -1,8 +1,8 @@
 -- What the steps on the way to a row say and keep.
-use Rattle.std.specs.Prelude.{◌≡◌, ⊤, ℕ, List, [], ◌∷◌, Option, Some, None, Ok, Err}
+use Rattle.std.specs.Prelude.{◌≡◌, ⊤, IfErr, ℕ, List, [], ◌∷◌, Option, Some, None, Ok, Err}
 use Rattle.csv.specs.Records.{fields_of}
 use Rattle.wc_model.specs.Run.Log.{Record, LogOf, log_after, log_of, refused_at, with_row}
-use Rattle.wc_record.specs.Left.{Answer, IsAfterRecords, log_following, nothing_left}
+use Rattle.wc_record.specs.Left.{Answer, GivesHead, IsAfterRecords, log_following, nothing_left}
 use Rattle.wc_record.specs.Reported.{HasRefused, IsAmong, all_records}
 use Rattle.wc_record.specs.Views.{head_view}
 use Rattle.wc_record.specs.declared.log.Rows.{Rows}
@@ -34,6 +34,10 @@ GivesRecord bytes_left before left (Ok (Some row)) rows =
 GivesRecord bytes_left before left (Ok None) rows = log_following before left ≡ nothing_left
 GivesRecord bytes_left before left (Err raised) rows = RefusesAt raised before left rows
 
+-- whatever records were read and are left, the answer gives the first row that is left
+abbrev pub GivesLeft : {R : Type 0} → (R → Option (List ℕ)) → Rows R → Answer RowHead → Rows R → Type 0
+GivesLeft bytes_left old answer new = (before left : List Record) → IsAfterRecords bytes_left old before left → GivesRecord bytes_left before left answer new
+
 -- what a step on the way to a row keeps
 pub record Keeps {R : Type 0} (old new : Rows R) : Type 0 where
   pub start : new.start ≡ old.start
@@ -45,3 +49,7 @@ pub record KeepsRow {R : Type 0} (old new : Rows R) : Type 0 where
   pub end : new.end ≡ old.end
   pub number : new.number ≡ old.number
   pub last : new.last ≡ old.last
+
+-- a step gives the head of the row of that number or a fault that is not the reader's, and keeps start and end
+abbrev pub Steps : {R : Type 0} → ℕ → Rows R → Answer RowHead → Rows R → Type 0
+Steps number old answer new = GivesHead number old answer new × IfErr answer (λ raised. raised ≡ fault.Read → ⊥) × Keeps old new

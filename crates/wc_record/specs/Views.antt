@@ -1,5 +1,5 @@
 -- What the rows of this crate represent, and what their answers say.
-use Rattle.std.specs.Prelude.{◌≡◌, ◌≤◌, ◌<◌, ◌^◌, ◌≤ℤ◌, ⊤, ℕ, List, length, [], ◌∷◌, Option, Some, None, Result, Ok, Err}
+use Rattle.std.specs.Prelude.{◌≡◌, ◌≤◌, ◌<◌, ◌^◌, ◌≤ℤ◌, ⊤, ℕ, List, length, [], ◌∷◌, Option, Some, None, Result, Ok, Err, IfOk}
 use Rattle.wc_model.specs.Run.Log.{Record}
 use Rattle.wc_model.specs.Instrument.Plates.{least_sample, greatest_sample}
 use Rattle.wc_model.specs.Run.Rows.{RowData, LogRow, Counts, Bytes, Inputs, Scan, Change}
@@ -51,7 +51,15 @@ SaysData bytes (Ok kind) said = said ≡ Ok (head_data_view bytes kind)
 SaysData bytes (Err (Refused number)) said = said ≡ Err number
 SaysData bytes (Err Memory) said = ⊤
 
--- likewise for a whole row
+-- the answer says what is said, whatever bytes are in the buffer
+abbrev pub Says : Result HeadKind RowFault → Result RowData ℕ → Type 0
+Says answer said = (bytes : List ℕ) → SaysData bytes answer said
+
+-- what the answer brings is in its range, whatever bytes are in the buffer
+abbrev pub BringsInRange : Result HeadKind RowFault → Type 0
+BringsInRange answer = (bytes : List ℕ) → IfOk answer (λ kind. IsDataInRange (head_data_view bytes kind))
+
+-- the answer, with these bytes, says what is said of a whole row, if memory was not refused
 abbrev pub SaysRow : List ℕ → Result RowHead RowFault → Result LogRow ℕ → Type 0
 SaysRow bytes (Ok row) said = said ≡ Ok (head_view bytes row)
 SaysRow bytes (Err (Refused number)) said = said ≡ Err number

@@ -47,10 +47,8 @@ impl Given {
 
     /// Whether a CR is at that place of the last chunk.
     fn is_return(&self, place: usize) -> bool {
-        match self.returns.get(place / 64) {
-            Some(word) => *word >> (place % 64) & 1 == 1,
-            None => false,
-        }
+        let word = self.returns.get(place / 64).copied().unwrap_or(0);
+        word >> (place % 64) & 1 == 1
     }
 
     /// Whether the row that ends directly before that place, counted from 0, ends with a line feed. One that ends before the
@@ -60,10 +58,8 @@ impl Given {
             return self.last == b'\n';
         }
         let following = self.total.saturating_sub(place) as usize;
-        match self.length.checked_sub(following.saturating_add(1)) {
-            Some(before) => !self.is_return(before),
-            None => false,
-        }
+        let before = self.length.checked_sub(following.saturating_add(1));
+        before.is_some_and(|before| !self.is_return(before))
     }
 
     /// Whether nothing was given after that place.

@@ -1,10 +1,10 @@
-ghost use Rattle.std.specs.Prelude.{◌≡◌, ◌⊎◌, ◌∷◌, [], suc, max, List, Some, None, true, false, IfOk, IfErr, IfSome, OnOk, IsErrOf};
+ghost use Rattle.std.specs.Prelude.{◌≡◌, ◌∷◌, [], suc, max, List, Some, None, true, false, IfOk, IfErr, IfSome, OnOk, IsErrOf};
 ghost use Rattle.csv.specs.Records.{fields_of};
 ghost use Rattle.wc_model.specs.Run.Log.{Record, LogOf, log_of};
-ghost use Rattle.wc_record.specs.Left.{HasCauseIn, HasLeft, IsNext, IsAfterRecords, Takes, bounded_from, count_in, ended, last_ms, row_bytes, rows_read, started_at};
+ghost use Rattle.wc_record.specs.Left.{GivesHead, GivesNext, IsCause, HasCauseIn, HasCauseSince, HasLeft, IsAfterRecords, Takes, bounded_from, count_in, ended, last_ms, row_bytes, rows_read, started_at};
 ghost use Rattle.wc_record.specs.Left as left;
 ghost use Rattle.wc_record.specs.Reading.{HasRecords, TakesFirst, records_of};
-ghost use Rattle.wc_record.specs.Steps.{GivesRecord, IsAfterFirst, Keeps, KeepsRow, RefusesAt};
+ghost use Rattle.wc_record.specs.Steps.{GivesLeft, GivesRecord, IsAfterFirst, Keeps, KeepsRow, RefusesAt, Steps};
 ghost use Rattle.wc_record.specs.Reported.{Reads, current_record, fields_reported, records_read};
 ghost use Rattle.wc_record.specs.Views.{head_view, row_view};
 
@@ -13,10 +13,10 @@ use crate::fields::{is_first_row, row_in};
 use crate::records::Records;
 use crate::refused_row::RefusedRow;
 use crate::row_data::RowFault;
-use crate::row_head::{RowHead, owned_kind};
+use crate::row_head::{RowHead, owned_row};
 use crate::row_kind::{LogFault, Row};
 use csv::ByteRecord;
-use std::alloc::{AllocError, Global};
+use std::alloc::Global;
 use std::mem::replace;
 use wc_model::{ByteIn, MOST_ROWS};
 
@@ -133,11 +133,7 @@ impl<'r, R: ByteIn> Rows<'r, R> {
     /// The cause of a read that failed: the reader's if there is one there, else memory.
     #[inline(always)]
     fn cause(&self, failures_before: u64) -> LogFault
-        ensures read { (result ≡ LogFault.Read)
-            → HasCauseIn R.failure_count R.spent_count failures_before self.now }
-        ensures memory { (result ≡ LogFault.Memory)
-            → ¬ HasCauseIn R.failure_count R.spent_count failures_before self.now }
-        ensures fault { (result ≡ LogFault.Read) ⊎ (result ≡ LogFault.Memory) }
+        ensures { IsCause R.failure_count R.spent_count failures_before self.now result }
     {
         if self.has_cause(failures_before) {
             LogFault::Read
@@ -204,13 +200,7 @@ impl<'r, R: ByteIn> Rows<'r, R> {
             → IsAfterRecords R.bytes_left self.old (first ∷ before) rest
             → GivesRecord R.bytes_left (first ∷ before) (fields_of self.old.row ∷ rest)
             result self.new }
-        ensures row { IfOk result
-            (λ given.
-            IfSome given
-            (λ head. IsNext (suc (rows_read self.old)) (last_ms self.old) self.new
-            (head_view (row_bytes self.new) head))) }
-        ensures no_device { IfErr result (λ raised. raised ≡ LogFault.Read → ⊥) }
-        ensures keeps { Keeps self.old self.new }
+        ensures steps { Steps (suc (rows_read self.old)) self.old result self.new }
     {
         if self.number >= MOST_ROWS {
             return Err(LogFault::Refused {
@@ -239,13 +229,7 @@ impl<'r, R: ByteIn> Rows<'r, R> {
         ensures gives { (first : Record) (before left : List Record)
             → IsAfterRecords R.bytes_left self.old (first ∷ before) left
             → GivesRecord R.bytes_left (first ∷ before) left result self.new }
-        ensures row { IfOk result
-            (λ given.
-            IfSome given
-            (λ head. IsNext (suc (rows_read self.old)) (last_ms self.old) self.new
-            (head_view (row_bytes self.new) head))) }
-        ensures no_device { IfErr result (λ raised. raised ≡ LogFault.Read → ⊥) }
-        ensures keeps { Keeps self.old self.new }
+        ensures steps { Steps (suc (rows_read self.old)) self.old result self.new }
     {
         match self.read() {
             Ok(true) => self.row_of_record(),
@@ -259,16 +243,8 @@ impl<'r, R: ByteIn> Rows<'r, R> {
     #[inline(always)]
     fn row_after_heading(&mut self) -> Result<Option<RowHead>, LogFault>
         requires { rows_read self.old ≡ 0 }
-        ensures gives { (before left : List Record)
-            → IsAfterRecords R.bytes_left self.old before left
-            → GivesRecord R.bytes_left before left result self.new }
-        ensures row { IfOk result
-            (λ given.
-            IfSome given
-            (λ head. IsNext (suc (max 1 (rows_read self.old))) (last_ms self.old) self.new
-            (head_view (row_bytes self.new) head))) }
-        ensures no_device { IfErr result (λ raised. raised ≡ LogFault.Read → ⊥) }
-        ensures keeps { Keeps self.old self.new }
+        ensures gives { GivesLeft R.bytes_left self.old result self.new }
+        ensures steps { Steps (suc (max 1 (rows_read self.old))) self.old result self.new }
     {
         match self.first_row() {
             Ok(()) => self.later_row(),
@@ -279,16 +255,8 @@ impl<'r, R: ByteIn> Rows<'r, R> {
     /// The next row, if nothing has ended the log.
     #[inline(always)]
     fn next_row(&mut self) -> Result<Option<RowHead>, LogFault>
-        ensures gives { (before left : List Record)
-            → IsAfterRecords R.bytes_left self.old before left
-            → GivesRecord R.bytes_left before left result self.new }
-        ensures row { IfOk result
-            (λ given.
-            IfSome given
-            (λ head. IsNext (suc (max 1 (rows_read self.old))) (last_ms self.old) self.new
-            (head_view (row_bytes self.new) head))) }
-        ensures no_device { IfErr result (λ raised. raised ≡ LogFault.Read → ⊥) }
-        ensures keeps { Keeps self.old self.new }
+        ensures gives { GivesLeft R.bytes_left self.old result self.new }
+        ensures steps { Steps (suc (max 1 (rows_read self.old))) self.old result self.new }
     {
         if self.number == 0 {
             self.row_after_heading()
@@ -301,20 +269,12 @@ impl<'r, R: ByteIn> Rows<'r, R> {
     /// being read.
     #[inline(always)]
     fn row_or_cause(&mut self) -> Result<Option<RowHead>, LogFault>
-        ensures gives { (before left : List Record)
-            → IsAfterRecords R.bytes_left self.old before left
-            → GivesRecord R.bytes_left before left result self.new }
-        ensures row { IfOk result
-            (λ given.
-            IfSome given
-            (λ head. IsNext (suc (max 1 (rows_read self.old))) (last_ms self.old) self.new
-            (head_view (row_bytes self.new) head))) }
+        ensures gives { GivesLeft R.bytes_left self.old result self.new }
+        ensures row { GivesHead (suc (max 1 (rows_read self.old))) self.old result self.new }
         ensures cause { IsErrOf result LogFault.Read
-            → HasCauseIn R.failure_count R.spent_count
-            (count_in R.failure_count self.old) self.new }
+            → HasCauseSince R.failure_count R.spent_count self.old self.new }
         ensures memory { IsErrOf result LogFault.Memory
-            → ¬ HasCauseIn R.failure_count R.spent_count
-            (count_in R.failure_count self.old) self.new }
+            → ¬ HasCauseSince R.failure_count R.spent_count self.old self.new }
         ensures keeps { Keeps self.old self.new }
     {
         let failures_before = self.records.failures();
@@ -339,21 +299,15 @@ impl<'r, R: ByteIn> Rows<'r, R> {
             → Takes (head_view (row_bytes self.new)) R.bytes_left log result self.new }
         ensures records { (records : List Record) → Reads R.bytes_left self.old records
             → Reads R.bytes_left self.new records }
-        ensures row { IfOk result
-            (λ given.
-            IfSome given
-            (λ head. IsNext (suc (max 1 (rows_read self.old))) (last_ms self.old) self.new
-            (head_view (row_bytes self.new) head))) }
+        ensures row { GivesHead (suc (max 1 (rows_read self.old))) self.old result self.new }
         ensures ends { ended self.new ≡ left.end_after result }
         ensures again { IfSome (ended self.old)
             (λ end. (result ≡ left.answer_at end) × (self.new ≡ self.old)) }
         ensures cause { ended self.old ≡ None → IsErrOf result LogFault.Read
-            → HasCauseIn R.failure_count R.spent_count
-            (count_in R.failure_count self.old) self.new }
+            → HasCauseSince R.failure_count R.spent_count self.old self.new }
         // A fault of the reader, or the limit that was reached, is not reported as out of memory.
         ensures memory { ended self.old ≡ None → IsErrOf result LogFault.Memory
-            → ¬ HasCauseIn R.failure_count R.spent_count
-            (count_in R.failure_count self.old) self.new }
+            → ¬ HasCauseSince R.failure_count R.spent_count self.old self.new }
         ensures start { started_at self.new ≡ started_at self.old }
     {
         match self.end {
@@ -368,30 +322,12 @@ impl<'r, R: ByteIn> Rows<'r, R> {
         }
     }
 
-    /// The row of that head with a copy of the bytes that the last row brought.
-    fn owned(&self, head: RowHead) -> Result<Row, AllocError>
-        ensures { IfOk result (λ row. row_view row ≡ head_view (row_bytes self.now) head) }
-    {
-        match owned_kind(self.alloc, head.kind, self.bytes()) {
-            Ok(kind) => Ok(Row {
-                number: head.number,
-                ms: head.ms,
-                kind,
-            }),
-            Err(fault) => Err(fault),
-        }
-    }
-
     /// Ends the log because a row could not be copied: with the cause in the reader if there is
     /// one, else out of memory.
     #[cold]
     #[inline(never)]
     fn end_uncopied(&mut self, failures_before: u64) -> LogFault
-        ensures read { (result ≡ LogFault.Read)
-            → HasCauseIn R.failure_count R.spent_count failures_before self.new }
-        ensures memory { (result ≡ LogFault.Memory)
-            → ¬ HasCauseIn R.failure_count R.spent_count failures_before self.new }
-        ensures fault { (result ≡ LogFault.Read) ⊎ (result ≡ LogFault.Memory) }
+        ensures cause { IsCause R.failure_count R.spent_count failures_before self.new result }
         ensures ends { self.new ≡ record self.old { end = Some (LogEnd.Raised result) } }
     {
         let fault = self.cause(failures_before);
@@ -409,27 +345,22 @@ impl<'r, R: ByteIn> Rows<'r, R> {
             → Takes row_view R.bytes_left log result self.new }
         ensures records { (records : List Record) → Reads R.bytes_left self.old records
             → Reads R.bytes_left self.new records }
-        ensures row { IfOk result
-            (λ given.
-            IfSome given
-            (λ row. IsNext (suc (max 1 (rows_read self.old))) (last_ms self.old) self.new
-            (row_view row))) }
+        ensures row { GivesNext row_view (suc (max 1 (rows_read self.old))) self.old result
+            self.new }
         ensures ends { ended self.new ≡ left.end_after result }
         ensures again { IfSome (ended self.old)
             (λ end. (result ≡ left.answer_at end) × (self.new ≡ self.old)) }
         ensures cause { ended self.old ≡ None → IsErrOf result LogFault.Read
-            → HasCauseIn R.failure_count R.spent_count
-            (count_in R.failure_count self.old) self.new }
+            → HasCauseSince R.failure_count R.spent_count self.old self.new }
         // A fault of the reader, or the limit that was reached, is not reported as out of memory.
         ensures memory { ended self.old ≡ None → IsErrOf result LogFault.Memory
-            → ¬ HasCauseIn R.failure_count R.spent_count
-            (count_in R.failure_count self.old) self.new }
+            → ¬ HasCauseSince R.failure_count R.spent_count self.old self.new }
         ensures start { started_at self.new ≡ started_at self.old }
     {
         let failures_before = self.records.failures();
         match self.next_head() {
             Ok(given) => match given {
-                Some(head) => match self.owned(head) {
+                Some(head) => match owned_row(self.alloc, head, self.bytes()) {
                     Ok(row) => Ok(Some(row)),
                     Err(_) => Err(self.end_uncopied(failures_before)),
                 },

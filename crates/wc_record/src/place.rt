@@ -1,4 +1,4 @@
-ghost use Rattle.std.specs.Prelude.{◌≡◌, ◌≤◌, ◌<◌, ◌+◌, length, min, true};
+ghost use Rattle.std.specs.Prelude.{◌≡◌, ◌≤◌, ◌<◌, ◌+◌, length, true};
 ghost use Rattle.wc_record.specs.Cutting.{AreUnquotedLines, Cuts, Passes};
 ghost use Rattle.wc_record.specs.Places.{after, after_opening, after_plain, is_cut, is_outside, log_start, record_start};
 
@@ -36,26 +36,6 @@ pub(crate) struct Place {
     pub(crate) size: u32,
 }
 
-/// One field more, up to three.
-#[inline(always)]
-fn one_field_more(ended: u8) -> u8
-    ensures { result ≡ min 3 (ended + 1) }
-{
-    if ended < 3 { ended + 1 } else { 3 }
-}
-
-/// One byte more, up to as many as are read of each record.
-#[inline(always)]
-fn one_byte_more(size: u32) -> u32
-    ensures { result ≡ min 65536 (size + 1) }
-{
-    if size < MOST_READ {
-        size + 1
-    } else {
-        MOST_READ
-    }
-}
-
 /// The place before the first byte of a record.
 #[inline(always)]
 fn at_record() -> Place
@@ -76,7 +56,7 @@ fn following_plain(ended: u8, size: u32, byte: u8) -> Place
     if byte == b',' {
         Place {
             byte_state: ByteState::Opening,
-            ended: one_field_more(ended),
+            ended: ended.saturating_add(1).min(3),
             size,
         }
     } else if byte == b'\r' || byte == b'\n' {
@@ -150,7 +130,7 @@ impl Place {
     fn following(self, byte: u8) -> Place
         ensures { result ≡ after self byte }
     {
-        let size = one_byte_more(self.size);
+        let size = self.size.saturating_add(1).min(MOST_READ);
         let byte_state = match self.byte_state {
             ByteState::Opening => return following_opening(self.ended, size, byte),
             ByteState::Plain => return following_plain(self.ended, size, byte),

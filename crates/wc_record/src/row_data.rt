@@ -1,8 +1,8 @@
-ghost use Rattle.std.specs.Prelude.{◌≡◌, ℕ, List, IfOk};
+ghost use Rattle.std.specs.Prelude.{◌≡◌, IfOk};
 ghost use Rattle.wc_model.specs.Run.Log.{row_data_of};
 ghost use Rattle.wc_model.specs.Run.Log as log;
 ghost use Rattle.wc_model.specs.Run.Rows as rows;
-ghost use Rattle.wc_record.specs.Views.{IsDataInRange, SaysData, head_data_view};
+ghost use Rattle.wc_record.specs.Views.{BringsInRange, IsDataInRange, Says, SaysData, head_data_view};
 
 use crate::hexadecimal::{inputs_word, line_chunk};
 use crate::numbers::counts;
@@ -28,10 +28,8 @@ fn refused(rule: u16) -> RowFault
 /// A sample.
 #[inline(always)]
 fn sample(text: &[u8]) -> Result<HeadKind, RowFault>
-    ensures says { (bytes : List ℕ)
-        → SaysData bytes result (log.brings_or 605 rows.Counts (log.counts_of text.now)) }
-    ensures range { (bytes : List ℕ)
-        → IfOk result (λ kind. IsDataInRange (head_data_view bytes kind)) }
+    ensures says { Says result (log.brings_or 605 rows.Counts (log.counts_of text.now)) }
+    ensures range { BringsInRange result }
 {
     match counts(text) {
         Some(counts) => Ok(HeadKind::Counts(counts)),
@@ -56,10 +54,8 @@ fn line_bytes(buffer: &mut Vec<u8>, text: &[u8]) -> Result<HeadKind, RowFault>
 /// Inputs.
 #[inline(always)]
 fn inputs(text: &[u8]) -> Result<HeadKind, RowFault>
-    ensures says { (bytes : List ℕ)
-        → SaysData bytes result (log.brings_or 606 rows.Inputs (log.inputs_word_of text.now)) }
-    ensures range { (bytes : List ℕ)
-        → IfOk result (λ kind. IsDataInRange (head_data_view bytes kind)) }
+    ensures says { Says result (log.brings_or 606 rows.Inputs (log.inputs_word_of text.now)) }
+    ensures range { BringsInRange result }
 {
     match inputs_word(text) {
         Some(inputs) => Ok(HeadKind::Inputs(inputs)),
@@ -70,9 +66,8 @@ fn inputs(text: &[u8]) -> Result<HeadKind, RowFault>
 /// A scan, which has no data.
 #[inline(always)]
 fn scan(text: &[u8]) -> Result<HeadKind, RowFault>
-    ensures says { (bytes : List ℕ) → SaysData bytes result (log.scan_of_data text.now) }
-    ensures range { (bytes : List ℕ)
-        → IfOk result (λ kind. IsDataInRange (head_data_view bytes kind)) }
+    ensures says { Says result (log.scan_of_data text.now) }
+    ensures range { BringsInRange result }
 {
     if text.is_empty() {
         Ok(HeadKind::Scan)
@@ -84,9 +79,8 @@ fn scan(text: &[u8]) -> Result<HeadKind, RowFault>
 /// A change of the program, which has no data either.
 #[inline(always)]
 fn change(text: &[u8]) -> Result<HeadKind, RowFault>
-    ensures says { (bytes : List ℕ) → SaysData bytes result (log.change_of_data text.now) }
-    ensures range { (bytes : List ℕ)
-        → IfOk result (λ kind. IsDataInRange (head_data_view bytes kind)) }
+    ensures says { Says result (log.change_of_data text.now) }
+    ensures range { BringsInRange result }
 {
     if text.is_empty() {
         Ok(HeadKind::Change)

@@ -1,7 +1,7 @@
 ghost use Rattle.std.specs.Prelude.{◌≡◌, IfOk};
-ghost use Rattle.wc_record.specs.Views.{data_view, head_data_view};
+ghost use Rattle.wc_record.specs.Views.{head_view, row_view};
 
-use crate::row_kind::RowKind;
+use crate::row_kind::{Row, RowKind};
 use std::alloc::{AllocError, Global};
 
 /// The head of a row of a log: its number, its moment and its kind. The bytes of a `Bytes` row are
@@ -31,18 +31,17 @@ pub enum HeadKind {
     Change,
 }
 
-/// What a row of that kind and those bytes brings. Only a `Bytes` row takes memory, a copy of them.
-pub(crate) fn owned_kind(alloc: Global, kind: HeadKind, bytes: &[u8]) -> Result<RowKind, AllocError>
-    ensures { IfOk result (λ owned. data_view owned ≡ head_data_view bytes.now kind) }
+/// The row of that head and those bytes. Only a `Bytes` row takes memory, a copy of them.
+pub(crate) fn owned_row(alloc: Global, head: RowHead, bytes: &[u8]) -> Result<Row, AllocError>
+    ensures { IfOk result (λ row. row_view row ≡ head_view bytes.now head) }
 {
-    match kind {
-        HeadKind::Counts(counts) => Ok(RowKind::Counts(counts)),
-        HeadKind::Bytes => match Vec::from_slice(alloc, bytes) {
-            Ok(copied) => Ok(RowKind::Bytes(copied)),
-            Err(fault) => Err(fault),
-        },
-        HeadKind::Inputs(inputs) => Ok(RowKind::Inputs(inputs)),
-        HeadKind::Scan => Ok(RowKind::Scan),
-        HeadKind::Change => Ok(RowKind::Change),
-    }
+    let kind = match head.kind {
+        HeadKind::Counts(counts) => RowKind::Counts(counts),
+        HeadKind::Bytes => RowKind::Bytes(Vec::from_slice(alloc, bytes)?),
+        HeadKind::Inputs(inputs) => RowKind::Inputs(inputs),
+        HeadKind::Scan => RowKind::Scan,
+        HeadKind::Change => RowKind::Change,
+    };
+    let (number, ms) = (head.number, head.ms);
+    Ok(Row { number, ms, kind })
 }

@@ -89,7 +89,7 @@ fn is_hidden_field(block: StandardBlock, field: &[u8]) -> bool
     }
 }
 
-/// Likewise for the field with that number among the names of a path, if there is one.
+/// Whether the names of a path, from that number on, cannot name a field of a standard block.
 fn is_hidden_at(block: StandardBlock, names: &[&[u8]], index: usize) -> bool
     ensures { result
         ≡ is_hidden_field block (map (λ name. name_of name.now) (drop index names.now)) }

@@ -80,11 +80,7 @@ pub(crate) fn validate_divisor(operator: Operator, operand: &Operand<'_>) -> Opt
         → first_broken (divisor_checks operator line (term_view operand.now) ++ rest)
         ≡ first_at result line (first_broken rest) }
 {
-    if divides(operator) {
-        unless(is_divisor(operand), 408)
-    } else {
-        None
-    }
+    unless(!divides(operator) || is_divisor(operand), 408)
 }
 
 /// Whether an operand is of a kind.

@@ -75,7 +75,7 @@ at_block text k scope initial type number is (of_block n u us t f d) =
       is = ap (λ (o : Option (ProgramUnit × List ProgramUnit)). option_map found_type (option_map (λ found. Group found.0.spelled) o)) (sym f) ∙ ap (text_at scope.before initial) (sym t);
     }
 
--- likewise for a side
+-- what a name declares in a side, which may be missing: nothing, an elementary type or a standard block
 pub text_none : (text : Text) (unit : Option ℕ) (side : Option Scope) (name : Name) → IsSide text unit side → None ≡ numbered_side side name → None ≡ option_map found_type (side_found side (name ∷ []))
 text_none text unit None name h e = refl
 text_none text unit (Some scope) name h e = at_none scope.before (initial_of scope.unit name) (type_of scope name) e

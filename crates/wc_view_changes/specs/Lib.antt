@@ -1,4 +1,5 @@
 pub mod ChangeReport
+pub mod Puts
 pub mod Shapes
 pub mod Shown
 pub mod Sides

@@ -8,6 +8,7 @@ ghost use Rattle.wc_view_changes.specs.ChangeReport.{found_first, found_type, li
 ghost use Rattle.wc_view_changes.specs.Shapes.{shape_view, has_shape};
 ghost use Rattle.wc_view_changes.specs.Shown.{declared_of};
 ghost use Rattle.wc_view_changes.specs.Sides.{IsAt, IsSide, declaration_lines, line_numbered, lines_between, numbered_side, pass_text, side_found, variable_lines};
+ghost use Rattle.wc_view_changes.specs.Puts.{Puts};
 
 use crate::lines::{put_first, put_kept, put_lost, put_note};
 use crate::other::{is_line, other_literal, other_type, type_text, unit_of};
@@ -60,9 +61,7 @@ struct Counterpart {
 
 /// Puts one more name and a dot after the names that have led so far.
 fn go_into(names: &mut Vec<u8>, name: &[u8]) -> Result<(), Fault>
-    ensures longer { OnOk result
-        (names.new.items ≡ names.old.items ++ (name.now ++ (46 ∷ []))) }
-    ensures memory { IsOkUnless result Fault.Memory }
+    ensures { Puts names.old names.new result (name.now ++ (46 ∷ [])) }
 {
     put_bytes(names, name)?;
     put_bytes(names, b".")
@@ -106,10 +105,8 @@ fn describe_old(
     shape: Shape,
     becomes: Option<DeclaredType>,
 ) -> Result<(), Fault>
-    ensures line { OnOk result
-        (out.new.items ≡ out.old.items
-        ++ lost_text (line_numbered becomes) (prefix.now ++ name.now) (shape_view shape)) }
-    ensures memory { IsOkUnless result Fault.Memory }
+    ensures { Puts out.old out.new result
+        (lost_text (line_numbered becomes) (prefix.now ++ name.now) (shape_view shape)) }
 {
     if is_line(becomes) {
         return Ok(());

@@ -6,10 +6,11 @@ ghost use Rattle.wc_view_changes.specs.ChangeReport as texts;
 ghost use Rattle.wc_model.specs.declared.kind.Kind.{Kind};
 ghost use Rattle.wc_view_changes.specs.Shown as shown;
 ghost use Rattle.wc_view_changes.specs.Shapes.{shape_view};
+ghost use Rattle.wc_view_changes.specs.Puts.{Puts};
 
 use crate::shape::{Shape, block_text, kind_text, shape_type};
 use std::alloc::Global;
-use wc_model::{Fault, Value, put_bytes};
+use wc_model::{Fault, Value, or_memory, put_bytes};
 
 /// Puts a number in decimal digits, with bytes before it and after it.
 fn put_number(
@@ -19,15 +20,10 @@ fn put_number(
     number: i32,
     following: &str,
 ) -> Result<(), Fault>
-    ensures number { OnOk result
-        (out.new.items
-        ≡ out.old.items ++ (before.now ++ (signed_decimal number ++ following.now))) }
-    ensures memory { IsOkUnless result Fault.Memory }
+    ensures { Puts out.old out.new result (before.now ++ (signed_decimal number ++ following.now)) }
 {
-    match format!(in alloc; "{before}{number}{following}") {
-        Ok(text) => put_bytes(out, text.as_bytes()),
-        Err(_) => Err(Fault::Memory),
-    }
+    let text = or_memory(format!(in alloc; "{before}{number}{following}"))?;
+    put_bytes(out, text.as_bytes())
 }
 
 /// Puts a value as a literal of the language. `Memory` is the only fault.
@@ -46,9 +42,7 @@ pub fn put_value(alloc: Global, out: &mut Vec<u8>, value: Value) -> Result<(), F
 
 /// Puts a type, and the first value of what has one of its own.
 fn put_shape(alloc: Global, out: &mut Vec<u8>, shape: Shape) -> Result<(), Fault>
-    ensures shape { OnOk result
-        (out.new.items ≡ out.old.items ++ texts.shape_text (shape_view shape)) }
-    ensures memory { IsOkUnless result Fault.Memory }
+    ensures { Puts out.old out.new result (texts.shape_text (shape_view shape)) }
 {
     match shape {
         Shape::Instance(block) => put_bytes(out, block_text(block)),
@@ -62,10 +56,8 @@ fn put_shape(alloc: Global, out: &mut Vec<u8>, shape: Shape) -> Result<(), Fault
 
 /// Puts why a variable begins with its first value, and the end of its line.
 fn put_reason(out: &mut Vec<u8>, old_type: Option<&[u8]>) -> Result<(), Fault>
-    ensures reason { OnOk result
-        (out.new.items ≡ out.old.items
-        ++ (reason_text (option_map (λ spelled. spelled.now) old_type.entry) ++ (10 ∷ []))) }
-    ensures memory { IsOkUnless result Fault.Memory }
+    ensures { Puts out.old out.new result
+        (reason_text (option_map (λ spelled. spelled.now) old_type.entry) ++ (10 ∷ [])) }
 {
     let Some(spelled) = old_type else {
         return put_bytes(out, b"new\n");
@@ -77,9 +69,7 @@ fn put_reason(out: &mut Vec<u8>, old_type: Option<&[u8]>) -> Result<(), Fault>
 
 /// Puts what a line says first, and the names of its variable.
 fn put_names(out: &mut Vec<u8>, word: &[u8], prefix: &[u8], name: &[u8]) -> Result<(), Fault>
-    ensures names { OnOk result
-        (out.new.items ≡ out.old.items ++ (word.now ++ (prefix.now ++ name.now))) }
-    ensures memory { IsOkUnless result Fault.Memory }
+    ensures { Puts out.old out.new result (word.now ++ (prefix.now ++ name.now)) }
 {
     put_bytes(out, word)?;
     put_bytes(out, prefix)?;
@@ -105,11 +95,9 @@ pub(crate) fn put_first(
     shape: Shape,
     old_type: Option<&[u8]>,
 ) -> Result<(), Fault>
-    ensures line { OnOk result
-        (out.new.items ≡ out.old.items
-        ++ line_text false (prefix.now ++ name.now) (shape_view shape)
+    ensures { Puts out.old out.new result
+        (line_text false (prefix.now ++ name.now) (shape_view shape)
         (option_map (λ spelled. spelled.now) old_type.entry)) }
-    ensures memory { IsOkUnless result Fault.Memory }
 {
     put_names(out, b"first ", prefix, name)?;
     put_bytes(out, b" ")?;
@@ -125,10 +113,8 @@ pub(crate) fn put_lost(
     name: &[u8],
     shape: Shape,
 ) -> Result<(), Fault>
-    ensures line { OnOk result
-        (out.new.items ≡ out.old.items
-        ++ lost_text false (prefix.now ++ name.now) (shape_view shape)) }
-    ensures memory { IsOkUnless result Fault.Memory }
+    ensures { Puts out.old out.new result
+        (lost_text false (prefix.now ++ name.now) (shape_view shape)) }
 {
     put_names(out, b"lost ", prefix, name)?;
     put_bytes(out, b" ")?;
@@ -150,9 +136,7 @@ fn is_same(first: Value, before: Value) -> bool
 
 /// Puts bytes, and a value as a literal after them.
 fn put_before(alloc: Global, out: &mut Vec<u8>, words: &[u8], value: Value) -> Result<(), Fault>
-    ensures value { OnOk result
-        (out.new.items ≡ out.old.items ++ (words.now ++ content_text (Plain value))) }
-    ensures memory { IsOkUnless result Fault.Memory }
+    ensures { Puts out.old out.new result (words.now ++ content_text (Plain value)) }
 {
     put_bytes(out, words)?;
     put_value(alloc, out, value)
@@ -166,9 +150,8 @@ fn put_sentence(
     first: Value,
     before: Value,
 ) -> Result<(), Fault>
-    ensures note { OnOk result (out.new.items ≡ out.old.items
-        ++ note_text false (path.entry.0.now ++ path.entry.1.now) (Plain first) (Plain before)) }
-    ensures memory { IsOkUnless result Fault.Memory }
+    ensures { Puts out.old out.new result
+        (note_text false (path.entry.0.now ++ path.entry.1.now) (Plain first) (Plain before)) }
 {
     put_names(out, b"note: a change keeps the value of `", path.0, path.1)?;
     put_before(alloc, out, b"`; its first value, ", first)?;
@@ -184,9 +167,8 @@ fn put_object(
     first: Value,
     before: Value,
 ) -> Result<(), Fault>
-    ensures note { OnOk result (out.new.items ≡ out.old.items
-        ++ note_text true (path.entry.0.now ++ path.entry.1.now) (Plain first) (Plain before)) }
-    ensures memory { IsOkUnless result Fault.Memory }
+    ensures { Puts out.old out.new result
+        (note_text true (path.entry.0.now ++ path.entry.1.now) (Plain first) (Plain before)) }
 {
     put_names(
         out,

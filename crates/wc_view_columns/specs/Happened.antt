@@ -10,7 +10,7 @@ counted n = min n (2 ^ 32 - 1)
 -- What happened in two times, one after the other.
 --     steps      those of the longest scan
 --     marked     when the last zero, tare or change was: that of the later time, if it has one
---     last       the last request: likewise
+--     last       the last request: that of the later time, if it has one
 pub record AreBoth (earlier later both : Events) : Type 0 where
   pub zeros : both.zeros ≡ counted (earlier.zeros + later.zeros)
   pub zeros_refused : both.zeros_refused ≡ counted (earlier.zeros_refused + later.zeros_refused)

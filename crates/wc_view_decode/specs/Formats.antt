@@ -23,7 +23,7 @@ abbrev pub names_of_bits : ℕ → ℕ → List ℕ
 names_of_bits bits zero = []
 names_of_bits bits (suc i) = names_of_bits bits i ++ bit_name bits i
 
--- likewise for all sixteen, or that there are none
+-- the names of all sixteen that are set, or that there are none
 unfoldable pub bits_text : ℕ → List ℕ
 bits_text bits = if bits == 0 then codes " none" else names_of_bits bits 16
 

@@ -8,4 +8,5 @@ pub mod Found
 pub mod LineAnswers
 pub mod Lines
 pub mod Running
+pub mod Puts
 pub mod Representation

@@ -1,10 +1,12 @@
 -- What is read, decoded and written chunk by chunk.
-use Rattle.std.specs.Prelude.{◌≡◌, ℕ, ◌≤◌, List, [], ◌++◌, take, length, Option, Result, Ok, Err}
+use Rattle.std.specs.Prelude.{◌≡◌, ℕ, ◌≤◌, List, [], ◌++◌, take, length, Option, Result, Ok, Err, IfErr, IsErrOf}
 use Rattle.std.specs.Io.KnownBytes.{Appends, Consumes, IsAtEnd, Keeps}
-use Rattle.wc_view_decode.specs.Decoding.{Decodes, DecodesPrefix}
+use Rattle.wc_view_decode.specs.Decoding.{Decodes, DecodesPrefix, HasReadCause}
 use Rattle.wc_view_decode.specs.Representation.{Represents}
 use Rattle.wc_view_decode.specs.declared.decoder.Decoder.{Decoder}
 use Rattle.wc_view_decode.specs.declared.format.DecodeFault.{DecodeFault}
+use Rattle.wc_view_decode.specs.declared.format.DecodeFault.TheVariants.{Read, Write}
+use Rattle.wc_model.specs.Run.Writing.{HasFailedSince}
 
 -- a text is written, or a prefix of it
 abbrev pub WritesText : {E : Type 0} → (old new : Option (List ℕ)) → Result Unit E → List ℕ → Type 0
@@ -50,3 +52,15 @@ DecodesRest before (Err fault) input_old input_new output_old output_new =
     (text : List ℕ) → Represents before [] text
     → (report : List ℕ) × (more : List ℕ) × (added : List ℕ) × Consumes input_old input_new (report ++ more)
     × Appends output_old output_new added × DecodesPrefix before.format report (text ++ added)
+
+-- a fault of reading has its cause in the reader, and without one no call of it has failed
+abbrev pub ReadsOr : {A : Type 0} → Result A DecodeFault → ℕ → ℕ → ℕ → ℕ → Type 0
+ReadsOr result before after start spent = (IsErrOf result Read → HasReadCause before after start spent) × ((IsErrOf result Read → ⊥) → after ≡ before)
+
+-- a fault of writing has its cause in the writer, and without one no call of it has failed
+abbrev pub WritesOr : {A : Type 0} → Result A DecodeFault → ℕ → ℕ → Type 0
+WritesOr result before after = (IsErrOf result Write → HasFailedSince before after) × ((IsErrOf result Write → ⊥) → after ≡ before)
+
+-- so it is, and no fault is one of reading
+abbrev pub WritesOnly : {A : Type 0} → Result A DecodeFault → ℕ → ℕ → Type 0
+WritesOnly result before after = WritesOr result before after × IfErr result (λ fault. fault ≡ Read → ⊥)

@@ -1,7 +1,8 @@
-ghost use Rattle.std.specs.Prelude.{◌≡◌, ◌≤◌, ◌==◌, ◌++◌, length, IsOkUnless, OnOk};
+ghost use Rattle.std.specs.Prelude.{◌≡◌, ◌≤◌, ◌==◌, length};
 ghost use Rattle.std.specs.List.{prefix_len};
 ghost use Rattle.wc_view_decode.specs.declared.answer.Answer.TheVariants.{Weight};
 ghost use Rattle.wc_view_decode.specs.AnswerTexts.{answer_text, kind_text, motion_text, status_text, unit_text};
+ghost use Rattle.wc_view_decode.specs.Puts.{Puts};
 
 use crate::answer::{Answer, Reading};
 use wc_model::{Fault, put_bytes};
@@ -65,9 +66,7 @@ fn spaces_before(weight: &[u8]) -> usize
 
 /// Appends the words for a weight to a text.
 fn put_reading(text: &mut Vec<u8>, reading: &Reading) -> Result<(), Fault>
-    ensures words { OnOk result (text.new.items
-        ≡ text.old.items ++ answer_text (Weight reading.now)) }
-    ensures memory { IsOkUnless result Fault.Memory }
+    ensures { Puts text.old text.new result (answer_text (Weight reading.now)) }
 {
     let (_spaces, weight) = reading.weight.split_at(spaces_before(&reading.weight));
     put_bytes(text, weight)?;
@@ -80,8 +79,7 @@ fn put_reading(text: &mut Vec<u8>, reading: &Reading) -> Result<(), Fault>
 
 /// Appends the words for an answer to a text. `Memory` is the only fault.
 pub(crate) fn put_answer(text: &mut Vec<u8>, answer: &Answer) -> Result<(), Fault>
-    ensures words { OnOk result (text.new.items ≡ text.old.items ++ answer_text answer.now) }
-    ensures memory { IsOkUnless result Fault.Memory }
+    ensures { Puts text.old text.new result (answer_text answer.now) }
 {
     match answer {
         Answer::Weight(reading) => put_reading(text, reading),

@@ -1,7 +1,7 @@
 ghost use Rattle.std.specs.Prelude.{◌≡◌, ◌<◌, ◌≤◌, ◌^◌, IfErr, IfOk, IsErrOf, length, take};
 ghost use Rattle.wc_view_decode.specs.Decoding.{DecodesAll, HasReadCause, is_exhausted};
 ghost use Rattle.wc_view_decode.specs.Formats.{heading};
-ghost use Rattle.wc_view_decode.specs.Running.{DecodesChunk, DecodesRest, Ends, ReadsChunk, WritesText};
+ghost use Rattle.wc_view_decode.specs.Running.{DecodesChunk, DecodesRest, Ends, ReadsChunk, ReadsOr, WritesOnly, WritesOr, WritesText};
 ghost use Rattle.wc_model.specs.Run.Writing.{HasFailedSince};
 
 use crate::decoder::{Decoder, finish, new_decoder, take_bytes};
@@ -75,11 +75,7 @@ fn decode_chunk<W: ByteOut>(
     ensures format { decoder.new.format ≡ decoder.old.format }
     ensures chunk { DecodesChunk decoder.old decoder.new chunk.now result
         (W.bytes_taken output.old) (W.bytes_taken output.new) }
-    ensures steady { ¬ IsErrOf result DecodeFault.Write
-        → W.failure_count output.new ≡ W.failure_count output.old }
-    ensures fault { IfErr result (λ fault. ¬ (fault ≡ DecodeFault.Read)) }
-    ensures cause { IsErrOf result DecodeFault.Write
-        → HasFailedSince (W.failure_count output.old) (W.failure_count output.new) }
+    ensures faults { WritesOnly result (W.failure_count output.old) (W.failure_count output.new) }
 {
     let mut text = Vec::new(alloc);
     match take_bytes(alloc, decoder, chunk, &mut text) {
@@ -95,11 +91,7 @@ fn finish_report<W: ByteOut>(
     output: &mut W,
 ) -> Result<(), DecodeFault>
     ensures ends { Ends decoder.now result (W.bytes_taken output.old) (W.bytes_taken output.new) }
-    ensures steady { ¬ IsErrOf result DecodeFault.Write
-        → W.failure_count output.new ≡ W.failure_count output.old }
-    ensures fault { IfErr result (λ fault. ¬ (fault ≡ DecodeFault.Read)) }
-    ensures cause { IsErrOf result DecodeFault.Write
-        → HasFailedSince (W.failure_count output.old) (W.failure_count output.new) }
+    ensures faults { WritesOnly result (W.failure_count output.old) (W.failure_count output.new) }
 {
     let mut text = Vec::new(alloc);
     match finish(decoder, &mut text) {
@@ -117,15 +109,9 @@ fn decode_rest<R: ByteIn, W: ByteOut>(
 ) -> Result<(), DecodeFault>
     ensures rest { DecodesRest decoder.old result (R.bytes_left input.old) (R.bytes_left input.new)
         (W.bytes_taken output.old) (W.bytes_taken output.new) }
-    ensures read { IsErrOf result DecodeFault.Read
-        → HasReadCause (R.failure_count input.old) (R.failure_count input.new)
+    ensures read { ReadsOr result (R.failure_count input.old) (R.failure_count input.new)
         (R.spent_count input.old) (R.spent_count input.new) }
-    ensures reader { ¬ IsErrOf result DecodeFault.Read
-        → R.failure_count input.new ≡ R.failure_count input.old }
-    ensures write { IsErrOf result DecodeFault.Write
-        → HasFailedSince (W.failure_count output.old) (W.failure_count output.new) }
-    ensures steady { ¬ IsErrOf result DecodeFault.Write
-        → W.failure_count output.new ≡ W.failure_count output.old }
+    ensures write { WritesOr result (W.failure_count output.old) (W.failure_count output.new) }
 {
     let start = input.spent();
     let mut buffer = [0; CHUNK];

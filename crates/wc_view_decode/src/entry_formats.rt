@@ -1,6 +1,7 @@
-ghost use Rattle.std.specs.Prelude.{◌≡◌, ◌++◌, IsOkUnless, OnOk};
+ghost use Rattle.std.specs.Prelude.{◌≡◌};
 ghost use Rattle.wc_view_decode.specs.Entries.{entry_content};
 ghost use Rattle.wc_view_decode.specs.Formats.{answer_line, answer_lines, decoded, refusal_line, refusal_mark, scan_line, scan_prefix};
+ghost use Rattle.wc_view_decode.specs.Puts.{Puts};
 
 use crate::answer::Answer;
 use crate::answer_texts::put_answer;
@@ -14,9 +15,8 @@ use wc_report::put_number;
 
 /// Appends the moment, the steps and the bits of a scan to a text.
 fn put_scan_prefix(text: &mut Vec<u8>, row: &ScanRow) -> Result<(), Fault>
-    ensures line { OnOk result (text.new.items
-        ≡ text.old.items ++ scan_prefix row.now.ms row.now.steps.0 row.now.outputs) }
-    ensures memory { IsOkUnless result Fault.Memory }
+    ensures { Puts text.old text.new result
+        (scan_prefix row.now.ms row.now.steps.0 row.now.outputs) }
 {
     put_number_after(text, b"S ", row.ms)?;
     put_number_after(text, b"  ", u64::from(row.steps.0))?;
@@ -26,9 +26,7 @@ fn put_scan_prefix(text: &mut Vec<u8>, row: &ScanRow) -> Result<(), Fault>
 
 /// Appends an answer to a text, for people.
 fn put_answer_line(text: &mut Vec<u8>, ms: u64, answer: &Answer) -> Result<(), Fault>
-    ensures answer { OnOk result (text.new.items
-        ≡ text.old.items ++ answer_line DecodeFormat.Text ms answer.now) }
-    ensures memory { IsOkUnless result Fault.Memory }
+    ensures { Puts text.old text.new result (answer_line DecodeFormat.Text ms answer.now) }
 {
     put_number_after(text, b"L ", ms)?;
     put_bytes(text, b"  ")?;
@@ -38,9 +36,7 @@ fn put_answer_line(text: &mut Vec<u8>, ms: u64, answer: &Answer) -> Result<(), F
 
 /// Appends an answer to a text, as a row of a table.
 fn put_answer_row(text: &mut Vec<u8>, ms: u64, answer: &Answer) -> Result<(), Fault>
-    ensures answer { OnOk result (text.new.items
-        ≡ text.old.items ++ answer_line DecodeFormat.Table ms answer.now) }
-    ensures memory { IsOkUnless result Fault.Memory }
+    ensures { Puts text.old text.new result (answer_line DecodeFormat.Table ms answer.now) }
 {
     put_number(text, ms)?;
     put_bytes(text, b",L,,,,,,,,,,,,,,,,,,,,,,\"")?;
@@ -55,9 +51,7 @@ fn put_one_answer(
     ms: u64,
     answer: &Answer,
 ) -> Result<(), Fault>
-    ensures answer { OnOk result (text.new.items
-        ≡ text.old.items ++ answer_line format ms answer.now) }
-    ensures memory { IsOkUnless result Fault.Memory }
+    ensures { Puts text.old text.new result (answer_line format ms answer.now) }
 {
     match format {
         DecodeFormat::Text => put_answer_line(text, ms, answer),
@@ -72,9 +66,7 @@ fn put_answers(
     ms: u64,
     answers: &[Answer],
 ) -> Result<(), Fault>
-    ensures answers { OnOk result (text.new.items
-        ≡ text.old.items ++ answer_lines format ms answers.now) }
-    ensures memory { IsOkUnless result Fault.Memory }
+    ensures { Puts text.old text.new result (answer_lines format ms answers.now) }
 {
     for answer in answers {
         put_one_answer(text, format, ms, answer)?;
@@ -94,9 +86,7 @@ fn refusal_mark(format: DecodeFormat) -> &'static [u8]
 
 /// Appends a refusal to a text.
 fn put_refusal(text: &mut Vec<u8>, format: DecodeFormat, row: &RefusalRow) -> Result<(), Fault>
-    ensures refusal { OnOk result (text.new.items
-        ≡ text.old.items ++ refusal_line format row.now.number row.now.place) }
-    ensures memory { IsOkUnless result Fault.Memory }
+    ensures { Puts text.old text.new result (refusal_line format row.now.number row.now.place) }
 {
     put_number_after(text, refusal_mark(format), u64::from(row.number))?;
     put_number_after(text, b" ", u64::from(row.place))?;
@@ -105,9 +95,8 @@ fn put_refusal(text: &mut Vec<u8>, format: DecodeFormat, row: &RefusalRow) -> Re
 
 /// Appends a scan to a text, for people.
 fn put_scan_line(text: &mut Vec<u8>, row: &ScanRow) -> Result<(), Fault>
-    ensures scan { OnOk result (text.new.items ≡ text.old.items
-        ++ scan_line DecodeFormat.Text row.now.ms row.now.steps.0 row.now.outputs) }
-    ensures memory { IsOkUnless result Fault.Memory }
+    ensures { Puts text.old text.new result
+        (scan_line DecodeFormat.Text row.now.ms row.now.steps.0 row.now.outputs) }
 {
     put_scan_prefix(text, row)?;
     put_words(text, &row.outputs.words)?;
@@ -116,9 +105,8 @@ fn put_scan_line(text: &mut Vec<u8>, row: &ScanRow) -> Result<(), Fault>
 
 /// Appends a scan to a text, as a row of a table.
 fn put_scan_row(text: &mut Vec<u8>, row: &ScanRow) -> Result<(), Fault>
-    ensures scan { OnOk result (text.new.items ≡ text.old.items
-        ++ scan_line DecodeFormat.Table row.now.ms row.now.steps.0 row.now.outputs) }
-    ensures memory { IsOkUnless result Fault.Memory }
+    ensures { Puts text.old text.new result
+        (scan_line DecodeFormat.Table row.now.ms row.now.steps.0 row.now.outputs) }
 {
     put_number(text, row.ms)?;
     put_number_after(text, b",S,", u64::from(row.steps.0))?;
@@ -129,9 +117,8 @@ fn put_scan_row(text: &mut Vec<u8>, row: &ScanRow) -> Result<(), Fault>
 
 /// Appends a scan to a text.
 fn put_scan(text: &mut Vec<u8>, format: DecodeFormat, row: &ScanRow) -> Result<(), Fault>
-    ensures scan { OnOk result (text.new.items
-        ≡ text.old.items ++ scan_line format row.now.ms row.now.steps.0 row.now.outputs) }
-    ensures memory { IsOkUnless result Fault.Memory }
+    ensures { Puts text.old text.new result
+        (scan_line format row.now.ms row.now.steps.0 row.now.outputs) }
 {
     match format {
         DecodeFormat::Text => put_scan_line(text, row),
@@ -145,9 +132,7 @@ pub(crate) fn put_entry(
     format: DecodeFormat,
     entry: &ReportEntry,
 ) -> Result<(), Fault>
-    ensures entry { OnOk result (text.new.items
-        ≡ text.old.items ++ decoded format (entry_content entry.now)) }
-    ensures memory { IsOkUnless result Fault.Memory }
+    ensures { Puts text.old text.new result (decoded format (entry_content entry.now)) }
 {
     match entry {
         ReportEntry::Scan(row) => put_scan(text, format, row),

@@ -97,10 +97,7 @@ fn push_answer(answers: &mut Vec<Answer>, answer: Answer) -> Result<(), Fault>
     ensures answer { OnOk result (answers.new.items ≡ answers.old.items ++ answer ∷ []) }
     ensures memory { IsOkUnless result Fault.Memory }
 {
-    match answers.push(answer) {
-        Ok(()) => Ok(()),
-        Err(_) => Err(Fault::Memory),
-    }
+    answers.push(answer).map_err(|_| Fault::Memory)
 }
 
 /// What follows n bytes.

@@ -2,6 +2,7 @@ ghost use Rattle.std.specs.Prelude.{◌≡◌, ◌<◌, ◌++◌, decimal, IsOkU
 ghost use Rattle.std.specs.Fmt.{signed_decimal};
 ghost use Rattle.wc_view_decode.specs.declared.format.DecodeFormat.TheVariants.{Table, Text};
 ghost use Rattle.wc_view_decode.specs.Formats.{bit_column, bit_name, bits_row, bits_text, is_bit_on, named_words, word_names};
+ghost use Rattle.wc_view_decode.specs.Puts.{Puts};
 
 use wc_model::{Fault, put_bytes};
 use wc_report::{put_number, put_signed};
@@ -27,8 +28,7 @@ fn is_bit_on(bits: u16, index: u16) -> bool
 /// Appends the name of a bit to a text, if it is set.
 fn put_bit_name(text: &mut Vec<u8>, bits: u16, index: u16) -> Result<(), Fault>
     requires { index < 16 }
-    ensures name { OnOk result (text.new.items ≡ text.old.items ++ bit_name bits index) }
-    ensures memory { IsOkUnless result Fault.Memory }
+    ensures { Puts text.old text.new result (bit_name bits index) }
 {
     if is_bit_on(bits, index) {
         return put_number_after(text, b" %QX0.", u64::from(index));
@@ -39,8 +39,7 @@ fn put_bit_name(text: &mut Vec<u8>, bits: u16, index: u16) -> Result<(), Fault>
 /// Appends the names of the bits that are set to a text.
 #[tactic(auto, unfolding(crate::specs::Formats::bits_text))]
 pub(crate) fn put_bits(text: &mut Vec<u8>, bits: u16) -> Result<(), Fault>
-    ensures bits { OnOk result (text.new.items ≡ text.old.items ++ bits_text bits) }
-    ensures memory { IsOkUnless result Fault.Memory }
+    ensures { Puts text.old text.new result (bits_text bits) }
 {
     if bits == 0 {
         return put_bytes(text, b" none");
@@ -54,8 +53,7 @@ pub(crate) fn put_bits(text: &mut Vec<u8>, bits: u16) -> Result<(), Fault>
 /// Appends the column of a bit to a text.
 fn put_bit_column(text: &mut Vec<u8>, bits: u16, index: u16) -> Result<(), Fault>
     requires { index < 16 }
-    ensures column { OnOk result (text.new.items ≡ text.old.items ++ bit_column bits index) }
-    ensures memory { IsOkUnless result Fault.Memory }
+    ensures { Puts text.old text.new result (bit_column bits index) }
 {
     if is_bit_on(bits, index) {
         put_bytes(text, b",1")
@@ -67,8 +65,7 @@ fn put_bit_column(text: &mut Vec<u8>, bits: u16, index: u16) -> Result<(), Fault
 /// Appends the columns of the bits to a text.
 #[tactic(auto, unfolding(crate::specs::Formats::bits_row))]
 pub(crate) fn put_bit_columns(text: &mut Vec<u8>, bits: u16) -> Result<(), Fault>
-    ensures columns { OnOk result (text.new.items ≡ text.old.items ++ bits_row bits) }
-    ensures memory { IsOkUnless result Fault.Memory }
+    ensures { Puts text.old text.new result (bits_row bits) }
 {
     for index in 0..16 {
         put_bit_column(text, bits, index)?;
@@ -88,9 +85,7 @@ fn put_word(text: &mut Vec<u8>, name: &[u8], word: &i32) -> Result<(), Fault>
 
 /// Appends the words by name to a text.
 pub(crate) fn put_words(text: &mut Vec<u8>, words: &[i32; 4]) -> Result<(), Fault>
-    ensures words { OnOk result (text.new.items
-        ≡ text.old.items ++ named_words (word_names Text) words.now) }
-    ensures memory { IsOkUnless result Fault.Memory }
+    ensures { Puts text.old text.new result (named_words (word_names Text) words.now) }
 {
     let [first, second, third, fourth] = words;
     put_word(text, b"  %QD0 ", first)?;
@@ -101,9 +96,7 @@ pub(crate) fn put_words(text: &mut Vec<u8>, words: &[i32; 4]) -> Result<(), Faul
 
 /// Appends the columns of the words to a text.
 pub(crate) fn put_word_columns(text: &mut Vec<u8>, words: &[i32; 4]) -> Result<(), Fault>
-    ensures words { OnOk result (text.new.items
-        ≡ text.old.items ++ named_words (word_names Table) words.now) }
-    ensures memory { IsOkUnless result Fault.Memory }
+    ensures { Puts text.old text.new result (named_words (word_names Table) words.now) }
 {
     let [first, second, third, fourth] = words;
     put_word(text, b",", first)?;

@@ -1,5 +1,6 @@
-ghost use Rattle.std.specs.Prelude.{◌≡◌, ◌++◌, ◌∷◌, [], IsOkUnless, OnOk};
+ghost use Rattle.std.specs.Prelude.{◌≡◌, ◌∷◌, []};
 ghost use Rattle.wc_view_decode.specs.Formats.{closing, is_shown, opening, passed_on, unknown};
+ghost use Rattle.wc_view_decode.specs.Puts.{Puts};
 
 use crate::format::DecodeFormat;
 use wc_model::{Fault, put_bytes};
@@ -7,8 +8,7 @@ use wc_report::put_hex;
 
 /// Appends what precedes a line that is not of a report to a text.
 pub(crate) fn put_opening(text: &mut Vec<u8>, format: DecodeFormat) -> Result<(), Fault>
-    ensures opening { OnOk result (text.new.items ≡ text.old.items ++ opening format) }
-    ensures memory { IsOkUnless result Fault.Memory }
+    ensures { Puts text.old text.new result (opening format) }
 {
     match format {
         DecodeFormat::Text => put_bytes(text, b"? "),
@@ -18,8 +18,7 @@ pub(crate) fn put_opening(text: &mut Vec<u8>, format: DecodeFormat) -> Result<()
 
 /// Appends what follows such a line to a text.
 pub(crate) fn put_closing(text: &mut Vec<u8>, format: DecodeFormat) -> Result<(), Fault>
-    ensures closing { OnOk result (text.new.items ≡ text.old.items ++ closing format) }
-    ensures memory { IsOkUnless result Fault.Memory }
+    ensures { Puts text.old text.new result (closing format) }
 {
     match format {
         DecodeFormat::Text => put_bytes(text, b"\n"),
@@ -36,9 +35,7 @@ fn is_shown(byte: u8) -> bool
 
 /// Appends a byte of such a line for people: nothing on which a terminal acts.
 fn put_shown(text: &mut Vec<u8>, byte: u8) -> Result<(), Fault>
-    ensures byte { OnOk result (text.new.items
-        ≡ text.old.items ++ passed_on DecodeFormat.Text (byte ∷ [])) }
-    ensures memory { IsOkUnless result Fault.Memory }
+    ensures { Puts text.old text.new result (passed_on DecodeFormat.Text (byte ∷ [])) }
 {
     if is_shown(byte) {
         return put_bytes(text, &[byte]);
@@ -49,8 +46,7 @@ fn put_shown(text: &mut Vec<u8>, byte: u8) -> Result<(), Fault>
 
 /// Appends a byte of such a line to a text.
 pub(crate) fn put_passed(text: &mut Vec<u8>, format: DecodeFormat, byte: u8) -> Result<(), Fault>
-    ensures byte { OnOk result (text.new.items ≡ text.old.items ++ passed_on format (byte ∷ [])) }
-    ensures memory { IsOkUnless result Fault.Memory }
+    ensures { Puts text.old text.new result (passed_on format (byte ∷ [])) }
 {
     if format == DecodeFormat::Text {
         return put_shown(text, byte);
@@ -67,8 +63,7 @@ pub(crate) fn put_passed_on(
     format: DecodeFormat,
     bytes: &[u8],
 ) -> Result<(), Fault>
-    ensures bytes { OnOk result (text.new.items ≡ text.old.items ++ passed_on format bytes.now) }
-    ensures memory { IsOkUnless result Fault.Memory }
+    ensures { Puts text.old text.new result (passed_on format bytes.now) }
 {
     for byte in bytes {
         put_passed(text, format, *byte)?;
@@ -82,8 +77,7 @@ pub(crate) fn put_unknown(
     format: DecodeFormat,
     line: &[u8],
 ) -> Result<(), Fault>
-    ensures line { OnOk result (text.new.items ≡ text.old.items ++ unknown format line.now) }
-    ensures memory { IsOkUnless result Fault.Memory }
+    ensures { Puts text.old text.new result (unknown format line.now) }
 {
     put_opening(text, format)?;
     put_passed_on(text, format, line)?;

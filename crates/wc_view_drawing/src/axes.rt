@@ -1,11 +1,12 @@
 use crate::numbers::{round_step, time_step};
-use crate::sheet::Sheet;
+use crate::sheet::{Sheet, put};
 use crate::view::{HEIGHT, LEFT, TOP, View, WIDTH};
+use std::fmt::Write;
 
 /// Puts a line across the curves, of that look, at a weight.
 fn put_line(out: &mut Sheet, view: &View<'_>, look: &str, weight: i64) {
     out.path(look);
-    out.go_to(LEFT, view.y(weight));
+    out.go_to(LEFT, view.weights.y(weight));
     out.across(LEFT + WIDTH);
     out.end_path();
 }
@@ -13,7 +14,7 @@ fn put_line(out: &mut Sheet, view: &View<'_>, look: &str, weight: i64) {
 /// Puts a line at a round weight, and the weight before it.
 fn put_weight(out: &mut Sheet, view: &View<'_>, units: i64) {
     put_line(out, view, "grid", units);
-    let y = view.y(units).saturating_add(40);
+    let y = view.weights.y(units).saturating_add(40);
     out.text_at("<text class=\"name\" x=\"122\" y=\"", y);
     out.weight(units, view.scale.decimals);
     out.end_text();
@@ -21,12 +22,16 @@ fn put_weight(out: &mut Sheet, view: &View<'_>, units: i64) {
 
 /// Puts the round weights.
 fn put_weights(out: &mut Sheet, view: &View<'_>) {
-    let (low, high) = view.edges();
-    let step = round_step(high.abs_diff(low), 7).min(1 << 40) as i64;
-    let first = low.checked_div(step).unwrap_or(0).saturating_mul(step);
+    let step = round_step(view.weights.high.abs_diff(view.weights.low), 7).min(1 << 40) as i64;
+    let first = view
+        .weights
+        .low
+        .checked_div(step)
+        .unwrap_or(0)
+        .saturating_mul(step);
     for count in 0..12 {
         let weight = step.saturating_mul(count).saturating_add(first);
-        if weight <= high {
+        if weight <= view.weights.high {
             put_weight(out, view, weight);
         }
     }
@@ -38,20 +43,16 @@ fn put_limits(out: &mut Sheet, view: &View<'_>) {
     if view.scale.unit.is_empty() {
         return;
     }
-    let is_seen = view.scale.max <= view.edges().1;
+    let is_seen = view.scale.max <= view.weights.high;
     if is_seen {
         put_line(out, view, "max", view.scale.max);
     }
-    let y = view.y(view.scale.max).saturating_add(40);
+    let y = view.weights.y(view.scale.max).saturating_add(40);
     out.text_at("<text x=\"858\" y=\"", y);
     out.put("Max ");
     out.weight(view.scale.max, view.scale.decimals);
-    out.put(" ");
-    out.put(view.scale.unit);
-    if !is_seen {
-        out.put(", above");
-    }
-    out.end_text();
+    let end = if is_seen { "" } else { ", above" };
+    put!(out, " {}{end}</text>\n", view.scale.unit);
 }
 
 /// Puts a line at a round moment down to the bottom, and the moment below it.
@@ -61,8 +62,7 @@ fn put_moment(out: &mut Sheet, view: &View<'_>, ms: u64, step: u64, bottom: u64)
     out.go_to(x, bottom);
     out.upright(TOP);
     out.end_path();
-    out.after("<text class=\"time\" x=\"", x);
-    out.text_at("\" y=\"", bottom.saturating_add(140));
+    out.text(" class=\"time\"", x, bottom.saturating_add(140));
     out.tick(ms, step);
     out.end_text();
 }

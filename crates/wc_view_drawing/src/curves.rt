@@ -1,5 +1,5 @@
 use crate::sheet::Sheet;
-use crate::view::{View, height_at};
+use crate::view::{Range, View};
 use wc_view_columns::{Column, Span};
 
 /// A number that is drawn over time.
@@ -11,22 +11,6 @@ pub(crate) enum Curve {
     Word(usize),
     /// A variable.
     Variable(usize),
-}
-
-/// The height over which a curve is drawn, in tenths, and the numbers at its edges.
-#[derive(Clone, Copy)]
-pub(crate) struct Range {
-    pub(crate) top: u64,
-    pub(crate) height: u64,
-    pub(crate) low: i64,
-    pub(crate) high: i64,
-}
-
-impl Range {
-    /// Where a number is, in tenths.
-    fn y(&self, number: i64) -> u64 {
-        height_at(self.top, self.height, self.low, self.high, number)
-    }
 }
 
 impl Curve {

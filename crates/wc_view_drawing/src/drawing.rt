@@ -1,28 +1,24 @@
 use crate::axes::put_axes;
-use crate::curves::{Curve, Range, put_curve};
+use crate::curves::{Curve, put_curve};
 use crate::lane_rows::{bottom_of, put_lanes, put_levels};
 use crate::marks::put_marks;
 use crate::readings::put_readings;
-use crate::sheet::Sheet;
+use crate::sheet::{Sheet, put};
 use crate::style::STYLE;
 use crate::view::{HEIGHT, TOP, View};
 use std::alloc::{AllocError, Global};
+use std::fmt::Write;
 use wc_view_columns::{Column, Lane, lanes_of, whole};
 
 /// Puts what precedes all that is drawn, with the name of the picture for a reader who does not see it.
 fn put_head(out: &mut Sheet, view: &View<'_>, rows: u32, all: Option<&Column>, bottom: u64) {
     let height = bottom.saturating_add(240) / 10;
     out.put("<svg xmlns=\"http://www.w3.org/2000/svg\" viewBox=\"0 0 1000 ");
-    out.whole(height);
-    out.put("\" width=\"1000\" height=\"");
-    out.whole(height);
-    out.put("\" role=\"img\" aria-label=\"A run of a scale: ");
+    put!(out, "{height}\" width=\"1000\" height=\"{height}\"");
+    out.put(" role=\"img\" aria-label=\"A run of a scale: ");
     put_counts(out, view, rows, all);
-    out.put("\">\n");
-    out.put(STYLE);
-    out.put("<path class=\"paper\" d=\"M0 0H1000V");
-    out.whole(height);
-    out.put("H0Z\"/>\n");
+    put!(out, "\">\n{STYLE}<path class=\"paper\" d=\"");
+    put!(out, "M0 0H1000V{height}H0Z\"/>\n");
 }
 
 /// Puts the number of rows, and what is in them.
@@ -54,11 +50,7 @@ fn put_heading(
     out.moment(view.width);
     out.put("; point at one to read it");
     if let Some((number, row)) = refusal {
-        out.put("; row ");
-        out.whole(u64::from(row));
-        out.put(" is refused (");
-        out.whole(u64::from(number));
-        out.put(")");
+        put!(out, "; row {row} is refused ({number})");
     }
     out.end_text();
 }
@@ -75,19 +67,8 @@ fn put_legend(out: &mut Sheet, all: &Column) {
 
 /// Puts a curve over weights, of that look.
 fn put_weights(out: &mut Sheet, view: &View<'_>, look: &str, curve: Curve) {
-    let (low, high) = view.edges();
-    let range = Range {
-        top: TOP,
-        height: HEIGHT,
-        low,
-        high,
-    };
-    out.put("<path id=\"");
-    out.put(look);
-    out.put("\" class=\"curve ");
-    out.put(look);
-    out.put("\" d=\"");
-    put_curve(out, view, &range, curve);
+    put!(out, "<path id=\"{look}\" class=\"curve {look}\" d=\"");
+    put_curve(out, view, &view.weights, curve);
     out.end_path();
 }
 
@@ -96,15 +77,9 @@ fn put_bands(out: &mut Sheet, view: &View<'_>, all: &Column) {
     if !all.state.invalid {
         return;
     }
-    out.path("none");
-    put_levels(out, view, Lane::Invalid, TOP, HEIGHT);
-    out.end_path();
-    out.path("rising");
-    put_levels(out, view, Lane::Over, TOP, HEIGHT);
-    out.end_path();
-    out.path("falling");
-    put_levels(out, view, Lane::Under, TOP, HEIGHT);
-    out.end_path();
+    put_levels(out, view, Lane::Invalid, "none", TOP, HEIGHT);
+    put_levels(out, view, Lane::Over, "rising", TOP, HEIGHT);
+    put_levels(out, view, Lane::Under, "falling", TOP, HEIGHT);
 }
 
 /// Puts all that is drawn of a log that has rows, with these lanes.
@@ -136,14 +111,6 @@ fn put_none(out: &mut Sheet, view: &View<'_>) {
     put_axes(out, view, bottom);
 }
 
-/// The lanes of what all columns hold together; none if there is no column.
-fn lanes_in(alloc: Global, all: Option<&Column>) -> Result<Vec<Lane>, AllocError> {
-    match all {
-        Some(all) => lanes_of(alloc, all),
-        None => Ok(Vec::new(alloc)),
-    }
-}
-
 /// The text of a picture. It is bounded, since the numbers of columns and lanes are bounded.
 pub fn draw(
     alloc: Global,
@@ -151,11 +118,9 @@ pub fn draw(
     rows: u32,
     refusal: Option<(u16, u32)>,
 ) -> Result<String, AllocError> {
-    let all = whole(view.columns);
-    let lanes = lanes_in(alloc, all.as_ref())?;
     let mut out = Sheet::new(alloc);
-    match &all {
-        Some(all) => put_rows(&mut out, view, rows, all, refusal, &lanes),
+    match &whole(view.columns) {
+        Some(all) => put_rows(&mut out, view, rows, all, refusal, &lanes_of(alloc, all)?),
         None => put_none(&mut out, view),
     }
     out.put("</svg>\n");

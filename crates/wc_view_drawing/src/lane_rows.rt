@@ -1,8 +1,9 @@
-use crate::curves::{Curve, Range, put_curve};
+use crate::curves::{Curve, put_curve};
 use crate::request_marks::put_requests;
-use crate::sheet::Sheet;
+use crate::sheet::{Sheet, put};
 use crate::steps::ScanSteps;
-use crate::view::{HEIGHT, LEFT, TOP, View, WIDTH, part};
+use crate::view::{HEIGHT, LEFT, Range, TOP, View, WIDTH, part};
+use std::fmt::Write;
 use wc_view_columns::{Column, Lane, Level};
 
 /// The space between two lanes, in tenths.
@@ -41,9 +42,17 @@ fn level_y(level: Level, top: u64, height: u64) -> u64 {
     }
 }
 
-/// Puts the outline of what is below a lane's levels.
-pub(crate) fn put_levels(out: &mut Sheet, view: &View<'_>, lane: Lane, top: u64, height: u64) {
+/// Puts the outline of what is below a lane's levels, of that look.
+pub(crate) fn put_levels(
+    out: &mut Sheet,
+    view: &View<'_>,
+    lane: Lane,
+    look: &str,
+    top: u64,
+    height: u64,
+) {
     let base = top.saturating_add(height);
+    out.path(look);
     out.go_to(LEFT, base);
     let mut at = Level::Low;
     for (index, column) in view.columns.iter().enumerate() {
@@ -57,6 +66,7 @@ pub(crate) fn put_levels(out: &mut Sheet, view: &View<'_>, lane: Lane, top: u64,
     out.across(view.x(view.columns.len()));
     out.upright(base);
     out.put("Z");
+    out.end_path();
 }
 
 /// The look of what is filled in a lane.
@@ -70,15 +80,8 @@ fn look(lane: Lane) -> &'static str {
     }
 }
 
-/// Puts a lane of two values.
-fn put_flat(out: &mut Sheet, view: &View<'_>, lane: Lane, top: u64) {
-    out.path(look(lane));
-    put_levels(out, view, lane, top, height(lane));
-    out.end_path();
-}
-
 /// Puts the start of a text at the right of a lane, which begins there.
-fn put_alongside(out: &mut Sheet, top: u64) {
+fn put_start_of_text(out: &mut Sheet, top: u64) {
     out.text_at("<text x=\"858\" y=\"", top.saturating_add(240));
 }
 
@@ -96,11 +99,10 @@ fn put_numbers(out: &mut Sheet, view: &View<'_>, all: &Column, curve: Curve, top
     out.path("curve");
     put_curve(out, view, &range, curve);
     out.end_path();
-    put_alongside(out, top);
-    out.signed(span.least);
+    put_start_of_text(out, top);
+    put!(out, "{}", span.least);
     if span.varies() {
-        out.put(" to ");
-        out.signed(span.greatest);
+        put!(out, " to {}", span.greatest);
     }
     out.end_text();
 }
@@ -142,12 +144,8 @@ fn put_bound(out: &mut Sheet, view: &View<'_>, top: u64) {
 
 /// Puts the most steps of a program's scans and their bound, after a word.
 fn put_steps(out: &mut Sheet, top: u64, word: &str, steps: ScanSteps) {
-    put_alongside(out, top);
-    out.put(word);
-    out.whole(u64::from(steps.most));
-    out.put(" of ");
-    out.whole(u64::from(steps.bound));
-    out.end_text();
+    put_start_of_text(out, top);
+    put!(out, "{word}{} of {}</text>\n", steps.most, steps.bound);
 }
 
 /// Puts the lane of the scans, with the most steps of a scan and the bound, of the first program, and below of the next
@@ -167,7 +165,7 @@ fn put_scans(out: &mut Sheet, view: &View<'_>, top: u64) {
 fn put_name(out: &mut Sheet, view: &View<'_>, lane: Lane) {
     match lane {
         Lane::Variable(number) => out.bytes(view.variable(number)),
-        _ => out.name(lane),
+        _ => put!(out, "{lane}"),
     }
 }
 
@@ -191,7 +189,7 @@ fn put_lane(out: &mut Sheet, view: &View<'_>, all: &Column, lane: Lane, top: u64
         Lane::Word(number) => put_numbers(out, view, all, Curve::Word(number), top),
         Lane::Variable(number) => put_numbers(out, view, all, Curve::Variable(number), top),
         Lane::Scans => put_scans(out, view, top),
-        _ => put_flat(out, view, lane, top),
+        _ => put_levels(out, view, lane, look(lane), top, height(lane)),
     }
 }
 

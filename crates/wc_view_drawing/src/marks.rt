@@ -1,5 +1,6 @@
-use crate::sheet::Sheet;
+use crate::sheet::{Sheet, put};
 use crate::view::{HEIGHT, TOP, View};
+use std::fmt::Write;
 use wc_view_columns::Events;
 
 /// How often each was done to zero, tare and program in some time, with its letter and its words. A cross after a letter
@@ -27,25 +28,21 @@ fn put_letters(out: &mut Sheet, events: &Events) {
 /// Puts what was done in words, each after a comma.
 fn put_words(out: &mut Sheet, events: &Events) {
     for (count, _letter, words) in marks_of(events) {
-        if count != 0 {
-            out.put(", ");
-            out.put(words);
-        }
-        if count > 1 {
-            out.put(" ");
-            out.whole(u64::from(count));
-            out.put(" times");
+        match count {
+            0 => {}
+            1 => put!(out, ", {words}"),
+            _ => put!(out, ", {words} {count} times"),
         }
     }
 }
 
-/// Whether something was done.
-fn is_marked(events: &Events) -> bool {
-    let mut is_marked = false;
-    for (count, _letter, _words) in marks_of(events) {
-        is_marked = is_marked || count != 0;
+/// How often something was done.
+fn count_of(events: &Events) -> u32 {
+    let mut count = 0_u32;
+    for (number, _letter, _words) in marks_of(events) {
+        count = count.saturating_add(number);
     }
-    is_marked
+    count
 }
 
 /// Puts the bound that holds after a change of the program.
@@ -54,8 +51,7 @@ fn put_bound(out: &mut Sheet, view: &View<'_>, events: &Events) {
         return;
     }
     if let Some(next) = view.steps.next {
-        out.put(", bound ");
-        out.whole(u64::from(next.bound));
+        put!(out, ", bound {}", next.bound);
     }
 }
 
@@ -64,11 +60,7 @@ fn put_time(out: &mut Sheet, events: &Events) {
     let Some(ms) = events.marked else {
         return;
     };
-    let mut count = 0_u32;
-    for (number, _letter, _words) in marks_of(events) {
-        count = count.saturating_add(number);
-    }
-    if count > 1 {
+    if count_of(events) > 1 {
         out.put("up to ");
     }
     out.moment(ms);
@@ -81,9 +73,7 @@ fn put_mark(out: &mut Sheet, view: &View<'_>, index: usize, events: &Events, y: 
         (0, 0, 0, 0) => "refused",
         _ => "mark",
     };
-    out.put("<g class=\"");
-    out.put(look);
-    out.put("\"><title>");
+    put!(out, "<g class=\"{look}\"><title>");
     put_time(out, events);
     put_words(out, events);
     put_bound(out, view, events);
@@ -92,8 +82,7 @@ fn put_mark(out: &mut Sheet, view: &View<'_>, index: usize, events: &Events, y: 
     out.upright(TOP);
     out.put("\"/>");
     if let Some(y) = y {
-        out.after("<text x=\"", x);
-        out.text_at("\" y=\"", y);
+        out.text("", x, y);
         put_letters(out, events);
         out.put("</text>");
     }
@@ -104,7 +93,7 @@ fn put_mark(out: &mut Sheet, view: &View<'_>, index: usize, events: &Events, y: 
 pub(crate) fn put_marks(out: &mut Sheet, view: &View<'_>) {
     let (mut low, mut high) = (0_u64, 0_u64);
     for (index, column) in view.columns.iter().enumerate() {
-        if is_marked(&column.events) {
+        if count_of(&column.events) != 0 {
             let x = view.x(index);
             let next = x.saturating_add(200);
             let y = if low <= x {

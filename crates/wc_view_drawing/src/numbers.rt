@@ -13,7 +13,7 @@ pub(crate) fn round_step(range: u64, most: u64) -> u64 {
     power
 }
 
-/// Likewise for the usual parts of a day, in milliseconds.
+/// The least of the usual parts of a day, in milliseconds, of which at most n make up a range.
 pub(crate) fn time_step(range: u64, most: u64) -> u64 {
     for step in [
         1_u64, 2, 5, 10, 20, 50, 100, 200, 500, 1000, 2000, 5000, 10_000, 15_000, 30_000, 60_000,

@@ -1,5 +1,6 @@
-use crate::sheet::Sheet;
+use crate::sheet::{Sheet, Tenths, put};
 use crate::view::{TOP, View, WeightScale};
+use std::fmt::Write;
 use wc_view_columns::{Column, Span, State};
 
 /// Puts a weight, or from which to which, with a name before it.
@@ -7,46 +8,37 @@ fn put_weight(out: &mut Sheet, scale: &WeightScale, name: &str, span: Option<Spa
     let Some(span) = span else {
         return;
     };
-    out.put("\n");
-    out.put(name);
-    out.put(" ");
+    put!(out, "\n{name} ");
     out.weight(span.least, scale.decimals);
     if span.varies() {
         out.put(" to ");
         out.weight(span.greatest, scale.decimals);
     }
-    out.put(" ");
-    out.put(scale.unit);
+    put!(out, " {}", scale.unit);
 }
 
 /// Puts what is said of the scale besides its weights.
 fn put_status(out: &mut Sheet, state: &State) {
-    if state.motion {
-        out.put("\nin motion");
-    }
-    if state.over {
-        out.put("\nover");
-    }
-    if state.under {
-        out.put("\nunder");
-    }
-    if state.invalid && !state.over && !state.under {
-        out.put("\nno sample yet");
+    let is_unsampled = state.invalid && !state.over && !state.under;
+    for (is_so, words) in [
+        (state.motion, "\nin motion"),
+        (state.over, "\nover"),
+        (state.under, "\nunder"),
+        (is_unsampled, "\nno sample yet"),
+    ] {
+        if is_so {
+            out.put(words);
+        }
     }
 }
 
 /// Puts the inputs and the outputs in hexadecimal digits, as they were last.
 fn put_ports(out: &mut Sheet, state: &State) {
-    out.put("\ninputs ");
-    out.bits(state.inputs.last);
-    out.put(", outputs ");
-    out.bits(state.outputs.last);
+    let (inputs, outputs) = (state.inputs.last, state.outputs.last);
+    put!(out, "\ninputs {inputs:04x}, outputs {outputs:04x}");
     for (number, word) in state.words.iter().enumerate() {
         if word.last != 0 {
-            out.put("\n%QD");
-            out.whole(number as u64);
-            out.put(" ");
-            out.signed(word.last);
+            put!(out, "\n%QD{number} {}", word.last);
         }
     }
 }
@@ -57,8 +49,7 @@ fn put_variables(out: &mut Sheet, view: &View<'_>, state: &State) {
         if let Some(span) = variable {
             out.put("\n");
             out.bytes(view.variable(number));
-            out.put(" ");
-            out.signed(span.last);
+            put!(out, " {}", span.last);
         }
     }
 }
@@ -73,11 +64,10 @@ fn put_reading(
     column: &Column,
 ) {
     let left = view.x(first);
-    out.after("<rect x=\"", left);
-    out.after("\" y=\"", TOP);
-    out.after("\" width=\"", view.x(next).saturating_sub(left));
-    out.after("\" height=\"", bottom.saturating_sub(TOP));
-    out.put("\"><title>");
+    let width = Tenths(view.x(next).saturating_sub(left));
+    let height = Tenths(bottom.saturating_sub(TOP));
+    put!(out, "<rect x=\"{}\" y=\"{}\" ", Tenths(left), Tenths(TOP));
+    put!(out, "width=\"{width}\" height=\"{height}\"><title>");
     out.moment(view.moment(first));
     out.put(" to ");
     out.moment(view.moment(next));

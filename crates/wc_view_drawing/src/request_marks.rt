@@ -1,6 +1,7 @@
 use crate::answers::put_answered;
-use crate::sheet::Sheet;
+use crate::sheet::{Sheet, put};
 use crate::view::View;
+use std::fmt::Write;
 use wc_view_columns::Events;
 
 /// The space that a letter takes, in tenths.
@@ -21,8 +22,7 @@ fn put_request(
     let middle = top.saturating_add(height / 2);
     out.put("<g class=\"request\"><title>");
     if events.requests > 1 {
-        out.whole(u64::from(events.requests));
-        out.put(" requests, the last at ");
+        put!(out, "{} requests, the last at ", events.requests);
     }
     put_answered(out, &request);
     out.put("</title><path d=\"");
@@ -30,9 +30,8 @@ fn put_request(
     out.upright(middle.saturating_add(45));
     out.put("\"/>");
     if has_capacity {
-        out.after("<text x=\"", x);
-        out.text_at("\" y=\"", middle);
-        out.letter(char::from(request.command.letter()));
+        out.text("", x, middle);
+        out.letter(request.command.letter());
         out.put("</text>");
     }
     out.put("</g>\n");

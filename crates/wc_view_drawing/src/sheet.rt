@@ -1,13 +1,33 @@
 use std::alloc::{AllocError, Global};
+use std::fmt;
 use std::fmt::Write;
-use wc_view_columns::Lane;
 
 /// The text of a picture so far. If memory for it is refused once, it keeps that until the end, so that what puts a part
 /// of it has no way out of its own.
 #[derive(Drop)]
 pub(crate) struct Sheet {
-    text: String,
+    pub(crate) string: String,
     is_full: bool,
+}
+
+/// Puts text with values in it at the end of a sheet.
+macro_rules! put {
+    ($out:expr, $($text:tt)+) => {{
+        let written = write!($out.string, $($text)+);
+        $out.keep(written);
+    }};
+}
+
+pub(crate) use put;
+
+/// A length in tenths, as `12.5`.
+#[derive(Clone, Copy)]
+pub(crate) struct Tenths(pub(crate) u64);
+
+impl fmt::Display for Tenths {
+    fn fmt<W: fmt::Write>(&self, f: &mut fmt::Formatter<W>) -> fmt::Result {
+        write!(f, "{}.{}", self.0 / 10, self.0 % 10)
+    }
 }
 
 /// The number of milliseconds in the unit of an axis's steps, and its name.
@@ -27,7 +47,7 @@ impl Sheet {
     /// No text yet.
     pub(crate) fn new(alloc: Global) -> Sheet {
         Sheet {
-            text: String::new(alloc),
+            string: String::new(alloc),
             is_full: false,
         }
     }
@@ -37,85 +57,37 @@ impl Sheet {
         if self.is_full {
             return Err(AllocError);
         }
-        Ok(self.text)
+        Ok(self.string)
     }
 
     /// Keeps whether memory was refused.
-    fn keep(&mut self, written: Result<(), AllocError>) {
+    pub(crate) fn keep(&mut self, written: Result<(), AllocError>) {
         self.is_full = self.is_full || written.is_err();
     }
 
     /// Puts text as it is.
     pub(crate) fn put(&mut self, text: &str) {
-        let written = self.text.push_str(text);
+        let written = self.string.push_str(text);
         self.keep(written);
     }
 
-    /// Puts a character.
-    pub(crate) fn letter(&mut self, letter: char) {
-        let written = self.text.push(letter);
+    /// Puts a character of one byte.
+    pub(crate) fn letter(&mut self, letter: u8) {
+        let written = self.string.push(char::from(letter));
         self.keep(written);
     }
 
     /// Puts the characters of a name, which are of one byte each.
     pub(crate) fn bytes(&mut self, name: &[u8]) {
         for byte in name {
-            self.letter(char::from(*byte));
+            self.letter(*byte);
         }
-    }
-
-    /// Puts a whole number.
-    pub(crate) fn whole(&mut self, number: u64) {
-        let written = write!(self.text, "{number}");
-        self.keep(written);
     }
 
     /// Puts a number of what a word names, which is of one.
     pub(crate) fn several(&mut self, number: u32, word: &str) {
-        self.whole(u64::from(number));
-        self.put(word);
-        if number != 1 {
-            self.put("s");
-        }
-    }
-
-    /// Puts a whole number that may be below zero.
-    pub(crate) fn signed(&mut self, number: i64) {
-        let written = write!(self.text, "{number}");
-        self.keep(written);
-    }
-
-    /// Puts the bits of a word in hexadecimal digits.
-    pub(crate) fn bits(&mut self, word: u16) {
-        let written = write!(self.text, "{word:04x}");
-        self.keep(written);
-    }
-
-    /// Puts the name of a lane.
-    pub(crate) fn name(&mut self, lane: Lane) {
-        let written = write!(self.text, "{lane}");
-        self.keep(written);
-    }
-
-    /// Puts a length in tenths, as `12.5`.
-    pub(crate) fn tenths(&mut self, tenths: u64) {
-        let (whole, rest) = (tenths / 10, tenths % 10);
-        let written = write!(self.text, "{whole}.{rest}");
-        self.keep(written);
-    }
-
-    /// Puts a number with two decimals.
-    fn hundredths(&mut self, units: u64) {
-        let (whole, rest) = (units / 100, units % 100);
-        let written = write!(self.text, "{whole}.{rest:02}");
-        self.keep(written);
-    }
-
-    /// Puts a number with three decimals.
-    fn thousandths(&mut self, units: u64) {
-        let (whole, rest) = (units / 1000, units % 1000);
-        let written = write!(self.text, "{whole}.{rest:03}");
-        self.keep(written);
+        let end = if number == 1 { "" } else { "s" };
+        put!(self, "{number}{word}{end}");
     }
 
     /// Puts a weight in units of its last decimal.
@@ -125,19 +97,17 @@ impl Sheet {
         }
         let units = units.unsigned_abs();
         match decimals {
-            0 => self.whole(units),
-            1 => self.tenths(units),
-            2 => self.hundredths(units),
-            _ => self.thousandths(units),
+            0 => put!(self, "{units}"),
+            1 => put!(self, "{}", Tenths(units)),
+            2 => put!(self, "{}.{:02}", units / 100, units % 100),
+            _ => put!(self, "{}.{:03}", units / 1000, units % 1000),
         }
     }
 
     /// Puts a moment on an axis, in the unit of the axis's steps.
     pub(crate) fn tick(&mut self, ms: u64, step: u64) {
         let (length, unit) = unit_of(step);
-        self.whole(ms.checked_div(length).unwrap_or(0));
-        self.put(" ");
-        self.put(unit);
+        put!(self, "{} {unit}", ms.checked_div(length).unwrap_or(0));
     }
 
     /// Puts a moment in milliseconds, in a unit that leaves nothing over.
@@ -145,33 +115,24 @@ impl Sheet {
         self.tick(ms, ms);
     }
 
-    /// Puts a length in tenths after some text.
-    pub(crate) fn after(&mut self, text: &str, tenths: u64) {
-        self.put(text);
-        self.tenths(tenths);
-    }
-
     /// Puts the start of a path of that look.
     pub(crate) fn path(&mut self, look: &str) {
-        self.put("<path class=\"");
-        self.put(look);
-        self.put("\" d=\"");
+        put!(self, "<path class=\"{look}\" d=\"");
     }
 
     /// Puts a move to a point.
     pub(crate) fn go_to(&mut self, x: u64, y: u64) {
-        self.after("M", x);
-        self.after(" ", y);
+        put!(self, "M{} {}", Tenths(x), Tenths(y));
     }
 
     /// Puts a stroke to the right.
     pub(crate) fn across(&mut self, x: u64) {
-        self.after("H", x);
+        put!(self, "H{}", Tenths(x));
     }
 
     /// Puts a stroke up or down.
     pub(crate) fn upright(&mut self, y: u64) {
-        self.after("V", y);
+        put!(self, "V{}", Tenths(y));
     }
 
     /// Puts the end of a path.
@@ -181,8 +142,13 @@ impl Sheet {
 
     /// Puts the start of a text at a height, of which all before the height is given.
     pub(crate) fn text_at(&mut self, start: &str, y: u64) {
-        self.after(start, y);
-        self.put("\">");
+        put!(self, "{start}{}\">", Tenths(y));
+    }
+
+    /// Puts the start of a text at a point, with its class or none.
+    pub(crate) fn text(&mut self, class: &str, x: u64, y: u64) {
+        put!(self, "<text{class} x=\"{}\" ", Tenths(x));
+        self.text_at("y=\"", y);
     }
 
     /// Puts the end of a text.

@@ -42,6 +42,15 @@ impl WeightScale {
     }
 }
 
+/// The height over which numbers are drawn, in tenths, and the numbers at its edges.
+#[derive(Clone, Copy)]
+pub(crate) struct Range {
+    pub(crate) top: u64,
+    pub(crate) height: u64,
+    pub(crate) low: i64,
+    pub(crate) high: i64,
+}
+
 /// What is drawn, and where.
 #[derive(Clone, Copy)]
 pub struct View<'p> {
@@ -53,9 +62,8 @@ pub struct View<'p> {
     pub(crate) steps: RunSteps,
     /// The names of the variables that are drawn, between commas.
     names: &'p [u8],
-    /// The weights at the lower and the upper edge.
-    low: i64,
-    high: i64,
+    /// The height of the curves of weights, with the weights at its edges.
+    pub(crate) weights: Range,
 }
 
 /// The upper edge for weights up to one: Max or more, and less if they are all below a third of it.
@@ -107,8 +115,12 @@ impl<'p> View<'p> {
             scale,
             steps,
             names,
-            low: low.saturating_sub(capacity),
-            high: high.saturating_add(capacity).saturating_add(1),
+            weights: Range {
+                top: TOP,
+                height: HEIGHT,
+                low: low.saturating_sub(capacity),
+                high: high.saturating_add(capacity).saturating_add(1),
+            },
         }
     }
 
@@ -153,16 +165,6 @@ impl<'p> View<'p> {
         }
         b""
     }
-
-    /// The weights at the lower and the upper edge.
-    pub(crate) fn edges(&self) -> (i64, i64) {
-        (self.low, self.high)
-    }
-
-    /// Where a weight is, in tenths.
-    pub(crate) fn y(&self, weight: i64) -> u64 {
-        height_at(TOP, HEIGHT, self.low, self.high, weight)
-    }
 }
 
 /// How far above one number another is, 0 if it is not.
@@ -170,8 +172,10 @@ fn above(high: i64, low: i64) -> u64 {
     if low < high { high.abs_diff(low) } else { 0 }
 }
 
-/// Where a number is between two at the edges of a height below a top, in tenths.
-pub(crate) fn height_at(top: u64, height: u64, low: i64, high: i64, number: i64) -> u64 {
-    let below = above(high, number.max(low));
-    part(height, below, above(high, low)).saturating_add(top)
+impl Range {
+    /// Where a number is, in tenths.
+    pub(crate) fn y(&self, number: i64) -> u64 {
+        let below = above(self.high, number.max(self.low));
+        part(self.height, below, above(self.high, self.low)).saturating_add(self.top)
+    }
 }

@@ -17,7 +17,7 @@ use Rattle.wc_view_trace.specs.Traces.{Tracing, TracesRows, counted_on, is_chang
 use Rattle.wc_view_trace.specs.declared.trace_format.TraceFormat.{TraceFormat}
 use Rattle.wc_view_trace.specs.declared.trace_format.TraceFormat.TheVariants as format
 use Rattle.wc_view_trace.specs.declared.tracer.Tracer.{Tracer}
-use Rattle.wc_view_trace_objects.specs.Scans as objects
+use Rattle.wc_view_trace.specs.Scans as objects
 use Rattle.wc_view_trace_rows.specs.Legends.{IsLegendOf}
 use Rattle.wc_view_trace_rows.specs.Scans as rows
 use Rattle.wc_view_trace_rows.specs.declared.legend.Legend.{Legend}

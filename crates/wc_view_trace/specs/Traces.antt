@@ -13,7 +13,7 @@ use Rattle.wc_view_trace.specs.Choosing.{IsChosen}
 use Rattle.wc_view_trace.specs.declared.chosen.Chosen.{Chosen}
 use Rattle.wc_view_trace.specs.declared.trace_format.TraceFormat.{TraceFormat}
 use Rattle.wc_view_trace.specs.declared.trace_format.TraceFormat.TheVariants as format
-use Rattle.wc_view_trace_objects.specs.Scans as objects
+use Rattle.wc_view_trace.specs.Scans as objects
 use Rattle.wc_view_trace_rows.specs.Legends.{IsLegendOf}
 use Rattle.wc_view_trace_rows.specs.Scans as rows
 use Rattle.wc_view_trace_rows.specs.Steps.{none_chosen}

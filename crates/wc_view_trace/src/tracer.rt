@@ -4,6 +4,7 @@ ghost use Rattle.wc_view_trace.specs.Traces.{IsEndOf, counted_on};
 ghost use Rattle.wc_view_trace.specs.Tracers.{CountsAs, Follows, IsFresh, IsLegendFor, IsSame, PutsItems, PutsScan, ShowsAs, Turns};
 
 use crate::chosen::Chosen;
+use crate::scans::{put_end_object, put_object};
 use crate::trace_format::TraceFormat;
 use std::alloc::Global;
 use wc_machine::Machine;
@@ -11,7 +12,6 @@ use wc_model::ByteOut;
 use wc_record::HeadKind;
 use wc_run::{Observer, Program, RowSeen, RunFault, Scale, ScanSeen, write_text};
 use wc_store::SlotStore;
-use wc_view_trace_objects::{put_end_object, put_object};
 use wc_view_trace_rows::{Legend, ShownScan, put_none_chosen, put_scan};
 
 /// Observes a run, and writes the items of the scans that are chosen.

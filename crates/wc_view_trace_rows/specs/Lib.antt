@@ -5,6 +5,7 @@ pub mod Legends
 pub mod LevelViews
 pub mod Levels
 pub mod Notes
+pub mod Puts
 pub mod Rows
 pub mod Safe
 pub mod Scans

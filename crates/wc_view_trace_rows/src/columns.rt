@@ -1,20 +1,20 @@
-ghost use Rattle.std.specs.Prelude.{◌≡◌, ◌-◌, ◌++◌, IsOkUnless, OnOk, drop, length, decimal};
+ghost use Rattle.std.specs.Prelude.{◌≡◌, ◌-◌, drop, length, decimal};
 ghost use Rattle.wc_view_trace_rows.specs.Columns.{prefix, gap, six_columns, spaces};
+ghost use Rattle.wc_view_trace_rows.specs.Puts.{Puts};
 
 use crate::shown::{bytes_from, columns_of, put_line};
 use wc_model::{Fault, put_bytes};
 use wc_report::put_number;
 
 /// The column at which the result of a row starts, counted from 0.
-const RESULT: usize = 44;
+pub(crate) const RESULT: usize = 44;
 
 /// The number of columns of a line number.
 const NUMBER: usize = 6;
 
 /// Puts that many spaces.
 fn put_spaces(text: &mut Vec<u8>, count: usize) -> Result<(), Fault>
-    ensures puts { OnOk result (text.new.items ≡ text.old.items ++ spaces count) }
-    ensures memory { IsOkUnless result Fault.Memory }
+    ensures { Puts text.old text.new result (spaces count) }
 {
     for _space in 0..count {
         put_bytes(text, b" ")?;
@@ -24,9 +24,7 @@ fn put_spaces(text: &mut Vec<u8>, count: usize) -> Result<(), Fault>
 
 /// Puts spaces up to a column of the row that starts there, and two at least. `Memory` is the only fault.
 pub(crate) fn put_gap(text: &mut Vec<u8>, start: usize, column: usize) -> Result<(), Fault>
-    ensures puts { OnOk result
-        (text.new.items ≡ text.old.items ++ gap column (drop start text.old.items)) }
-    ensures memory { IsOkUnless result Fault.Memory }
+    ensures { Puts text.old text.new result (gap column (drop start text.old.items)) }
 {
     let there = columns_of(bytes_from(text, start));
     put_spaces(text, column.saturating_sub(there).max(2))
@@ -48,8 +46,7 @@ fn spaces_before(number: u32) -> usize
 
 /// Puts a number, with spaces before it up to six columns.
 fn put_aligned(text: &mut Vec<u8>, number: u32) -> Result<(), Fault>
-    ensures puts { OnOk result (text.new.items ≡ text.old.items ++ six_columns number) }
-    ensures memory { IsOkUnless result Fault.Memory }
+    ensures { Puts text.old text.new result (six_columns number) }
 {
     put_spaces(text, spaces_before(number))?;
     put_number(text, u64::from(number))
@@ -63,8 +60,7 @@ pub(crate) fn put_place(
     depth: u32,
     line: &[u8],
 ) -> Result<(), Fault>
-    ensures puts { OnOk result (text.new.items ≡ text.old.items ++ prefix number depth line.now) }
-    ensures memory { IsOkUnless result Fault.Memory }
+    ensures { Puts text.old text.new result (prefix number depth line.now) }
 {
     let indent = 2 + 2 * depth.min(8) as usize;
     let Some(number) = number else {

@@ -3,6 +3,7 @@ ghost use Rattle.wc_model.specs.Language.CarriedPlaces.{frame_of_text};
 ghost use Rattle.wc_model.specs.Language.Frames.{slot_kinds};
 ghost use Rattle.wc_model.specs.Language.Views.{text_view};
 ghost use Rattle.wc_view_trace_rows.specs.Legends.{IsLegendOf, kind_at, line_of, line_starts, literal_kind, name_of, note_of};
+ghost use Rattle.wc_view_trace_rows.specs.Puts.{Puts};
 
 use crate::notes::{Note, Notes, note_among, note_units};
 use std::alloc::Global;
@@ -20,19 +21,14 @@ pub struct Legend {
 
 /// Puts where a line starts.
 fn put_start(starts: &mut Vec<usize>, start: usize) -> Result<(), Fault>
-    ensures puts { OnOk result (starts.new.items ≡ starts.old.items ++ start ∷ []) }
-    ensures memory { IsOkUnless result Fault.Memory }
+    ensures { Puts starts.old starts.new result (start ∷ []) }
 {
-    match starts.push(start) {
-        Ok(()) => Ok(()),
-        Err(_) => Err(Fault::Memory),
-    }
+    starts.push(start).map_err(|_| Fault::Memory)
 }
 
 /// Puts where the lines of a text start, and where one would start after the last.
 fn put_starts(starts: &mut Vec<usize>, text: &[u8]) -> Result<(), Fault>
-    ensures puts { OnOk result (starts.new.items ≡ starts.old.items ++ line_starts text.now) }
-    ensures memory { IsOkUnless result Fault.Memory }
+    ensures { Puts starts.old starts.new result (line_starts text.now) }
 {
     put_start(starts, 0)?;
     for (index, byte) in text.iter().enumerate() {

@@ -55,16 +55,13 @@ impl BodyLevel {
         ensures opens { OnOk result (level_view self.new ≡ opened (level_view self.old) kind) }
         ensures memory { IsOkUnless result Fault.Memory }
     {
-        match self.put_by.push(self.kind) {
-            Ok(()) => {}
-            Err(_) => return Err(Fault::Memory),
-        }
+        self.put_by.push(self.kind).map_err(|_| Fault::Memory)?;
         self.kind = kind;
         Ok(())
     }
 
-    #[tactic(auto, using(crate::proofs::Bodies::one_taken, crate::proofs::Bodies::none_taken))]
     /// Closes a parenthesis: the operator takes the result that was last put by.
+    #[tactic(auto, using(crate::proofs::Bodies::one_taken, crate::proofs::Bodies::none_taken))]
     fn close(&mut self, operator: Operator)
         ensures { level_view self.new
             ≡ closed (level_view self.old) (level_view self.old).put_by
@@ -172,10 +169,9 @@ impl Levels {
             (length self.new.levels.items ≡ length self.old.levels.items + 1) }
         ensures memory { IsOkUnless result Fault.Memory }
     {
-        match self.levels.push(BodyLevel::new(alloc)) {
-            Ok(()) => Ok(()),
-            Err(_) => Err(Fault::Memory),
-        }
+        self.levels
+            .push(BodyLevel::new(alloc))
+            .map_err(|_| Fault::Memory)
     }
 
     /// Goes to the body at that depth of calls; one that is deeper is left, and one that is new begins.

@@ -1,5 +1,6 @@
-ghost use Rattle.std.specs.Prelude.{◌≡◌, ◌++◌, IsOkUnless, OnOk};
+ghost use Rattle.std.specs.Prelude.{◌≡◌};
 ghost use Rattle.wc_view_trace_rows.specs.Rows.{literal, value_held};
+ghost use Rattle.wc_view_trace_rows.specs.Puts.{Puts};
 
 use std::alloc::Global;
 use wc_model::{Fault, Kind, Value};
@@ -23,8 +24,7 @@ pub(crate) fn put_literal(
     kind: Option<Kind>,
     number: i32,
 ) -> Result<(), Fault>
-    ensures puts { OnOk result (text.new.items ≡ text.old.items ++ literal kind number) }
-    ensures memory { IsOkUnless result Fault.Memory }
+    ensures { Puts text.old text.new result (literal kind number) }
 {
     put_value(alloc, text, value_of(kind, number))
 }

@@ -57,10 +57,7 @@ impl Notes {
             start,
             end: self.names.len(),
         };
-        match self.notes.push(note) {
-            Ok(()) => Ok(()),
-            Err(_) => Err(Fault::Memory),
-        }
+        self.notes.push(note).map_err(|_| Fault::Memory)
     }
 }
 

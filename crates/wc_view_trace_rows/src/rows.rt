@@ -2,8 +2,9 @@ ghost use Rattle.std.specs.Prelude.{◌≡◌, ◌≤◌, ◌++◌, ◌∷◌, [
 ghost use Rattle.wc_view_trace_rows.specs.Columns.{result_column, with_cell, written_column};
 ghost use Rattle.wc_view_trace_rows.specs.Rows.{has_written, is_argument, is_part, noted_name, number_shown, output_text, output_view, outputs_of, outputs_shown, outputs_text, result_cell, row_of, written_cell, written_text};
 ghost use Rattle.wc_view_trace_rows.specs.Scans.{AreRows, PutsScan};
+ghost use Rattle.wc_view_trace_rows.specs.Puts.{Puts};
 
-use crate::columns::{put_gap, put_place};
+use crate::columns::{RESULT, put_gap, put_place};
 use crate::item::Item;
 use crate::items::Items;
 use crate::legend::Legend;
@@ -16,9 +17,7 @@ use wc_machine::{Machine, SeenLine};
 use wc_model::{Code, Fault, StandardBlock, put_bytes};
 use wc_store::SlotStore;
 
-/// The column at which the result of a row starts, and that of what it writes, each counted from 0.
-const RESULT: usize = 44;
-
+/// The column at which what a row writes starts, counted from 0.
 const WRITTEN: usize = 58;
 
 /// Whether a flat line is an item of a call's list.
@@ -59,9 +58,7 @@ fn put_output(
     output: &BlockOutput,
     number: Option<i32>,
 ) -> Result<(), Fault>
-    ensures puts { OnOk result
-        (text.new.items ≡ text.old.items ++ output_text (output_view output.now) number) }
-    ensures memory { IsOkUnless result Fault.Memory }
+    ensures { Puts text.old text.new result (output_text (output_view output.now) number) }
 {
     let Some(number) = number else {
         return Ok(());
@@ -79,9 +76,8 @@ fn put_outputs(
     block: StandardBlock,
     item: &Item,
 ) -> Result<(), Fault>
-    ensures puts { OnOk result (text.new.items ≡ text.old.items
-        ++ outputs_text (outputs_of block) (item.now.first ∷ item.now.second ∷ [])) }
-    ensures memory { IsOkUnless result Fault.Memory }
+    ensures { Puts text.old text.new result
+        (outputs_text (outputs_of block) (item.now.first ∷ item.now.second ∷ [])) }
 {
     let (first, second) = outputs_of(block);
     put_output(alloc, text, &first, item.first)?;
@@ -93,9 +89,8 @@ fn put_outputs(
 
 /// Puts the outputs of the standard block that an item has called, after its last call.
 fn put_last_outputs(alloc: Global, text: &mut Vec<u8>, item: &Item) -> Result<(), Fault>
-    ensures puts { OnOk result (text.new.items ≡ text.old.items ++ outputs_shown item.now.seen.line
-        item.now.is_last_call (item.now.first ∷ item.now.second ∷ [])) }
-    ensures memory { IsOkUnless result Fault.Memory }
+    ensures { Puts text.old text.new result
+        (outputs_shown item.now.seen.line item.now.is_last_call (item.now.first ∷ item.now.second ∷ [])) }
 {
     match item.seen.line {
         Code::Standard { block, .. } if item.is_last_call => put_outputs(alloc, text, block, item),
@@ -105,9 +100,7 @@ fn put_last_outputs(alloc: Global, text: &mut Vec<u8>, item: &Item) -> Result<()
 
 /// Puts the name that is noted of an item.
 fn put_name(text: &mut Vec<u8>, legend: &Legend, item: &Item) -> Result<(), Fault>
-    ensures puts { OnOk result
-        (text.new.items ≡ text.old.items ++ noted_name legend.now item.now.said.note) }
-    ensures memory { IsOkUnless result Fault.Memory }
+    ensures { Puts text.old text.new result (noted_name legend.now item.now.said.note) }
 {
     match &item.said.note {
         Some(note) => put_bytes(text, legend.name(note)),
@@ -118,10 +111,8 @@ fn put_name(text: &mut Vec<u8>, legend: &Legend, item: &Item) -> Result<(), Faul
 /// Puts what an item writes: a place and its value, or that a standard block is called, with the
 /// outputs after its last call in the scan.
 fn put_written(alloc: Global, text: &mut Vec<u8>, legend: &Legend, item: &Item) -> Result<(), Fault>
-    ensures puts { OnOk result
-        (text.new.items ≡ text.old.items
-        ++ written_text legend.now item.now item.now.seen.written) }
-    ensures memory { IsOkUnless result Fault.Memory }
+    ensures { Puts text.old text.new result
+        (written_text legend.now item.now item.now.seen.written) }
 {
     put_name(text, legend, item)?;
     if let Some(number) = item.seen.written {
@@ -136,10 +127,7 @@ fn put_written(alloc: Global, text: &mut Vec<u8>, legend: &Legend, item: &Item) 
 fn has_written(seen: &SeenLine) -> bool
     ensures { result ≡ has_written seen.now.line seen.now.written }
 {
-    match seen.line {
-        Code::Standard { .. } => true,
-        _ => seen.written.is_some(),
-    }
+    matches!(seen.line, Code::Standard { .. }) || seen.written.is_some()
 }
 
 /// Puts the result of an item at its column of the row that starts there, if it is shown.

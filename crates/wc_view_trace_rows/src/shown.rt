@@ -2,6 +2,7 @@ ghost use Rattle.std.specs.Prelude.{◌≡◌, ◌≤◌, ◌+◌, ◌*◌, ◌-
 ghost use Rattle.std.specs.Str.{is_utf8};
 ghost use Rattle.wc_view_trace_rows.specs.Columns.{columns_of, first_columns, fitted, line_shown};
 ghost use Rattle.wc_view_trace_rows.specs.Shown.{acting_length, between_words, continues, four_act, is_acting, shown, shown_byte, shown_first, single_spaces, three_act, two_act};
+ghost use Rattle.wc_view_trace_rows.specs.Puts.{Puts};
 
 use wc_model::{Fault, put_bytes};
 
@@ -56,7 +57,7 @@ fn two_act(first: u8, second: u8) -> bool
     matches!(first, 0xC2..=0xDF) && continues(second) && is_acting(code)
 }
 
-/// Likewise three.
+/// Whether these three bytes are such a character.
 fn three_act(first: u8, second: u8, third: u8) -> bool
     ensures { result ≡ three_act first second third }
 {
@@ -69,7 +70,7 @@ fn three_act(first: u8, second: u8, third: u8) -> bool
         && is_acting(code)
 }
 
-/// Likewise four.
+/// Whether these four bytes are such a character.
 fn four_act(first: u8, second: u8, third: u8, fourth: u8) -> bool
     ensures { result ≡ four_act first second third fourth }
 {
@@ -158,9 +159,7 @@ fn first_shown(length: usize, byte: u8, is_utf8: bool) -> u8
 
 /// Puts a byte, unless it is a space that follows a space.
 fn put_single(text: &mut Vec<u8>, before: u8, byte: u8) -> Result<(), Fault>
-    ensures puts { OnOk result (text.new.items ≡ text.old.items
-        ++ single_spaces before (byte ∷ [])) }
-    ensures memory { IsOkUnless result Fault.Memory }
+    ensures { Puts text.old text.new result (single_spaces before (byte ∷ [])) }
 {
     if byte == b' ' && before == b' ' {
         return Ok(());
@@ -225,8 +224,7 @@ fn fit(text: &mut Vec<u8>, start: usize, columns: usize) -> Result<(), Fault>
 /// Puts a line of the text without the blanks at its ends. If it does not fit into that many columns
 /// its first part is put, and two dots.
 pub(crate) fn put_line(text: &mut Vec<u8>, line: &[u8], columns: usize) -> Result<(), Fault>
-    ensures puts { OnOk result (text.new.items ≡ text.old.items ++ line_shown columns line.now) }
-    ensures memory { IsOkUnless result Fault.Memory }
+    ensures { Puts text.old text.new result (line_shown columns line.now) }
 {
     let start = text.len();
     put_shown(text, words_of(line))?;

@@ -1,14 +1,13 @@
 ghost use Rattle.std.specs.Prelude.{◌≡◌, ◌++◌, IsOkUnless, OnOk, decimal};
 ghost use Rattle.wc_view_trace_rows.specs.Steps.{heading, heading_end, none_chosen, steps_line};
+ghost use Rattle.wc_view_trace_rows.specs.Puts.{Puts};
 
 use wc_model::{Fault, put_bytes};
 use wc_report::put_number;
 
 /// Puts a number between two texts.
 fn put_between(text: &mut Vec<u8>, before: &[u8], number: u64, after: &[u8]) -> Result<(), Fault>
-    ensures puts { OnOk result
-        (text.new.items ≡ text.old.items ++ (before.now ++ (decimal number ++ after.now))) }
-    ensures memory { IsOkUnless result Fault.Memory }
+    ensures { Puts text.old text.new result (before.now ++ (decimal number ++ after.now)) }
 {
     put_bytes(text, before)?;
     put_number(text, number)?;
@@ -34,9 +33,7 @@ pub(crate) fn put_heading(
     ms: u64,
     is_changed: bool,
 ) -> Result<(), Fault>
-    ensures puts { OnOk result
-        (text.new.items ≡ text.old.items ++ heading number ms is_changed) }
-    ensures memory { IsOkUnless result Fault.Memory }
+    ensures { Puts text.old text.new result (heading number ms is_changed) }
 {
     put_between(text, b"scan ", u64::from(number), b" at ")?;
     put_between(text, b"", ms, heading_end(is_changed))
@@ -55,8 +52,7 @@ pub fn put_none_chosen(text: &mut Vec<u8>, scans: u32) -> Result<(), Fault>
 
 /// Puts the number of steps a scan took, and the most that one takes. `Memory` is the only fault.
 pub(crate) fn put_steps(text: &mut Vec<u8>, steps: usize, bound: u32) -> Result<(), Fault>
-    ensures puts { OnOk result (text.new.items ≡ text.old.items ++ steps_line steps bound) }
-    ensures memory { IsOkUnless result Fault.Memory }
+    ensures { Puts text.old text.new result (steps_line steps bound) }
 {
     put_between(text, b"steps ", steps as u64, b" of at most ")?;
     put_between(text, b"", u64::from(bound), b"\n")

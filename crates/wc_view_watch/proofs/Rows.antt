@@ -198,10 +198,10 @@ module _ (list : List ℕ) (changes : Bool) (number : Option ℕ) (plate : Plate
   pub row_with_scan : (scan : ScanSeen) (cleared text scan_cleared scan_text new : List ℕ) → seen.scan ≡ Some scan → written_here ≡ true → cleared ≡ [] → text ≡ cleared ++ answer → scan_cleared ≡ []
       → scan_text ≡ scan_cleared ++ line_with_values list after (line_of_record scan.record) → new ≡ text ++ written_now number scan_text
       → new ≡ row_text list changes number plate logic past (row_of seen)
-  row_with_scan scan cleared text scan_cleared scan_text new is told empty put scan_empty scan_put' more =
+  row_with_scan scan cleared text scan_cleared scan_text new is written empty put scan_empty scan_put' more =
       more
       ∙ (λ i. (put ∙ ap (λ l. l ++ answer) empty) i ++ written_now number ((scan_put' ∙ ap (λ l. l ++ line_with_values list after (line_of_record scan.record)) scan_empty) i))
-      ∙ ap (λ w. answer ++ cond w (written_now number (line_with_values list after (line_of_record scan.record))) []) (sym told)
+      ∙ ap (λ w. answer ++ cond w (written_now number (line_with_values list after (line_of_record scan.record))) []) (sym written)
       ∙ ap (λ s. answer ++ scan_now list written_here number after s) (sym is)
       ∙ sym whole
 
@@ -220,10 +220,10 @@ module _ (list : List ℕ) (changes : Bool) (number : Option ℕ) (plate : Plate
   pub kept_with_scan : (ring : Option RingState) (scan : ScanSeen) (scan_cleared scan_text : List ℕ) → seen.scan ≡ Some scan → written_here ≡ true → scan_cleared ≡ []
       → scan_text ≡ scan_cleared ++ line_with_values list after (line_of_record scan.record) → KeepsLast ring number (scans_so_far list changes plate logic past ++ scan_text ∷ [])
       → KeepsLast ring number (scans_so_far list changes plate logic (row_of seen ∷ past))
-  kept_with_scan ring scan scan_cleared scan_text is told scan_empty scan_put' keeps =
+  kept_with_scan ring scan scan_cleared scan_text is written scan_empty scan_put' keeps =
       subst (λ scans. KeepsLast ring number scans)
       ((λ i. scans_so_far list changes plate logic past ++ (scan_put' ∙ ap (λ l. l ++ line_with_values list after (line_of_record scan.record)) scan_empty) i ∷ [])
-      ∙ ap (λ w. scans_so_far list changes plate logic past ++ cond w (line_with_values list after (line_of_record scan.record) ∷ []) []) (sym told)
+      ∙ ap (λ w. scans_so_far list changes plate logic past ++ cond w (line_with_values list after (line_of_record scan.record) ∷ []) []) (sym written)
       ∙ ap (λ s. scans_so_far list changes plate logic past ++ scans_kept list written_here after s) (sym is)
       ∙ sym kept)
       keeps

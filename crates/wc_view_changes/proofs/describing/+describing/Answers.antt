@@ -134,5 +134,5 @@ describe_variable-returns-in_ok-describe_unit-in-Block-clause-lines t c = λ sid
     let i = into source c.args.units.unit c.in-Block.block before u n at (ap Some (sym c.in-Block.is) ∙ c.in-Some.ensures.declared text (seen before u) tables (seen_unit source c.args.units.unit before u at)) in
     let old_at = subst (λ k. IsSide (text_view c.args.texts.other.now.source) k following) (sym (c.unit_of.ensures ∙ ap unit_numbered (c.other_type.ensures side h))) (side_is (text_view c.args.texts.other.now.source) c.args.units.other side n h) in
     c.in_ok-describe_unit-in-Block.ensures.lines following i.code.earlier i.code.unit old_at i.at
-    ∙ ap (λ p. start ++ lines_between c.args.texts.pass following i.code.earlier i.code.unit p (declared_of i.code.unit)) c.in_ok-go_into-in-Block.ensures.longer
+    ∙ ap (λ p. start ++ lines_between c.args.texts.pass following i.code.earlier i.code.unit p (declared_of i.code.unit)) c.in_ok-go_into-in-Block.ensures.0
     ∙ ap (λ x. start ++ x) (block_lines source c.args.units.unit c.in-Block.block c.args.texts.pass side before u c.args.names.now.items c.args.name.now initial i)

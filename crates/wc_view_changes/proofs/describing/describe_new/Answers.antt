@@ -22,4 +22,4 @@ returns-clause-line c =
     on_ok c.put_first.result _ _
     (λ w unit side h e. w ∙ ap (λ o. c.args.out.now.items ++ line_text false path shape o) (c.type_text.ensures unit side n h e)
     ∙ ap (λ b. c.args.out.now.items ++ line_text b path shape (option_map found_type (side_found side (n ∷ [])))) (sym c.if-is_kept.false ∙ c.is_kept.ensures))
-    c.put_first.ensures.line
+    c.put_first.ensures.0

@@ -24,7 +24,7 @@ returns-in-Old-clause-line c =
     on_ok c.describe_old.result _ _
     (λ w side h e. w ∙ ap (λ b. c.args.out.now.items ++ lost_text b path shape) (ap line_numbered e ∙ sym (side_line side n))
     ∙ ap (λ p. c.args.out.now.items ++ pass_text p (has_shape c.args.there.declared shape) path shape (side_found side (n ∷ []))) (sym c.in-Old.is))
-    c.describe_old.ensures.line
+    c.describe_old.ensures.0
 
 pub returns-in-Notes-clause-line : goal.returns-in-Notes-clause-line
 returns-in-Notes-clause-line c =

@@ -12,7 +12,7 @@ returns-then-decoder-clause-finishes c =
     let format = c.args.decoder.now.format in
     let kept = c.args.decoder.now.line.items in
     let old = c.args.text.now.items in
-    finishes_if c.put_closing.result c.args.decoder.now _ _ _ c.put_closing.ensures.closing
+    finishes_if c.put_closing.result c.args.decoder.now _ _ _ c.put_closing.ensures.0
     (λ e read text represents.
     subst (Decodes format read) (after_text text old c.put_closing.new.text.items _ e)
     (finished_long format read kept (text ++ old) (subst (λ b. IsInState format read kept b (text ++ old)) c.if-decoder.true represents)))
@@ -23,7 +23,7 @@ returns-clause-finishes c =
     let kept = c.args.decoder.now.line.items in
     let old = c.args.text.now.items in
     let some : 0 < length kept = grind (arith, common_steps) in
-    finishes_if c.put_unknown.result c.args.decoder.now _ _ _ c.put_unknown.ensures.line
+    finishes_if c.put_unknown.result c.args.decoder.now _ _ _ c.put_unknown.ensures.0
     (λ e read text represents.
     subst (Decodes format read) (after_text text old c.put_unknown.new.text.items (unknown format kept) (e ∙ ap (λ l. old ++ unknown format l) c.deref.ensures.value))
     (finished_kept format read kept (text ++ old) (λ none. omega (arith, some, ap length none)) (subst (λ b. IsInState format read kept b (text ++ old)) c.if-decoder.false represents)))

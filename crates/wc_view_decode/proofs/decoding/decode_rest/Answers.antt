@@ -45,5 +45,5 @@ chunks-preserved g c =
           (g.W.ByteOut.bytes_taken c.args.output.now) (g.W.ByteOut.bytes_taken c.chunks.output) (g.W.ByteOut.bytes_taken c.decode_chunk.new.output)
           c.chunks.invariant.goes (subst (Consumes before after) (sym c.first_bytes-chunk.ensures) c.in-Ok.ensures.chunk.1) c.in_default.ensures.chunk;
       reads = c.in-Ok.ensures.steady ∙ c.chunks.invariant.reads;
-      writes = c.in_default.ensures.steady (λ err. search rules) ∙ c.chunks.invariant.writes;
+      writes = c.in_default.ensures.faults.0.1 (λ err. search rules) ∙ c.chunks.invariant.writes;
     }

@@ -4,11 +4,11 @@ use Rattle.std.specs.Prelude.{decimal}
 use Rattle.wc_view_decode.proofs.RowTexts.{last_more, one_more, two_more}
 use Rattle.wc_view_decode.proofs.entry_formats.put_scan_prefix.Goals as goal
 
-pub returns-clause-line : goal.returns-clause-line
-returns-clause-line c =
+pub returns : goal.returns
+returns c =
     let old = c.args.text.now.items in
     let m1 = c.in_ok-put_number_after.ensures.number ∙ append_assoc old (codes "S ") (decimal c.args.row.now.ms) in
     let m2 = two_more old _ (codes "  ") (decimal c.args.row.now.steps.0) _ _ m1
     (c.in_ok-put_number_after-2.ensures.number ∙ ap (λ n. c.put_number_after.new.text.items ++ codes "  " ++ decimal n) c.from.ensures) in
     let m3 = one_more old _ (codes " steps  on:") _ _ m2 c.in_ok-put_bytes.ensures.bytes in
-    last_more c.put_bits.result old _ _ _ _ m3 c.put_bits.ensures.bits
+    (last_more c.put_bits.result old _ _ _ _ m3 c.put_bits.ensures.0, c.put_bits.ensures.1)

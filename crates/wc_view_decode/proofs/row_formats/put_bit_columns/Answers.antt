@@ -7,11 +7,11 @@ use Rattle.wc_view_decode.proofs.row_formats.put_bit_columns.Goals as goal
 pub loop-index-preserved : goal.loop-index-preserved
 loop-index-preserved c =
     let next : c.loop-index.index + 1 ≡ suc c.loop-index.index = omega arith in
-    rw next (c.in_ok-put_bit_column.ensures.column ∙ ap (λ t. t ++ bit_column c.args.bits c.loop-index.index) c.loop-index.invariant
+    rw next (c.in_ok-put_bit_column.ensures.0 ∙ ap (λ t. t ++ bit_column c.args.bits c.loop-index.index) c.loop-index.invariant
     ∙ append_assoc c.args.text.now.items (bit_columns c.args.bits c.loop-index.index) (bit_column c.args.bits c.loop-index.index))
 
 pub loop-index-init : goal.loop-index-init
 loop-index-init c = sym (append-nil c.args.text.now.items)
 
-pub returns-clause-columns : goal.returns-clause-columns
-returns-clause-columns c = all_columns c.args.bits c.loop-index.index _ _ (omega arith) c.loop-index.invariant
+pub returns : goal.returns
+returns c = (all_columns c.args.bits c.loop-index.index _ _ (omega arith) c.loop-index.invariant, tt)

@@ -12,5 +12,5 @@ returns-then-has_written-clause-puts c =
     let text = written_text legend item item.seen.written in
     on_ok c.put_written.result
     (λ put. one_cell written_column c.args.start c.args.text.now.items c.put_gap.new.text.items c.put_written.new.text.items text (written_cell legend item)
-    (ap (λ b. cond b (Some text) None) (sym c.has_written.ensures ∙ c.if-has_written.true)) c.in_ok-put_gap.ensures.puts put)
-    c.put_written.ensures.puts
+    (ap (λ b. cond b (Some text) None) (sym c.has_written.ensures ∙ c.if-has_written.true)) c.in_ok-put_gap.ensures.0 put)
+    c.put_written.ensures.0

@@ -14,5 +14,5 @@ returns-clause-puts c =
     on_ok c.put_literal.result
     (λ put. one_cell result_column c.args.start c.args.text.now.items c.put_gap.new.text.items c.put_literal.new.text.items (literal item.said.result number) (result_cell item)
     (numbered (is_part item.seen.line) (literal item.said.result) item.seen.result number (sym c.is_part.ensures ∙ c.if-is_part.false) c.in-Some.is)
-    c.in_ok-put_gap.ensures.puts (put ∙ ap (λ n. c.put_gap.new.text.items ++ literal item.said.result n) raw))
-    c.put_literal.ensures.puts
+    c.in_ok-put_gap.ensures.0 (put ∙ ap (λ n. c.put_gap.new.text.items ++ literal item.said.result n) raw))
+    c.put_literal.ensures.0

@@ -13,4 +13,4 @@ pub loop-index-preserved : goal.loop-index-preserved
 loop-index-preserved c =
     put_next c.is_text-is_utf8.result c.loop-index.before c.first_shown-shown.result c.loop-index.hidden c.hidden_length-length.result c.saturating_sub-hidden-in-loop-index.result c.loop-index.index
     c.loop-index.text.items c.put_single.new.text.items c.split_at.result.1.now c.args.bytes.now _ c.loop-index-test.true c.if-hidden-gt0.false c.split_at.ensures.back
-    c.hidden_length-length.ensures c.first_shown-shown.ensures c.saturating_sub-hidden-in-loop-index.ensures c.in_ok-put_single.ensures.puts c.loop-index.invariant
+    c.hidden_length-length.ensures c.first_shown-shown.ensures c.saturating_sub-hidden-in-loop-index.ensures c.in_ok-put_single.ensures.0 c.loop-index.invariant

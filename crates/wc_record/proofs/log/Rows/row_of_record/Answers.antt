@@ -27,18 +27,21 @@ returns-in-Ok-clause-gives g c =
       },
     )
 
-pub returns-in-Ok-clause-row : goal.returns-in-Ok-clause-row
-returns-in-Ok-clause-row g c =
-    let facts = row_facts _ c.args.self.now.last (fields_of c.args.self.now.row) (head_view c.row_in.new.buffer.items c.in-Ok.row) c.in-Ok.ensures.says in
-    record {
-      number_is = facts.number ∙ add-one c.args.self.now.number;
-      counted = sym facts.number;
-      few = omega (arith, facts.number);
-      in_order = facts.in_order;
-      kept = refl;
-      early = facts.early;
-      in_range = c.in-Ok.ensures.range;
-    }
+pub returns-in-Ok-clause-steps : goal.returns-in-Ok-clause-steps
+returns-in-Ok-clause-steps g c =
+    let facts = row_facts _ c.args.self.now.last (fields_of c.args.self.now.row) (head_view c.row_in.new.buffer.items c.in-Ok.row) c.in-Ok.ensures.says in (
+      record {
+        number_is = facts.number ∙ add-one c.args.self.now.number;
+        counted = sym facts.number;
+        few = omega (arith, facts.number);
+        in_order = facts.in_order;
+        kept = refl;
+        early = facts.early;
+        in_range = c.in-Ok.ensures.range;
+      },
+      tt,
+      record { start = refl; end = refl },
+    )
 
 pub returns-in-Err-Refused-clause-gives : goal.returns-in-Err-Refused-clause-gives
 returns-in-Err-Refused-clause-gives g c =

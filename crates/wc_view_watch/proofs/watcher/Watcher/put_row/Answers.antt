@@ -32,10 +32,10 @@ returns-in-Ok-put_scan-clause-text c =
     (λ puts plate logic past shown represents fit kept values.
     let after = logic_after plate logic (row_of c.args.seen.now ∷ past) in
     let runs : RunsLogic _ after = subst (λ (machine : Option MachineState). RunsLogic machine after) (sym c.machine-machine.ensures) (runs_logic c.args.scale.now plate logic (row_of c.args.seen.now ∷ past) represents) in
-    let told : is_written old.changes (last_values list plate logic past) (values_of list after) ≡ true =
+    let written : is_written old.changes (last_values list plate logic past) (values_of list after) ≡ true =
     sym (c.in_ok-is_written.ensures.written list after (last_values list plate logic past) fit runs values) ∙ c.if-not-branch.false in
     row_with_scan list old.changes old.number plate logic past c.args.seen.now shown c.in-Some.scan c.clear.new.self.items c.put_answer.new.text.items c.clear-2.new.self.items
-    c.put_scan.new.text.items c.keep_scan.new.self.text.items c.in-Some.is told c.clear.ensures.items c.in-Ok.ensures.text c.clear-2.ensures.items
+    c.put_scan.new.text.items c.keep_scan.new.self.text.items c.in-Some.is written c.clear.ensures.items c.in-Ok.ensures.text c.clear-2.ensures.items
     (c.in-Ok-put_scan.ensures.puts list after fit runs)
     (puts (scans_so_far list old.changes plate logic past) kept))
     c.keep_scan.ensures.text
@@ -48,9 +48,9 @@ returns-in-Ok-put_scan-clause-scans c =
     (λ keeps plate logic past shown represents fit kept values.
     let after = logic_after plate logic (row_of c.args.seen.now ∷ past) in
     let runs : RunsLogic _ after = subst (λ (machine : Option MachineState). RunsLogic machine after) (sym c.machine-machine.ensures) (runs_logic c.args.scale.now plate logic (row_of c.args.seen.now ∷ past) represents) in
-    let told : is_written old.changes (last_values list plate logic past) (values_of list after) ≡ true =
+    let written : is_written old.changes (last_values list plate logic past) (values_of list after) ≡ true =
     sym (c.in_ok-is_written.ensures.written list after (last_values list plate logic past) fit runs values) ∙ c.if-not-branch.false in
     kept_with_scan list old.changes old.number plate logic past c.args.seen.now shown c.keep_scan.new.self.last c.in-Some.scan c.clear-2.new.self.items c.put_scan.new.text.items
-    c.in-Some.is told c.clear-2.ensures.items (c.in-Ok-put_scan.ensures.puts list after fit runs)
+    c.in-Some.is written c.clear-2.ensures.items (c.in-Ok-put_scan.ensures.puts list after fit runs)
     (keeps (scans_so_far list old.changes plate logic past) kept))
     c.keep_scan.ensures.keeps

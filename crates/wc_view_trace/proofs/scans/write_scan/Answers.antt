@@ -1,0 +1,22 @@
+use Rattle.std.proofs.Common.{length, refl}
+use Rattle.wc_view_trace_rows.proofs.HandedOn.{on_ok}
+use Rattle.wc_view_trace.proofs.Joins.{four_parts}
+use Rattle.wc_view_trace.specs.Images.{image_tokens}
+use Rattle.wc_view_trace.specs.Scans.{head_tokens, items_tokens, tail_tokens}
+use Rattle.wc_view_trace.proofs.scans.write_scan.Goals as goal
+
+pub returns-clause-tokens : goal.returns-clause-tokens
+returns-clause-tokens c =
+    let scan = c.args.scan.now in
+    let legend = c.args.legend.now in
+    let written = c.in_ok-write_items.ensures.tokens in
+    let tail = tail_tokens (length scan.lines.now) c.bound.result scan.outputs in
+    on_ok c.write_tail.result
+    (λ last. (
+      _,
+      record { image = c.image_of-image.result; image_is = c.image_of-image.ensures; items = written.0; items_are = written.1; bound = c.bound.result; bounds = c.bound.ensures; are = refl },
+      four_parts c.args.writer.now.tokens (head_tokens scan) (image_tokens c.image_of-image.result) (items_tokens legend written.0) tail
+          c.write_head.new.writer.tokens c.write_image.new.writer.tokens c.write_items.new.writer.tokens c.write_tail.new.writer.tokens
+          c.in_ok-write_head.ensures.tokens c.in_ok-write_image.ensures.0 written.2 last,
+    ))
+    c.write_tail.ensures.0

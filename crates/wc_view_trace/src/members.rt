@@ -1,0 +1,71 @@
+ghost use Rattle.std.specs.Prelude.{◌≡◌, ◌∷◌, []};
+ghost use Rattle.wc_view_trace.specs.Adds.{Adds};
+ghost use Rattle.wc_view_trace.specs.Members.{integer_token, name_member, name_text, number_member, token_of_value, value_member};
+
+use json::Writer;
+use std::alloc::{AllocError, Global};
+use wc_model::{Kind, Value};
+use wc_view_trace_rows::value_of;
+
+/// A name as a text: names in a program are ASCII.
+fn name_text(name: &[u8]) -> &str
+    ensures { result.now ≡ name_text name.now }
+{
+    match str::from_utf8(name) {
+        Ok(text) => text,
+        Err(_) => "",
+    }
+}
+
+/// Writes a member with a number.
+pub(crate) fn write_number(writer: &mut Writer, member: &str, number: u64) -> Result<(), AllocError>
+    ensures { Adds writer.old writer.new result (number_member member.now number) }
+{
+    writer.key(member)?;
+    writer.u64(number)
+}
+
+/// Writes a number with its sign.
+pub(crate) fn write_integer(writer: &mut Writer, number: i32) -> Result<(), AllocError>
+    ensures { Adds writer.old writer.new result (integer_token number ∷ []) }
+{
+    writer.i64(i64::from(number))
+}
+
+/// Writes a member with a name of the program.
+pub(crate) fn write_name(writer: &mut Writer, member: &str, name: &[u8]) -> Result<(), AllocError>
+    ensures { Adds writer.old writer.new result (name_member member.now name.now) }
+{
+    let text = name_text(name);
+    writer.key(member)?;
+    writer.string(text)
+}
+
+/// Writes a value: a BOOL as true or false, a DINT as a number, a TIME as a literal such as `T#100ms`.
+fn write_value(alloc: Global, writer: &mut Writer, value: Value) -> Result<(), AllocError>
+    ensures { Adds writer.old writer.new result (token_of_value value ∷ []) }
+{
+    match value {
+        Value::Bool(truth) => writer.boolean(truth),
+        Value::Dint(number) => writer.i64(i64::from(number)),
+        Value::Time(time) => {
+            let text = format!(in alloc; "T#{time}ms")?;
+            writer.string(text.as_str())
+        }
+    }
+}
+
+/// Writes a member with the value of a kind that has that number.
+pub(crate) fn write_number_of_kind(
+    alloc: Global,
+    writer: &mut Writer,
+    member: &str,
+    kind: Option<Kind>,
+    number: i32,
+) -> Result<(), AllocError>
+    ensures { Adds writer.old writer.new result (value_member member.now kind number) }
+{
+    let value = value_of(kind, number);
+    writer.key(member)?;
+    write_value(alloc, writer, value)
+}

@@ -1,4 +1,0 @@
-pub mod Images
-pub mod Items
-pub mod Members
-pub mod Scans
