@@ -1,4 +1,5 @@
 use crate::session::Session;
+use std::alloc::Global;
 use std::io;
 use std::io::Write;
 use wc_controller::{Ending, Input, RefusedRow};
@@ -7,6 +8,7 @@ use wc_diag_messages::{
     warnings_left_out,
 };
 use wc_diag_warnings::{Warning, find_warnings};
+use wc_lexer::{Token, tokens};
 use wc_model::Fault;
 use wc_reader::read;
 use wc_view_watch::UnknownName;
@@ -189,6 +191,15 @@ fn report_refusal(
 /// The number of warnings of a program that are printed at most.
 const MOST_WARNINGS: usize = 100;
 
+/// The tokens of a text, in which its warnings are placed; none if it has a fault, as no accepted text.
+fn tokens_of<'a>(alloc: Global, text: &'a [u8]) -> io::Result<Vec<Token<'a>>> {
+    match tokens(alloc, text) {
+        Ok(found) => Ok(found),
+        Err(Fault::Memory) => Err(memory_error()),
+        Err(Fault::Refused { .. }) => Ok(Vec::new(alloc)),
+    }
+}
+
 /// Prints the first warnings of a program, and the number of those left out.
 fn write_warnings(
     session: Session<'_>,
@@ -196,10 +207,14 @@ fn write_warnings(
     text: &[u8],
     warnings: &[Warning<'_>],
 ) -> io::Result<()> {
+    if warnings.is_empty() {
+        return Ok(());
+    }
     let alloc = session.rt.alloc();
     let name = file.path.as_bytes();
+    let tokens = tokens_of(alloc, text)?;
     for warning in warnings.iter().take(MOST_WARNINGS) {
-        let message = warning_message(alloc, session.format, name, text, warning)?;
+        let message = warning_message(alloc, session.format, name, text, &tokens, warning)?;
         session.rt.stderr().write_all(&message)?;
     }
     if warnings.len() > MOST_WARNINGS {

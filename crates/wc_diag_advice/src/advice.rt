@@ -1,15 +1,13 @@
 use crate::fields::{input_advice, number_advice, point_advice};
 use crate::members::{hidden_advice, input_of, member_advice};
 use crate::near::{
-    Wanted, advice_for, has_word, instance_advice, label_advice, near_word, operator_advice,
-    type_advice, unit_advice,
+    Wanted, advice_for, instance_advice, label_advice, near_word, operator_advice, type_advice,
+    unit_advice,
 };
 use std::alloc::{AllocError, Global};
 use wc_built_in::{Keyword, keyword_named, variable_at};
-use wc_diag_mistakes::{
-    Refused, excerpt, first_word, following, follows_leaving, is_near, line_of, word_before,
-};
-use wc_diag_stops::Brought;
+use wc_diag_mistakes::{Refused, follows_leaving};
+use wc_diag_stops::{Brought, first_word, following, is_near, word_of};
 use wc_diag_texts::{
     Case, InstructionValues, NameValues, empty_path_advice, hint_of, instruction_text, name_text,
 };
@@ -38,7 +36,7 @@ fn exchanged_advice(alloc: Global, word: &[u8]) -> Result<String, AllocError> {
 /// How to set an input that is used as an operator: the instance is the word after it.
 fn setting_advice(alloc: Global, refused: &Refused<'_, '_>) -> Result<String, AllocError> {
     let input = short_words(refused.token());
-    let instance = short_words(first_word(refused.rest()));
+    let instance = short_words(word_of(refused.next()));
     if input.is_empty() || instance.is_empty() {
         return Ok(String::new(alloc));
     }
@@ -51,9 +49,8 @@ fn frame_advice(
     refused: &Refused<'_, '_>,
     mistake: Case,
 ) -> Result<String, AllocError> {
-    let above = refused.above();
     match hint_of(refused.number, mistake) {
-        Some(hint) if !has_word(above, b"PROGRAM") && !has_word(above, b"FUNCTION_BLOCK") => {
+        Some(hint) if refused.unit_kind().is_none() => {
             instruction_text(alloc, InstructionValues::Framed(hint))
         }
         _ => Ok(String::new(alloc)),
@@ -62,12 +59,15 @@ fn frame_advice(
 
 /// What to write at the label before the slice; empty if something may lead to it.
 fn unreached_label_advice(alloc: Global, refused: &Refused<'_, '_>) -> Result<String, AllocError> {
-    let colon = refused.above().trim_ascii_end().len().saturating_sub(1);
-    let label = short_words(word_before(refused.text, colon));
-    if label.is_empty() || !follows_leaving(refused.text, line_of(refused.text, colon)) {
-        return Ok(String::new(alloc));
+    match refused.label_before() {
+        Some(label) if follows_leaving(refused.tokens, label.line) => {
+            instruction_text(
+                alloc,
+                InstructionValues::UnreachedLabel(short_words(label.text)),
+            )
+        }
+        _ => Ok(String::new(alloc)),
     }
-    instruction_text(alloc, InstructionValues::UnreachedLabel(label))
 }
 
 /// What to write if no path is known to a label, or one alone, which brings nothing.
@@ -96,8 +96,7 @@ fn section_advice(alloc: Global, refused: &Refused<'_, '_>) -> Result<String, Al
     if is_word(b"END_VAR", word) || !is_near(b"END_VAR", word) {
         return Ok(String::new(alloc));
     }
-    // The word is on the last line above the token that has more than blanks.
-    let line = line_of(refused.text, refused.above().trim_ascii_end().len());
+    let line = refused.previous().map_or(0, |token| token.line);
     name_text(alloc, NameValues::NearEnd(short_words(word), line))
 }
 
@@ -144,9 +143,7 @@ fn field_advice(alloc: Global, refused: &Refused<'_, '_>) -> Result<String, Allo
     if block.is_empty() {
         return point_advice(alloc, refused);
     }
-    let word = refused.offending();
-    let before = excerpt(word, 0, first_word(word).len().saturating_add(1));
-    let wanted = (before, field_of(word));
+    let wanted = (refused.offending(), refused.field());
     member_advice(
         alloc,
         refused.units,
@@ -154,12 +151,6 @@ fn field_advice(alloc: Global, refused: &Refused<'_, '_>) -> Result<String, Allo
         refused.sets(),
         wanted,
     )
-}
-
-/// The name after the point of a field.
-fn field_of(word: &[u8]) -> &[u8] {
-    let rest = following(word, first_word(word).len()).trim_ascii_start();
-    following(rest, 1).trim_ascii()
 }
 
 /// What to write for a name in the list of a call that the block does not have.
@@ -180,7 +171,7 @@ fn formal_advice(alloc: Global, refused: &Refused<'_, '_>) -> Result<String, All
 
 /// What to write for a field in a VAR of a block of the text, which nothing outside reads or sets; empty if it is none.
 fn unseen_advice(alloc: Global, refused: &Refused<'_, '_>) -> Result<String, AllocError> {
-    let (block, name) = (refused.block(), field_of(refused.offending()));
+    let (block, name) = (refused.block(), refused.field());
     if block.is_empty() || name.is_empty() || refused.span.formal.is_some() {
         return Ok(String::new(alloc));
     }
@@ -190,7 +181,7 @@ fn unseen_advice(alloc: Global, refused: &Refused<'_, '_>) -> Result<String, All
 /// What to write for an instance that is a target: one of its inputs.
 fn target_advice(alloc: Global, refused: &Refused<'_, '_>) -> Result<String, AllocError> {
     let instance = short_words(refused.offending());
-    let block = refused.words_at(refused.span.block).as_bytes();
+    let block = refused.word_at(refused.span.block).as_bytes();
     let input = input_of(alloc, refused.units, block)?;
     if input.is_empty() {
         return member_advice(alloc, refused.units, block, true, (&[], &[]));
@@ -217,8 +208,7 @@ fn declaration_advice(alloc: Global, refused: &Refused<'_, '_>) -> Result<String
 
 /// What to write for a name between quotation marks.
 fn unquoted_advice(alloc: Global, refused: &Refused<'_, '_>) -> Result<String, AllocError> {
-    let after = refused.span.start.saturating_add(1);
-    let name = short_words(first_word(following(refused.text, after)));
+    let name = short_words(first_word(following(refused.lexeme, 1)));
     instruction_text(alloc, InstructionValues::Unquoted(name))
 }
 

@@ -1,9 +1,11 @@
 use crate::advice::short_words;
-use crate::near::{Wanted, has_word, near_name};
+use crate::near::{Wanted, near_name};
 use std::alloc::{AllocError, Global};
 use wc_built_in::variable_at;
-use wc_diag_mistakes::{Refused, block_with, first_word, following, prefix, word_before};
+use wc_diag_mistakes::{Refused, block_with};
+use wc_diag_stops::{following, is_shape, without_line_ends};
 use wc_diag_texts::{InstructionValues, NameValues, instruction_text, name_text};
+use wc_lexer::Shape;
 
 /// The greatest bit of a number that is not negative.
 const GREATEST_BIT: u32 = 30;
@@ -39,11 +41,9 @@ fn undeclared_advice(
 
 /// What to write for a name before a point that is not of an instance.
 pub(crate) fn point_advice(alloc: Global, refused: &Refused<'_, '_>) -> Result<String, AllocError> {
-    let word = refused.offending();
-    let name = first_word(word);
-    let after = following(word, name.len().saturating_add(1)).trim_ascii();
-    let (name, field) = (short_words(name), short_words(after));
-    let kind = refused.words_at(refused.span.block);
+    let name = short_words(refused.offending());
+    let field = short_words(refused.field());
+    let kind = refused.word_at(refused.span.block);
     if name.is_empty() || field.is_empty() {
         return Ok(String::new(alloc));
     }
@@ -57,7 +57,7 @@ pub(crate) fn point_advice(alloc: Global, refused: &Refused<'_, '_>) -> Result<S
 pub(crate) fn input_advice(alloc: Global, refused: &Refused<'_, '_>) -> Result<String, AllocError> {
     let input = short_words(refused.token());
     let instance = short_words(refused.word_before());
-    let is_assigned = refused.rest().trim_ascii_start().starts_with(b":=");
+    let is_assigned = is_shape(refused.next(), Shape::Assign);
     if !is_assigned || input.is_empty() || instance.is_empty() {
         return Ok(String::new(alloc));
     }
@@ -107,17 +107,18 @@ pub(crate) fn number_advice(
     refused: &Refused<'_, '_>,
 ) -> Result<String, AllocError> {
     let digits = refused.token();
-    let above = refused.above().trim_ascii_end();
-    let name = short_words(word_before(above, above.len().saturating_sub(1)));
-    if name.is_empty() {
-        return Ok(String::new(alloc));
-    }
+    let (above, name) = match without_line_ends(refused.before()) {
+        [above @ .., name, _] => (above, short_words(name.text)),
+        _ => return Ok(String::new(alloc)),
+    };
     let address = format!(in alloc; "%{name}.{}", short_words(digits))?;
     if variable_at(address.as_bytes()).is_some() {
         return name_text(alloc, NameValues::Near(&address));
     }
-    let start = above.len().saturating_sub(name.len()).saturating_sub(1);
-    if is_foreign_area(name.as_bytes()) && !has_word(prefix(above, start), name.as_bytes()) {
+    let is_known = above
+        .iter()
+        .any(|token| token.text.eq_ignore_ascii_case(name.as_bytes()));
+    if is_foreign_area(name.as_bytes()) && !is_known {
         return instruction_text(alloc, InstructionValues::ForeignBit(name));
     }
     match bit_of(digits) {

@@ -126,7 +126,7 @@ fn own_inputs(alloc: Global, units: &[Unit<'_>], block: &[u8]) -> Result<String,
     named(alloc, "input", ":=", &inputs)
 }
 
-/// Its outputs.
+/// The outputs of a block of the text, in words.
 fn own_outputs(alloc: Global, units: &[Unit<'_>], block: &[u8]) -> Result<String, AllocError> {
     let outputs = names_in(alloc, units, block, Section::Output, LONGEST_LIST)?;
     named(alloc, "output", "=>", &outputs)
@@ -147,7 +147,7 @@ fn members_said(block: StandardBlock) -> &'static str {
     hint_of(409, Case::NotOfBlock(block)).unwrap_or("")
 }
 
-/// What to write for a name that a standard block does not have, which follows what names its instance.
+/// What to write for a name that a standard block does not have, after the name of its instance.
 fn standard_advice(
     alloc: Global,
     block: StandardBlock,
@@ -159,12 +159,15 @@ fn standard_advice(
         return format!(in alloc; "{}", members_said(block));
     }
     let instance = str::from_utf8(instance).unwrap_or("");
-    let likely = format!(in alloc; "{instance}{near}")?;
+    if instance.is_empty() {
+        return name_text(alloc, NameValues::NearOf(near, members_said(block)));
+    }
+    let likely = format!(in alloc; "{instance}.{near}")?;
     name_text(alloc, NameValues::NearOf(&likely, members_said(block)))
 }
 
-/// What to write for a name that a block does not have as an input, or as an output: a near one, and what the block has. What names its
-/// instance comes before the name.
+/// What to write for a name that a block does not have as an input, or as an output: a near one, and what the block has. The name of its instance
+/// comes before the name.
 pub(crate) fn member_advice(
     alloc: Global,
     units: &[Unit<'_>],

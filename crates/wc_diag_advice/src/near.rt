@@ -1,8 +1,10 @@
 use crate::foreign::foreign_advice;
 use std::alloc::{AllocError, Global};
 use wc_built_in::{Keyword, elementary_type, keyword_named};
-use wc_diag_mistakes::{Refused, first_word, is_near, word_before};
+use wc_diag_mistakes::Refused;
+use wc_diag_stops::{first_word, is_near, last_line, text_of, without_line_ends};
 use wc_diag_texts::{InstructionValues, NameValues, instruction_text, name_text};
+use wc_lexer::Token;
 use wc_model::{Decl, Line, Section, Unit, is_word};
 
 /// The operators.
@@ -59,18 +61,20 @@ pub(crate) fn operator_advice(
         return name_text(alloc, NameValues::Near(end));
     }
     let near = near_word(OPERATORS, word);
-    if near.is_empty() && begins_body(refused.above()) {
+    if near.is_empty() && begins_body(refused.before()) {
         return word_advice(alloc, SECTION_WORDS, word);
     }
     near_advice(alloc, near)
 }
 
-/// Whether nothing but the head of its unit or a section of declarations is last in what is above: another section may begin there.
-fn begins_body(above: &[u8]) -> bool {
-    let above = above.trim_ascii_end();
-    let line = above.rsplit(|byte| *byte == b'\n').next().unwrap_or(b"");
-    is_word(b"END_VAR", word_before(line, line.len()))
-        || matches!(keyword_named(first_word(line)), Some(Keyword::UnitStart(_)))
+/// Whether nothing but the head of its unit or a section of declarations is last in what comes before: another section may begin there.
+fn begins_body(before: &[Token<'_>]) -> bool {
+    let line = last_line(without_line_ends(before));
+    is_word(b"END_VAR", text_of(line.last()))
+        || matches!(
+            keyword_named(text_of(line.first())),
+            Some(Keyword::UnitStart(_))
+        )
 }
 
 /// Which keyword a word that begins no unit may be a misspelling of.

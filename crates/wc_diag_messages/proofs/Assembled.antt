@@ -2,9 +2,9 @@
 use Rattle.std.proofs.Common.{◌≡◌, ℕ, List, [], ◌++◌, append_assoc, refl, Result, Ok, Err, OnOk}
 
 -- four parts in an empty message
-pub four_excerpts : (a b c d start first second third all : List ℕ) → start ≡ [] → first ≡ start ++ a → second ≡ first ++ b → third ≡ second ++ c → all ≡ third ++ d
+pub four_parts : (a b c d start first second third all : List ℕ) → start ≡ [] → first ≡ start ++ a → second ≡ first ++ b → third ≡ second ++ c → all ≡ third ++ d
     → all ≡ a ++ b ++ c ++ d
-four_excerpts a b c d start first second third all none e f g h = rw (h, g, f, e, none) refl
+four_parts a b c d start first second third all none e f g h = rw (h, g, f, e, none) refl
 
 -- four parts after what was there, the last of which may fail
 pub four_after : {E X : Type 0} (r : Result Unit E) (old a b c d first second third all : List X) → first ≡ old ++ a → second ≡ first ++ b → third ≡ second ++ c → OnOk r (all ≡ third ++ d)
@@ -21,12 +21,12 @@ five_after (Ok x) old a b c d e first second third fourth all f g h i j =
 five_after (Err x) old a b c d e first second third fourth all f g h i j = tt
 
 -- five parts in an empty message
-pub five_excerpts : {X : Type 0} (a b c d e start first second third fourth all : List X) → start ≡ [] → first ≡ start ++ a → second ≡ first ++ b → third ≡ second ++ c → fourth ≡ third ++ d → all ≡ fourth ++ e
+pub five_parts : {X : Type 0} (a b c d e start first second third fourth all : List X) → start ≡ [] → first ≡ start ++ a → second ≡ first ++ b → third ≡ second ++ c → fourth ≡ third ++ d → all ≡ fourth ++ e
     → all ≡ a ++ b ++ c ++ d ++ e
-five_excerpts a b c d e start first second third fourth all none f g h i j = rw (j, i, h, g, f, none) refl
+five_parts a b c d e start first second third fourth all none f g h i j = rw (j, i, h, g, f, none) refl
 
 -- six parts in an empty message
-pub six_excerpts : (a b c d e f start first second third fourth fifth all : List ℕ) → start ≡ [] → first ≡ start ++ a → second ≡ first ++ b → third ≡ second ++ c → fourth ≡ third ++ d
+pub six_parts : (a b c d e f start first second third fourth fifth all : List ℕ) → start ≡ [] → first ≡ start ++ a → second ≡ first ++ b → third ≡ second ++ c → fourth ≡ third ++ d
     → fifth ≡ fourth ++ e → all ≡ fifth ++ f
     → all ≡ a ++ b ++ c ++ d ++ e ++ f
-six_excerpts a b c d e f start first second third fourth fifth all none h i j k l m = rw (m, l, k, j, i, h, none) refl
+six_parts a b c d e f start first second third fourth fifth all none h i j k l m = rw (m, l, k, j, i, h, none) refl

@@ -44,8 +44,8 @@ part_ends (Some next) part heading =
     ap line_ends heading.2 ∙ ends_on heading.0 next ∙ ap (λ n. n + line_ends next) (heading_ends (codes "@next") heading.0 refl refl heading.1)
 
 -- a slice has no more lines than bytes
-few_ends : (excerpt : List ℕ) (rest most : ℕ) → length excerpt + rest ≤ most → line_ends excerpt ≤ most
-few_ends excerpt rest most short = let few = count_by-le-length (λ byte. byte == 10) excerpt in omega (arith, few, short)
+few_ends : (snippet : List ℕ) (rest most : ℕ) → length snippet + rest ≤ most → line_ends snippet ≤ most
+few_ends snippet rest most short = let few = count_by-le-length (λ byte. byte == 10) snippet in omega (arith, few, short)
 
 -- the parts of a job's bytes are short
 pub record AreShort (sections : Sections) (part : List ℕ) : Type 0 where
@@ -105,15 +105,15 @@ above_program bytes sections made =
     omega (arith, one, two, a, b)
 
 -- the lines above what follows the program, up to a slice after it
-above_excerpt : (bytes : List ℕ) (sections : Sections) (made : IsMadeOf bytes sections) (excerpt : List ℕ)
-    → (1 + line_ends sections.plate + 1) + line_ends sections.program + line_ends excerpt ≡ line_ends (made.plate_line ++ (sections.plate ++ (made.program_line ++ (sections.program ++ excerpt))))
-above_excerpt bytes sections made excerpt =
+above_part : (bytes : List ℕ) (sections : Sections) (made : IsMadeOf bytes sections) (snippet : List ℕ)
+    → (1 + line_ends sections.plate + 1) + line_ends sections.program + line_ends snippet ≡ line_ends (made.plate_line ++ (sections.plate ++ (made.program_line ++ (sections.program ++ snippet))))
+above_part bytes sections made snippet =
     let one = above_plate bytes sections made in
     let two = heading_ends (codes "@program") made.program_line refl refl made.program_heading in
-    let a = ends_on made.plate_line (sections.plate ++ (made.program_line ++ (sections.program ++ excerpt))) in
-    let b = ends_on sections.plate (made.program_line ++ (sections.program ++ excerpt)) in
-    let c = ends_on made.program_line (sections.program ++ excerpt) in
-    let d = ends_on sections.program excerpt in
+    let a = ends_on made.plate_line (sections.plate ++ (made.program_line ++ (sections.program ++ snippet))) in
+    let b = ends_on sections.plate (made.program_line ++ (sections.program ++ snippet)) in
+    let c = ends_on made.program_line (sections.program ++ snippet) in
+    let d = ends_on sections.program snippet in
     omega (arith, one, two, a, b, c, d)
 
 -- the lines above the next program
@@ -121,7 +121,7 @@ above_next : (bytes : List ℕ) (sections : Sections) (made : IsMadeOf bytes sec
 above_next bytes sections made there =
     let heading = next_line sections.next made.next_part made.next_heading in
     let one : line_ends heading ≡ 1 = by_next sections.next made.next_part made.next_heading there in
-    let all = above_excerpt bytes sections made heading in
+    let all = above_part bytes sections made heading in
     omega (arith, one, all)
   where
     by_next : (next : Option (List ℕ)) (part : List ℕ) (h : IsNextPart next part) → is_some next ≡ true → line_ends (next_line next part h) ≡ 1
@@ -133,7 +133,7 @@ above_log : (bytes : List ℕ) (sections : Sections) (made : IsMadeOf bytes sect
 above_log bytes sections made =
     let three = heading_ends (codes "@log") made.log_line refl refl made.log_heading in
     let next = part_ends sections.next made.next_part made.next_heading in
-    let all = above_excerpt bytes sections made (made.next_part ++ made.log_line) in
+    let all = above_part bytes sections made (made.next_part ++ made.log_line) in
     let e = ends_on made.next_part made.log_line in
     omega (arith, three, next, all, e)
 

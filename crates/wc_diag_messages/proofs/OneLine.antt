@@ -5,7 +5,7 @@ use Rattle.std.specs.Char.{digit_char}
 use Rattle.std.specs.List.{flat_map}
 use Rattle.std.specs.Str.{is_utf8}
 use Rattle.std.specs.Fmt.{digits, digits_onto, digit_glyph}
-use Rattle.wc_diag_spans.specs.declared.diagnostic.TextSpan.{TextSpan}
+use Rattle.wc_diag_spans.specs.declared.diagnostic.Span.{Span}
 use Rattle.wc_diag_spans.specs.declared.refusal.Part.{Part}
 use Rattle.wc_diag_spans.specs.declared.refusal.Part.TheVariants.{Job, Plate, Program, Next, Log}
 use Rattle.wc_diag_spans.specs.declared.refusal.Refusal.{Refusal}
@@ -13,11 +13,12 @@ use Rattle.wc_diag_messages.specs.Explanations.{QuotesAndSays, left_out_text, li
 use Rattle.wc_diag_messages.specs.Formats.{after_colon, helped_text, position_text, short_text}
 use Rattle.wc_diag_messages.specs.Known.{IsKnown, IsPrintable}
 use Rattle.wc_diag_messages.specs.Locations.{column_text, counted_name, counted_text, heading, number_text, place_text, row_text, section_text}
-use Rattle.wc_diag_messages.specs.Plain.{HasNoControls, IsShown, acts, column_of, escaped_byte, escaped_text, hex_digit, is_calm, is_control, passes, shown_text, with_spaces, words_after}
-use Rattle.wc_diag_messages.specs.Warned.{KnowsWarning}
+use Rattle.wc_diag_shown.specs.Plain.{HasNoControls, IsShown, acts, column_of, escaped_byte, escaped_text, hex_digit, is_calm, is_control, passes, shown_text, with_spaces, words_after}
+use Rattle.wc_diag_messages.specs.Warned.{KnowsWarning, named_text}
 use Rattle.wc_diag_messages.specs.declared.parts.Parts.{Parts}
 use Rattle.wc_diag_messages.specs.declared.parts.Severity.{Severity}
 use Rattle.wc_diag_warnings.specs.declared.warning.Warning.{Warning}
+use Rattle.wc_lexer.specs.declared.shape.Token.{Token}
 
 -- of two texts joined
 pub joined : (xs ys : List ℕ) → HasNoControls xs → HasNoControls ys → HasNoControls (xs ++ ys)
@@ -113,6 +114,16 @@ quoted_above (byte ∷ rest) =
     let c = joined (mark ++ text ++ mark) space b (bytes_shown (codes " ")) in
     joined (mark ++ text ++ mark ++ space) (left_out_text (length (byte ∷ rest))) c (left_out (length (byte ∷ rest)))
 
+-- the name of a warning
+named_above : (name : List ℕ) → HasNoControls (named_text name)
+named_above [] = tt
+named_above (byte ∷ rest) =
+    let mark = shown_text (codes "`") in
+    let text = shown_text (byte ∷ rest) in
+    let a = joined mark text (bytes_shown (codes "`")) (bytes_shown (byte ∷ rest)) in
+    let b = joined (mark ++ text) mark a (bytes_shown (codes "`")) in
+    joined (mark ++ text ++ mark) (shown_text (codes " ")) b (bytes_shown (codes " "))
+
 -- what is wrong
 pub reported_above : (subject reported : List ℕ) → QuotesAndSays subject reported → HasNoControls reported
 reported_above subject reported says = subst HasNoControls (sym says.2) (joined (quoted_text subject) says.0 (quoted_above subject) (shown_above says.0 says.1))
@@ -150,9 +161,9 @@ colon_above : (words : List ℕ) → HasNoControls words → HasNoControls (afte
 colon_above [] h = tt
 colon_above (byte ∷ rest) h = joined (shown_text (codes ":")) (byte ∷ rest) (bytes_shown (codes ":")) h
 
-column_above : (shown : List ℕ) (text_span : Option TextSpan) → HasNoControls (column_text shown text_span)
+column_above : (shown : List ℕ) (span : Option Span) → HasNoControls (column_text shown span)
 column_above shown None = tt
-column_above shown (Some text_span) = joined (shown_text (codes ":")) (number_text (column_of shown text_span.start)) (bytes_shown (codes ":")) (bytes_shown (decimal (column_of shown text_span.start)))
+column_above shown (Some span) = joined (shown_text (codes ":")) (number_text (column_of shown span.start)) (bytes_shown (codes ":")) (bytes_shown (decimal (column_of shown span.start)))
 
 line_above : (line : ℕ) → HasNoControls (line_text line)
 line_above line =
@@ -163,9 +174,9 @@ line_above line =
 position_above : (parts : Parts) → HasNoControls parts.place.bytes.items → HasNoControls (position_text parts)
 position_above parts h =
     let shown = parts.diagnostic.shown.items in
-    let text_span = parts.diagnostic.text_span in
-    either (parts.line == 0) (after_colon parts.place.bytes.items) (line_text parts.line ++ column_text shown text_span) (colon_above parts.place.bytes.items h)
-    (joined (line_text parts.line) (column_text shown text_span) (line_above parts.line) (column_above shown text_span))
+    let span = parts.diagnostic.span in
+    either (parts.line == 0) (after_colon parts.place.bytes.items) (line_text parts.line ++ column_text shown span) (colon_above parts.place.bytes.items h)
+    (joined (line_text parts.line) (column_text shown span) (line_above parts.line) (column_above shown span))
 
 -- its number
 numbered_above : (severity : Severity) (number : ℕ) → HasNoControls (numbered severity number)
@@ -196,11 +207,12 @@ refusal_prints refusal parts known =
       advice = shown_above parts.advice.bytes.items known.advice_is;
     }
 
-pub warning_prints : (text : List ℕ) (warning : Warning) (parts : Parts) → KnowsWarning text warning parts → IsPrintable parts
-warning_prints text warning parts knows =
+pub warning_prints : (text : List ℕ) (tokens : List Token) (warning : Warning) (parts : Parts) → KnowsWarning text tokens warning parts → IsPrintable parts
+warning_prints text tokens warning parts knows =
     record {
       within = knows.within;
-      reported = reported_above warning.name.now parts.reported.bytes.items knows.says;
+      reported = subst HasNoControls (sym knows.reported_is)
+          (joined (named_text warning.name.now) (shown_text knows.said) (named_above warning.name.now) (bytes_shown knows.said));
       place = subst HasNoControls (sym knows.place_is) tt;
-      advice = shown_above parts.advice.bytes.items knows.advice_is;
+      advice = subst HasNoControls (sym knows.advice_is) (bytes_shown knows.advice);
     }

@@ -7,7 +7,7 @@ use Rattle.json.specs.Token as json_token
 use Rattle.json.specs.Token.{Token}
 use Rattle.wc_diag_messages.proofs.OneLine.{decimal_above, digit_above, joined}
 use Rattle.wc_diag_messages.specs.Formats.{column_after, first_column, number_if_any, number_member, object_tokens, position_members, severity_members, text_if_any, text_member, word_members}
-use Rattle.wc_diag_messages.specs.Plain.{HasNoControls}
+use Rattle.wc_diag_shown.specs.Plain.{HasNoControls}
 use Rattle.wc_diag_messages.specs.Warned.{left_out_tokens}
 use Rattle.wc_diag_messages.specs.declared.parts.Parts.{Parts}
 use Rattle.wc_diag_messages.specs.declared.parts.Severity.{Severity}
@@ -84,13 +84,13 @@ number_if_any_clean name value = either_clean (value == 0) [] (number_member nam
 position_clean : (parts : Parts) → AreClean (position_members parts)
 position_clean parts =
     let shown = parts.diagnostic.shown.items in
-    let text_span = parts.diagnostic.text_span in
+    let span = parts.diagnostic.span in
     let a = number_if_any (codes "line") parts.line in
-    let b = number_if_any (codes "column") (first_column shown text_span) in
-    let c = number_if_any (codes "endColumn") (column_after text_span shown) in
+    let b = number_if_any (codes "column") (first_column shown span) in
+    let c = number_if_any (codes "endColumn") (column_after span shown) in
     let place = parts.place.bytes.items in
-    let first = both_clean a b (number_if_any_clean (codes "line") parts.line) (number_if_any_clean (codes "column") (first_column shown text_span)) in
-    let second = both_clean (a ++ b) c first (number_if_any_clean (codes "endColumn") (column_after text_span shown)) in
+    let first = both_clean a b (number_if_any_clean (codes "line") parts.line) (number_if_any_clean (codes "column") (first_column shown span)) in
+    let second = both_clean (a ++ b) c first (number_if_any_clean (codes "endColumn") (column_after span shown)) in
     both_clean (a ++ b ++ c) (text_if_any (codes "place") place) second (text_if_any_clean (codes "place") place)
 
 severity_clean : (severity : Severity) → AreClean (severity_members severity)

@@ -1,12 +1,12 @@
--- What is said of a refusal or a warning, for people: the number, what is named, the line, the column, the excerpt and
+-- What is said of a refusal or a warning, for people: the number, what is named, the line, the column, the snippet and
 -- the page are pinned; the words between them are not (the profile's own).
 use Rattle.std.specs.Prelude.{◌≡◌, ℕ, ◌+◌, ◌-◌, ◌==◌, ◌&&◌, min, Bool, true, false, nat_lt, List, [], ◌∷◌, ◌++◌, codes, length, take, if◌then◌else◌}
 use Rattle.wc_diag_spans.specs.declared.refusal.Part.{Part}
 use Rattle.wc_diag_spans.specs.declared.refusal.Part.TheVariants.{Job, Plate, Program, Next, Log}
 use Rattle.wc_diag_spans.specs.declared.refusal.Refusal.{Refusal}
-use Rattle.wc_diag_messages.specs.Excerpts.{excerpt_text}
+use Rattle.wc_diag_messages.specs.Snippets.{snippet_text}
 use Rattle.wc_diag_messages.specs.Locations.{alongside_text, margin_text, number_text}
-use Rattle.wc_diag_messages.specs.Plain.{IsShown, shown_text}
+use Rattle.wc_diag_shown.specs.Plain.{IsShown, shown_text}
 use Rattle.wc_diag_messages.specs.declared.parts.Parts.{Parts}
 use Rattle.wc_diag_messages.specs.declared.parts.Severity.{Severity}
 use Rattle.wc_diag_messages.specs.declared.parts.Severity.TheVariants.{Error, Warning}
@@ -94,6 +94,6 @@ abbrev pub long_text : List ℕ → Parts → List ℕ
 long_text name parts =
     headline parts
     ++ place_line (margin_text parts.line) name parts.line
-    (alongside_text parts.diagnostic.shown.items parts.diagnostic.text_span parts.place.bytes.items)
-    ++ excerpt_text parts.line parts.diagnostic.shown.items parts.diagnostic.text_span parts.expected.bytes.items
+    (alongside_text parts.diagnostic.shown.items parts.diagnostic.span parts.place.bytes.items)
+    ++ snippet_text parts.line parts.diagnostic.shown.items parts.diagnostic.span parts.expected.bytes.items
     ++ help_line parts

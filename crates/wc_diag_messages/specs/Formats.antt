@@ -7,12 +7,12 @@ use Rattle.json.specs.Lex as json
 use Rattle.json.specs.Print.{print}
 use Rattle.json.specs.Token as json_token
 use Rattle.json.specs.Token.{Token}
-use Rattle.wc_diag_spans.specs.declared.diagnostic.TextSpan.{TextSpan}
+use Rattle.wc_diag_spans.specs.declared.diagnostic.Span.{Span}
 use Rattle.wc_diag_spans.specs.declared.refusal.Refusal.{Refusal}
 use Rattle.wc_diag_messages.specs.Explanations.{line_text, long_text, numbered}
 use Rattle.wc_diag_messages.specs.Known.{IsKnown}
 use Rattle.wc_diag_messages.specs.Locations.{column_text}
-use Rattle.wc_diag_messages.specs.Plain.{IsOneLine, acts_nowhere, column_of, is_plain, shown_text, words_after}
+use Rattle.wc_diag_shown.specs.Plain.{IsOneLine, acts_nowhere, column_of, is_plain, shown_text, words_after}
 use Rattle.wc_diag_messages.specs.declared.parts.Parts.{Parts}
 use Rattle.wc_diag_messages.specs.declared.parts.Severity.{Severity}
 use Rattle.wc_diag_messages.specs.declared.parts.Severity.TheVariants.{Error, Warning}
@@ -27,7 +27,7 @@ after_colon words = words_after (shown_text (codes ":")) words
 abbrev pub position_text : Parts → List ℕ
 position_text parts =
     if parts.line == 0 then after_colon parts.place.bytes.items
-    else line_text parts.line ++ column_text parts.diagnostic.shown.items parts.diagnostic.text_span
+    else line_text parts.line ++ column_text parts.diagnostic.shown.items parts.diagnostic.span
 
 -- what is wrong, and after it what to write instead, if that is known
 abbrev pub helped_text : List ℕ → List ℕ → List ℕ
@@ -67,21 +67,21 @@ abbrev pub number_if_any : List ℕ → ℕ → List Token
 number_if_any name value = if value == 0 then [] else number_member name value
 
 -- the column of the offending slice, counted from 1; 0 if there is none
-abbrev pub first_column : List ℕ → Option TextSpan → ℕ
+abbrev pub first_column : List ℕ → Option Span → ℕ
 first_column line None = 0
-first_column line (Some text_span) = column_of line text_span.start
+first_column line (Some span) = column_of line span.start
 
 -- the column after it on that line; 0 if there is none
-abbrev pub column_after : Option TextSpan → List ℕ → ℕ
+abbrev pub column_after : Option Span → List ℕ → ℕ
 column_after None line = 0
-column_after (Some text_span) line = column_of line (min (text_span.start + text_span.length) (length line))
+column_after (Some span) line = column_of line (min (span.start + span.length) (length line))
 
 -- where it is
 abbrev pub position_members : Parts → List Token
 position_members parts =
     number_if_any (codes "line") parts.line
-    ++ number_if_any (codes "column") (first_column parts.diagnostic.shown.items parts.diagnostic.text_span)
-    ++ number_if_any (codes "endColumn") (column_after parts.diagnostic.text_span parts.diagnostic.shown.items)
+    ++ number_if_any (codes "column") (first_column parts.diagnostic.shown.items parts.diagnostic.span)
+    ++ number_if_any (codes "endColumn") (column_after parts.diagnostic.span parts.diagnostic.shown.items)
     ++ text_if_any (codes "place") parts.place.bytes.items
 
 -- a warning says that it is one

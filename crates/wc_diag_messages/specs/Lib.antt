@@ -1,7 +1,6 @@
 pub mod Parts
-pub mod Plain
 pub mod Locations
-pub mod Excerpts
+pub mod Snippets
 pub mod Above
 pub mod Explanations
 pub mod Known

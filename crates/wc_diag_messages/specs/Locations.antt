@@ -1,10 +1,10 @@
 -- Where a refusal is, as a message says it next to the line that is named. The profile's own.
 use Rattle.std.specs.Prelude.{ℕ, ◌==◌, Bool, List, [], ◌∷◌, ◌++◌, Option, Some, None, length, replicate, codes, if◌then◌else◌}
 use Rattle.std.specs.Fmt.{decimal}
-use Rattle.wc_diag_spans.specs.declared.diagnostic.TextSpan.{TextSpan}
+use Rattle.wc_diag_spans.specs.declared.diagnostic.Span.{Span}
 use Rattle.wc_diag_spans.specs.declared.refusal.Part.{Part}
 use Rattle.wc_diag_spans.specs.declared.refusal.Part.TheVariants.{Job, Plate, Program, Next, Log}
-use Rattle.wc_diag_messages.specs.Plain.{column_of, shown_text}
+use Rattle.wc_diag_shown.specs.Plain.{column_of, shown_text}
 
 -- a number as it is written
 abbrev pub number_text : ℕ → List ℕ
@@ -15,9 +15,9 @@ abbrev pub margin_text : ℕ → List ℕ
 margin_text line = replicate (length (number_text line)) 32
 
 -- the column of the offending slice, counted from 1; nothing if none is known
-abbrev pub column_text : List ℕ → Option TextSpan → List ℕ
+abbrev pub column_text : List ℕ → Option Span → List ℕ
 column_text line None = []
-column_text line (Some text_span) = shown_text (codes ":") ++ number_text (column_of line text_span.start)
+column_text line (Some span) = shown_text (codes ":") ++ number_text (column_of line span.start)
 
 -- the line with which a section of a job begins
 abbrev pub heading : Part → List ℕ
@@ -63,5 +63,5 @@ in_brackets [] = []
 in_brackets (byte ∷ rest) = shown_text (codes " (") ++ (byte ∷ rest) ++ shown_text (codes ")")
 
 -- what follows the line: the column, and the place that is counted
-abbrev pub alongside_text : List ℕ → Option TextSpan → List ℕ → List ℕ
-alongside_text line text_span place = column_text line text_span ++ in_brackets place
+abbrev pub alongside_text : List ℕ → Option Span → List ℕ → List ℕ
+alongside_text line span place = column_text line span ++ in_brackets place

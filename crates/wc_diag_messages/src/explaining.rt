@@ -12,6 +12,7 @@ use std::alloc::{AllocError, Global};
 use wc_diag_spans::Refusal;
 use wc_diag_texts::Format;
 use wc_diag_warnings::Warning;
+use wc_lexer::Token;
 
 /// What is said of what has that name, in that format.
 fn printed(alloc: Global, format: Format, name: &[u8], parts: &Parts) -> Result<Vec<u8>, AllocError>
@@ -41,20 +42,21 @@ pub fn explained(
     printed(alloc, format, refusal.name, &parts)
 }
 
-/// What is said of a warning of a file's text, in that format: its number, the file, its line, the column, its name and the
-/// line of the text. Each line ends with a line feed. The error is out of memory.
+/// What is said of a warning of a file's text, in that format: its number, the file, the line and the column of its token, its name
+/// and the line of the text. `tokens` are those of the text. Each line ends with a line feed. The error is out of memory.
 pub fn warning_message(
     alloc: Global,
     format: Format,
     file: &[u8],
     text: &[u8],
+    tokens: &[Token<'_>],
     warning: &Warning<'_>,
 ) -> Result<Vec<u8>, AllocError>
     ensures all { IfOk result
-        (λ bytes. Warns format file.now text.now warning.now bytes.items) }
+        (λ bytes. Warns format file.now text.now tokens.now warning.now bytes.items) }
     ensures plain { IfOk result (λ bytes. IsPlainIn format bytes.items) }
     ensures calm { IfOk result (λ bytes. IsCalmIn format bytes.items) }
 {
-    let parts = warning_parts(alloc, text, warning)?;
+    let parts = warning_parts(alloc, text, tokens, warning)?;
     printed(alloc, format, file, &parts)
 }

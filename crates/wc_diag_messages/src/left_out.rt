@@ -2,10 +2,10 @@ ghost use Rattle.std.specs.Prelude.{◌≡◌, [], IfOk, OnOk};
 ghost use Rattle.wc_diag_messages.specs.Formats.{IsCalmIn, IsObjectOf, IsPlainIn};
 ghost use Rattle.wc_diag_messages.specs.Warned.{CountsLeftOut, LeavesOut, ReportsLeftOut, ReportsLeftOutShortly, left_out_tokens};
 
-use crate::message::Message;
 use crate::object::{line_of, name_text, write_number, write_text};
 use json::Writer;
 use std::alloc::{AllocError, Global};
+use wc_diag_shown::Message;
 use wc_diag_texts::Format;
 
 /// The number of warnings left out, in words.

@@ -3,18 +3,16 @@
 //! terminal only shows. The fixed lines, on which machines rely, are not made here.
 #![tactic(auto)]
 
-mod excerpts;
 mod explaining;
 mod jobs;
 mod left_out;
 mod long;
-mod message;
 mod object;
 mod page;
 mod parts;
 mod placing;
-mod plain;
 mod short;
+mod snippets;
 mod warned_lines;
 mod warned_parts;
 mod warning_entries;
@@ -22,6 +20,6 @@ mod warning_entries;
 pub use explaining::{explained, warning_message};
 pub use jobs::{JobSection, section_of};
 pub use left_out::warnings_left_out;
-pub use message::{Message, shown};
 pub use page::{page as page_of, warning_page};
+pub use wc_diag_shown::{Message, shown};
 pub use wc_diag_spans::{Evidence, Part, Refusal};

@@ -2,11 +2,11 @@ ghost use Rattle.std.specs.Prelude.{◌≡◌, ◌++◌, IfOk, OnOk};
 ghost use Rattle.wc_diag_messages.specs.Explanations.{headline, help_line, long_text, numbered, opening, page_opening, page_text};
 ghost use Rattle.wc_diag_spans.specs.Finds.{IsWithin};
 
-use crate::excerpts::write_excerpt;
-use crate::message::Message;
 use crate::parts::{Parts, Severity};
 use crate::placing::{margin, write_place_line};
+use crate::snippets::write_snippet;
 use std::alloc::{AllocError, Global};
+use wc_diag_shown::Message;
 
 /// What comes before the number: that of a warning is after its W.
 fn opening(severity: Severity) -> &'static str
@@ -82,7 +82,7 @@ pub(crate) fn long(alloc: Global, name: &[u8], parts: &Parts) -> Result<Message,
     let mut message = Message::new(alloc);
     write_headline(&mut message, parts)?;
     write_place_line(&mut message, &margin, name, parts)?;
-    write_excerpt(alloc, &mut message, &margin, parts)?;
+    write_snippet(alloc, &mut message, &margin, parts)?;
     write_help(&mut message, parts)?;
     Ok(message)
 }

@@ -5,11 +5,10 @@ ghost use Rattle.json.specs.Print.{print};
 ghost use Rattle.wc_diag_messages.specs.Formats.{IsNameOf, IsObjectOf, column_after, first_column, number_if_any, number_member, object_tokens, position_members, severity_members, text_if_any, text_member, word_members};
 ghost use Rattle.wc_diag_spans.specs.Finds.{IsWithin};
 
-use crate::message::{Message, shown};
 use crate::parts::{Parts, Severity};
-use crate::plain::column_of;
 use json::Writer;
 use std::alloc::{AllocError, Global};
+use wc_diag_shown::{Message, column_of, shown};
 use wc_diag_spans::Diagnostic;
 
 /// Writes a member with a text.
@@ -60,21 +59,21 @@ fn write_number_if_any(writer: &mut Writer, name: &str, number: usize) -> Result
 fn first_column(diagnostic: &Diagnostic) -> usize
     requires { IsWithin diagnostic.now }
     ensures { result
-        ≡ first_column diagnostic.now.shown.items diagnostic.now.text_span }
+        ≡ first_column diagnostic.now.shown.items diagnostic.now.span }
 {
-    match diagnostic.text_span {
-        Some(text_span) => column_of(&diagnostic.shown, text_span.start),
+    match diagnostic.span {
+        Some(span) => column_of(&diagnostic.shown, span.start),
         None => 0,
     }
 }
 
 /// The column after the offending slice on its line; 0 if there is none.
 fn column_after(diagnostic: &Diagnostic) -> usize
-    ensures { result ≡ column_after diagnostic.now.text_span diagnostic.now.shown.items }
+    ensures { result ≡ column_after diagnostic.now.span diagnostic.now.shown.items }
 {
-    match diagnostic.text_span {
-        Some(text_span) => {
-            let end = text_span.start.saturating_add(text_span.length);
+    match diagnostic.span {
+        Some(span) => {
+            let end = span.start.saturating_add(span.length);
             column_of(&diagnostic.shown, end.min(diagnostic.shown.len()))
         }
         None => 0,

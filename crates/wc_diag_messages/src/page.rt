@@ -2,10 +2,10 @@ ghost use Rattle.std.specs.Prelude.{◌≡◌, ◌++◌, IfOk, IfSome, OnOk, is_
 ghost use Rattle.wc_diag_messages.specs.Paged.{ReportsPage, answer_line, help_lines, number_line, page_line, page_lines, plate_line, raised_at, raised_lines, shown_line};
 ghost use Rattle.wc_diag_texts.specs.Numbers.{is_from, is_refusal};
 
-use crate::message::Message;
 use crate::warned_lines::write_warning_number;
 use crate::warning_entries::{WarningEntry, warning_of};
 use std::alloc::{AllocError, Global};
+use wc_diag_shown::Message;
 use wc_diag_texts::{Entry, entry_of};
 
 /// The plate of which the pages of plates speak.

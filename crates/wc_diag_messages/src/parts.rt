@@ -1,12 +1,12 @@
 ghost use Rattle.std.specs.Prelude.{◌≡◌, ◌++◌, IfOk, OnOk};
 ghost use Rattle.wc_diag_messages.specs.Explanations.{QuotesAndSays, left_out_text, quoted_text};
 ghost use Rattle.wc_diag_messages.specs.Known.{IsKnown};
-ghost use Rattle.wc_diag_messages.specs.Plain.{IsShown};
+ghost use Rattle.wc_diag_shown.specs.Plain.{IsShown, shown_text};
 
-use crate::excerpts::{WIDEST, excerpt};
-use crate::message::Message;
 use crate::placing::{named_line, place_words};
+use crate::snippets::{WIDEST, bytes_at};
 use std::alloc::{AllocError, Global};
+use wc_diag_shown::Message;
 use wc_diag_spans::{Diagnostic, Refusal, find};
 use wc_diag_texts::{Case, entry_of, hint_of, sentence_of, words_of};
 
@@ -82,7 +82,7 @@ fn write_subject(message: &mut Message, subject: &[u8]) -> Result<(), AllocError
     if subject.is_empty() {
         return Ok(());
     }
-    message.quote(excerpt(subject, 0, WIDEST))?;
+    message.quote(bytes_at(subject, 0, WIDEST))?;
     message.say(" ")?;
     write_left_out(message, subject.len())
 }
@@ -100,7 +100,8 @@ fn write_detail(message: &mut Message, detail: &str) -> Result<(), AllocError>
 
 /// Words as they are shown.
 pub(crate) fn said_as(alloc: Global, words: &str) -> Result<Message, AllocError>
-    ensures { IfOk result (λ message. IsShown message.bytes.items) }
+    ensures all { IfOk result (λ message. message.bytes.items ≡ shown_text words.now) }
+    ensures shown { IfOk result (λ message. IsShown message.bytes.items) }
 {
     let mut message = Message::new(alloc);
     message.say(words)?;
@@ -120,11 +121,7 @@ fn statement_of(alloc: Global, number: u16, diagnostic: &Diagnostic) -> Result<M
 }
 
 /// What is wrong, in words: the slice that is quoted, and what is said of it.
-pub(crate) fn reported_of(
-    alloc: Global,
-    subject: &[u8],
-    said: &Message,
-) -> Result<Message, AllocError>
+fn reported_of(alloc: Global, subject: &[u8], said: &Message) -> Result<Message, AllocError>
     requires { IsShown said.now.bytes.items }
     ensures { IfOk result (λ reported. QuotesAndSays subject.now reported.bytes.items) }
 {

@@ -3,10 +3,9 @@ ghost use Rattle.wc_diag_spans.specs.Finds.{IsWithin};
 ghost use Rattle.wc_diag_messages.specs.Explanations.{is_program, line_text, line_under, named_line, place_line};
 ghost use Rattle.wc_diag_messages.specs.Locations.{alongside_text, column_text, counted_name, counted_text, heading, in_brackets, margin_text, place_text, row_text, section_text};
 
-use crate::message::Message;
 use crate::parts::Parts;
-use crate::plain::column_of;
 use std::alloc::{AllocError, Global};
+use wc_diag_shown::{Message, column_of};
 use wc_diag_spans::{Diagnostic, Part, Refusal};
 
 /// Whether the part is a program.
@@ -64,12 +63,12 @@ pub(crate) fn write_column(message: &mut Message, diagnostic: &Diagnostic) -> Re
     requires { IsWithin diagnostic.now }
     ensures { OnOk result (message.new.bytes.items
         ≡ message.old.bytes.items
-        ++ column_text diagnostic.now.shown.items diagnostic.now.text_span) }
+        ++ column_text diagnostic.now.shown.items diagnostic.now.span) }
 {
-    match diagnostic.text_span {
-        Some(text_span) => {
+    match diagnostic.span {
+        Some(span) => {
             message.say(":")?;
-            message.count(column_of(&diagnostic.shown, text_span.start))
+            message.count(column_of(&diagnostic.shown, span.start))
         }
         None => Ok(()),
     }
@@ -174,7 +173,7 @@ pub(crate) fn write_place_line(
     ensures { OnOk result (message.new.bytes.items
         ≡ message.old.bytes.items
         ++ place_line margin.now.bytes.items name.now parts.now.line
-        (alongside_text parts.now.diagnostic.shown.items parts.now.diagnostic.text_span
+        (alongside_text parts.now.diagnostic.shown.items parts.now.diagnostic.span
         parts.now.place.bytes.items)) }
 {
     message.append(margin)?;

@@ -4,10 +4,10 @@ ghost use Rattle.wc_diag_messages.specs.Known.{IsPrintable};
 ghost use Rattle.wc_diag_spans.specs.Finds.{IsWithin};
 
 use crate::long::write_number;
-use crate::message::Message;
 use crate::parts::Parts;
 use crate::placing::{write_column, write_line};
 use std::alloc::{AllocError, Global};
+use wc_diag_shown::Message;
 
 /// Writes the line and the column, if the line is known, else the place by which a refusal is counted.
 fn write_position(message: &mut Message, parts: &Parts) -> Result<(), AllocError>

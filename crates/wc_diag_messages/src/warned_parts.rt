@@ -1,111 +1,83 @@
-ghost use Rattle.std.specs.Prelude.{◌≡◌, ◌≤◌, [], true, IfOk, IfSome, None, drop, length, take, unwrap_or};
-ghost use Rattle.wc_diag_spans.specs.Lines.{line_of_number};
-ghost use Rattle.wc_diag_messages.specs.Warned.{KnowsWarning, IsNamedThere};
+ghost use Rattle.std.specs.Prelude.{◌≡◌, ◌++◌, IfOk};
+ghost use Rattle.std.specs.Option.{option_copied};
+ghost use Rattle.wc_diag_messages.specs.Warned.{IsPlaced, KnowsWarning, has_there, is_called, is_warned, marked, named_text, shown_line, start_on, warned_token};
+ghost use Rattle.wc_diag_shown.specs.Plain.{shown_text};
 
-use crate::excerpts::excerpt;
-use crate::message::Message;
-use crate::parts::{Parts, Severity, reported_of, said_as};
+use crate::parts::{Parts, Severity, said_as};
+use crate::snippets::bytes_at;
 use crate::warning_entries::warning_of;
 use std::alloc::{AllocError, Global};
-use wc_diag_spans::{Diagnostic, TextSpan, blanked, line_at};
+use wc_diag_shown::Message;
+use wc_diag_spans::{Diagnostic, Span, column_at, line_at};
 use wc_diag_texts::{Case, Expected};
 use wc_diag_warnings::Warning;
+use wc_lexer::Token;
 
-/// The line of that number, without its end; nothing if the text has none.
-fn line_shown(alloc: Global, text: &[u8], line: u32) -> Result<Vec<u8>, AllocError>
-    ensures { IfOk result (λ bytes. bytes.items ≡ unwrap_or (line_of_number line text.now) []) }
+/// The line of that number, without its end; empty if the text has none.
+fn shown_line(text: &[u8], line: u32) -> &[u8]
+    ensures { result.now ≡ shown_line line text.now }
 {
     match line_at(text, line) {
-        Some(found) => found.to_vec(alloc),
-        None => Ok(Vec::new(alloc)),
+        Some(found) => found,
+        None => b"",
     }
 }
 
-/// Whether a byte may be in a name or an address.
-fn is_part(byte: u8) -> bool {
-    byte.is_ascii_alphanumeric() || byte == b'_' || byte == b'%' || byte == b'.'
+/// Where a token begins on its line, of which this is shown.
+fn start_on(text: &[u8], token: &Token<'_>, line: &[u8]) -> usize
+    ensures { result ≡ start_on text.now token.now line.now }
+{
+    column_at(text, token.start as usize).min(line.len())
 }
 
-/// Whether the byte before a place of a line, and the one after the name there, are of no longer name.
-fn is_whole(line: &[u8], place: usize, name: &[u8]) -> bool {
-    let (before, following) = line.split_at(place.min(line.len()));
-    let begins = match before.last() {
-        Some(byte) => !is_part(*byte),
-        None => true,
+/// Whether a token is spelled as that name; with no name, any token.
+fn is_called(name: &[u8], token: &Token<'_>) -> bool
+    ensures { result ≡ is_called name.now token.now }
+{
+    match name {
+        [] => true,
+        _ => token.text == name,
+    }
+}
+
+/// Whether a line has these bytes there.
+fn has_there(line: &[u8], start: usize, name: &[u8]) -> bool
+    ensures { result ≡ has_there line.now start name.now }
+{
+    bytes_at(line, start, name.len()) == name
+}
+
+/// Whether a warning may be about a token: it is on the warning's line or below, and has its name, also in the line that is shown.
+fn is_warned(text: &[u8], warning: &Warning<'_>, token: &Token<'_>) -> bool
+    ensures { result ≡ is_warned text.now warning.now token.now }
+{
+    if token.line < warning.line || !is_called(warning.name, token) {
+        return false;
+    }
+    let line = shown_line(text, token.line);
+    has_there(line, start_on(text, token, line), warning.name)
+}
+
+/// The token that a warning is about: the first of its line, or below it as in a list over lines.
+fn warned_token<'a, 't>(
+    tokens: &'t [Token<'a>],
+    text: &[u8],
+    warning: &Warning<'_>,
+) -> Option<&'t Token<'a>>
+    ensures { option_copied result ≡ warned_token text.now warning.now tokens.now }
+{
+    tokens.iter().find(|token| is_warned(text, warning, token))
+}
+
+/// What is marked of a line from a byte on: a name; with no name the rest of the line.
+fn marked(name: &[u8], start: usize, line: &[u8]) -> Span
+    ensures { result ≡ marked name.now start line.now }
+{
+    let length = match name {
+        [] => line.len().saturating_sub(start),
+        _ => name.len(),
     };
-    let ends = match following.get(name.len()) {
-        Some(byte) => !is_part(*byte),
-        None => true,
-    };
-    begins && ends
-}
-
-/// Whether a name is at a place of a line, and no longer one.
-fn is_at(line: &[u8], place: usize, name: &[u8]) -> bool
-    ensures { result ≡ true → take (length name.now) (drop place line.now) ≡ name.now }
-{
-    excerpt(line, place, name.len()) == name && is_whole(line, place, name)
-}
-
-/// The first byte of a line that is neither a blank nor in a comment, and those after it.
-fn whole_text_span(line: &[u8], searched: &[u8]) -> Option<TextSpan>
-    ensures { IfSome result (λ text_span. text_span.start ≤ length line.now) }
-{
-    for start in 0..line.len() {
-        if searched.get(start).copied().unwrap_or(b' ') > b' ' {
-            let length = line.len() - start;
-            return Some(TextSpan { start, length });
-        }
-    }
-    None
-}
-
-/// Where a name is for the first time in a line, of which `searched` has the comments as blanks.
-fn name_text_span(line: &[u8], searched: &[u8], name: &[u8]) -> Option<TextSpan>
-    ensures within { IfSome result (λ text_span. text_span.start ≤ length line.now) }
-    ensures represents { IfSome result
-        (λ text_span. take text_span.length (drop text_span.start line.now) ≡ name.now) }
-{
-    for start in 0..line.len() {
-        if is_at(searched, start, name) && is_at(line, start, name) {
-            let length = name.len();
-            return Some(TextSpan { start, length });
-        }
-    }
-    None
-}
-
-/// Where a name is in a line for the first time; with no name what is on the line.
-fn text_span_of(line: &[u8], searched: &[u8], name: &[u8]) -> Option<TextSpan>
-    ensures within { IfSome result (λ text_span. text_span.start ≤ length line.now) }
-    ensures represents { IfSome result (IsNamedThere name.now line.now) }
-{
-    if name.is_empty() {
-        return whole_text_span(line, searched);
-    }
-    name_text_span(line, searched, name)
-}
-
-/// The line of a warning, or that below it on which its name is, as in a list over lines; and where the name is. `searched` is the text
-/// with its comments as blanks.
-fn place_of(text: &[u8], searched: &[u8], warning: &Warning<'_>) -> (u32, Option<TextSpan>)
-    ensures below { warning.now.line ≤ result.0 }
-    ensures own { result.1 ≡ None → result.0 ≡ warning.now.line }
-    ensures within { IfSome result.1 (λ text_span. text_span.start
-        ≤ length (unwrap_or (line_of_number result.0 text.now) [])) }
-    ensures represents { IfSome result.1
-        (IsNamedThere warning.now.name.now (unwrap_or (line_of_number result.0 text.now) [])) }
-{
-    for line in warning.line..u32::MAX {
-        let Some(shown) = line_at(text, line) else {
-            return (warning.line, None);
-        };
-        let text_span = text_span_of(shown, line_at(searched, line).unwrap_or(b""), warning.name);
-        if text_span.is_some() {
-            return (line, text_span);
-        }
-    }
-    (warning.line, None)
+    Span { start, length }
 }
 
 /// The sentence of a warning.
@@ -124,28 +96,44 @@ fn hint(number: u8) -> &'static str {
     }
 }
 
+/// What is suspicious, in words: the name, and what is said of it.
+fn reported(alloc: Global, name: &[u8], sentence: &str) -> Result<Message, AllocError>
+    ensures { IfOk result (λ reported. reported.bytes.items
+        ≡ named_text name.now ++ shown_text sentence.now) }
+{
+    let mut message = Message::new(alloc);
+    if !name.is_empty() {
+        message.quote(name)?;
+        message.say(" ")?;
+    }
+    message.say(sentence)?;
+    Ok(message)
+}
+
 /// The line that is shown of a warning, with its offending slice.
 fn diagnostic_of(
     alloc: Global,
     text: &[u8],
+    tokens: &[Token<'_>],
     warning: &Warning<'_>,
 ) -> Result<Diagnostic, AllocError>
-    ensures below { IfOk result (λ diagnostic. warning.now.line ≤ diagnostic.line) }
-    ensures own { IfOk result (λ diagnostic. diagnostic.text_span ≡ None
-        → diagnostic.line ≡ warning.now.line) }
-    ensures shows { IfOk result (λ diagnostic. diagnostic.shown.items
-        ≡ unwrap_or (line_of_number diagnostic.line text.now) []) }
-    ensures within { IfOk result (λ diagnostic. IfSome diagnostic.text_span
-        (λ text_span. text_span.start ≤ length diagnostic.shown.items)) }
-    ensures represents { IfOk result (λ diagnostic. IfSome diagnostic.text_span
-        (IsNamedThere warning.now.name.now diagnostic.shown.items)) }
+    ensures { IfOk result (λ diagnostic. IsPlaced text.now warning.now
+        (warned_token text.now warning.now tokens.now) diagnostic) }
 {
-    let searched = blanked(alloc, text)?;
-    let (line, text_span) = place_of(text, &searched, warning);
+    let found = warned_token(tokens, text, warning);
+    let line = match found {
+        Some(token) => token.line,
+        None => warning.line,
+    };
+    let shown = shown_line(text, line);
+    let span = match found {
+        Some(token) => Some(marked(warning.name, start_on(text, token, shown), shown)),
+        None => None,
+    };
     Ok(Diagnostic {
         line,
-        text_span,
-        shown: line_shown(alloc, text, line)?,
+        span,
+        shown: shown.to_vec(alloc)?,
         subject: Vec::new(alloc),
         case: Case::Unknown,
         detail: String::new(alloc),
@@ -159,18 +147,18 @@ fn diagnostic_of(
 pub(crate) fn warning_parts(
     alloc: Global,
     text: &[u8],
+    tokens: &[Token<'_>],
     warning: &Warning<'_>,
 ) -> Result<Parts, AllocError>
-    ensures { IfOk result (λ parts. KnowsWarning text.now warning.now parts) }
+    ensures { IfOk result (λ parts. KnowsWarning text.now tokens.now warning.now parts) }
 {
-    let diagnostic = diagnostic_of(alloc, text, warning)?;
-    let said = said_as(alloc, sentence(warning.number))?;
+    let diagnostic = diagnostic_of(alloc, text, tokens, warning)?;
     Ok(Parts {
         severity: Severity::Warning,
         number: u16::from(warning.number),
         line: diagnostic.line,
         place: Message::new(alloc),
-        reported: reported_of(alloc, warning.name, &said)?,
+        reported: reported(alloc, warning.name, sentence(warning.number))?,
         expected: Message::new(alloc),
         advice: said_as(alloc, hint(warning.number))?,
         diagnostic,

@@ -1,99 +1,113 @@
--- The one line of a text that declares a block.
-use Rattle.std.proofs.Common.{◌≡◌, ◌≤◌, ◌+◌, ◌==◌, ◌&&◌, not, ◌<◌, min, take, drop, ℕ, zero, suc, Bool, true, false, cond, if◌then◌else◌, List, [], ◌∷◌, length, Option, Some, None, refl, sym, ap, ◌∙◌, arith}
-use Rattle.std.proofs.lemmas.Bool.{and_parts, ne_eqb}
-use Rattle.std.proofs.lemmas.List.Sums.{sum_by-cons}
-use Rattle.std.specs.Prelude.{count_by, is_some}
-use Rattle.std.specs.List.{position_or_len}
-use Rattle.wc_diag_mistakes.proofs.Cuts.{first_of, is_end, last_first, more_lines}
-use Rattle.wc_diag_mistakes.specs.Unreached.{block_line, cut_lines, declares, line_number}
+-- The one token that begins the declaration of a block.
+use Rattle.std.proofs.Common.{◌≡◌, ◌<◌, ◌≤◌, ◌+◌, ◌&&◌, ltb, ℕ, Bool, true, false, if◌then◌else◌, List, get_or, length, Option, Some, None, refl, sym, ap, ◌∙◌, arith}
+use Rattle.std.proofs.lemmas.Bool.{ltb-false, ltb-true}
+use Rattle.std.specs.Prelude.{is_some, slice_get, IfNone, IfSome}
+use Rattle.std.proofs.lemmas.Option.{slice_get-get_or, slice_get_past}
+use Rattle.std.specs.Option.{option_map, option_map_or}
+use Rattle.wc_lexer.specs.declared.shape.Token.{Token}
+use Rattle.wc_diag_mistakes.specs.Unreached.{IsDeclaredOnce, begins_block, declares, is_named}
 
--- what is found in the end, if after this one that many lines declare it, the first of them at that index
-abbrev pub found_in : Option ℕ → ℕ → ℕ → ℕ → Option ℕ
-found_in found above zero first = found
-found_in None above (suc zero) first = Some (line_number (above + first))
-found_in (Some line) above (suc zero) first = None
-found_in found above (suc (suc count)) first = None
+-- one token before an index does, and it is on this line
+pub record IsOneBefore (tokens : List Token) (name : List ℕ) (index line : ℕ) : Type 0 where
+  pub place : ℕ
+  pub within : place < index
+  pub declared : declares tokens name place ≡ true
+  pub alone : (other : ℕ) → other < index → declares tokens name other ≡ true → other ≡ place
+  pub line_is : Some line ≡ option_map (λ token. token.line) (slice_get tokens place)
 
--- so in these lines
-abbrev pub found_after : List ℕ → Option ℕ → ℕ → List (List ℕ) → Option ℕ
-found_after name found above lines = found_in found above (count_by (declares name) lines) (position_or_len (declares name) lines)
+-- what is found before an index
+abbrev pub FoundBefore : List Token → List ℕ → ℕ → Option ℕ → Type 0
+FoundBefore tokens name index None = (other : ℕ) → other < index → declares tokens name other ≡ true → ⊥
+FoundBefore tokens name index (Some line) = IsOneBefore tokens name index line
 
-one_alone : (count first : ℕ) → found_in None 0 count first ≡ (if count == 1 then Some (line_number first) else None)
-one_alone zero first = refl
-one_alone (suc zero) first = let same : 0 + first ≡ first = omega arith in ap (λ n. Some (line_number n)) same
-one_alone (suc (suc count)) first =
-    let more : (suc (suc count) == 1) ≡ false = ne_eqb (suc (suc count)) 1 (λ e. absurd (omega (arith, e))) in
-    sym (ap (λ b. if b then Some (line_number first) else None) more)
+-- an index more: what is before it, or it
+earlier : (other index : ℕ) → other < index + 1 → (other ≡ index → ⊥) → other < index
+earlier other index within differs = by (ltb other index) refl
+  where
+    by : (b : Bool) → ltb other index ≡ b → other < index
+    by true e = ltb-true other index e
+    by false e = let past = ltb-false other index e in absurd (differs (omega arith))
 
-pub all_lines : (name text : List ℕ) → found_after name None 0 (cut_lines text) ≡ block_line text name
-all_lines name text = one_alone (count_by (declares name) (cut_lines text)) (position_or_len (declares name) (cut_lines text))
+false_or : (b : Bool) → b ≡ false → b ≡ true → ⊥
+false_or b e f = absurd (cc)
 
--- one that does not
-other_line : (found : Option ℕ) (above count first : ℕ) → found_in found above count (1 + first) ≡ found_in found (above + 1) count first
-other_line found above zero first = refl
-other_line None above (suc zero) first = let same : above + (1 + first) ≡ above + 1 + first = omega arith in ap (λ n. Some (line_number n)) same
-other_line (Some line) above (suc zero) first = refl
-other_line found above (suc (suc count)) first = refl
+-- with an index that declares it not
+pub other_token : (tokens : List Token) (name : List ℕ) (index : ℕ) (found : Option ℕ) → declares tokens name index ≡ false → FoundBefore tokens name index found → FoundBefore tokens name (index + 1) found
+other_token tokens name index None other_is none =
+    λ other within declared. none other (earlier other index within (λ e. false_or (declares tokens name index) other_is (ap (declares tokens name) (sym e) ∙ declared))) declared
+other_token tokens name index (Some line) other_is one = record {
+  place = one.place;
+  within = let w = one.within in omega arith;
+  declared = one.declared;
+  alone = λ other within declared. one.alone other (earlier other index within (λ e. false_or (declares tokens name index) other_is (ap (declares tokens name) (sym e) ∙ declared))) declared;
+  line_is = one.line_is;
+}
 
--- the first that does
-first_line : (above count first : ℕ) → found_in None above (suc count) 0 ≡ found_in (Some (line_number above)) (above + 1) count first
-first_line above zero first = let same : above + 0 ≡ above = omega arith in ap (λ n. Some (line_number n)) same
-first_line above (suc zero) first = refl
-first_line above (suc (suc count)) first = refl
+-- with the first that does
+pub first_token : (tokens : List Token) (name : List ℕ) (index line : ℕ) → declares tokens name index ≡ true → Some line ≡ option_map (λ token. token.line) (slice_get tokens index) → FoundBefore tokens name index None
+    → FoundBefore tokens name (index + 1) (Some line)
+first_token tokens name index line is here none = record {
+  place = index;
+  within = omega arith;
+  declared = is;
+  alone = λ other within declared. by other (ltb other index) refl within declared;
+  line_is = here;
+}
+  where
+    by : (other : ℕ) (b : Bool) → ltb other index ≡ b → other < index + 1 → declares tokens name other ≡ true → other ≡ index
+    by other true e within declared = absurd (none other (ltb-true other index e) declared)
+    by other false e within declared = let past = ltb-false other index e in omega arith
+
+-- what is found, with an index more
+pub token_more : (tokens : List Token) (name : List ℕ) (index line : ℕ) (found : Option ℕ) → Some line ≡ option_map (λ token. token.line) (slice_get tokens index) → (declares tokens name index && is_some found) ≡ false
+    → FoundBefore tokens name index found → FoundBefore tokens name (index + 1) (if declares tokens name index then Some line else found)
+token_more tokens name index line found here single before = by (declares tokens name index) refl found single before
+  where
+    by : (b : Bool) → declares tokens name index ≡ b → (found : Option ℕ) → (b && is_some found) ≡ false → FoundBefore tokens name index found → FoundBefore tokens name (index + 1) (if b then Some line else found)
+    by false e found single before = other_token tokens name index found e before
+    by true e None single before = first_token tokens name index line e here before
+    by true e (Some other) single before = absurd (cc)
 
 -- a second one
-second_line : (found : Option ℕ) (above count : ℕ) → is_some found ≡ true → found_in found above (suc count) 0 ≡ None
-second_line None above count some = absurd (cc)
-second_line (Some line) above zero some = refl
-second_line (Some line) above (suc count) some = refl
-
-count_is : (name line : List ℕ) (lines : List (List ℕ)) (b : Bool) → declares name line ≡ b → count_by (declares name) (line ∷ lines) ≡ cond b 1 0 + count_by (declares name) lines
-count_is name line lines b e = sum_by-cons (λ l. cond (declares name l) 1 0) line lines ∙ ap (λ v. cond v 1 0 + count_by (declares name) lines) e
-
-position_is : (name line : List ℕ) (lines : List (List ℕ)) (b : Bool) → declares name line ≡ b → position_or_len (declares name) (line ∷ lines) ≡ cond (not b) (1 + position_or_len (declares name) lines) 0
-position_is name line lines b e = ap (λ v. cond (not v) (1 + position_or_len (declares name) lines) 0) e
-
--- a line more
-pub line_more : (name line : List ℕ) (lines : List (List ℕ)) (found : Option ℕ) (above : ℕ) → (declares name line && is_some found) ≡ false
-    → found_after name (if declares name line then Some (line_number above) else found) (above + 1) lines ≡ found_after name found above (line ∷ lines)
-line_more name line lines found above one = by (declares name line) refl found one
+pub second_token : (tokens : List Token) (name : List ℕ) (index : ℕ) (found : Option ℕ) → (declares tokens name index && is_some found) ≡ true → FoundBefore tokens name index found
+    → (line : ℕ) → IsDeclaredOnce tokens name line → ⊥
+second_token tokens name index found both before line once = by (declares tokens name index) refl found both before
   where
-    by : (b : Bool) → declares name line ≡ b → (found : Option ℕ) → (b && is_some found) ≡ false
-        → found_in (if b then Some (line_number above) else found) (above + 1) (count_by (declares name) lines) (position_or_len (declares name) lines) ≡ found_after name found above (line ∷ lines)
-    by false e found one =
-        let same : count_by (declares name) (line ∷ lines) ≡ count_by (declares name) lines = count_is name line lines false e ∙ omega arith in
-        sym (rw (same, position_is name line lines false e) (other_line found above (count_by (declares name) lines) (position_or_len (declares name) lines)))
-    by true e None one =
-        let same : count_by (declares name) (line ∷ lines) ≡ suc (count_by (declares name) lines) = count_is name line lines true e ∙ omega arith in
-        sym (rw (same, position_is name line lines true e) (first_line above (count_by (declares name) lines) (position_or_len (declares name) lines)))
-    by true e (Some other) one = absurd (cc)
+    by : (b : Bool) → declares tokens name index ≡ b → (found : Option ℕ) → (b && is_some found) ≡ true → FoundBefore tokens name index found → ⊥
+    by false e found both before = absurd (cc)
+    by true e None both before = absurd (cc)
+    by true e (Some other) both before =
+        let here = once.alone index e in
+        let there = once.alone before.place before.declared in
+        let w = before.within in
+        absurd (omega arith)
 
--- two lines
-pub line_again : (name line : List ℕ) (lines : List (List ℕ)) (found : Option ℕ) (above : ℕ) → declares name line ≡ true → is_some found ≡ true → found_after name found above (line ∷ lines) ≡ None
-line_again name line lines found above e some =
-    let count = count_by (declares name) lines in
-    let same : count_by (declares name) (line ∷ lines) ≡ suc count = count_is name line lines true e ∙ omega arith in
-    rw (same, position_is name line lines true e) (second_line found above count some)
+-- after the last token there is none
+none_past : (tokens : List Token) (name : List ℕ) (other : ℕ) → declares tokens name other ≡ true → other < length tokens
+none_past tokens name other declared = by (ltb other (length tokens)) refl
+  where
+    by : (b : Bool) → ltb other (length tokens) ≡ b → other < length tokens
+    by true e = ltb-true other (length tokens) e
+    by false e =
+        let none : slice_get tokens other ≡ None = slice_get_past tokens other (ltb-false other (length tokens) e) in
+        let not_declared : declares tokens name other ≡ false =
+        ap (λ token. option_map_or begins_block token false && option_map_or (is_named name) (slice_get tokens (other + 1)) false) none in
+        absurd (false_or (declares tokens name other) not_declared declared)
 
--- the lines from one on, if it is the last, or others are below it
-pub at_last : (name : List ℕ) (found next : Option ℕ) (above : ℕ) (rest first : List ℕ) (place : ℕ) → place ≡ position_or_len is_end rest → place ≡ length rest → first ≡ take (min place (length rest)) rest
-    → (declares name first && is_some found) ≡ false → next ≡ (if declares name first then Some (line_number above) else found)
-    → next ≡ found_after name found above (cut_lines rest)
-at_last name found next above rest first place is all e one f =
-    let lines : cut_lines rest ≡ first ∷ [] = last_first rest first place is all e in
-    f ∙ line_more name first [] found above one ∙ ap (found_after name found above) (sym lines)
+-- the line of a token
+pub line_at : (tokens : List Token) (index : ℕ) (other : Token) → index < length tokens → Some (get_or tokens index other).line ≡ option_map (λ token. token.line) (slice_get tokens index)
+line_at tokens index other within = sym (ap (option_map (λ token. token.line)) (slice_get-get_or tokens index other within))
 
-pub at_other : (name : List ℕ) (found next : Option ℕ) (above : ℕ) (rest first below : List ℕ) (place : ℕ) → place ≡ position_or_len is_end rest → place < length rest → first ≡ take (min place (length rest)) rest
-    → below ≡ drop (min (place + 1) (length rest)) rest → (declares name first && is_some found) ≡ false → next ≡ (if declares name first then Some (line_number above) else found)
-    → found_after name next (above + 1) (cut_lines below) ≡ found_after name found above (cut_lines rest)
-at_other name found next above rest first below place is within e f one g =
-    let lines : cut_lines rest ≡ first ∷ cut_lines below = more_lines rest first below place is within e f in
-    ap (λ n. found_after name n (above + 1) (cut_lines below)) g ∙ line_more name first (cut_lines below) found above one ∙ ap (found_after name found above) (sym lines)
+-- what is found among all tokens
+pub found_alone : (tokens : List Token) (name : List ℕ) (index : ℕ) (found : Option ℕ) → length tokens ≤ index → FoundBefore tokens name index found → IfSome found (IsDeclaredOnce tokens name)
+found_alone tokens name index None all before = tt
+found_alone tokens name index (Some line) all before = record {
+  index = before.place;
+  declared = before.declared;
+  alone = λ other declared. let within = none_past tokens name other declared in before.alone other (omega arith) declared;
+  line_is = before.line_is;
+}
 
--- a second line that declares it
-pub at_second : (name : List ℕ) (found : Option ℕ) (above : ℕ) (rest first : List ℕ) (place : ℕ) → place ≡ position_or_len is_end rest → place ≤ length rest → first ≡ take (min place (length rest)) rest
-    → (declares name first && is_some found) ≡ true → None ≡ found_after name found above (cut_lines rest)
-at_second name found above rest first place is within e second =
-    let lines = first_of rest first place is within e in
-    let parts = and_parts (declares name first) (is_some found) second in
-    sym (ap (found_after name found above) lines.1 ∙ line_again name first lines.0 found above parts.0 parts.1)
+pub none_alone : (tokens : List Token) (name : List ℕ) (index : ℕ) (found : Option ℕ) → length tokens ≤ index → FoundBefore tokens name index found → IfNone found ((line : ℕ) → IsDeclaredOnce tokens name line → ⊥)
+none_alone tokens name index None all before = λ line once. let within = none_past tokens name once.index once.declared in before once.index (omega arith) once.declared
+none_alone tokens name index (Some line) all before = tt

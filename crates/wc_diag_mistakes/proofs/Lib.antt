@@ -1,4 +1,2 @@
-pub mod Blanking
-pub mod Cuts
 pub mod Declaring
 pub mod Leaving

@@ -1,4 +1,2 @@
-pub mod Comments
-pub mod Slices
+pub mod Offending
 pub mod Unreached
-pub mod Words

@@ -1,32 +1,23 @@
--- Which line of a text is surely never reached, and which line declares a function block: by the first words of the lines,
--- in a text whose comments are blanks. (The profile's own.)
-use Rattle.std.specs.Prelude.{◌≡◌, ℕ, ◌+◌, ◌-◌, ◌==◌, ◌&&◌, ◌||◌, not, min, Bool, true, false, List, [], ◌∷◌, ◌++◌, Option, Some, None, count_by, drop, length, slice_index, slice_index_or, take, if◌then◌else◌}
-use Rattle.std.specs.List.{list_any, position_or_len, slice_split}
+-- Which line of a text is surely never reached, and which line declares a function block, by its tokens. (The profile's own.)
+use Rattle.std.specs.Prelude.{◌≡◌, ℕ, ◌+◌, ◌&&◌, Bool, true, false, List, ◌∷◌, ◌++◌, Option, Some, drop, nat_lt, slice_get, take, ◌||◌}
+use Rattle.std.specs.List.{list_any, prefix_len}
+use Rattle.std.specs.Option.{option_map, option_map_or}
+use Rattle.wc_built_in.specs.Keywords.{keywords}
 use Rattle.wc_built_in.specs.declared.keyword.Keyword.{Keyword}
 use Rattle.wc_built_in.specs.declared.keyword.Keyword.TheVariants.{Jump, Return, UnitStart, UnitEnd, SectionStart, SectionEnd}
-use Rattle.wc_model.specs.Language.Declarations.{same_name}
+use Rattle.wc_lexer.specs.declared.shape.Shape.{Shape}
+use Rattle.wc_lexer.specs.declared.shape.Shape.TheVariants.{Colon}
+use Rattle.wc_lexer.specs.declared.shape.Token.{Token}
+use Rattle.wc_model.specs.Language.Declarations.{named_in, same_name}
 use Rattle.wc_model.specs.Language.Names.{name_of}
 use Rattle.wc_model.specs.declared.operator.Condition.{Condition}
 use Rattle.wc_model.specs.declared.operator.Condition.TheVariants.{Always, IfTrue, IfFalse}
 use Rattle.wc_model.specs.declared.source.UnitKind.{UnitKind}
 use Rattle.wc_model.specs.declared.source.UnitKind.TheVariants.{FunctionBlock, Program}
-use Rattle.wc_diag_mistakes.specs.Words.{after_word, first_word, from_word, keyword_of}
 
--- the lines of a text, without their line feeds: after the last line feed comes one more
-abbrev pub cut_lines : List ℕ → List (List ℕ)
-cut_lines text = slice_split (λ byte. byte == 10) text
-
--- bytes that begin with a colon, which is not that of an assignment
-abbrev pub begins_with_colon : List ℕ → Bool
-begins_with_colon bytes = slice_index bytes 0 == 58 && not (slice_index bytes 1 == 61)
-
--- the first word of a line is its label
-abbrev pub has_label : List ℕ → Bool
-has_label line = begins_with_colon (from_word (after_word line))
-
--- a line after its label, if it has one
-abbrev pub after_label : List ℕ → List ℕ
-after_label line = if has_label line then drop 1 (from_word (after_word line)) else line
+-- what a token represents, if it is a reserved word
+unfoldable pub keyword_of : Token → Option Keyword
+keyword_of token = named_in keywords (name_of token.text.now)
 
 abbrev pub is_always : Condition → Bool
 is_always Always = true
@@ -56,51 +47,63 @@ abbrev pub is_block_start : Option Keyword → Bool
 is_block_start (Some (UnitStart kind)) = is_function_block kind
 is_block_start _ = false
 
--- the line leaves the body, or for another line: nothing but a label leads to the line below
-abbrev pub leaves : List ℕ → Bool
-leaves line = is_leaving (keyword_of (after_label line))
+-- a colon
+abbrev pub is_colon_shape : Shape → Bool
+is_colon_shape Colon = true
+is_colon_shape shape = false
 
--- the line may be reached from elsewhere, or begins or ends a body
-abbrev pub may_pass : List ℕ → Bool
-may_pass line = has_label line || is_frame (keyword_of (after_label line))
+-- the token is the operator of an instruction that leaves the body, or leaves for another line: nothing but a label leads on
+abbrev pub leaves : Token → Bool
+leaves token = is_leaving (keyword_of token)
 
--- the lines above that of a number, counted from 1; those above the last line, if the text has fewer
-abbrev pub lines_above : List ℕ → ℕ → List (List ℕ)
-lines_above text line = take (min line (length (cut_lines text)) - 1) (cut_lines text)
+-- the token is the colon of a label, or begins or ends a unit or a section
+abbrev pub may_pass : Token → Bool
+may_pass token = is_colon_shape token.shape || is_frame (keyword_of token)
 
--- the line of that number; empty, if the text has fewer
-abbrev pub line_at : List ℕ → ℕ → List ℕ
-line_at text line = slice_index_or (cut_lines text) (line - 1) []
+-- the number of tokens on the lines above that of a number, counted from 1; and these tokens
+abbrev pub count_above : List Token → ℕ → ℕ
+count_above tokens line = prefix_len (λ token. nat_lt token.line line) tokens
 
--- one of these lines leaves, and none below it may pass
-pub record IsLeft (lines : List (List ℕ)) : Type 0 where
-  pub above : List (List ℕ)
-  pub leaving : List ℕ
-  pub below : List (List ℕ)
-  pub all : lines ≡ above ++ leaving ∷ below
+abbrev pub tokens_above : List Token → ℕ → List Token
+tokens_above tokens line = take (count_above tokens line) tokens
+
+-- one of these tokens leaves, and none after it may pass
+pub record IsLeft (tokens : List Token) : Type 0 where
+  pub above : List Token
+  pub leaving : Token
+  pub below : List Token
+  pub all : tokens ≡ above ++ leaving ∷ below
   pub is : leaves leaving ≡ true
   pub closed : list_any may_pass below ≡ false
 
--- a line above leaves, and no line between may pass
-abbrev pub FollowsLeaving : List ℕ → ℕ → Type 0
-FollowsLeaving text line = IsLeft (lines_above text line)
+-- an instruction above the line leaves, and no label is between
+abbrev pub FollowsLeaving : List Token → ℕ → Type 0
+FollowsLeaving tokens line = IsLeft (tokens_above tokens line)
 
--- likewise, and the line has no label: nothing leads to it
-abbrev pub IsUnreached : List ℕ → ℕ → Type 0
-IsUnreached text line = (has_label (line_at text line) ≡ false) × FollowsLeaving text line
+-- the first of these tokens is a label
+abbrev pub has_label : List Token → Bool
+has_label tokens = option_map_or (λ token. is_colon_shape token.shape) (slice_get tokens 1) false
 
--- the line begins the declaration of a function block of that name; letter case is not significant
-abbrev pub declares : List ℕ → List ℕ → Bool
-declares name line =
-    is_block_start (keyword_of line) && same_name (name_of (first_word (after_word line))) (name_of name)
+-- the line follows one that leaves, and has no label: nothing leads to it
+abbrev pub IsUnreached : List Token → ℕ → Type 0
+IsUnreached tokens line = (has_label (drop (count_above tokens line) tokens) ≡ false) × FollowsLeaving tokens line
 
--- the number of the line after that many others; no text of a program has 1048577 lines
-abbrev pub line_number : ℕ → ℕ
-line_number above = min (above + 1) 1048577
+-- the token begins a function block
+abbrev pub begins_block : Token → Bool
+begins_block token = is_block_start (keyword_of token)
 
--- the line on which a text declares that function block, if one line alone does so
-abbrev pub block_line : List ℕ → List ℕ → Option ℕ
-block_line text name =
-    if count_by (declares name) (cut_lines text) == 1
-    then Some (line_number (position_or_len (declares name) (cut_lines text)))
-    else None
+-- the token is this name; letter case is not significant
+abbrev pub is_named : List ℕ → Token → Bool
+is_named name token = same_name (name_of token.text.now) (name_of name)
+
+-- the token at an index begins the declaration of a function block of that name
+abbrev pub declares : List Token → List ℕ → ℕ → Bool
+declares tokens name index =
+    option_map_or begins_block (slice_get tokens index) false && option_map_or (is_named name) (slice_get tokens (index + 1)) false
+
+-- one token alone begins the declaration of that function block, and it is on this line
+pub record IsDeclaredOnce (tokens : List Token) (name : List ℕ) (line : ℕ) : Type 0 where
+  pub index : ℕ
+  pub declared : declares tokens name index ≡ true
+  pub alone : (other : ℕ) → declares tokens name other ≡ true → other ≡ index
+  pub line_is : Some line ≡ option_map (λ token. token.line) (slice_get tokens index)

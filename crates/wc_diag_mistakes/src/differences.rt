@@ -15,12 +15,12 @@ fn name_of(kind: Kind) -> &'static str {
 }
 
 /// The operator before the operand that is meant.
-fn operator_at<'t>(refused: &Refused<'_, 't>) -> &'t str {
+fn operator_at<'a>(refused: &Refused<'a, '_>) -> &'a str {
     str::from_utf8(refused.operator()).unwrap_or("")
 }
 
 /// An operand of another type than the result before it.
-fn unlike<'t>(refused: &Refused<'_, 't>, kind: Kind, before: ResultKind) -> Difference<'t> {
+fn unlike<'a>(refused: &Refused<'a, '_>, kind: Kind, before: ResultKind) -> Difference<'a> {
     let operator = operator_at(refused);
     let is_multiplied = matches!(
         family_of(operator.as_bytes()),
@@ -33,7 +33,7 @@ fn unlike<'t>(refused: &Refused<'_, 't>, kind: Kind, before: ResultKind) -> Diff
 }
 
 /// An operand that its operator never takes.
-fn untaken<'t>(refused: &Refused<'_, 't>, kind: Kind) -> Option<Difference<'t>> {
+fn untaken<'a>(refused: &Refused<'a, '_>, kind: Kind) -> Option<Difference<'a>> {
     let operator = operator_at(refused);
     let taken = taken_by(family_of(operator.as_bytes()));
     if taken.is_empty() {
@@ -43,7 +43,7 @@ fn untaken<'t>(refused: &Refused<'_, 't>, kind: Kind) -> Option<Difference<'t>> 
 }
 
 /// A result that the operator does not take.
-fn needing<'t>(refused: &Refused<'_, 't>, before: ResultKind) -> Option<Difference<'t>> {
+fn needing<'a>(refused: &Refused<'a, '_>, before: ResultKind) -> Option<Difference<'a>> {
     let taken = taken_by(family_of(refused.token()));
     if taken.is_empty() {
         return None;
@@ -52,8 +52,8 @@ fn needing<'t>(refused: &Refused<'_, 't>, before: ResultKind) -> Option<Differen
 }
 
 /// A value for an input, or a target of an output, of another type.
-fn unpassed<'t>(refused: &Refused<'_, 't>, kind: Kind, wanted: Kind) -> Option<Difference<'t>> {
-    let (name, block) = (refused.words_at(refused.span.formal), refused.block());
+fn unpassed<'a>(refused: &Refused<'a, '_>, kind: Kind, wanted: Kind) -> Option<Difference<'a>> {
+    let (name, block) = (refused.word_at(refused.span.formal), refused.block());
     if name.is_empty() || block.is_empty() {
         return None;
     }
@@ -65,7 +65,7 @@ fn unpassed<'t>(refused: &Refused<'_, 't>, kind: Kind, wanted: Kind) -> Option<D
 }
 
 /// What does not match if types do not (402).
-fn difference_of_types<'t>(refused: &Refused<'_, 't>) -> Option<Difference<'t>> {
+fn difference_of_types<'a>(refused: &Refused<'a, '_>) -> Option<Difference<'a>> {
     let span = refused.span;
     match (span.case, span.result, span.outer) {
         (Case::Unlike(kind), Some(before), _) => Some(unlike(refused, kind, before)),
@@ -84,7 +84,7 @@ fn difference_of_types<'t>(refused: &Refused<'_, 't>) -> Option<Difference<'t>> 
 }
 
 /// A name that a block does not have, or has otherwise (401, 409).
-fn difference_of_names<'t>(refused: &Refused<'_, 't>, case: Case) -> Option<Difference<'t>> {
+fn difference_of_names<'a>(refused: &Refused<'a, '_>, case: Case) -> Option<Difference<'a>> {
     let block = refused.block();
     match case {
         _ if block.is_empty() => None,

@@ -1,18 +1,23 @@
-ghost use Rattle.std.specs.Prelude.{◌≡◌, length, min, take};
-ghost use Rattle.wc_diag_mistakes.specs.Slices.{IsAt};
+ghost use Rattle.std.specs.Prelude.{◌≡◌};
+ghost use Rattle.wc_diag_mistakes.specs.Offending.{count_before, offending_text, tokens_after, tokens_before};
 
-use crate::slices::{excerpt, following, line_of, prefix};
-use crate::types::{Family, family_of, operator_before};
-use crate::words::{first_word, word_before};
+use crate::types::{Family, family_of};
 use wc_built_in::{Keyword, elementary_type, keyword_named};
-use wc_diag_stops::{RefusalSpan, Slice};
+use wc_diag_stops::{
+    RefusalSpan, Slice, is_line_end, last_line, prefix, text_of, without_line_ends, word_of,
+};
+use wc_lexer::{Shape, Token};
 use wc_model::{Unit, UnitKind};
 
-/// A text that is refused, with blanks for its comments.
+/// A text that is refused, by its tokens and its tree.
 #[derive(Clone, Copy)]
 pub struct Refused<'a, 't> {
-    /// Its bytes.
-    pub text: &'t [u8],
+    /// Its tokens; those before the malformed lexeme, if it has one.
+    pub tokens: &'t [Token<'a>],
+    /// The index of the first offending one, or of the first after the offending slice; their number, if none is there.
+    pub index: usize,
+    /// The bytes from the malformed lexeme on; none, if it has none.
+    pub lexeme: &'a [u8],
     /// What it was read into, with places for lines; nothing if it was not read.
     pub units: &'t [Unit<'a>],
     /// The number of the refusal.
@@ -21,91 +26,183 @@ pub struct Refused<'a, 't> {
     pub span: RefusalSpan,
 }
 
+/// The number of tokens before a place.
+fn count_before(tokens: &[Token<'_>], place: usize) -> usize
+    ensures { result ≡ count_before tokens.now place }
+{
+    tokens
+        .iter()
+        .take_while(|token| (token.start as usize) < place)
+        .count()
+}
+
+/// What the unit is that a token begins, if it begins one.
+fn unit_kind_of(token: &Token<'_>) -> Option<UnitKind> {
+    match token.shape {
+        Shape::Identifier => match keyword_named(token.text)? {
+            Keyword::UnitStart(kind) => Some(kind),
+            _ => None,
+        },
+        _ => None,
+    }
+}
+
 impl<'a, 't> Refused<'a, 't> {
-    /// The offending slice.
-    pub fn token(&self) -> &'t [u8]
-        ensures { IsAt self.now.text.now self.now.span.start result.now }
+    /// A text with these tokens that is refused at a span of a tree, or of none.
+    pub fn new(
+        tokens: &'t [Token<'a>],
+        lexeme: &'a [u8],
+        units: &'t [Unit<'a>],
+        number: u16,
+        span: RefusalSpan,
+    ) -> Refused<'a, 't>
+        ensures index { result.index ≡ count_before tokens.now span.start }
+        ensures tokens { result.tokens.now ≡ tokens.now }
+        ensures lexeme { result.lexeme.now ≡ lexeme.now }
+        ensures span { result.span ≡ span }
     {
-        excerpt(self.text, self.span.start, self.span.length)
-    }
-
-    /// What comes before it.
-    pub fn above(&self) -> &'t [u8]
-        ensures { result.now ≡ take (min self.now.span.start (length self.now.text.now)) self.now.text.now }
-    {
-        prefix(self.text, self.span.start)
-    }
-
-    /// What comes after it.
-    pub fn rest(&self) -> &'t [u8] {
-        following(self.text, self.span.start.saturating_add(self.span.length))
-    }
-
-    /// The number of its line.
-    pub fn line(&self) -> u32 {
-        line_of(self.text, self.span.start)
-    }
-
-    /// The word before it.
-    pub fn word_before(&self) -> &'t [u8] {
-        word_before(self.text, self.span.start)
-    }
-
-    /// What is before it on its line.
-    pub(crate) fn line_before(&self) -> &'t [u8] {
-        self.above()
-            .rsplit(|byte| *byte == b'\n')
-            .next()
-            .unwrap_or(b"")
-    }
-
-    /// Whether nothing but blanks is between it and the line end before it.
-    pub(crate) fn begins_line(&self) -> bool {
-        self.line_before().trim_ascii().is_empty() && self.above().contains(&b'\n')
-    }
-
-    /// Whether the unit around it is the program: whether the line above it that begins a unit does so with PROGRAM.
-    pub fn is_in_program(&self) -> bool {
-        for line in self.above().rsplit(|byte| *byte == b'\n') {
-            if let Some(Keyword::UnitStart(kind)) = keyword_named(first_word(line)) {
-                return matches!(kind, UnitKind::Program);
-            }
+        Refused {
+            tokens,
+            index: count_before(tokens, span.start),
+            lexeme,
+            units,
+            number,
+            span,
         }
-        false
     }
 
-    /// Bytes of the text; empty if there are none, or if they are not words.
-    pub fn words_at(&self, slice: Option<Slice>) -> &'t str {
+    /// The first of the offending tokens, or the malformed lexeme; no bytes, if there is none.
+    pub fn token(&self) -> &'a [u8]
+        ensures { result.now ≡ offending_text self.now }
+    {
+        match self.tokens.get(self.index) {
+            Some(token) => token.text,
+            None => prefix(self.lexeme, self.span.length),
+        }
+    }
+
+    /// The tokens before it.
+    pub fn before(&self) -> &'t [Token<'a>]
+        ensures { result.now ≡ tokens_before self.now }
+    {
+        let (before, _) = self.tokens.split_at(self.index.min(self.tokens.len()));
+        before
+    }
+
+    /// The tokens after it.
+    pub fn after(&self) -> &'t [Token<'a>]
+        ensures { result.now ≡ tokens_after self.now }
+    {
+        let next = self.index.saturating_add(1).min(self.tokens.len());
+        let (_, after) = self.tokens.split_at(next);
+        after
+    }
+
+    /// The token before it that ends no line.
+    pub fn previous(&self) -> Option<&'t Token<'a>> {
+        without_line_ends(self.before()).last()
+    }
+
+    /// The token after it that ends no line.
+    pub fn next(&self) -> Option<&'t Token<'a>> {
+        self.after().iter().find(|token| !is_line_end(token))
+    }
+
+    /// The word before it; no bytes, if another token is there.
+    pub fn word_before(&self) -> &'a [u8] {
+        word_of(self.previous())
+    }
+
+    /// The tokens before it on its line.
+    pub(crate) fn line_before(&self) -> &'t [Token<'a>] {
+        last_line(self.before())
+    }
+
+    /// Whether it is the first on its line, which is not the first of the text.
+    pub(crate) fn begins_line(&self) -> bool {
+        self.before().last().is_some_and(is_line_end)
+    }
+
+    /// The number of its line; 0, if it is no token.
+    pub fn line(&self) -> u32 {
+        self.tokens.get(self.index).map_or(0, |token| token.line)
+    }
+
+    /// The label before it, if one is there.
+    pub fn label_before(&self) -> Option<&'t Token<'a>> {
+        match without_line_ends(self.before()) {
+            [.., label, colon] if matches!(colon.shape, Shape::Colon) => Some(label),
+            _ => None,
+        }
+    }
+
+    /// What the unit is that last begins before it, if one does.
+    pub fn unit_kind(&self) -> Option<UnitKind> {
+        self.before().iter().rev().find_map(unit_kind_of)
+    }
+
+    /// Whether the unit around it is the program.
+    pub fn is_in_program(&self) -> bool {
+        matches!(self.unit_kind(), Some(UnitKind::Program))
+    }
+
+    /// The tokens from the first offending one on, also if it is on a line below.
+    fn offending_tokens(&self) -> &'t [Token<'a>] {
+        let start = match self.span.below {
+            Some(below) => below.start,
+            None => self.span.start,
+        };
+        let (_, tokens) = self
+            .tokens
+            .split_at(count_before(self.tokens, start).min(self.tokens.len()));
+        tokens
+    }
+
+    /// The first offending token, also if it is on a line below.
+    pub fn offending(&self) -> &'a [u8] {
+        text_of(self.offending_tokens().first())
+    }
+
+    /// The name after the point, if a field is offending; else no bytes.
+    pub fn field(&self) -> &'a [u8] {
+        match self.offending_tokens() {
+            [_, point, field, ..] if matches!(point.shape, Shape::Point) => field.text,
+            _ => b"",
+        }
+    }
+
+    /// Whether it is one token, and no name with a field.
+    pub fn names_one(&self) -> bool {
+        self.span.length == self.token().len()
+    }
+
+    /// The token of the text that a slice begins with; no bytes, if there is none.
+    pub fn word_at(&self, slice: Option<Slice>) -> &'a str {
         match slice {
-            Some(slice) => str::from_utf8(excerpt(
-                self.text,
-                slice.start,
-                slice.length.min(64),
-            )).unwrap_or(""),
+            Some(slice) => {
+                let token = self.tokens.get(count_before(self.tokens, slice.start));
+                str::from_utf8(text_of(token)).unwrap_or("")
+            }
             None => "",
         }
     }
 
-    /// The offending slice, also if it is on a line below.
-    pub fn offending(&self) -> &'t [u8] {
-        match self.span.below {
-            Some(below) => self.words_at(Some(below)).as_bytes(),
-            None => self.token(),
-        }
-    }
-
     /// The block of the instance that is referred to; empty if it is not a block.
-    pub fn block(&self) -> &'t str {
-        let block = self.words_at(self.span.block);
+    pub fn block(&self) -> &'a str {
+        let block = self.word_at(self.span.block);
         if elementary_type(block.as_bytes()).is_some() {
             return "";
         }
         block
     }
 
-    /// The operator before it: the word before it, or `&`.
-    pub(crate) fn operator(&self) -> &'t [u8] {
-        operator_before(self.text, self.span.start)
+    /// The operator before it; no bytes, if another token is there.
+    pub(crate) fn operator(&self) -> &'a [u8] {
+        match self.previous() {
+            Some(token) if matches!(token.shape, Shape::And) => b"AND",
+            Some(token) if matches!(token.shape, Shape::AndNot) => b"ANDN",
+            token => word_of(token),
+        }
     }
 
     /// Whether the operator before it stores.

@@ -1,9 +1,8 @@
 use crate::refused::Refused;
-use crate::slices::prefix;
-use crate::words::letters_at_end;
 use wc_built_in::{Keyword, keyword_named};
-use wc_diag_stops::ResultKind;
+use wc_diag_stops::{ResultKind, last_line, without_line_ends};
 use wc_diag_texts::Case;
+use wc_lexer::Token;
 use wc_model::{Condition, Kind, Operator, Storing, is_word};
 
 /// What operators do, as far as types are asked.
@@ -79,16 +78,6 @@ pub(crate) fn is_conditional(word: &[u8]) -> bool {
                 | Keyword::Return(Condition::IfTrue | Condition::IfFalse)
         )
     )
-}
-
-/// The operator before an operand, which begins there: the word before it, or `&`.
-pub(crate) fn operator_before(text: &[u8], start: usize) -> &[u8] {
-    let above = prefix(text, start).trim_ascii_end();
-    let (before, word) = above.split_at(above.len().saturating_sub(letters_at_end(above)));
-    match before.last() {
-        Some(b'&') if word.is_empty() => b"AND",
-        _ => word,
-    }
 }
 
 /// The types that operators take, in words; empty if any is taken.
@@ -176,20 +165,13 @@ fn is_bit(word: &[u8]) -> bool {
     matches!(word, b"0" | b"1")
 }
 
-/// Whether a line loads such a number.
-fn loads_bit(line: &[u8]) -> bool {
-    let end = line.len().saturating_sub(1);
-    matches!(line.last(), Some(b'0' | b'1')) && is_word(operator_before(line, end), b"LD")
-}
-
 /// Whether the line above the last of these, blank ones apart, loads such a number.
-fn follows_bit(above: &[u8]) -> bool {
-    above
-        .rsplit(|byte| *byte == b'\n')
-        .skip(1)
-        .map(|line| line.trim_ascii_end())
-        .find(|line| !line.is_empty())
-        .is_some_and(loads_bit)
+fn follows_bit(before: &[Token<'_>]) -> bool {
+    let (above, _) = before.split_at(before.len().saturating_sub(last_line(before).len()));
+    match without_line_ends(above) {
+        [.., operator, number] => is_word(b"LD", operator.text) && is_bit(number.text),
+        _ => false,
+    }
 }
 
 /// What to write if types do not match: by the operator, the type of the operand and that of the result.
@@ -200,7 +182,7 @@ pub(crate) fn type_hint(refused: &Refused<'_, '_>) -> Case {
         (Case::Unpassed(_, kind), _) if !span.is_passed => Case::ReadOutput(kind),
         (Case::Instance, _) if refused.sets() => Case::InstanceTarget,
         (Case::Untaken(Kind::Dint), _) if is_bit(refused.token()) => Case::TruthLiteral,
-        (Case::Unlike(Kind::Bool) | Case::Result, _) if follows_bit(refused.above()) => {
+        (Case::Unlike(Kind::Bool) | Case::Result, _) if follows_bit(refused.before()) => {
             Case::TruthLiteral
         }
         (Case::Untaken(kind), _) => untaken_hint(family, kind),

@@ -1,68 +1,23 @@
-ghost use Rattle.std.specs.Prelude.{◌≡◌, ◌==◌, ◌≤◌, ◌↔◌, ◌&&◌, ◌||◌, ◌<◌, ◌+◌, not, min, IsTrue, if◌then◌else◌, drop, is_some, length};
-ghost use Rattle.std.specs.List.{position_or_len};
-ghost use Rattle.wc_diag_mistakes.specs.Unreached.{FollowsLeaving, IsUnreached, after_label, begins_with_colon, block_line, declares, has_label, is_block_start, is_frame, is_leaving, leaves, line_at, line_number, may_pass};
-ghost use Rattle.wc_diag_mistakes.specs.Words.{keyword_of};
+ghost use Rattle.std.specs.Prelude.{◌≡◌, ◌&&◌, ◌||◌, ◌↔◌, ◌<◌, ◌≤◌, ℕ, not, IsTrue, IfNone, IfSome, Some, if◌then◌else◌, is_some, length};
+ghost use Rattle.wc_diag_mistakes.specs.Unreached.{FollowsLeaving, IsDeclaredOnce, IsLeft, IsUnreached, begins_block, count_above, declares, has_label, is_colon_shape, is_frame, is_leaving, keyword_of, leaves, may_pass};
 
-use crate::slices::{following, prefix};
-use crate::words::{after_word, first_word, from_word};
-use memchr::memchr;
 use wc_built_in::{Keyword, keyword_named};
+use wc_lexer::{Shape, Token};
 use wc_model::{Condition, UnitKind, is_word};
 
-/// The number of bytes before the first line feed.
-fn line_length(text: &[u8]) -> usize
-    ensures first { result ≡ position_or_len (λ byte. byte == 10) text.now }
-    ensures within { result ≤ length text.now }
+/// The number of tokens on the lines above one.
+fn count_above(tokens: &[Token<'_>], line: u32) -> usize
+    ensures count { result ≡ count_above tokens.now line }
+    ensures within { result ≤ length tokens.now }
 {
-    match memchr(b'\n', text) {
-        Some(place) => place,
-        None => text.len(),
-    }
+    tokens.iter().take_while(|token| token.line < line).count()
 }
 
-/// What is below a line of that number of bytes, which a line feed ends.
-fn below_line(text: &[u8], end: usize) -> &[u8]
-    requires { end < length text.now }
-    ensures { result.now ≡ drop (min (end + 1) (length text.now)) text.now }
+/// What a token represents, if it is a reserved word.
+fn keyword_of(token: &Token<'_>) -> Option<Keyword>
+    ensures { result ≡ keyword_of token.now }
 {
-    following(text, end + 1)
-}
-
-/// Whether a text begins with a colon, which is not that of an assignment.
-fn begins_with_colon(text: &[u8]) -> bool
-    ensures { result ≡ begins_with_colon text.now }
-{
-    match text {
-        [b':', b'=', ..] => false,
-        [b':', ..] => true,
-        _ => false,
-    }
-}
-
-/// Whether the first word of a line is a label.
-fn has_label(line: &[u8]) -> bool
-    ensures { result ≡ has_label line.now }
-{
-    begins_with_colon(from_word(after_word(line)))
-}
-
-/// A line after its label, if it has one.
-pub(crate) fn after_label(line: &[u8]) -> &[u8]
-    ensures { result.now ≡ after_label line.now }
-{
-    let rest = from_word(after_word(line));
-    if begins_with_colon(rest) {
-        following(rest, 1)
-    } else {
-        line
-    }
-}
-
-/// What the first word of a line represents, if it is a reserved word.
-pub(crate) fn keyword_of(line: &[u8]) -> Option<Keyword>
-    ensures { result ≡ keyword_of line.now }
-{
-    keyword_named(first_word(line))
+    keyword_named(token.text)
 }
 
 /// Whether the line below is not next after this word.
@@ -89,125 +44,114 @@ fn is_frame(word: Option<Keyword>) -> bool
     }
 }
 
-/// Whether this word is FUNCTION_BLOCK.
-fn is_block_start(word: Option<Keyword>) -> bool
-    ensures { result ≡ is_block_start word }
+/// Whether a token is a colon.
+fn is_colon(token: &Token<'_>) -> bool
+    ensures { result ≡ is_colon_shape token.now.shape }
 {
-    match word {
+    match token.shape {
+        Shape::Colon => true,
+        _ => false,
+    }
+}
+
+/// Whether a token is the colon of a label, or begins or ends a unit or a section.
+fn may_pass(token: &Token<'_>) -> bool
+    ensures { result ≡ may_pass token.now }
+{
+    is_colon(token) || is_frame(keyword_of(token))
+}
+
+/// Whether the tokens up to this one leave, if this is so of those before it or not.
+fn leaving_after(leaving: bool, token: &Token<'_>) -> bool
+    ensures { result ≡ (leaves token.now || leaving && not (may_pass token.now)) }
+{
+    is_leaving(keyword_of(token)) || leaving && !may_pass(token)
+}
+
+/// Whether some tokens leave by a jump or a return, after which none may pass.
+fn leaves_in(tokens: &[Token<'_>]) -> bool
+    ensures { IsTrue result ↔ IsLeft tokens.now }
+{
+    let mut leaving = false;
+    for index in 0..tokens.len() {
+        leaving = leaving_after(leaving, &tokens[index]);
+    }
+    leaving
+}
+
+/// Whether a line of a body surely follows a jump or a return, and no label is between: nothing leads to it but its own label.
+pub fn follows_leaving(tokens: &[Token<'_>], line: u32) -> bool
+    ensures { IsTrue result ↔ FollowsLeaving tokens.now line }
+{
+    let (above, _) = tokens.split_at(count_above(tokens, line));
+    leaves_in(above)
+}
+
+/// Whether the first of these tokens is a label.
+fn has_label(tokens: &[Token<'_>]) -> bool
+    ensures { result ≡ has_label tokens.now }
+{
+    match tokens.get(1) {
+        Some(token) => is_colon(token),
+        None => false,
+    }
+}
+
+/// Whether surely nothing leads to a line of a body.
+pub fn is_unreached(tokens: &[Token<'_>], line: u32) -> bool
+    ensures { IsTrue result ↔ IsUnreached tokens.now line }
+{
+    let (_, below) = tokens.split_at(count_above(tokens, line));
+    !has_label(below) && follows_leaving(tokens, line)
+}
+
+/// Whether a token begins a function block.
+fn begins_block(token: &Token<'_>) -> bool
+    ensures { result ≡ begins_block token.now }
+{
+    match keyword_of(token) {
         Some(Keyword::UnitStart(UnitKind::FunctionBlock)) => true,
         _ => false,
     }
 }
 
-/// Whether a line leaves by a jump or a return.
-fn leaves(line: &[u8]) -> bool
-    ensures { result ≡ leaves line.now }
+/// Whether the token at an index declares a function block of that name.
+fn declares(tokens: &[Token<'_>], name: &[u8], index: usize) -> bool
+    requires { index < length tokens.now }
+    ensures { result ≡ declares tokens.now name.now index }
 {
-    is_leaving(keyword_of(after_label(line)))
-}
-
-/// Whether a line may be reached otherwise than from the line above.
-fn may_pass(line: &[u8]) -> bool
-    ensures { result ≡ may_pass line.now }
-{
-    has_label(line) || is_frame(keyword_of(after_label(line)))
-}
-
-/// Whether the lines up to this one leave, if this is so of those above it or not.
-fn leaving_after(leaving: bool, line: &[u8]) -> bool
-    ensures { result ≡ (leaves line.now || leaving && not (may_pass line.now)) }
-{
-    leaves(line) || leaving && !may_pass(line)
-}
-
-/// Whether a line of a body surely follows a jump or a return, and no label is between: nothing leads to it but its own label.
-pub fn follows_leaving(text: &[u8], line: u32) -> bool
-    ensures { IsTrue result ↔ FollowsLeaving text.now line }
-{
-    let mut leaving = false;
-    let mut rest = text;
-    for _above in 0..line.saturating_sub(1) {
-        let end = line_length(rest);
-        if end == rest.len() {
-            return leaving;
-        }
-        leaving = leaving_after(leaving, prefix(rest, end));
-        rest = below_line(rest, end);
+    match (tokens.get(index), tokens.get(index + 1)) {
+        (Some(word), Some(token)) => begins_block(word) && is_word(token.text, name),
+        _ => false,
     }
-    leaving
 }
 
-/// The line of that number, counted from 1; empty if the text has fewer.
-fn line_at(text: &[u8], line: u32) -> &[u8]
-    ensures { result.now ≡ line_at text.now line }
-{
-    let mut rest = text;
-    for _above in 0..line.saturating_sub(1) {
-        let end = line_length(rest);
-        if end == rest.len() {
-            return following(rest, end);
-        }
-        rest = below_line(rest, end);
-    }
-    prefix(rest, line_length(rest))
-}
-
-/// Whether surely nothing leads to a line of a body.
-pub fn is_unreached(text: &[u8], line: u32) -> bool
-    ensures { IsTrue result ↔ IsUnreached text.now line }
-{
-    !has_label(line_at(text, line)) && follows_leaving(text, line)
-}
-
-/// Whether a line begins the declaration of a function block of that name.
-fn declares(name: &[u8], line: &[u8]) -> bool
-    ensures { result ≡ declares name.now line.now }
-{
-    is_block_start(keyword_of(line)) && is_word(first_word(after_word(line)), name)
-}
-
-/// The number of the line after that many others.
-fn line_number(above: usize) -> u32
-    ensures { result ≡ line_number above }
-{
-    above.saturating_add(1).min(1048577) as u32
-}
-
-/// Whether a line is one, and another is found already.
+/// Whether a token is one that declares a block, and another is found already.
 fn is_second(found: Option<u32>, is_one: bool) -> bool
     ensures { result ≡ (is_one && is_some found) }
 {
     is_one && found.is_some()
 }
 
-/// The line that is found, with the line after that many others, if it is one.
-fn found_with(found: Option<u32>, is_one: bool, above: usize) -> Option<u32>
-    ensures { result ≡ (if is_one then Some (line_number above) else found) }
+/// The line that is found, or that of a token, if it is one that declares a block.
+fn found_with(found: Option<u32>, is_one: bool, line: u32) -> Option<u32>
+    ensures { result ≡ (if is_one then Some line else found) }
 {
-    if is_one {
-        Some(line_number(above))
-    } else {
-        found
-    }
+    if is_one { Some(line) } else { found }
 }
 
 /// The line on which a text declares a function block, if surely one line does so.
-pub fn block_line(text: &[u8], name: &[u8]) -> Option<u32>
-    ensures { result ≡ block_line text.now name.now }
+pub fn block_line(tokens: &[Token<'_>], name: &[u8]) -> Option<u32>
+    ensures found { IfSome result (IsDeclaredOnce tokens.now name.now) }
+    ensures none { IfNone result ((line : ℕ) → IsDeclaredOnce tokens.now name.now line → ⊥) }
 {
     let mut found = None;
-    let mut rest = text;
-    for above in 0..text.len() + 1 {
-        let end = line_length(rest);
-        let is_one = declares(name, prefix(rest, end));
+    for index in 0..tokens.len() {
+        let is_one = declares(tokens, name, index);
         if is_second(found, is_one) {
             return None;
         }
-        found = found_with(found, is_one, above);
-        if end == rest.len() {
-            return found;
-        }
-        rest = below_line(rest, end);
+        found = found_with(found, is_one, tokens[index].line);
     }
     found
 }

@@ -6,7 +6,7 @@ use Rattle.std.proofs.lemmas.Bool.{cases_order}
 use Rattle.std.proofs.lemmas.List.Sums.{prefix_len-le-length}
 use Rattle.wc_diag_places.proofs.Positions.{earlier_there, first_before, item_far, item_there, previous_of}
 use Rattle.wc_diag_places.specs.Arguments.{IsArgument, IsArgumentAt, IsFirstBrokenOf, argument_count, argument_from, broken_at, means_name}
-use Rattle.wc_diag_places.specs.Excerpts.{begins_item, is_closing_shape, list_end, tokens_at}
+use Rattle.wc_diag_places.specs.OperandTokens.{begins_item, is_closing_shape, list_end, tokens_at}
 use Rattle.wc_diag_places.specs.Lists.{AreListed, IsListedAs, item_after, item_at, text_at}
 use Rattle.wc_diag_places.specs.declared.arguments.Broken.{Broken}
 use Rattle.wc_diag_places.specs.declared.lists.Item.{Item}
@@ -188,9 +188,9 @@ argument_there tokens number item a listed = by (means_name number)
     by true = (listed.name_within, listed.name_begins)
     by false = (listed.value_within, listed.value_begins)
 
-pub argument_excerpt : (scope : Scope) (number : ℕ) (tokens excerpt : List Token) (from count : ℕ) → IsArgumentAt scope number tokens from count
-    → (from + count ≤ list_end tokens → begins_item tokens from ≡ true → excerpt ≡ tokens_at tokens from count) → IsArgument scope number tokens excerpt
-argument_excerpt scope number tokens excerpt from count at there = λ type line k arguments typed instance listed first.
+pub argument_operand_tokens : (scope : Scope) (number : ℕ) (tokens operand_tokens : List Token) (from count : ℕ) → IsArgumentAt scope number tokens from count
+    → (from + count ≤ list_end tokens → begins_item tokens from ≡ true → operand_tokens ≡ tokens_at tokens from count) → IsArgument scope number tokens operand_tokens
+argument_operand_tokens scope number tokens operand_tokens from count at there = λ type line k arguments typed instance listed first.
     let here = at type line k arguments typed instance listed first in
     let one = listed k first.position.item (item_there [] arguments k first.position first.there) in
     let inside = argument_there tokens number (item_at tokens k) first.position.item one in

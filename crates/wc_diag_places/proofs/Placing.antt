@@ -9,10 +9,10 @@ use Rattle.wc_model.specs.Language.Faults.{body_fault, declaration_fault}
 use Rattle.wc_model.specs.Language.Tree.{Text}
 use Rattle.wc_model.specs.declared.fault.Fault.{Fault}
 use Rattle.wc_model.specs.declared.fault.Fault.TheVariants.{Memory, Refused}
-use Rattle.wc_diag_places.specs.Excerpts.{on_line, tokens_from}
-use Rattle.wc_diag_places.specs.LaterTextSpans.{IsBodyFault, RefusesLater, at_costs, unit_number}
+use Rattle.wc_diag_places.specs.OperandTokens.{on_line, tokens_from}
+use Rattle.wc_diag_places.specs.LaterSpans.{IsBodyFault, RefusesLater, at_costs, unit_number}
 use Rattle.wc_diag_places.specs.Spotting.{IsNamed, PointsToOffending}
-use Rattle.wc_diag_stops.specs.ReadingTextSpans.{AreReadByPlaces, place_mark, place_marks}
+use Rattle.wc_diag_stops.specs.ReadingSpans.{AreReadByPlaces, place_mark, place_marks}
 use Rattle.wc_diag_stops.specs.declared.span.RefusalSpan.{RefusalSpan}
 use Rattle.wc_names.specs.RepresentsText.{AreTables}
 use Rattle.wc_names.specs.declared.kept.Tables.{Tables}
@@ -47,14 +47,14 @@ offending_later bytes tokens text tables number place span read are body (inr th
       text = text;
       read = read;
       place = place;
-      excerpt = on_line (tokens_from tokens place) there.offending;
+      operand_tokens = on_line (tokens_from tokens place) there.offending;
       means =
           inr (record {
             fault = body;
             offending = there.offending;
             means = there.means;
             argument = λ scope unit listed. there.argument scope (record { text = text; tables_are = are; unit_is = unit }) listed;
-            excerpt_is = refl;
+            operand_is = refl;
           });
       line_is = refl;
       start_is = there.points.start_is;

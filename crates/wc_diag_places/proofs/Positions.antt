@@ -2,7 +2,7 @@
 use Rattle.std.proofs.Common.{◌≡◌, ℕ, zero, suc, ◌+◌, ◌<◌, ◌≤◌, min, Bool, true, false, List, [], ◌∷◌, length, Option, Some, None, refl, sym, ap, arith}
 use Rattle.std.specs.Prelude.{if◌then◌else◌, option_map, slice_get}
 use Rattle.std.proofs.lemmas.Option.{slice_get_within}
-use Rattle.wc_diag_places.specs.Excerpts.{is_point}
+use Rattle.wc_diag_places.specs.OperandTokens.{is_point}
 use Rattle.wc_diag_places.specs.Lists.{item_at, mark_after, value_end}
 use Rattle.wc_lexer.specs.declared.shape.Token.{Token}
 use Rattle.wc_model.specs.Language.Checks.{Position, positions_after, positions_of}

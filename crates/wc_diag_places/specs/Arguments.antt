@@ -1,6 +1,6 @@
 -- Which one of a call's list breaks a rule first, and the tokens of it to which a refusal refers. (The profile's own.)
 use Rattle.std.specs.Prelude.{◌≡◌, ◌<◌, ◌==◌, ◌||◌, ℕ, Bool, true, List, Option, Some, None, slice_get, if◌then◌else◌}
-use Rattle.wc_diag_places.specs.Excerpts.{tokens_at}
+use Rattle.wc_diag_places.specs.OperandTokens.{tokens_at}
 use Rattle.wc_diag_places.specs.Lists.{AreListed, item_at, text_at}
 use Rattle.wc_diag_places.specs.declared.lists.Item.{Item}
 use Rattle.wc_lexer.specs.declared.shape.Token.{Token}
@@ -44,8 +44,8 @@ IsArgumentAt scope number tokens from count =
 
 -- so of the tokens themselves
 abbrev pub IsArgument : Scope → ℕ → List Token → List Token → Type 0
-IsArgument scope number tokens excerpt =
+IsArgument scope number tokens operand_tokens =
     (type : VariableType) (line k : ℕ) (arguments : List Assignment)
     → type_of scope (name_of (text_at tokens 1)) ≡ Some type → is_instance (Some type) ≡ true → AreListed tokens arguments
     → IsFirstBrokenOf scope line (members_of scope.before type) arguments number k
-    → excerpt ≡ tokens_at tokens (argument_from number (item_at tokens k)) (argument_count number (item_at tokens k))
+    → operand_tokens ≡ tokens_at tokens (argument_from number (item_at tokens k)) (argument_count number (item_at tokens k))

@@ -1,5 +1,5 @@
-pub mod LaterTextSpans
-pub mod Excerpts
+pub mod LaterSpans
+pub mod OperandTokens
 pub mod Lists
 pub mod Arguments
 pub mod Spotting

@@ -3,7 +3,7 @@
 use Rattle.std.specs.Prelude.{◌≡◌, ◌≤◌, ◌+◌, ◌-◌, ℕ, zero, suc, Bool, true, false, min, nat_lt, List, [], drop, length, Option, Some, None, slice_get, if◌then◌else◌}
 use Rattle.std.specs.List.{position_or_len}
 use Rattle.std.specs.Option.{option_map_or}
-use Rattle.wc_diag_places.specs.Excerpts.{begins_item, is_point, list_end, tokens_at}
+use Rattle.wc_diag_places.specs.OperandTokens.{begins_item, is_point, list_end, tokens_at}
 use Rattle.wc_diag_places.specs.declared.lists.Item.{Item}
 use Rattle.wc_lexer.specs.declared.shape.Shape.{Shape}
 use Rattle.wc_lexer.specs.declared.shape.Shape.TheVariants.{Arrow, LineEnd}
@@ -68,9 +68,9 @@ operand_between count first last =
     if nat_lt 1 count then Some (Field (name_of first.text.now) (name_of last.text.now)) else operand_of (symbol_view first) first.line
 
 abbrev pub operand_in : List Token → Option Term
-operand_in excerpt =
-    elim (slice_get excerpt 0) [
-      | Some first ↦ (elim (slice_get excerpt (length excerpt - 1)) [ Some last ↦ operand_between (length excerpt) first last | None ↦ None ])
+operand_in operand_tokens =
+    elim (slice_get operand_tokens 0) [
+      | Some first ↦ (elim (slice_get operand_tokens (length operand_tokens - 1)) [ Some last ↦ operand_between (length operand_tokens) first last | None ↦ None ])
       | None ↦ None
     ]
 

@@ -5,9 +5,9 @@ use Rattle.wc_model.specs.Language.Scopes.{Scope}
 use Rattle.wc_model.specs.Language.Tree.{Text}
 use Rattle.wc_model.specs.declared.fault.Fault.{Fault}
 use Rattle.wc_model.specs.declared.fault.Fault.TheVariants.{Memory, Refused}
-use Rattle.wc_diag_places.specs.LaterTextSpans.{IsBodyFault, IsTokenFault}
+use Rattle.wc_diag_places.specs.LaterSpans.{IsBodyFault, IsTokenFault}
 use Rattle.wc_diag_places.specs.Arguments.{IsArgument}
-use Rattle.wc_diag_places.specs.Excerpts.{IsExcerptOf, is_listed, length_of_excerpt, line_at, on_line, start_of_excerpt}
+use Rattle.wc_diag_places.specs.OperandTokens.{IsOperandOf, is_listed, length_of_operand, line_at, on_line, start_of_operand}
 use Rattle.wc_diag_stops.specs.declared.span.RefusalSpan.{RefusalSpan}
 
 -- a fault of pass 3 or of the costs
@@ -21,18 +21,18 @@ IsInBody text Memory = Unit {0}
 IsInBody text (Refused number place) = IsBodyFault text number place
 
 -- a refusal of that number on the line of the first of these tokens, with this slice
-pub record PointsTo (number : ℕ) (tokens excerpt : List Token) (text_span : RefusalSpan) : Type 0 where
-  pub fault_is : text_span.fault ≡ Refused number (line_at (slice_get tokens 0))
-  pub start_is : text_span.start ≡ start_of_excerpt excerpt
-  pub length_is : text_span.length ≡ length_of_excerpt excerpt
+pub record PointsTo (number : ℕ) (tokens operand_tokens : List Token) (span : RefusalSpan) : Type 0 where
+  pub fault_is : span.fault ≡ Refused number (line_at (slice_get tokens 0))
+  pub start_is : span.start ≡ start_of_operand operand_tokens
+  pub length_is : span.length ≡ length_of_operand operand_tokens
 
 -- a refusal with a slice of the instruction that begins with these tokens, in a scope that is known by this
-pub record IsOffendingThere (known : Scope → Type 0) (number : ℕ) (tokens : List Token) (text_span : RefusalSpan) : Type 0 where
+pub record IsOffendingThere (known : Scope → Type 0) (number : ℕ) (tokens : List Token) (span : RefusalSpan) : Type 0 where
   pub offending : List Token
-  pub means : IsExcerptOf number tokens offending
+  pub means : IsOperandOf number tokens offending
   pub argument : (scope : Scope) → known scope → is_listed tokens ≡ true → IsArgument scope number tokens offending
-  pub points : PointsTo number tokens (on_line tokens offending) text_span
+  pub points : PointsTo number tokens (on_line tokens offending) span
 
 -- or out of memory
 abbrev pub PointsToOffending : (Scope → Type 0) → ℕ → List Token → RefusalSpan → Type 0
-PointsToOffending known number tokens text_span = (text_span.fault ≡ Memory) ⊎ IsOffendingThere known number tokens text_span
+PointsToOffending known number tokens span = (span.fault ≡ Memory) ⊎ IsOffendingThere known number tokens span

@@ -1,7 +1,7 @@
 ghost use Rattle.std.specs.Prelude.{◌≡◌, ◌||◌, ◌&&◌, ◌++◌, ℕ, [], ◌∷◌, List, IfOk, None, Option, Some, not, option_map, true};
 ghost use Rattle.std.specs.List.{list_any};
 ghost use Rattle.wc_diag_places.specs.Arguments.{IsFirstBrokenOf, broken_at};
-ghost use Rattle.wc_diag_places.specs.Excerpts.{list_end};
+ghost use Rattle.wc_diag_places.specs.OperandTokens.{list_end};
 ghost use Rattle.wc_diag_places.specs.Lists.{AreListed, IsListedAs, item_at};
 ghost use Rattle.wc_model.specs.Language.BodyRules.{actual_checks, is_bit_literal, is_of};
 ghost use Rattle.wc_model.specs.Language.Checks.{Check, Position, asks, first_broken};
@@ -14,9 +14,9 @@ ghost use Rattle.wc_names.specs.Numbered.{numbered_entity, numbered_type};
 ghost use Rattle.wc_verify.specs.Found.{first_at};
 ghost use Rattle.wc_verify.specs.Seeing.{IsScope};
 
-use crate::excerpts::{list_end, tokens_at};
 use crate::kinds::operand_in;
 use crate::lists::{Item, item_after, text_at};
+use crate::operand_tokens::{list_end, tokens_at};
 use std::alloc::Global;
 use wc_lexer::Token;
 use wc_model::{Direction, Fault, Kind, Operand};
@@ -151,7 +151,7 @@ fn broken_rule<'a>(
     }
 }
 
-/// Likewise, with these names, of which there are none yet.
+/// The first in the list of a call that breaks a rule, and that rule, by the names so far, of which there are none yet.
 fn first_broken_among<'a>(
     names: &mut Names<'a>,
     tables: &Tables<'a>,

@@ -1,6 +1,6 @@
 ghost use Rattle.std.specs.Prelude.{◌≡◌, ◌⊎◌, ◌≤◌, ◌+◌, ℕ, true, List, IfOk, Some};
 ghost use Rattle.wc_diag_places.specs.Arguments.{IsArgumentAt, IsFirstBrokenOf, argument_count, argument_from};
-ghost use Rattle.wc_diag_places.specs.Excerpts.{IsOfCall, begins_item, list_end, operator_of, tokens_at};
+ghost use Rattle.wc_diag_places.specs.OperandTokens.{IsOfCall, begins_item, list_end, operator_of, tokens_at};
 ghost use Rattle.wc_diag_places.specs.Lists.{AreListed, item_at};
 ghost use Rattle.wc_model.specs.Language.Declarations.{VariableType, members_of};
 ghost use Rattle.wc_model.specs.Language.Scopes.{Scope};
@@ -9,9 +9,9 @@ ghost use Rattle.wc_names.specs.Numbered.{numbered_type};
 ghost use Rattle.wc_verify.specs.Seeing.{IsScope};
 
 use crate::arguments::{Broken, first_broken_argument};
-use crate::excerpts::{case_of_operand, line_at, list_end, operator_of, tokens_at};
 use crate::kinds::{entity_in, is_bit};
 use crate::lists::{item_after, text_at};
+use crate::operand_tokens::{case_of_operand, line_at, list_end, operator_of, tokens_at};
 use std::alloc::Global;
 use wc_diag_texts::Case;
 use wc_lexer::{Shape, Token};
@@ -97,12 +97,16 @@ fn case_of_value<'a>(
     broken: Broken,
 ) -> Case {
     let item = broken.item;
-    let excerpt = tokens_at(tokens, item.value, item.count);
+    let operand_tokens = tokens_at(tokens, item.value, item.count);
     let formal = tables.formal(declared, item.direction, text_at(tokens, item.name));
-    match (broken.number, entity_in(tables, unit, excerpt), formal) {
-        (401, _, _) => case_of_operand(excerpt),
+    match (
+        broken.number,
+        entity_in(tables, unit, operand_tokens),
+        formal,
+    ) {
+        (401, _, _) => case_of_operand(operand_tokens),
         (402, Some(entity), Some(formal)) => {
-            let takes_bit = item.direction == Direction::Into && is_bit(excerpt);
+            let takes_bit = item.direction == Direction::Into && is_bit(operand_tokens);
             unfit_value(entity.kind, formal.kind, takes_bit).unwrap_or(Case::Result)
         }
         _ => Case::Plain,
@@ -221,7 +225,7 @@ fn begins_item(tokens: &[Token<'_>], index: usize) -> bool
 }
 
 /// The offending tokens, where they are in the call; else the operator.
-pub(crate) fn excerpt_of_call<'a, 't>(tokens: &'t [Token<'a>], call: InCall) -> &'t [Token<'a>]
+pub(crate) fn operand_of_call<'a, 't>(tokens: &'t [Token<'a>], call: InCall) -> &'t [Token<'a>]
     ensures some { (result.now ≡ operator_of tokens.now) ⊎ IsOfCall tokens.now result.now }
     ensures there { call.from + call.count ≤ list_end tokens.now
         → begins_item tokens.now call.from ≡ true

@@ -1,4 +1,4 @@
-use crate::excerpts::{is_listed, line_at, span_of};
+use crate::operand_tokens::{is_listed, line_at, span_of};
 use wc_diag_stops::Slice;
 use wc_diag_texts::Case;
 use wc_lexer::Token;
@@ -22,11 +22,15 @@ fn type_of<'a>(source: &Source<'a>, unit: usize, name: &[u8]) -> Option<Word<'a>
 }
 
 /// The instance that a slice of an instruction refers to: that of a field, or of the call.
-fn instance_in<'a>(tokens: &[Token<'a>], excerpt: &[Token<'a>], case: Case) -> Option<Token<'a>> {
+fn instance_in<'a>(
+    tokens: &[Token<'a>],
+    operand_tokens: &[Token<'a>],
+    case: Case,
+) -> Option<Token<'a>> {
     match case {
-        Case::Field | Case::Instance => excerpt.first().copied(),
+        Case::Field | Case::Instance => operand_tokens.first().copied(),
         _ if is_listed(tokens) => tokens.get(1).copied(),
-        _ if excerpt.len() > 1 => excerpt.first().copied(),
+        _ if operand_tokens.len() > 1 => operand_tokens.first().copied(),
         _ => None,
     }
 }
@@ -36,10 +40,10 @@ pub(crate) fn block_in(
     source: &Source<'_>,
     unit: usize,
     tokens: &[Token<'_>],
-    excerpt: &[Token<'_>],
+    operand_tokens: &[Token<'_>],
     case: Case,
 ) -> Option<Slice> {
-    let instance = instance_in(tokens, excerpt, case)?;
+    let instance = instance_in(tokens, operand_tokens, case)?;
     let named = type_of(source, unit, instance.text)?;
     Some(Slice {
         start: named.line as usize,
@@ -49,14 +53,14 @@ pub(crate) fn block_in(
 }
 
 /// The bytes of some tokens, if there are any.
-pub(crate) fn slice_of(excerpt: &[Token<'_>]) -> Option<Slice> {
-    if excerpt.is_empty() {
+pub(crate) fn slice_of(operand_tokens: &[Token<'_>]) -> Option<Slice> {
+    if operand_tokens.is_empty() {
         return None;
     }
-    let (start, length) = span_of(excerpt);
+    let (start, length) = span_of(operand_tokens);
     Some(Slice {
         start,
         length,
-        line: line_at(excerpt.first()),
+        line: line_at(operand_tokens.first()),
     })
 }

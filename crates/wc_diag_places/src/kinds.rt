@@ -2,7 +2,7 @@ ghost use Rattle.std.specs.Prelude.{◌≡◌, option_map};
 ghost use Rattle.wc_diag_places.specs.Lists.{operand_in};
 ghost use Rattle.wc_model.specs.Language.Views.{term_view};
 
-use crate::excerpts::{is_closing, opens};
+use crate::operand_tokens::{is_closing, opens};
 use wc_diag_texts::Case;
 use wc_lexer::{Shape, Token};
 use wc_model::{Kind, Operand, Storing};
@@ -12,12 +12,12 @@ use wc_text_lines::{Operating, Operation, operation_of};
 use wc_text_short_lines::operand_of;
 
 /// The operand that some tokens are: one alone, or a name with a field.
-pub(crate) fn operand_in<'a>(excerpt: &[Token<'a>]) -> Option<Operand<'a>>
-    ensures { option_map term_view result ≡ operand_in excerpt.now }
+pub(crate) fn operand_in<'a>(operand_tokens: &[Token<'a>]) -> Option<Operand<'a>>
+    ensures { option_map term_view result ≡ operand_in operand_tokens.now }
 {
-    match (excerpt.first(), excerpt.last()) {
+    match (operand_tokens.first(), operand_tokens.last()) {
         (Some(first), Some(last)) => {
-            if excerpt.len() > 1 {
+            if operand_tokens.len() > 1 {
                 return Some(Operand::Field {
                     instance: first.text,
                     field: last.text,
@@ -30,13 +30,17 @@ pub(crate) fn operand_in<'a>(excerpt: &[Token<'a>]) -> Option<Operand<'a>>
 }
 
 /// What some tokens name.
-pub(crate) fn entity_in(tables: &Tables<'_>, unit: usize, excerpt: &[Token<'_>]) -> Option<Entity> {
-    tables.entity(unit, &operand_in(excerpt)?)
+pub(crate) fn entity_in(
+    tables: &Tables<'_>,
+    unit: usize,
+    operand_tokens: &[Token<'_>],
+) -> Option<Entity> {
+    tables.entity(unit, &operand_in(operand_tokens)?)
 }
 
 /// Whether some tokens are a literal 0 or 1.
-pub(crate) fn is_bit(excerpt: &[Token<'_>]) -> bool {
-    matches!(excerpt.first(), Some(token) if matches!(token.shape, Shape::Whole(0 | 1)))
+pub(crate) fn is_bit(operand_tokens: &[Token<'_>]) -> bool {
+    matches!(operand_tokens.first(), Some(token) if matches!(token.shape, Shape::Whole(0 | 1)))
 }
 
 /// What does not fit if an operand of a kind follows its operator.

@@ -4,15 +4,15 @@
 
 mod arguments;
 mod calls;
-mod excerpts;
 mod instances;
 mod kinds;
 mod lists;
+mod operand_tokens;
 mod paths;
 mod result_kind;
 mod spanned_source;
-mod text_spans;
+mod spans;
 mod twice;
 
 pub use spanned_source::{SpannedSource, read_by_places};
-pub use text_spans::text_span_in;
+pub use spans::span_in;

@@ -3,7 +3,7 @@ ghost use Rattle.std.specs.List.{position_or_len};
 ghost use Rattle.std.specs.Option.{option_copied};
 ghost use Rattle.wc_diag_places.specs.Lists.{direction_of, is_mark_shape, item_after, mark_after, text_at, value_end};
 
-use crate::excerpts::is_point;
+use crate::operand_tokens::is_point;
 use wc_lexer::{Shape, Token};
 use wc_model::Direction;
 

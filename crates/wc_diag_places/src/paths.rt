@@ -1,4 +1,4 @@
-use crate::excerpts::{line_at, tokens_at, tokens_from};
+use crate::operand_tokens::{line_at, tokens_at, tokens_from};
 use crate::result_kind::{result_after, without_label};
 use crate::spanned_source::SpannedSource;
 use wc_diag_stops::{Brought, LabelPaths, PathToLabel};

@@ -1,5 +1,5 @@
-use crate::excerpts::{is_closing, line_at, opens, operand_of, tokens_at};
 use crate::kinds::entity_in;
+use crate::operand_tokens::{is_closing, line_at, opens, operand_of, tokens_at};
 use wc_diag_stops::ResultKind;
 use wc_lexer::{Shape, Token};
 use wc_model::{Condition, Kind};

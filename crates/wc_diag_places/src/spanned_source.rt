@@ -2,7 +2,7 @@ ghost use Rattle.std.specs.Prelude.{◌≤◌, IfOk, length, map};
 ghost use Rattle.wc_lexer.specs.Views.{token_view};
 ghost use Rattle.wc_model.specs.Language.Views.{text_view};
 ghost use Rattle.wc_model.specs.Text.Tokens.{IsCut, most_bytes};
-ghost use Rattle.wc_diag_stops.specs.ReadingTextSpans.{AreReadByPlaces};
+ghost use Rattle.wc_diag_stops.specs.ReadingSpans.{AreReadByPlaces};
 
 use std::alloc::Global;
 use wc_diag_stops::exchange;

@@ -1,6 +1,6 @@
 ghost use Rattle.std.specs.Prelude.{◌≡◌, nat_lt};
 ghost use Rattle.std.specs.List.{position_or_len};
-ghost use Rattle.wc_diag_places.specs.LaterTextSpans.{unit_number};
+ghost use Rattle.wc_diag_places.specs.LaterSpans.{unit_number};
 ghost use Rattle.wc_model.specs.Language.Views.{text_view};
 
 use wc_diag_texts::Case;

@@ -7,7 +7,7 @@ use Rattle.wc_diag_spans.specs.Finds.{IsCutTo}
 use Rattle.wc_diag_spans.specs.OffendingTokens.{IsKept}
 use Rattle.wc_diag_spans.specs.Rows.{MeansField, after_comma, cut_field, glued, joined, shown_field, shown_row}
 use Rattle.wc_diag_spans.specs.declared.diagnostic.Diagnostic.{Diagnostic}
-use Rattle.wc_diag_spans.specs.declared.diagnostic.TextSpan.{TextSpan}
+use Rattle.wc_diag_spans.specs.declared.diagnostic.Span.{Span}
 use Rattle.wc_model.specs.Run.Log.{Record}
 
 -- one field more after others
@@ -50,8 +50,8 @@ row_shown fields count e =
     ap (λ n. joined (take n fields)) turned ∙ ap joined (take_min 128 fields)
 
 -- a span that is kept refers to the field that was found
-pub field_kept : (number line : ℕ) (fields : Record) (old new : Diagnostic) (text_span : Option TextSpan) → IfSome old.text_span (MeansField number fields)
-    → IfSome text_span (λ s. IsKept old new line s) → IfSome text_span (λ s. (found : TextSpan) × MeansField number fields found × IsCutTo new.shown.items found s)
+pub field_kept : (number line : ℕ) (fields : Record) (old new : Diagnostic) (span : Option Span) → IfSome old.span (MeansField number fields)
+    → IfSome span (λ s. IsKept old new line s) → IfSome span (λ s. (found : Span) × MeansField number fields found × IsCutTo new.shown.items found s)
 field_kept number line fields old new None means kept = tt
 field_kept number line fields old new (Some s) means kept =
     (kept.found, subst (λ o. IfSome o (MeansField number fields)) kept.was means, record { start = kept.start; size = kept.size })

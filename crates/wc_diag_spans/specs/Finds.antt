@@ -4,7 +4,7 @@ use Rattle.wc_diag_spans.specs.OffendingTokens.{IsOffendingBy, IsStoppedBy}
 use Rattle.wc_diag_spans.specs.Rows.{MeansField, shown_row}
 use Rattle.wc_diag_spans.specs.Showing.{IsLineOf, ShowsLine}
 use Rattle.wc_diag_spans.specs.declared.diagnostic.Diagnostic.{Diagnostic}
-use Rattle.wc_diag_spans.specs.declared.diagnostic.TextSpan.{TextSpan}
+use Rattle.wc_diag_spans.specs.declared.diagnostic.Span.{Span}
 use Rattle.wc_diag_spans.specs.declared.refusal.Evidence.{Evidence}
 use Rattle.wc_diag_spans.specs.declared.refusal.Evidence.TheVariants.{Nothing, Text, Row, Names}
 use Rattle.wc_diag_spans.specs.declared.refusal.Refusal.{Refusal}
@@ -13,7 +13,7 @@ use Rattle.wc_record.specs.Reported.{fields_reported}
 
 -- no offending slice is outside the line that is shown
 abbrev pub IsWithin : Diagnostic → Type 0
-IsWithin diagnostic = IfSome diagnostic.text_span (λ text_span. text_span.start ≤ length diagnostic.shown.items)
+IsWithin diagnostic = IfSome diagnostic.span (λ span. span.start ≤ length diagnostic.shown.items)
 
 -- what is found in the current text: the line of the part, with the offending slice in it
 pub record FindsIn (refusal : Refusal) (text : List ℕ) (diagnostic : Diagnostic) : Type 0 where
@@ -23,15 +23,15 @@ pub record FindsIn (refusal : Refusal) (text : List ℕ) (diagnostic : Diagnosti
   pub offending : IsOffendingBy refusal.part refusal.number text diagnostic
 
 -- it begins where another span does, or where the line that is shown ends before that
-pub record IsCutTo (shown : List ℕ) (found text_span : TextSpan) : Type 0 where
-  pub start : text_span.start ≡ min found.start (length shown)
-  pub size : text_span.length ≡ found.length
+pub record IsCutTo (shown : List ℕ) (found span : Span) : Type 0 where
+  pub start : span.start ≡ min found.start (length shown)
+  pub size : span.length ≡ found.length
 
 -- what is found in the current row: its fields, and the offending one
 pub record FindsRow (number : ℕ) (fields : Record) (diagnostic : Diagnostic) : Type 0 where
   pub line : diagnostic.line ≡ 1
   pub shows : diagnostic.shown.items ≡ shown_row fields
-  pub offending : IfSome diagnostic.text_span (λ text_span. (found : TextSpan) × MeansField number fields found × IsCutTo diagnostic.shown.items found text_span)
+  pub offending : IfSome diagnostic.span (λ span. (found : Span) × MeansField number fields found × IsCutTo diagnostic.shown.items found span)
 
 -- what is found in the current list of names: the list
 pub record FindsName (list : List ℕ) (diagnostic : Diagnostic) : Type 0 where
@@ -41,7 +41,7 @@ pub record FindsName (list : List ℕ) (diagnostic : Diagnostic) : Type 0 where
 -- nothing is found if nothing is available
 pub record FindsNothing (diagnostic : Diagnostic) : Type 0 where
   pub line : diagnostic.line ≡ 0
-  pub text_span : diagnostic.text_span ≡ None
+  pub span : diagnostic.span ≡ None
   pub shown : diagnostic.shown.items ≡ []
 
 -- what is found in what is available

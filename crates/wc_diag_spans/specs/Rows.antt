@@ -1,7 +1,7 @@
 -- A row of a log as a message shows it, and the field that its refusal means. The profile's own.
 use Rattle.std.specs.Prelude.{◌≤◌, ℕ, zero, suc, ◌+◌, ◌==◌, ◌||◌, List, [], ◌∷◌, ◌++◌, Option, Some, None, IfSome, flat_map, length, take, unwrap_or, if◌then◌else◌}
 use Rattle.csv.specs.Records.{field_at}
-use Rattle.wc_diag_spans.specs.declared.diagnostic.TextSpan.{TextSpan}
+use Rattle.wc_diag_spans.specs.declared.diagnostic.Span.{Span}
 use Rattle.wc_model.specs.Run.Log.{Record}
 
 -- as much of a field as is shown
@@ -45,10 +45,10 @@ offending_field number =
     else None
 
 -- the span begins in that field, or where it ends
-abbrev pub IsInField : Record → ℕ → TextSpan → Type 0
-IsInField fields place text_span =
-    (field_start fields place ≤ text_span.start) × (text_span.start ≤ field_start fields place + length (shown_field fields place))
+abbrev pub IsInField : Record → ℕ → Span → Type 0
+IsInField fields place span =
+    (field_start fields place ≤ span.start) × (span.start ≤ field_start fields place + length (shown_field fields place))
 
 -- the span begins in the offending field
-abbrev pub MeansField : ℕ → Record → TextSpan → Type 0
-MeansField number fields text_span = IfSome (offending_field number) (λ place. IsInField fields place text_span)
+abbrev pub MeansField : ℕ → Record → Span → Type 0
+MeansField number fields span = IfSome (offending_field number) (λ place. IsInField fields place span)

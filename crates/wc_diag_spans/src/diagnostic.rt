@@ -5,7 +5,7 @@ use wc_diag_texts::{Case, Expected};
 
 /// The offending bytes of a line.
 #[derive(Clone, Copy, PartialEq, Eq)]
-pub struct TextSpan {
+pub struct Span {
     /// The first of them, counted from 0.
     pub start: usize,
     /// Their number.
@@ -20,7 +20,7 @@ pub struct Diagnostic {
     /// Its bytes.
     pub shown: Vec<u8>,
     /// The offending span in it.
-    pub text_span: Option<TextSpan>,
+    pub span: Option<Span>,
     /// The slice of the text with which the headline begins; empty: none.
     pub subject: Vec<u8>,
     /// What is said of it, by the number: the headline.
@@ -38,13 +38,13 @@ pub struct Diagnostic {
 impl Diagnostic {
     /// Nothing beyond what the number says, on that line.
     pub(crate) fn new(alloc: Global, line: u32) -> Diagnostic
-        ensures nothing { (result.text_span ≡ None) × (result.shown.items ≡ []) }
+        ensures nothing { (result.span ≡ None) × (result.shown.items ≡ []) }
         ensures line { result.line ≡ line }
     {
         Diagnostic {
             line,
             shown: Vec::new(alloc),
-            text_span: None,
+            span: None,
             subject: Vec::new(alloc),
             case: Case::Unknown,
             detail: String::new(alloc),
@@ -56,17 +56,17 @@ impl Diagnostic {
 
     /// Points to bytes of the line.
     pub(crate) fn point(&mut self, start: usize, length: usize)
-        ensures text_span { self.new.text_span ≡ Some (record { start = start; length = length }) }
+        ensures span { self.new.span ≡ Some (record { start = start; length = length }) }
         ensures line { self.new.line ≡ self.old.line }
         ensures subject { self.new.subject.items ≡ self.old.subject.items }
         ensures shown { self.new.shown.items ≡ self.old.shown.items }
     {
-        self.text_span = Some(TextSpan { start, length });
+        self.span = Some(Span { start, length });
     }
 
     /// Says of a slice of the text what is said in that case.
     pub(crate) fn report(&mut self, subject: &[u8], case: Case) -> Result<(), AllocError>
-        ensures text_span { self.new.text_span ≡ self.old.text_span }
+        ensures span { self.new.span ≡ self.old.span }
         ensures line { self.new.line ≡ self.old.line }
         ensures subject { OnOk result (self.new.subject.items ≡ subject.now) }
     {

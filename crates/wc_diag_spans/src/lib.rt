@@ -12,8 +12,7 @@ mod refusal;
 mod rows;
 mod searching;
 
-pub use diagnostic::{Diagnostic, TextSpan};
-pub use lines::line_at;
+pub use diagnostic::{Diagnostic, Span};
+pub use lines::{column_at, line_at};
 pub use refusal::{Evidence, Part, Refusal};
 pub use searching::find;
-pub use wc_diag_mistakes::blanked;

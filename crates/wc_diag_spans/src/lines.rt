@@ -2,8 +2,8 @@ ghost use Rattle.std.specs.Prelude.{◌≡◌, ◌≤◌, ◌<◌, ◌-◌, ◌=
 ghost use Rattle.std.specs.List.{position_or_len};
 ghost use Rattle.wc_diag_spans.specs.Lines.{AreLinesAbove, HasBelow, IsOneLine, column_at, cut_lines, line_of_number, without_return};
 
-use memchr::{memchr, memrchr};
-use wc_diag_mistakes::{following, prefix};
+use memchr::{memchr, memchr_iter, memrchr};
+use wc_diag_stops::{following, prefix};
 
 /// The number of bytes before the first line feed.
 pub(crate) fn line_length(text: &[u8]) -> usize
@@ -132,7 +132,7 @@ pub fn line_at(text: &[u8], number: u32) -> Option<&[u8]>
 }
 
 /// The number of bytes of its line before a place.
-pub(crate) fn column_at(text: &[u8], place: usize) -> usize
+pub fn column_at(text: &[u8], place: usize) -> usize
     ensures { result ≡ column_at text.now place }
 {
     let above = prefix(text, place);
@@ -142,4 +142,10 @@ pub(crate) fn column_at(text: &[u8], place: usize) -> usize
         }
     }
     above.len()
+}
+
+/// The number of the line that a place is on, counted from 1.
+pub(crate) fn line_of(text: &[u8], place: usize) -> u32 {
+    let feeds = memchr_iter(b'\n', prefix(text, place)).count();
+    feeds.saturating_add(1).min(1048577) as u32
 }

@@ -1,13 +1,14 @@
-/// How many lines above the end of a text, whose comments are blanks, its innermost open parenthesis is; none if none is open. The text is
-/// passed upwards, and no further than to that parenthesis.
-pub(crate) fn lines_to_opening(text: &[u8]) -> Option<u32> {
-    let (mut lines, mut closed) = (0_u32, 0_usize);
-    for byte in text.iter().rev() {
-        match *byte {
-            b'\n' => lines = lines.saturating_add(1),
-            b')' => closed = closed.saturating_add(1),
-            b'(' if closed == 0 => return Some(lines),
-            b'(' => closed = closed.saturating_sub(1),
+use wc_lexer::{Shape, Token};
+
+/// The line of the innermost parenthesis that is open after some tokens, if one is. The tokens are passed backwards, and no further
+/// than to that parenthesis.
+pub(crate) fn open_since(tokens: &[Token<'_>]) -> Option<u32> {
+    let mut closed = 0_usize;
+    for token in tokens.iter().rev() {
+        match token.shape {
+            Shape::Closing => closed = closed.saturating_add(1),
+            Shape::Opening if closed == 0 => return Some(token.line),
+            Shape::Opening => closed = closed.saturating_sub(1),
             _ => {}
         }
     }

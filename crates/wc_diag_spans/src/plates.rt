@@ -1,11 +1,11 @@
 use crate::diagnostic::Diagnostic;
-use crate::lines::{column_at, line_length};
+use crate::lines::{column_at, line_length, line_of};
 use memchr::{memchr, memmem};
 use std::alloc::{AllocError, Global};
 use std::fmt::Write;
 use toml::Table;
 use toml::de::Error;
-use wc_diag_mistakes::{excerpt, following, line_of};
+use wc_diag_stops::{bytes_at, following};
 use wc_diag_texts::{Case, PlateValues, plate_text};
 use wc_plate::{BrokenRule, allows_interval, plate_of};
 
@@ -221,7 +221,7 @@ fn report_syntax(
     let Some(span) = error.span() else {
         return Err(AllocError);
     };
-    let offending = excerpt(text, span.start, span.end.saturating_sub(span.start));
+    let offending = bytes_at(text, span.start, span.end.saturating_sub(span.start));
     diagnostic.line = line_of(text, span.start);
     diagnostic.point(column_at(text, span.start), line_length(offending).max(1));
     let why = error.message();

@@ -1,24 +1,27 @@
 ghost use Rattle.std.specs.Prelude.{◌≡◌, ◌≤◌, ◌<◌, IfOk, IfSome, None, OnOk, Some};
 ghost use Rattle.wc_diag_spans.specs.Lines.{column_at};
-ghost use Rattle.wc_diag_mistakes.specs.Slices.{IsAt};
-ghost use Rattle.wc_diag_spans.specs.OffendingTokens.{HasLaterTextSpan, HasStop};
-ghost use Rattle.wc_diag_stops.specs.ReadingTextSpans.{AreReadByPlaces};
+ghost use Rattle.wc_diag_stops.specs.Slices.{IsAt};
+ghost use Rattle.wc_diag_spans.specs.OffendingTokens.{HasLaterSpan, HasStop};
+ghost use Rattle.wc_diag_stops.specs.ReadingSpans.{AreReadByPlaces};
 ghost use Rattle.wc_model.specs.Language.Views.{text_view};
 
 use crate::diagnostic::Diagnostic;
 use crate::lines::column_at;
-use crate::parentheses::lines_to_opening;
+use crate::parentheses::open_since;
 use std::alloc::{AllocError, Global};
 use wc_built_in::{Keyword, keyword_named};
 use wc_diag_advice::advice_at;
 use wc_diag_mistakes::{
-    BYTE_ORDER_MARK, Refused, blanked, block_line, block_with, case_of_excerpt, difference_said,
-    excerpt, following, follows_leaving, is_unreached, line_of, mistake_at, names_operator,
-    names_type, prefix, word_before,
+    Refused, block_line, block_with, difference_said, follows_leaving, is_unreached, mistake_at,
+    names_operator, names_type,
 };
-use wc_diag_places::{SpannedSource, read_by_places, text_span_in};
-use wc_diag_stops::{Brought, LabelPaths, PathToLabel, RefusalSpan, stop_of};
+use wc_diag_places::{SpannedSource, read_by_places, span_in};
+use wc_diag_stops::{
+    BYTE_ORDER_MARK, Brought, LabelPaths, PathToLabel, RefusalSpan, bytes_at, case_of_lexeme,
+    following, prefix, stop_of,
+};
 use wc_diag_texts::{Case, Expected, Paths, PlaceValues, paths_text, place_text, sentence_of};
+use wc_lexer::Token;
 use wc_model::{Fault, Kind, Unit, is_word};
 
 /// In which way a word does not begin a line, if only a colon could follow it.
@@ -45,18 +48,20 @@ fn case_of_token(token: &[u8]) -> Case {
 /// Whether a call names a function block of the text.
 fn calls_block(refused: &Refused<'_, '_>) -> bool {
     matches!(keyword_named(refused.word_before()), Some(Keyword::Call(_)))
-        && block_line(refused.text, refused.token()).is_some()
+        && block_line(refused.tokens, refused.token()).is_some()
 }
 
 /// In which way a rule is broken at the slice of a text.
 fn case_at(refused: &Refused<'_, '_>) -> Case {
     let (number, token, span) = (refused.number, refused.token(), refused.span);
     match (number, span.expected) {
-        (101..=107, _) => case_of_excerpt(number, following(refused.text, span.start), token),
+        (101..=107, _) => case_of_lexeme(number, refused.lexeme, token),
         (201, Expected::CommaOrColon) if is_word(b"PERSISTENT", token) => Case::LeftOut,
         (201, Expected::LabelColon) => case_of_word(token),
         (201..=208, _) => case_of_token(token),
-        (401, _) if names_type(token) || calls_block(refused) => Case::BlockType,
+        (401, _) if refused.names_one() && (names_type(token) || calls_block(refused)) => {
+            Case::BlockType
+        }
         _ => span.case,
     }
 }
@@ -131,7 +136,7 @@ fn quoted_length(refused: &Refused<'_, '_>, case: Case) -> usize {
     match (refused.number, case) {
         (101, Case::ByteOrderMark) => BYTE_ORDER_MARK.len(),
         (101, Case::NoBreakSpace) => 0,
-        (101, Case::Byte(128..)) => character_length(following(refused.text, span.start)),
+        (101, Case::Byte(128..)) => character_length(refused.lexeme),
         (201, Case::LineEnd | Case::Constant | Case::Persistent | Case::Retain) | (202..=208, _) =>
             0,
         (403, Case::AtLabel | Case::Unreached | Case::Plain) => 0,
@@ -142,11 +147,11 @@ fn quoted_length(refused: &Refused<'_, '_>, case: Case) -> usize {
 }
 
 /// What follows the sentence of a refusal on a line: which parenthesis is open, where the first of two is.
-fn detail_of(alloc: Global, refused: &Refused<'_, '_>, line: u32) -> Result<String, AllocError> {
+fn detail_of(alloc: Global, refused: &Refused<'_, '_>) -> Result<String, AllocError> {
     let (number, first) = (refused.number, refused.span.first);
     if number == 205 {
-        if let Some(lines) = lines_to_opening(refused.above()) {
-            return place_text(alloc, PlaceValues::OpenSince(line.saturating_sub(lines)));
+        if let Some(line) = open_since(refused.before()) {
+            return place_text(alloc, PlaceValues::OpenSince(line));
         }
     }
     if first != 0 && number != 406 {
@@ -164,8 +169,8 @@ fn block_of_input(word: &[u8]) -> &'static str {
 }
 
 /// What a path brings to a label, in words: something else than the other, if that is not sure.
-fn words_brought(text: &[u8], path: PathToLabel) -> &'static str {
-    match (path.brought, is_unreached(text, path.line)) {
+fn words_brought(tokens: &[Token<'_>], path: PathToLabel) -> &'static str {
+    match (path.brought, is_unreached(tokens, path.line)) {
         (Brought::Kind(Kind::Bool), false) => "a BOOL",
         (Brought::Kind(Kind::Dint), false) => "a DINT",
         (Brought::Kind(Kind::Time), false) => "a TIME",
@@ -178,21 +183,18 @@ fn words_brought(text: &[u8], path: PathToLabel) -> &'static str {
     }
 }
 
-/// What is said of the paths to a label on a line; nothing if that is not sure.
-fn paths_said<'a>(
-    text: &[u8],
-    label: &'a str,
-    line: u32,
-    paths: Option<LabelPaths>,
-) -> Option<Paths<'a>> {
-    let Some(paths) = paths else {
-        return if follows_leaving(text, line) {
+/// What is said of the paths to a label; nothing if that is not sure.
+fn paths_said<'a>(refused: &Refused<'a, '_>, found: &Token<'a>) -> Option<Paths<'a>> {
+    let (tokens, line) = (refused.tokens, found.line);
+    let label = str::from_utf8(found.text).unwrap_or("");
+    let Some(paths) = refused.span.paths else {
+        return if follows_leaving(tokens, line) {
             Some(Paths::None(label))
         } else {
             None
         };
     };
-    let (first, brought) = (paths.first.line, words_brought(text, paths.first));
+    let (first, brought) = (paths.first.line, words_brought(tokens, paths.first));
     match paths.other {
         Some(other) => {
             Some(Paths::Two(
@@ -200,7 +202,7 @@ fn paths_said<'a>(
                 first,
                 brought,
                 other.line,
-                words_brought(text, other),
+                words_brought(tokens, other),
             ))
         }
         None if matches!(paths.first.brought, Brought::Nothing) => Some(Paths::Empty(label, first)),
@@ -210,20 +212,18 @@ fn paths_said<'a>(
 
 /// Which paths to the label before the slice bring what; empty if that is not sure.
 fn label_text(alloc: Global, refused: &Refused<'_, '_>) -> Result<String, AllocError> {
-    let (text, colon) = (
-        refused.text,
-        refused.above().trim_ascii_end().len().saturating_sub(1),
-    );
-    let label = str::from_utf8(word_before(text, colon)).unwrap_or("");
-    match paths_said(text, label, line_of(text, colon), refused.span.paths) {
-        Some(said) if !label.is_empty() => paths_text(alloc, said),
-        _ => Ok(String::new(alloc)),
+    match refused.label_before() {
+        Some(label) => match paths_said(refused, label) {
+            Some(said) => paths_text(alloc, said),
+            None => Ok(String::new(alloc)),
+        },
+        None => Ok(String::new(alloc)),
     }
 }
 
 /// Where a function block is declared that the text has below; empty if that is not sure.
-fn block_text(alloc: Global, text: &[u8], name: &[u8]) -> Result<String, AllocError> {
-    match block_line(text, name) {
+fn block_text(alloc: Global, refused: &Refused<'_, '_>) -> Result<String, AllocError> {
+    match block_line(refused.tokens, refused.token()) {
         Some(line) => place_text(alloc, PlaceValues::BlockBelow(line)),
         None => Ok(String::new(alloc)),
     }
@@ -240,7 +240,7 @@ fn said_there(
     match mistake {
         Case::LabelAbove => place_text(alloc, PlaceValues::LabelLine(refused.span.first)),
         Case::AtLabel => label_text(alloc, refused),
-        Case::BlockBelow => block_text(alloc, refused.text, word),
+        Case::BlockBelow => block_text(alloc, refused),
         Case::InputOperator => place_text(alloc, PlaceValues::InputOf(block_of_input(word))),
         Case::StatementAddress => place_text(
             alloc,
@@ -253,7 +253,7 @@ fn said_there(
     }
 }
 
-/// Likewise for the offending slice, if it is on a line below.
+/// What is said in place of the sentence, also of an offending slice on a line below; empty: nothing.
 fn said_of(
     alloc: Global,
     refused: &Refused<'_, '_>,
@@ -271,8 +271,13 @@ fn said_of(
     if sentence.is_empty() {
         return Ok(String::new(alloc));
     }
-    let word = refused.words_at(Some(below));
-    place_text(alloc, PlaceValues::Below(word, below.line, sentence))
+    let word = str::from_utf8(refused.offending()).unwrap_or("");
+    if refused.field().is_empty() {
+        return place_text(alloc, PlaceValues::Below(word, below.line, sentence));
+    }
+    let field = str::from_utf8(refused.field()).unwrap_or("");
+    let full = format!(in alloc; "{word}.{field}")?;
+    place_text(alloc, PlaceValues::Below(&full, below.line, sentence))
 }
 
 /// The case by which the headline is made: what is said in place of the sentence is in the detail.
@@ -285,25 +290,20 @@ fn case_reported(said: &str, case: Case) -> Case {
 }
 
 /// What is said in place of the sentence, or what follows that.
-fn detail_or(
-    alloc: Global,
-    said: String,
-    refused: &Refused<'_, '_>,
-    line: u32,
-) -> Result<String, AllocError> {
+fn detail_or(alloc: Global, said: String, refused: &Refused<'_, '_>) -> Result<String, AllocError> {
     if said.is_empty() {
-        return detail_of(alloc, refused, line);
+        return detail_of(alloc, refused);
     }
     Ok(said)
 }
 
 /// Says what is wrong with a slice of a text: what is found is the number of bytes to quote, and the mistake.
-fn say_of_excerpt(
+fn say_of_span(
     alloc: Global,
     diagnostic: &mut Diagnostic,
     refused: &Refused<'_, '_>,
 ) -> Result<(usize, Case), AllocError>
-    ensures text_span { diagnostic.new.text_span ≡ diagnostic.old.text_span }
+    ensures span { diagnostic.new.span ≡ diagnostic.old.span }
     ensures line { diagnostic.new.line ≡ diagnostic.old.line }
 {
     let case = case_at(refused);
@@ -312,36 +312,32 @@ fn say_of_excerpt(
     let case = case_said(case, mistake);
     let said = said_of(alloc, refused, case, mistake)?;
     diagnostic.case = case_reported(&said, case);
-    diagnostic.detail = detail_or(alloc, said, refused, diagnostic.line)?;
+    diagnostic.detail = detail_or(alloc, said, refused)?;
     diagnostic.advice = advice_at(alloc, refused, mistake)?;
     Ok((quoted_length(refused, case), mistake))
 }
 
-/// Points to the slice at which a pass refuses a text, and says what is wrong with it; if it was read, it was read into these units.
-fn point_to_excerpt(
+/// Points to the slice at which a pass refuses a text, and says what is wrong with it.
+fn point_to_span(
     alloc: Global,
     diagnostic: &mut Diagnostic,
     text: &[u8],
-    units: &[Unit<'_>],
-    number: u16,
-    span: RefusalSpan,
+    refused: &Refused<'_, '_>,
 ) -> Result<(), AllocError>
-    ensures text_span { diagnostic.new.text_span
-        ≡ Some (record { start = column_at text.now span.start; length = span.length }) }
+    ensures span { diagnostic.new.span
+        ≡ Some (record {
+          start = column_at text.now refused.now.span.start;
+          length = refused.now.span.length;
+        }) }
     ensures line { diagnostic.new.line ≡ diagnostic.old.line }
-    ensures quoted { OnOk result (IsAt text.now span.start diagnostic.new.subject.items) }
+    ensures quoted { OnOk result
+        (IsAt text.now refused.now.span.start diagnostic.new.subject.items) }
 {
+    let span = refused.span;
     diagnostic.point(column_at(text, span.start), span.length);
-    let searched = blanked(alloc, text)?;
-    let refused = Refused {
-        text: &searched,
-        units,
-        number,
-        span,
-    };
-    let (length, mistake) = say_of_excerpt(alloc, diagnostic, &refused)?;
+    let (length, mistake) = say_of_span(alloc, diagnostic, refused)?;
     let case = diagnostic.case;
-    diagnostic.report(excerpt(text, span.start, length), case)?;
+    diagnostic.report(bytes_at(text, span.start, length), case)?;
     diagnostic.hint = mistake;
     Ok(())
 }
@@ -368,22 +364,48 @@ fn fault_of(
     }
 }
 
-/// Finds the fault of a text that was read on its line: where a later pass refuses it.
-fn find_later_fault(
+/// Finds the fault of a text that is not read on its line: where its reading stops.
+fn find_stop(
     alloc: Global,
     diagnostic: &mut Diagnostic,
     text: &[u8],
-    read: &SpannedSource<'_>,
     number: u16,
 ) -> Result<(), AllocError>
-    requires none { diagnostic.old.text_span ≡ None }
+    requires { diagnostic.old.span ≡ None }
+    ensures { IfOk result (λ _. HasStop text.now number diagnostic.old.line diagnostic.new) }
+{
+    let Some(stopped) = stop_of(alloc, text)? else {
+        return Ok(());
+    };
+    match fault_of(Some(stopped.span), number, diagnostic.line)? {
+        Some(span) => {
+            // What can't be cut into tokens goes on from the malformed lexeme.
+            let rest = if number < 200 { span.start } else { text.len() };
+            let lexeme = following(text, rest);
+            let refused = Refused::new(&stopped.tokens, lexeme, &[], number, span);
+            point_to_span(alloc, diagnostic, text, &refused)
+        }
+        None => Ok(()),
+    }
+}
+
+/// Finds the fault of a text that was read on its line: where a later pass refuses it.
+fn find_later_fault<'a>(
+    alloc: Global,
+    diagnostic: &mut Diagnostic,
+    text: &'a [u8],
+    read: &SpannedSource<'a>,
+    number: u16,
+) -> Result<(), AllocError>
+    requires none { diagnostic.old.span ≡ None }
     requires read { AreReadByPlaces text.now read.now.tokens.items (text_view read.now.source) }
     ensures { IfOk result
-        (λ _. HasLaterTextSpan text.now number diagnostic.old.line diagnostic.new) }
+        (λ _. HasLaterSpan text.now number diagnostic.old.line diagnostic.new) }
 {
-    match fault_of(text_span_in(alloc, read), number, diagnostic.line)? {
+    match fault_of(span_in(alloc, read), number, diagnostic.line)? {
         Some(span) => {
-            point_to_excerpt(alloc, diagnostic, text, &read.source.units, number, span)
+            let refused = Refused::new(&read.tokens, b"", &read.source.units, number, span);
+            point_to_span(alloc, diagnostic, text, &refused)
         }
         None => Ok(()),
     }
@@ -396,20 +418,17 @@ pub(crate) fn find_program_fault(
     text: &[u8],
     number: u16,
 ) -> Result<(), AllocError>
-    requires { diagnostic.old.text_span ≡ None }
+    requires { diagnostic.old.span ≡ None }
     ensures stopped { number < 300
         → IfOk result (λ _. HasStop text.now number diagnostic.old.line diagnostic.new) }
     ensures offending { 300 ≤ number
-        → IfOk result (λ _. HasLaterTextSpan text.now number diagnostic.old.line diagnostic.new) }
+        → IfOk result (λ _. HasLaterSpan text.now number diagnostic.old.line diagnostic.new) }
 {
     if diagnostic.line == 0 {
         return Ok(());
     }
     if number < 300 {
-        return match fault_of(stop_of(alloc, text), number, diagnostic.line)? {
-            Some(span) => point_to_excerpt(alloc, diagnostic, text, &[], number, span),
-            None => Ok(()),
-        };
+        return find_stop(alloc, diagnostic, text, number);
     }
     match read_by_places(alloc, text) {
         Ok(read) => find_later_fault(alloc, diagnostic, text, &read, number),

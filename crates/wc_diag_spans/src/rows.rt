@@ -5,7 +5,7 @@ ghost use Rattle.wc_record.specs.Reported.{fields_reported};
 
 use crate::diagnostic::Diagnostic;
 use std::alloc::{AllocError, Global};
-use wc_diag_mistakes::{excerpt, prefix};
+use wc_diag_stops::{bytes_at, prefix};
 use wc_diag_texts::Case;
 use wc_record::RefusedRow;
 
@@ -132,14 +132,14 @@ fn case_of_length(kind: &[u8], digits: usize) -> Case {
 
 /// Says what is wrong with hexadecimal data.
 fn report_hexadecimal(diagnostic: &mut Diagnostic, row: &RefusedRow) -> Result<(), AllocError>
-    ensures { IfSome diagnostic.new.text_span (IsInField (fields_reported row.now) 2) }
+    ensures { IfSome diagnostic.new.span (IsInField (fields_reported row.now) 2) }
 {
     let data = shown_field(row, 2);
     let start = field_start(row, 2);
     let digits = hexadecimal_length(data);
     if digits < data.len() {
         diagnostic.point(start + digits, 1);
-        return diagnostic.report(excerpt(data, digits, 1), Case::NoDigit);
+        return diagnostic.report(bytes_at(data, digits, 1), Case::NoDigit);
     }
     diagnostic.point(start, digits.max(1));
     diagnostic.case = case_of_length(shown_field(row, 1), digits);
@@ -165,7 +165,7 @@ fn report_field(
     number: u16,
     place: usize,
 ) -> Result<(), AllocError>
-    ensures { IfSome diagnostic.new.text_span (IsInField (fields_reported row.now) place) }
+    ensures { IfSome diagnostic.new.span (IsInField (fields_reported row.now) place) }
 {
     let field = shown_field(row, place);
     diagnostic.point(field_start(row, place), field.len().max(1));
@@ -183,8 +183,8 @@ pub(crate) fn report_row(
     number: u16,
     place: u32,
 ) -> Result<(), AllocError>
-    requires { diagnostic.old.text_span ≡ None }
-    ensures { IfSome diagnostic.new.text_span (MeansField number (fields_reported row.now)) }
+    requires { diagnostic.old.span ≡ None }
+    ensures { IfSome diagnostic.new.span (MeansField number (fields_reported row.now)) }
 {
     match number {
         601 => {

@@ -1,6 +1,6 @@
 ghost use Rattle.std.specs.Prelude.{◌≡◌, ◌≤◌, ◌<◌, IfOk, IfSome, None, Some, length};
 ghost use Rattle.wc_diag_spans.specs.Finds.{Finds, FindsIn, FindsName, FindsRow, IsWithin};
-ghost use Rattle.wc_diag_spans.specs.OffendingTokens.{HasLaterTextSpan, HasStop, IsKept};
+ghost use Rattle.wc_diag_spans.specs.OffendingTokens.{HasLaterSpan, HasStop, IsKept};
 ghost use Rattle.wc_record.specs.Reported.{fields_reported};
 ghost use Rattle.wc_diag_spans.specs.Showing.{ShowsLine, known_line, line_of_part, read_as};
 
@@ -12,8 +12,8 @@ use crate::refusal::{Evidence, Part, Refusal};
 use crate::rows::{report_row, shown_row};
 use std::alloc::{AllocError, Global};
 use wc_diag_advice::watched_advice;
-use wc_diag_mistakes::{excerpt, first_word};
 use wc_diag_places::{SpannedSource, read_by_places};
+use wc_diag_stops::{bytes_at, first_word};
 use wc_diag_texts::Case;
 use wc_model::Fault;
 use wc_record::RefusedRow;
@@ -25,13 +25,13 @@ fn find_in(
     refusal: &Refusal<'_>,
     text: &[u8],
 ) -> Result<(), AllocError>
-    requires { diagnostic.old.text_span ≡ None }
+    requires { diagnostic.old.span ≡ None }
     ensures stopped { read_as refusal.now.part ≡ Part.Program → refusal.now.number < 300
         → IfOk result
         (λ _. HasStop text.now refusal.now.number diagnostic.old.line diagnostic.new) }
     ensures offending { read_as refusal.now.part ≡ Part.Program → 300 ≤ refusal.now.number
         → IfOk result
-        (λ _. HasLaterTextSpan text.now refusal.now.number diagnostic.old.line diagnostic.new) }
+        (λ _. HasLaterSpan text.now refusal.now.number diagnostic.old.line diagnostic.new) }
 {
     match refusal.part {
         Part::Program | Part::Next => find_program_fault(alloc, diagnostic, text, refusal.number),
@@ -56,14 +56,14 @@ fn keep_bytes(diagnostic: &mut Diagnostic, text: &[u8], line: u32) -> Result<(),
     ensures line { IfOk result
         (λ _. ShowsLine text.now diagnostic.new.line diagnostic.new.shown.items) }
     ensures known { diagnostic.new.line ≡ known_line text.now line }
-    ensures text_span { IfSome diagnostic.new.text_span
-        (λ text_span. (diagnostic.old.text_span ≡ Some text_span) × (diagnostic.new.line ≡ line)) }
+    ensures span { IfSome diagnostic.new.span
+        (λ span. (diagnostic.old.span ≡ Some span) × (diagnostic.new.line ≡ line)) }
     ensures subject { diagnostic.new.subject.items ≡ diagnostic.old.subject.items }
 {
     diagnostic.shown.clear();
     let Some(shown) = line_at(text, line) else {
         diagnostic.line = 0;
-        diagnostic.text_span = None;
+        diagnostic.span = None;
         return Ok(());
     };
     diagnostic.line = line;
@@ -71,18 +71,18 @@ fn keep_bytes(diagnostic: &mut Diagnostic, text: &[u8], line: u32) -> Result<(),
 }
 
 /// Moves a span after the line's end to that end.
-fn keep_text_span(diagnostic: &mut Diagnostic)
-    ensures within { IfSome diagnostic.new.text_span
-        (λ text_span. text_span.start ≤ length diagnostic.new.shown.items) }
-    ensures text_span { IfSome diagnostic.new.text_span
-        (λ text_span. IsKept diagnostic.old diagnostic.new diagnostic.old.line text_span) }
+fn keep_span(diagnostic: &mut Diagnostic)
+    ensures within { IfSome diagnostic.new.span
+        (λ span. span.start ≤ length diagnostic.new.shown.items) }
+    ensures span { IfSome diagnostic.new.span
+        (λ span. IsKept diagnostic.old diagnostic.new diagnostic.old.line span) }
     ensures line { diagnostic.new.line ≡ diagnostic.old.line }
     ensures shown { diagnostic.new.shown.items ≡ diagnostic.old.shown.items }
 {
     let end = diagnostic.shown.len();
-    if let Some(text_span) = diagnostic.text_span {
-        if text_span.start > end {
-            diagnostic.point(end, text_span.length);
+    if let Some(span) = diagnostic.span {
+        if span.start > end {
+            diagnostic.point(end, span.length);
         }
     }
 }
@@ -90,17 +90,17 @@ fn keep_text_span(diagnostic: &mut Diagnostic)
 /// Keeps the bytes of the line that is shown, and no span outside it.
 fn keep_line(diagnostic: &mut Diagnostic, text: &[u8], line: u32) -> Result<(), AllocError>
     ensures within { IfOk result
-        (λ _. IfSome diagnostic.new.text_span
-        (λ text_span. text_span.start ≤ length diagnostic.new.shown.items)) }
+        (λ _. IfSome diagnostic.new.span
+        (λ span. span.start ≤ length diagnostic.new.shown.items)) }
     ensures line { IfOk result
         (λ _. ShowsLine text.now diagnostic.new.line diagnostic.new.shown.items) }
     ensures known { IfOk result (λ _. diagnostic.new.line ≡ known_line text.now line) }
-    ensures text_span { IfOk result
-        (λ _. IfSome diagnostic.new.text_span
-        (λ text_span. IsKept diagnostic.old diagnostic.new line text_span)) }
+    ensures span { IfOk result
+        (λ _. IfSome diagnostic.new.span
+        (λ span. IsKept diagnostic.old diagnostic.new line span)) }
 {
     keep_bytes(diagnostic, text, line)?;
-    keep_text_span(diagnostic);
+    keep_span(diagnostic);
     Ok(())
 }
 
@@ -117,7 +117,7 @@ fn find_row(
     report_row(&mut diagnostic, row, refusal.number, refusal.place)?;
     diagnostic.line = 1;
     diagnostic.shown = shown_row(alloc, row)?;
-    keep_text_span(&mut diagnostic);
+    keep_span(&mut diagnostic);
     Ok(diagnostic)
 }
 
@@ -146,7 +146,7 @@ fn near_advice(alloc: Global, read: &SpannedSource<'_>, name: &[u8]) -> Result<S
     watched_advice(alloc, &read.source.units, name)
 }
 
-/// Likewise of a program's text; empty if it can't be read.
+/// Which variable of a program's text a watched name may be; empty if the text can't be read.
 fn name_advice(alloc: Global, program: &[u8], name: &[u8]) -> Result<String, AllocError> {
     match read_by_places(alloc, program) {
         Ok(read) => near_advice(alloc, &read, name),
@@ -167,7 +167,7 @@ fn find_name(
     ensures within { IfOk result (λ diagnostic. IsWithin diagnostic) }
 {
     let mut diagnostic = Diagnostic::new(alloc, 1);
-    let name = excerpt(list, start, length);
+    let name = bytes_at(list, start, length);
     if !name.is_empty() {
         diagnostic.report(name, Case::Watched)?;
     }
@@ -177,7 +177,7 @@ fn find_name(
     diagnostic.line = 1;
     diagnostic.shown.clear();
     diagnostic.shown.extend_from_slice(list)?;
-    keep_text_span(&mut diagnostic);
+    keep_span(&mut diagnostic);
     Ok(diagnostic)
 }
 

@@ -2,7 +2,7 @@
 use Rattle.std.proofs.Common.{◌≡◌, List, [], ◌∷◌, map, refl, ap}
 use Rattle.wc_lexer.specs.declared.shape.Token.{Token}
 use Rattle.wc_text_lines.specs.Words.{marks_of}
-use Rattle.wc_diag_stops.specs.ReadingTextSpans.{place_mark, place_marks}
+use Rattle.wc_diag_stops.specs.ReadingSpans.{place_mark, place_marks}
 use Rattle.wc_diag_stops.specs.Stopping.{exchanged}
 
 -- the grammar sees places in them

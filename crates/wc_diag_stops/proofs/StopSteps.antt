@@ -8,7 +8,7 @@ use Rattle.wc_reader.specs.Reported.{StopsWith, ReportsFault}
 use Rattle.wc_text_short_lines.proofs.WalkSteps.{after_fault, after_move}
 use Rattle.wc_text_short_lines.specs.Walks.{Stopping, walk}
 use Rattle.wc_diag_stops.specs.Allowed.{allowed}
-use Rattle.wc_diag_stops.specs.ReadingTextSpans.{state_at_stop}
+use Rattle.wc_diag_stops.specs.ReadingSpans.{state_at_stop}
 use Rattle.wc_diag_stops.specs.Stopping.{ReportsRaised}
 use Rattle.wc_diag_texts.specs.declared.expected.Expected.{Expected}
 

@@ -21,8 +21,8 @@ use Rattle.wc_text_short_lines.proofs.WalkSteps.{walk_reports}
 use Rattle.wc_text_short_lines.specs.Walks.{walk}
 use Rattle.wc_diag_stops.proofs.StopSteps.{walk_stops}
 use Rattle.wc_diag_stops.specs.Allowed.{allowed, allowed_with}
-use Rattle.wc_diag_stops.specs.ReadingTextSpans.{AreReadByPlaces, IsReadByPlaces, StopsReading, place_mark, place_marks}
-use Rattle.wc_diag_stops.specs.Stopping.{IsAllowedAs, IsRaisedWith, IsExcerptAt, IsStopAt, ReadsText, ReportsRaised}
+use Rattle.wc_diag_stops.specs.ReadingSpans.{AreReadByPlaces, IsReadByPlaces, StopsReading, place_mark, place_marks}
+use Rattle.wc_diag_stops.specs.Stopping.{IsAllowedAs, IsRaisedWith, IsOffendingAt, IsStopAt, ReadsText, ReportsRaised}
 use Rattle.wc_diag_texts.specs.declared.expected.Expected.{Expected}
 use Rattle.wc_diag_texts.specs.declared.expected.Expected.TheVariants.{Nothing as nothing}
 use Rattle.wc_diag_stops.specs.declared.span.RefusalSpan.{RefusalSpan}
@@ -33,10 +33,10 @@ placed_some spanned_source tokens m some =
     omega (arith, ap length m, length-map (map token_view spanned_source) mark_of_token, length-map spanned_source token_view, length-map tokens place_mark, some)
 
 -- what the walk meets by places
-text_span : (bytes : List ℕ) (tokens : List Token) (number place : ℕ) (there : Expected) (stop : RefusalSpan) → length bytes ≤ most_bytes → IsCut bytes (map token_view tokens)
-    → IsRaisedWith (walk at_first (place_marks tokens) (length bytes)) number place there → IsExcerptAt bytes tokens number place there stop
+span : (bytes : List ℕ) (tokens : List Token) (number place : ℕ) (there : Expected) (stop : RefusalSpan) → length bytes ≤ most_bytes → IsCut bytes (map token_view tokens)
+    → IsRaisedWith (walk at_first (place_marks tokens) (length bytes)) number place there → IsOffendingAt bytes tokens number place there stop
     → StopsReading bytes stop.fault stop.start stop.length stop.expected
-text_span bytes tokens number place there stop short cut m p =
+span bytes tokens number place there stop short cut m p =
     subst (λ fault. StopsReading bytes fault stop.start stop.length stop.expected) (sym p.fault_is)
     (inr (record {
       short = short;
@@ -60,7 +60,7 @@ raised_by_places : (bytes : List ℕ) (tokens : List Token) (fault : Fault) (the
 raised_by_places bytes tokens Memory there stop short cut m some is =
     let memory = needs_memory bytes (map token_view tokens) short cut (omega (arith, length-map tokens token_view, some refl)) in
     subst (λ fault. StopsReading bytes fault stop.start stop.length stop.expected) (sym is.0) memory
-raised_by_places bytes tokens (Refused number place) there stop short cut m some is = text_span bytes tokens number place there stop short cut m is
+raised_by_places bytes tokens (Refused number place) there stop short cut m some is = span bytes tokens number place there stop short cut m is
 
 -- what is found in tokens with their places for their lines, reported of the tokens
 pub stops_raised : (bytes : List ℕ) (tokens spanned_source after : List Token) (fault : Fault) (there : Expected) (stop : RefusalSpan) → length bytes ≤ most_bytes → IsCut bytes (map token_view tokens)

@@ -1,4 +1,6 @@
 pub mod Allowed
 pub mod Listed
-pub mod ReadingTextSpans
+pub mod ReadingSpans
 pub mod Stopping
+pub mod Slices
+pub mod Words

@@ -9,7 +9,7 @@ use Rattle.wc_model.specs.declared.fault.Fault.{Fault}
 use Rattle.wc_model.specs.declared.fault.Fault.TheVariants.{Memory, Refused}
 use Rattle.wc_text_short_lines.specs.Walks.{Stopping}
 use Rattle.wc_diag_stops.specs.Allowed.{allowed, allowed_with}
-use Rattle.wc_diag_stops.specs.ReadingTextSpans.{length_of, line_of, offending_at, start_of, token_at}
+use Rattle.wc_diag_stops.specs.ReadingSpans.{length_of, line_of, offending_at, start_of, token_at}
 use Rattle.wc_diag_texts.specs.declared.expected.Expected.{Expected}
 use Rattle.wc_diag_texts.specs.declared.expected.Expected.TheVariants.{Nothing as nothing}
 use Rattle.wc_diag_stops.specs.declared.span.RefusalSpan.{RefusalSpan}
@@ -37,7 +37,7 @@ pub record ReadsText (stopping : Stopping) : Type 0 where
   pub reported_is : stopping.reported ≡ Ok text
 
 -- The fault of that number that is found at that byte, with its line and its slice.
-pub record IsExcerptAt (bytes : List ℕ) (tokens : List Token) (number place : ℕ) (there : Expected) (stop : RefusalSpan) : Type 0 where
+pub record IsOffendingAt (bytes : List ℕ) (tokens : List Token) (number place : ℕ) (there : Expected) (stop : RefusalSpan) : Type 0 where
   pub fault_is : stop.fault ≡ Refused number (line_of (token_at tokens place) (last_line bytes))
   pub start_is : stop.start ≡ start_of (offending_at tokens place stop.expected) (length bytes)
   pub length_is : stop.length ≡ length_of (offending_at tokens place stop.expected)
@@ -46,7 +46,7 @@ pub record IsExcerptAt (bytes : List ℕ) (tokens : List Token) (number place : 
 -- what is found in tokens, with its line and its slice
 abbrev pub IsStopAt : List ℕ → List Token → Fault → Expected → RefusalSpan → Type 0
 IsStopAt bytes tokens Memory there stop = (stop.fault ≡ Memory) × (stop.expected ≡ nothing)
-IsStopAt bytes tokens (Refused number place) there stop = IsExcerptAt bytes tokens number place there stop
+IsStopAt bytes tokens (Refused number place) there stop = IsOffendingAt bytes tokens number place there stop
 
 -- what could be there is reported with an unexpected token alone
 abbrev pub IsAllowedAs : Fault → Expected → Type 0

@@ -69,7 +69,7 @@ pub struct RefusalSpan {
     pub first: u32,
     /// The kind of the result before the slice, if it does not fit and is known.
     pub result: Option<ResultKind>,
-    /// Likewise for the result before the parenthesis that the slice closes.
+    /// The kind of the result before the parenthesis that the slice closes, if it is known.
     pub outer: Option<ResultKind>,
     /// The paths to the label at which no result is defined, as far as they are known.
     pub paths: Option<LabelPaths>,

@@ -1,4 +1,4 @@
-ghost use Rattle.std.specs.Prelude.{◌≡◌, ◌==◌, ◌≤◌, ◌<◌, [], IfNone, IfSome, find, length, map, nat_lt};
+ghost use Rattle.std.specs.Prelude.{◌≡◌, ◌==◌, ◌≤◌, ◌<◌, [], IfNone, IfOk, IfSome, find, length, map, nat_lt};
 ghost use Rattle.std.specs.List.{prefix_len};
 ghost use Rattle.std.specs.Option.{option_copied};
 ghost use Rattle.wc_laws_grammar.specs.Moves.{at_first};
@@ -9,15 +9,16 @@ ghost use Rattle.wc_model.specs.Text.Tokens.{IsCut, most_bytes};
 ghost use Rattle.wc_reader.specs.TextViews.{IsStateCounted, reading_view};
 ghost use Rattle.wc_text_short_lines.specs.Walks.{walk};
 ghost use Rattle.wc_diag_stops.specs.Allowed.{allowed_with};
-ghost use Rattle.wc_diag_stops.specs.ReadingTextSpans.{IsReadByPlaces, StopsReading, is_left_out, left_out_or_token, length_of, line_of, offending_at, start_of, token_at, token_before, word_or_token};
-ghost use Rattle.wc_diag_stops.specs.Stopping.{IsAllowedAs, IsExcerptAt, IsStopAt, ReadsText, ReportsRaised};
+ghost use Rattle.wc_diag_stops.specs.ReadingSpans.{AreBefore, AreUpTo, IsReadByPlaces, StopsReading, is_left_out, left_out_or_token, length_of, line_of, offending_at, start_of, token_at, token_before, word_or_token};
+ghost use Rattle.wc_diag_stops.specs.Stopping.{IsAllowedAs, IsOffendingAt, IsStopAt, ReadsText, ReportsRaised};
 
 use crate::expected::expected_at;
 use crate::places::exchange;
+use crate::slices::prefix;
 use crate::span::RefusalSpan;
-use std::alloc::Global;
+use std::alloc::{AllocError, Global};
 use wc_diag_texts::Expected;
-use wc_lexer::{Token, tokens_or_stop};
+use wc_lexer::{Token, tokens, tokens_or_stop};
 use wc_model::{Fault, is_word};
 use wc_reader::{Reading, at_text_end, last_line, read_at, reading_start, take_lines};
 
@@ -199,7 +200,7 @@ fn line_at(text: &[u8], tokens: &[Token<'_>], place: u32) -> u32
 }
 
 /// Where the offending slice starts, and its number of bytes.
-fn excerpt_of(text: &[u8], offending: Option<&Token<'_>>) -> (usize, usize)
+fn offending_slice(text: &[u8], offending: Option<&Token<'_>>) -> (usize, usize)
     ensures start { result.0 ≡ start_of (option_copied offending.entry) (length text.now) }
     ensures length { result.1 ≡ length_of (option_copied offending.entry) }
 {
@@ -218,10 +219,10 @@ fn stop_at(
     expected: Expected,
 ) -> RefusalSpan
     requires { length text.now ≤ most_bytes }
-    ensures { IsExcerptAt text.now tokens.now number place expected result }
+    ensures { IsOffendingAt text.now tokens.now number place expected result }
 {
     let expected = reported_expected(number, expected);
-    let (start, length) = excerpt_of(text, offending_at(tokens, place, expected));
+    let (start, length) = offending_slice(text, offending_at(tokens, place, expected));
     let place = line_at(text, tokens, place);
     RefusalSpan {
         expected,
@@ -248,6 +249,7 @@ fn stop_in(alloc: Global, text: &[u8], tokens: &mut [Token<'_>]) -> Option<Refus
         (λ stop. StopsReading text.now stop.fault stop.start stop.length stop.expected) }
     ensures allowed { IfSome result (λ stop. IsAllowedAs stop.fault stop.expected) }
     ensures read { IfNone result (IsReadByPlaces text.now) }
+    ensures kept { tokens.new ≡ tokens.old }
 {
     exchange(tokens);
     let raised = raised_in(alloc, tokens, text.len() as u32);
@@ -258,19 +260,66 @@ fn stop_in(alloc: Global, text: &[u8], tokens: &mut [Token<'_>]) -> Option<Refus
     }
 }
 
-/// Where the reading of a text stops, and what could be there; nothing if it is read. It is the
-/// same pass as that of `read`, over tokens that have their places for their lines.
-pub fn stop_of(alloc: Global, text: &[u8]) -> Option<RefusalSpan>
-    ensures stopped { IfSome result
-        (λ stop. StopsReading text.now stop.fault stop.start stop.length stop.expected) }
-    ensures allowed { IfSome result (λ stop. IsAllowedAs stop.fault stop.expected) }
-    ensures read { IfNone result (IsReadByPlaces text.now) }
+/// Where the reading of a text stops, and its tokens.
+#[derive(Drop)]
+pub struct StoppedText<'a> {
+    /// The refusal, with its slice and what could be there.
+    pub span: RefusalSpan,
+    /// The tokens of the text; of one that can't be cut further at the slice those before it.
+    pub tokens: Vec<Token<'a>>,
+}
+
+/// A text that can't be cut further at a slice, with the tokens before that.
+fn stopped_at<'a>(
+    alloc: Global,
+    text: &'a [u8],
+    span: RefusalSpan,
+) -> Result<StoppedText<'a>, AllocError>
+    requires stops { StopsReading text.now span.fault span.start span.length span.expected }
+    requires allowed { IsAllowedAs span.fault span.expected }
+    ensures stopped { IfOk result (λ stopped. StopsReading text.now stopped.span.fault
+        stopped.span.start stopped.span.length stopped.span.expected) }
+    ensures allowed { IfOk result
+        (λ stopped. IsAllowedAs stopped.span.fault stopped.span.expected) }
+    ensures tokens { IfOk result
+        (λ stopped. AreBefore text.now stopped.span.start stopped.tokens.items) }
+{
+    match tokens(alloc, prefix(text, span.start)) {
+        Ok(tokens) => Ok(StoppedText { span, tokens }),
+        Err(Fault::Memory) => Err(AllocError),
+        Err(Fault::Refused { .. }) => Ok(StoppedText {
+            span,
+            tokens: Vec::new(alloc),
+        }),
+    }
+}
+
+/// Where the reading of a text stops, and what could be there, with its tokens; nothing if it is read. It is the
+/// same pass as that of `read`, over tokens that have their places for their lines. The error is out of memory.
+pub fn stop_of<'a>(alloc: Global, text: &'a [u8]) -> Result<Option<StoppedText<'a>>, AllocError>
+    ensures stopped { IfOk result (λ found. IfSome found
+        (λ stopped. StopsReading text.now stopped.span.fault stopped.span.start
+        stopped.span.length stopped.span.expected)) }
+    ensures allowed { IfOk result (λ found. IfSome found
+        (λ stopped. IsAllowedAs stopped.span.fault stopped.span.expected)) }
+    ensures tokens { IfOk result (λ found. IfSome found
+        (λ stopped. AreUpTo text.now stopped.span.start stopped.tokens.items)) }
+    ensures read { IfOk result (λ found. IfNone found (IsReadByPlaces text.now)) }
 {
     match tokens_or_stop(alloc, text) {
         Ok(tokens) => {
             let mut tokens = tokens;
-            stop_in(alloc, text, &mut tokens)
+            match stop_in(alloc, text, &mut tokens) {
+                Some(span) => Ok(Some(StoppedText { span, tokens })),
+                None => Ok(None),
+            }
         }
-        Err(stop) => Some(RefusalSpan::new(stop.fault, stop.start as usize, stop.length as usize)),
+        Err(stop) => {
+            let span = RefusalSpan::new(stop.fault, stop.start as usize, stop.length as usize);
+            match stopped_at(alloc, text, span) {
+                Ok(stopped) => Ok(Some(stopped)),
+                Err(error) => Err(error),
+            }
+        }
     }
 }

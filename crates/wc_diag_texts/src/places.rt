@@ -20,8 +20,8 @@ pub fn place_text(alloc: Global, values: PlaceValues<'_>) -> Result<String, Allo
         PlaceValues::LabelLine(line) => {
             format!(in alloc; "is the label of line {line}, above this jump")
         },
-        PlaceValues::Below(excerpt, line, said) => format!(in alloc;
-            "`{excerpt}` (line {line}) {said}"
+        PlaceValues::Below(offending, line, said) => format!(in alloc;
+            "`{offending}` (line {line}) {said}"
         ),
         PlaceValues::BlockBelow(line) => {
             format!(in alloc; "is a function block that is declared below, on line {line}")

@@ -6,7 +6,7 @@ pub mod FirstParts
 pub mod Fractions
 pub mod PartSums
 pub mod Steps
-pub mod TextSpans
+pub mod Spans
 pub mod Feeds
 pub mod BracketBytes
 pub mod NamePrefixes

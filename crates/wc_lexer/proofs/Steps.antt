@@ -4,9 +4,9 @@ use Rattle.std.proofs.Math.Seq.{take-add}
 use Rattle.std.proofs.lemmas.List.{append-nil, drop-drop}
 use Rattle.std.proofs.lemmas.List.Sums.{sum_by-append}
 use Rattle.wc_lexer.proofs.PartSums.{empty}
-use Rattle.wc_lexer.proofs.TextSpans.{is_stuck_length}
+use Rattle.wc_lexer.proofs.Spans.{is_stuck_length}
 use Rattle.wc_lexer.specs.Refusals.{AtToken, NeedsMemory}
-use Rattle.wc_lexer.specs.TextSpans.{IsTextSpanAt, IsTokenTextSpan, FaultSlice, stuck_length}
+use Rattle.wc_lexer.specs.Spans.{IsSpanAt, IsTokenSpan, FaultSlice, stuck_length}
 use Rattle.wc_laws_tokens.specs.Sights.{Pass, Refuse, Sight, Take, sight}
 use Rattle.wc_laws_tokens.proofs.FoundTokens.{Holds, sight_holds}
 use Rattle.wc_laws_tokens.proofs.TokenSteps.{blank_is_filled, lexeme_is_filled}
@@ -24,7 +24,7 @@ Goes Ends text n tokens = (more : List Token) → Cuts Ends (take n text) (drop 
 pub record Going (text : List ℕ) (n : ℕ) (tokens : List Token) : Type 0 where
   pub at_end : Goes AtEnd text n tokens
   pub at_token : Goes AtToken text n tokens
-  pub at_fault : (number line start count : ℕ) → Goes (IsTextSpanAt number line start count) text n tokens
+  pub at_fault : (number line start count : ℕ) → Goes (IsSpanAt number line start count) text n tokens
 
 -- a cut from a later place is one from after a slice
 pub moved : (Ends : List ℕ → List ℕ → Type 0) (text : List ℕ) (n count : ℕ) (more : List Token) → Cuts Ends (take (n + count) text) (drop (n + count) text) more → Cuts Ends (take n text ++ take count (drop n text)) (drop count (drop n text)) more
@@ -53,7 +53,7 @@ some_left text n h = omega (arith, length-drop n text)
 pub going_on : (text rest : List ℕ) (n count : ℕ) (tokens : List Token) → rest ≡ drop n text → n < length text → Pass count ≡ sight rest → Going text n tokens → Going text (n + count) tokens
 going_on text rest n count tokens r h e going =
     let blank : Holds (drop n text) (Pass count) = holds_at (drop n text) (Pass count) (some_left text n h) (e ∙ ap sight r) in
-    record { at_end = blank_goes AtEnd text n count tokens blank going.at_end; at_token = blank_goes AtToken text n count tokens blank going.at_token; at_fault = λ number line start size. blank_goes (IsTextSpanAt number line start size) text n count tokens blank (going.at_fault number line start size) }
+    record { at_end = blank_goes AtEnd text n count tokens blank going.at_end; at_token = blank_goes AtToken text n count tokens blank going.at_token; at_fault = λ number line start size. blank_goes (IsSpanAt number line start size) text n count tokens blank (going.at_fault number line start size) }
 
 -- a token is taken
 pub going_with : (text rest : List ℕ) (n count : ℕ) (tokens : List Token) (token : Token) → rest ≡ drop n text → n < length text → Take count token.shape ≡ sight rest → token.text ≡ take count rest → token.start ≡ n → token.line ≡ line_after (take n text) → Going text n tokens → Going text (n + count) (tokens ++ (token ∷ []))
@@ -62,7 +62,7 @@ going_with text rest n count tokens token r h e chunk started counted going =
     let held : Holds (drop n text) (Take count shape) = holds_at (drop n text) (Take count shape) (some_left text n h) (e ∙ ap sight r) in
     let here : Token = token_after (take n text) shape (take count (drop n text)) in
     let same : here ≡ token = ap (λ t. record { shape = shape; text = t; start = length (take n text); line = line_after (take n text) }) (sym (chunk ∙ ap (take count) r)) ∙ ap (λ s. record { shape = shape; text = token.text; start = s; line = line_after (take n text) }) (length-take-le n text (omega arith) ∙ sym started) ∙ ap (λ l. record { shape = shape; text = token.text; start = token.start; line = l }) (sym counted) in
-    subst (λ t. Going text (n + count) (tokens ++ (t ∷ []))) same (record { at_end = token_goes AtEnd text n count tokens shape held.0 held.1 going.at_end; at_token = token_goes AtToken text n count tokens shape held.0 held.1 going.at_token; at_fault = λ number line start size. token_goes (IsTextSpanAt number line start size) text n count tokens shape held.0 held.1 (going.at_fault number line start size) })
+    subst (λ t. Going text (n + count) (tokens ++ (t ∷ []))) same (record { at_end = token_goes AtEnd text n count tokens shape held.0 held.1 going.at_end; at_token = token_goes AtToken text n count tokens shape held.0 held.1 going.at_token; at_fault = λ number line start size. token_goes (IsSpanAt number line start size) text n count tokens shape held.0 held.1 (going.at_fault number line start size) })
 
 -- lines are counted on
 pub counted_on : (text rest chunk : List ℕ) (n count line feeds : ℕ) → rest ≡ drop n text → chunk ≡ take count rest → line ≡ line_after (take n text) → feeds ≡ count_by is_line_feed chunk → line + feeds ≡ line_after (take (n + count) text)
@@ -78,7 +78,7 @@ cut_at_end text n tokens h going =
     subst (IsCut text) (append-nil tokens) (going.at_end [] (Nothing (empty (drop n text) (omega (arith, length-drop n text)))))
 
 -- at a fault it is the first, and its slice is here
-pub fault_here : (text rest : List ℕ) (n number line count : ℕ) → count ≡ stuck_length rest → (tokens : List Token) → length text ≤ most_bytes → rest ≡ drop n text → n < length text → Refuse number ≡ sight rest → line ≡ line_after (take n text) → Going text n tokens → IsTokenTextSpan text number line n count
+pub fault_here : (text rest : List ℕ) (n number line count : ℕ) → count ≡ stuck_length rest → (tokens : List Token) → length text ≤ most_bytes → rest ≡ drop n text → n < length text → Refuse number ≡ sight rest → line ≡ line_after (take n text) → Going text n tokens → IsTokenSpan text number line n count
 fault_here text rest n number line count size tokens short r h e l going =
     let held : FaultAt (drop n text) number = holds_at (drop n text) (Refuse number) (some_left text n h) (e ∙ ap sight r) in
     let started : n ≡ length (take n text) = sym (length-take-le n text (omega arith)) in

@@ -4,4 +4,4 @@ pub mod Sights
 pub mod Parts
 pub mod PlainNumbers
 pub mod Refusals
-pub mod TextSpans
+pub mod Spans

@@ -3,7 +3,7 @@ use Rattle.wc_diag_messages.proofs.OneLine.{warning_prints}
 use Rattle.wc_diag_messages.proofs.explaining.warning_message.Goals as goal
 
 pub printed-requires : goal.printed-requires
-printed-requires c = warning_prints c.args.text.now c.args.warning.now c.in_ok-parts.parts c.in_ok-parts.ensures
+printed-requires c = warning_prints c.args.text.now c.args.tokens.now c.args.warning.now c.in_ok-parts.parts c.in_ok-parts.ensures
 
 pub returns-clause-all : goal.returns-clause-all
 returns-clause-all c =

@@ -1,4 +1,4 @@
-use Rattle.wc_diag_messages.proofs.Assembled.{six_excerpts}
+use Rattle.wc_diag_messages.proofs.Assembled.{six_parts}
 use Rattle.wc_diag_messages.proofs.OneLine.{short_above}
 use Rattle.wc_diag_messages.proofs.short.short.Goals as goal
 use Rattle.wc_diag_messages.specs.Formats.{short_text}
@@ -7,7 +7,7 @@ pub returns : goal.returns
 returns c =
     let name = c.args.name.now in
     let parts = c.args.parts.now in
-    let all = six_excerpts _ _ _ _ _ _ _ _ _ _ _ _ _ c.new-message.ensures.nothing c.in_ok-add.ensures c.in_ok-write_position.ensures c.in_ok-say.ensures.all c.in_ok-write_number.ensures c.in_ok-write_helped.ensures c.in_ok-end_line.ensures in
+    let all = six_parts _ _ _ _ _ _ _ _ _ _ _ _ _ c.new-message.ensures.nothing c.in_ok-add.ensures c.in_ok-write_position.ensures c.in_ok-say.ensures.all c.in_ok-write_number.ensures c.in_ok-write_helped.ensures c.in_ok-end_line.ensures in
     record {
       all = all;
       one = record { line = short_text name parts; ends = all; controls = short_above name parts c.requires };

@@ -1,34 +1,29 @@
-use Rattle.std.proofs.Common.{◌∙◌, ◌+◌, ◌&&◌, if◌then◌else◌, Some, ap, sym, arith, length, length-drop, min}
+use Rattle.std.proofs.Common.{◌∙◌, ◌+◌, ◌&&◌, if◌then◌else◌, Some, ap, sym, subst, get_or, arith}
 use Rattle.std.specs.Prelude.{is_some}
-use Rattle.wc_diag_mistakes.proofs.Declaring.{all_lines, at_last, at_other, at_second}
+use Rattle.wc_diag_mistakes.proofs.Declaring.{FoundBefore, found_alone, line_at, none_alone, second_token, token_more}
 use Rattle.wc_diag_mistakes.proofs.unreached.block_line.Goals as goal
-use Rattle.wc_diag_mistakes.specs.Unreached.{line_number}
 
-pub loop-above-init : goal.loop-above-init
-loop-above-init c = record { found = all_lines c.args.name.now c.args.text.now; within = omega arith }
+pub loop-index-init : goal.loop-index-init
+loop-index-init c = λ other within declared. absurd (omega (arith, within))
 
-pub returns-then-is_second : goal.returns-then-is_second
-returns-then-is_second c =
-    at_second c.args.name.now c.loop-above.found c.loop-above.above c.loop-above.rest.now c.prefix.result.now c.line_length-end.result c.line_length-end.ensures.first c.line_length-end.ensures.within c.prefix.ensures
-    (sym (c.is_second.ensures ∙ ap (λ b. b && is_some c.loop-above.found) c.declares-is_one.ensures) ∙ c.if-is_second.true)
-    ∙ c.loop-above.invariant.found
+pub returns-then-is_second-clause-none : goal.returns-then-is_second-clause-none
+returns-then-is_second-clause-none c =
+    second_token c.args.tokens.now c.args.name.now c.loop-index.index c.loop-index.found
+    (sym (c.is_second.ensures ∙ ap (λ b. b && is_some c.loop-index.found) c.declares-is_one.ensures) ∙ c.if-is_second.true)
+    c.loop-index.invariant
 
-pub returns-then-end-rest : goal.returns-then-end-rest
-returns-then-end-rest c =
-    at_last c.args.name.now c.loop-above.found c.found_with-found.result c.loop-above.above c.loop-above.rest.now c.prefix.result.now c.line_length-end.result c.line_length-end.ensures.first (omega arith) c.prefix.ensures
-    (sym (c.is_second.ensures ∙ ap (λ b. b && is_some c.loop-above.found) c.declares-is_one.ensures) ∙ c.if-is_second.false)
-    (c.found_with-found.ensures ∙ ap (λ b. if b then Some (line_number c.loop-above.above) else c.loop-above.found) c.declares-is_one.ensures)
-    ∙ c.loop-above.invariant.found
+pub loop-index-preserved : goal.loop-index-preserved
+loop-index-preserved c =
+    let line = (get_or c.args.tokens.now c.loop-index.index _).line in
+    subst (FoundBefore c.args.tokens.now c.args.name.now (c.loop-index.index + 1))
+    (sym (c.found_with-found.ensures ∙ ap (λ b. if b then Some line else c.loop-index.found) c.declares-is_one.ensures))
+    (token_more c.args.tokens.now c.args.name.now c.loop-index.index line c.loop-index.found
+    (line_at c.args.tokens.now c.loop-index.index _ c.loop-index-test.true)
+    (sym (c.is_second.ensures ∙ ap (λ b. b && is_some c.loop-index.found) c.declares-is_one.ensures) ∙ c.if-is_second.false)
+    c.loop-index.invariant)
 
-pub loop-above-preserved : goal.loop-above-preserved
-loop-above-preserved c = record {
-  found =
-      at_other c.args.name.now c.loop-above.found c.found_with-found.result c.loop-above.above c.loop-above.rest.now c.prefix.result.now c.below_line-rest.result.now c.line_length-end.result c.line_length-end.ensures.first (omega arith) c.prefix.ensures
-      c.below_line-rest.ensures (sym (c.is_second.ensures ∙ ap (λ b. b && is_some c.loop-above.found) c.declares-is_one.ensures) ∙ c.if-is_second.false)
-      (c.found_with-found.ensures ∙ ap (λ b. if b then Some (line_number c.loop-above.above) else c.loop-above.found) c.declares-is_one.ensures)
-      ∙ c.loop-above.invariant.found;
-  within = omega (arith, ap length c.below_line-rest.ensures, length-drop (min (c.line_length-end.result + 1) (length c.loop-above.rest.now)) c.loop-above.rest.now);
-}
+pub returns-clause-found : goal.returns-clause-found
+returns-clause-found c = found_alone c.args.tokens.now c.args.name.now c.loop-index.index c.loop-index.found c.loop-index-test.false c.loop-index.invariant
 
-pub returns : goal.returns
-returns c = absurd (omega (arith, c.loop-above.invariant.within))
+pub returns-clause-none : goal.returns-clause-none
+returns-clause-none c = none_alone c.args.tokens.now c.args.name.now c.loop-index.index c.loop-index.found c.loop-index-test.false c.loop-index.invariant

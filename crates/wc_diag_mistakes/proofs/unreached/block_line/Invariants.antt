@@ -1,11 +1,6 @@
-use Rattle.std.proofs.Common.{◌≡◌, ◌≤◌, ◌+◌, length}
-use Rattle.wc_diag_mistakes.proofs.Declaring.{found_after}
+use Rattle.wc_diag_mistakes.proofs.Declaring.{FoundBefore}
 use Rattle.wc_diag_mistakes.proofs.unreached.block_line.Given as goal
-use Rattle.wc_diag_mistakes.specs.Unreached.{block_line, cut_lines}
 
--- what was found, with the lines from here on, is what all lines give
-abbrev pub invariant-loop-above : goal.invariant-loop-above
-invariant-loop-above l = record {
-  found : found_after l.name l.found l.above (cut_lines l.rest) ≡ block_line l.text l.name;
-  within : l.above + length l.rest ≤ length l.text;
-}
+-- what is found so far
+abbrev pub invariant-loop-index : goal.invariant-loop-index
+invariant-loop-index l = FoundBefore l.tokens l.name l.index l.found

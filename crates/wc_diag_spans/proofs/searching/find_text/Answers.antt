@@ -11,7 +11,7 @@ returns-clause-found c =
     let found = c.find_in.new.diagnostic in
     let new = c.keep_line.new.diagnostic in
     let started = c.new-diagnostic.ensures.line ∙ c.line_of_part.ensures in
-    let kept = subst (λ l. IfSome new.text_span (λ s. IsKept found new l s)) c.line_of_part-line.ensures c.in_ok-keep_line.ensures.text_span in
+    let kept = subst (λ l. IfSome new.span (λ s. IsKept found new l s)) c.line_of_part-line.ensures c.in_ok-keep_line.ensures.span in
     record {
       shows = c.in_ok-keep_line.ensures.line;
       part = (found.line, c.in_ok-keep_line.ensures.known ∙ ap (known_line text) c.line_of_part-line.ensures);

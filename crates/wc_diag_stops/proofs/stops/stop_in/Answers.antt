@@ -18,3 +18,9 @@ returns-in-None-clause-read c =
 
 pub returns-in-Some-clause-allowed : goal.returns-in-Some-clause-allowed
 returns-in-Some-clause-allowed c = stop_expected c.args.text.now c.exchange-2.new.tokens c.in-Some.raised.fault c.in-Some.raised.expected c.stop_raised.result c.stop_raised.ensures
+
+pub returns-in-Some-clause-kept : goal.returns-in-Some-clause-kept
+returns-in-Some-clause-kept c = c.exchange-2.ensures ∙ (ap (map exchanged) c.exchange.ensures ∙ exchanged_twice c.args.tokens.now)
+
+pub returns-in-None-clause-kept : goal.returns-in-None-clause-kept
+returns-in-None-clause-kept c = c.exchange-2.ensures ∙ (ap (map exchanged) c.exchange.ensures ∙ exchanged_twice c.args.tokens.now)

@@ -1,4 +1,4 @@
-use Rattle.wc_lexer.proofs.TextSpans.{stop_names}
+use Rattle.wc_lexer.proofs.Spans.{stop_names}
 use Rattle.wc_lexer.proofs.text.tokens.Goals as goal
 
 pub returns-in-Err-clause-refused : goal.returns-in-Err-clause-refused

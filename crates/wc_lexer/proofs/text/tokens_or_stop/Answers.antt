@@ -6,7 +6,7 @@ use Rattle.wc_lexer.proofs.text.tokens_or_stop.Goals.{in-Space, in-Comment, in-L
 use Rattle.wc_lexer.specs.Sights.{IsWithin, sight_of}
 use Rattle.std.proofs.lemmas.List.{map-append}
 use Rattle.wc_lexer.specs.declared.shape.Token.{Token}
-use Rattle.wc_lexer.specs.TextSpans.{NoSlice, stuck_length}
+use Rattle.wc_lexer.specs.Spans.{NoSlice, stuck_length}
 use Rattle.wc_lexer.specs.Views.{shape_view, token_view}
 use Rattle.wc_model.specs.Text.Characters.{is_line_feed}
 

@@ -1,0 +1,23 @@
+use Rattle.std.proofs.Common.{refl}
+use Rattle.wc_diag_messages.proofs.PlacedWarnings.{follows}
+use Rattle.wc_diag_messages.proofs.warned_parts.warning_parts.Goals as goal
+
+pub returns : goal.returns
+returns c =
+    let f = follows c.args.text.now c.args.tokens.now c.args.warning.now c.in_ok-diagnostic.diagnostic c.in_ok-diagnostic.ensures in
+    record {
+      placed = c.in_ok-diagnostic.ensures;
+      below = f.below;
+      own = f.own;
+      within = f.within;
+      represents = f.represents;
+      said = c.sentence.result.now;
+      reported_is = c.in_ok-reported.ensures;
+      severity_is = refl;
+      number_is = c.from.ensures;
+      line_is = refl;
+      place_is = c.new.ensures.nothing;
+      expected_are = c.new-2.ensures.nothing;
+      advice = c.hint.result.now;
+      advice_is = c.in_ok-said_as.ensures.all;
+    }

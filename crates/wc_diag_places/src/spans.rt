@@ -1,0 +1,357 @@
+ghost use Rattle.std.specs.Prelude.{◌≡◌, true, None, IfOk, IfNone, IfSome};
+ghost use Rattle.wc_model.specs.Language.Faults.{declaration_fault};
+ghost use Rattle.wc_names.specs.RepresentsText.{AreTables};
+ghost use Rattle.wc_diag_places.specs.Arguments.{IsArgument};
+ghost use Rattle.wc_diag_places.specs.LaterSpans.{IsAccepted, OfRead, RefusesLater, unit_number};
+ghost use Rattle.wc_model.specs.Language.Scopes.{Scope};
+ghost use Rattle.wc_model.specs.Language.Views.{text_view};
+ghost use Rattle.wc_verify.specs.Seeing.{IsScope};
+ghost use Rattle.wc_diag_places.specs.OperandTokens.{IsOperatorOrOperand, IsOperandOf, IsPlainOperand, is_listed, on_line, operator_of, operand_by_number, tokens_from};
+ghost use Rattle.wc_diag_places.specs.Spotting.{IsInBody, IsNamed, PointsTo, PointsToOffending};
+
+use crate::calls::{offending_in_call, operand_of_call};
+use crate::instances::{block_in, slice_of};
+use crate::kinds::unfit;
+use crate::operand_tokens::{
+    case_of_operand, is_listed, line_at, opens, operand_of, operator_of, span_of, tokens_at,
+    tokens_from,
+};
+use crate::paths::paths_to_label;
+use crate::result_kind::{result_after, result_outside};
+use crate::spanned_source::SpannedSource;
+use crate::twice::{case_of_capacity, first_of_two, unit_at};
+use std::alloc::Global;
+use wc_cost::measure;
+use wc_declare::tables;
+use wc_diag_stops::{RefusalSpan, ResultKind, Slice};
+use wc_diag_texts::Case;
+use wc_lexer::{Shape, Token};
+use wc_model::Fault;
+use wc_names::Tables;
+use wc_verify::validate_bodies;
+
+/// The offending tokens of an instruction, and in which way its rule is broken.
+#[derive(Clone, Copy)]
+struct Found<'a, 't> {
+    operand_tokens: &'t [Token<'a>],
+    case: Case,
+    first: u32,
+    /// The name of the offending input or output; no token: there is none.
+    formal: &'t [Token<'a>],
+    is_passed: bool,
+    /// The offending slice, if it is on a line below.
+    below: Option<Slice>,
+}
+
+/// Those tokens, of which no other has the name.
+fn found_as<'a, 't>(operand_tokens: &'t [Token<'a>], case: Case) -> Found<'a, 't>
+    ensures { result.operand_tokens.now ≡ operand_tokens.now }
+{
+    Found {
+        operand_tokens,
+        case,
+        first: 0,
+        formal: tokens_at(operand_tokens, 0, 0),
+        is_passed: false,
+        below: None,
+    }
+}
+
+/// A refusal with its slice; `tokens` begin where the rule is asked.
+fn span_at(
+    tokens: &[Token<'_>],
+    number: u16,
+    operand_tokens: &[Token<'_>],
+    case: Case,
+    first: u32,
+) -> RefusalSpan
+    ensures { PointsTo number tokens.now operand_tokens.now result }
+{
+    let fault = Fault::Refused {
+        number,
+        place: line_at(tokens.first()),
+    };
+    let (start, length) = span_of(operand_tokens);
+    RefusalSpan {
+        case,
+        first,
+        ..RefusalSpan::new(fault, start, length)
+    }
+}
+
+/// The line of the first of two that have the name at a place; 0: there are no two.
+fn first_line(
+    spanned_source: &SpannedSource<'_>,
+    number: u16,
+    tokens: &[Token<'_>],
+    place: u32,
+) -> u32 {
+    // A jump names its label after the operator.
+    let index = usize::from(number == 406);
+    let Some(name) = tokens.get(index) else {
+        return 0;
+    };
+    match first_of_two(&spanned_source.source, number, name.text, place) {
+        Some(first) => line_at(tokens_from(&spanned_source.tokens, first).first()),
+        None => 0,
+    }
+}
+
+/// A refusal whose slice is the token at a place.
+fn span_of_token(spanned_source: &SpannedSource<'_>, number: u16, place: u32) -> RefusalSpan
+    ensures { PointsTo number (tokens_from spanned_source.now.tokens.items place)
+        (operator_of (tokens_from spanned_source.now.tokens.items place)) result }
+{
+    let tokens = tokens_from(&spanned_source.tokens, place);
+    let first = first_line(spanned_source, number, tokens, place);
+    let case = match number {
+        306 => case_of_capacity(&spanned_source.source, place),
+        _ => Case::Plain,
+    };
+    span_at(tokens, number, operator_of(tokens), case, first)
+}
+
+/// The offending slice in an instruction without a list whose kinds do not fit.
+fn found_unfit<'a, 't>(tables: &Tables<'a>, unit: usize, tokens: &'t [Token<'a>]) -> Found<'a, 't>
+    ensures { IsOperatorOrOperand tokens.now result.operand_tokens.now }
+{
+    let operand = operand_of(tokens);
+    let case = unfit(tables, unit, tokens, operand);
+    let operand_tokens = match case {
+        Case::Result | Case::Closing => operator_of(tokens),
+        _ => operand,
+    };
+    found_as(operand_tokens, case)
+}
+
+/// What a refusal of that number means in an instruction without a list.
+fn found_by_number<'a, 't>(tokens: &'t [Token<'a>], number: u16) -> Found<'a, 't>
+    ensures { result.operand_tokens.now ≡ operand_by_number number tokens.now }
+{
+    match number {
+        408 if opens(tokens) => found_as(operator_of(tokens), Case::Deferred),
+        401 | 404 | 405 | 406 | 408 => {
+            let operand = operand_of(tokens);
+            found_as(operand, case_of_operand(operand))
+        }
+        _ => found_as(operator_of(tokens), Case::Plain),
+    }
+}
+
+/// The offending slice in an instruction without a list.
+fn found_plain<'a, 't>(
+    tables: &Tables<'a>,
+    unit: usize,
+    tokens: &'t [Token<'a>],
+    number: u16,
+) -> Found<'a, 't>
+    ensures { IsPlainOperand number tokens.now result.operand_tokens.now }
+{
+    if number == 402 {
+        return found_unfit(tables, unit, tokens);
+    }
+    found_by_number(tokens, number)
+}
+
+/// The offending slice in an instruction.
+fn found_in<'a, 't>(
+    alloc: Global,
+    tables: &Tables<'a>,
+    unit: usize,
+    tokens: &'t [Token<'a>],
+    number: u16,
+) -> Result<Found<'a, 't>, Fault>
+    ensures operand_tokens { IfOk result (λ found. IsOperandOf number tokens.now found.operand_tokens.now) }
+    ensures argument { IfOk result (λ found. (scope : Scope) → IsScope tables.now unit scope
+        → is_listed tokens.now ≡ true → IsArgument scope number tokens.now found.operand_tokens.now) }
+{
+    if !is_listed(tokens) {
+        return Ok(found_plain(tables, unit, tokens, number));
+    }
+    let call = offending_in_call(alloc, tables, unit, tokens, number)?;
+    Ok(Found {
+        operand_tokens: operand_of_call(tokens, call),
+        case: call.case,
+        first: call.first,
+        formal: tokens_at(tokens, call.name, usize::from(call.name > 0)),
+        is_passed: call.is_passed,
+        below: None,
+    })
+}
+
+/// What is found, if it begins on the line of its instruction; else the operator.
+fn on_line<'a, 't>(tokens: &'t [Token<'a>], found: Found<'a, 't>) -> Found<'a, 't>
+    ensures { result.operand_tokens.now ≡ on_line tokens.now found.entry.operand_tokens.now }
+{
+    if line_at(found.operand_tokens.first()) == line_at(tokens.first()) {
+        return found;
+    }
+    Found {
+        operand_tokens: operator_of(tokens),
+        below: slice_of(found.operand_tokens),
+        ..found
+    }
+}
+
+/// The tokens above the line on which these begin, if nothing comes before them on it.
+fn lines_above<'a, 't>(
+    spanned_source: &'t SpannedSource<'a>,
+    tokens: &[Token<'_>],
+) -> Option<&'t [Token<'a>]> {
+    let count = spanned_source.tokens.len().saturating_sub(tokens.len());
+    match spanned_source.tokens.get(count.saturating_sub(1)) {
+        Some(token) if matches!(token.shape, Shape::LineEnd) => {
+            Some(tokens_at(&spanned_source.tokens, 0, count.saturating_sub(1)))
+        }
+        _ => None,
+    }
+}
+
+/// The kinds of the result before the instruction at which these tokens begin, and before the parenthesis that it closes, if that is
+/// what does not fit.
+fn results_before(
+    spanned_source: &SpannedSource<'_>,
+    tables: &Tables<'_>,
+    unit: usize,
+    tokens: &[Token<'_>],
+    case: Case,
+) -> (Option<ResultKind>, Option<ResultKind>) {
+    let Some(above) = lines_above(spanned_source, tokens) else {
+        return (None, None);
+    };
+    match case {
+        Case::Unlike(_) | Case::Result => (result_after(tables, unit, above), None),
+        Case::Closing => {
+            (
+                result_after(tables, unit, above),
+                result_outside(tables, unit, above),
+            )
+        }
+        _ => (None, None),
+    }
+}
+
+/// A refusal with what is found in its instruction.
+fn span_of_found(
+    spanned_source: &SpannedSource<'_>,
+    number: u16,
+    tokens: &[Token<'_>],
+    place: u32,
+    found: Found<'_, '_>,
+) -> RefusalSpan
+    ensures { PointsTo number tokens.now (on_line tokens.now found.entry.operand_tokens.now) result }
+{
+    let found = on_line(tokens, found);
+    let first = first_line(spanned_source, number, tokens, place).max(found.first);
+    RefusalSpan {
+        formal: slice_of(found.formal),
+        is_passed: found.is_passed,
+        below: found.below,
+        ..span_at(tokens, number, found.operand_tokens, found.case, first)
+    }
+}
+
+/// A refusal of pass 4 with the offending slice in its instruction.
+fn span_of_instruction<'a>(
+    alloc: Global,
+    spanned_source: &SpannedSource<'a>,
+    tables: &Tables<'a>,
+    number: u16,
+    place: u32,
+) -> RefusalSpan
+    ensures { let unit = unit_number (text_view spanned_source.now.source) place in
+        PointsToOffending (IsScope tables.now unit) number
+        (tokens_from spanned_source.now.tokens.items place) result }
+{
+    let tokens = tokens_from(&spanned_source.tokens, place);
+    let unit = unit_at(&spanned_source.source, place);
+    let Ok(found) = found_in(alloc, tables, unit, tokens, number) else {
+        return RefusalSpan::new(Fault::Memory, 0, 0);
+    };
+    let (result, outer) = results_before(spanned_source, tables, unit, tokens, found.case);
+    let paths = match number {
+        403 => paths_to_label(spanned_source, tables, unit, tokens),
+        _ => None,
+    };
+    let block = block_in(
+        &spanned_source.source,
+        unit,
+        tokens,
+        found.operand_tokens,
+        found.case,
+    );
+    RefusalSpan {
+        result,
+        outer,
+        paths,
+        block,
+        ..span_of_found(spanned_source, number, tokens, place, found)
+    }
+}
+
+/// A refusal of pass 3 or of the costs.
+fn span_of_name(spanned_source: &SpannedSource<'_>, fault: Fault) -> RefusalSpan
+    ensures { OfRead spanned_source.now (λ bytes text. IsNamed text fault
+        → RefusesLater bytes result.fault result.start result.length) }
+{
+    match fault {
+        Fault::Refused { number, place } => span_of_token(spanned_source, number, place),
+        Fault::Memory => RefusalSpan::new(Fault::Memory, 0, 0),
+    }
+}
+
+/// A refusal of pass 4.
+fn span_of_body<'a>(
+    alloc: Global,
+    spanned_source: &SpannedSource<'a>,
+    tables: &Tables<'a>,
+    fault: Fault,
+) -> RefusalSpan
+    ensures { OfRead spanned_source.now (λ bytes text. AreTables tables.now text
+        → IsInBody text fault
+        → RefusesLater bytes result.fault result.start result.length) }
+{
+    match fault {
+        Fault::Refused { number, place } => {
+            span_of_instruction(alloc, spanned_source, tables, number, place)
+        }
+        Fault::Memory => RefusalSpan::new(Fault::Memory, 0, 0),
+    }
+}
+
+/// Where pass 4 or the costs refuse a text with these tables.
+fn span_after<'a>(
+    alloc: Global,
+    spanned_source: &SpannedSource<'a>,
+    tables: &Tables<'a>,
+) -> Option<RefusalSpan>
+    ensures refused { OfRead spanned_source.now (λ bytes text. AreTables tables.now text
+        → declaration_fault text ≡ None
+        → IfSome result
+        (λ span. RefusesLater bytes span.fault span.start span.length)) }
+    ensures accepted { OfRead spanned_source.now (λ bytes text. AreTables tables.now text
+        → declaration_fault text ≡ None → IfNone result (IsAccepted text)) }
+{
+    if let Err(fault) = validate_bodies(alloc, &spanned_source.source, tables) {
+        return Some(span_of_body(alloc, spanned_source, tables, fault));
+    }
+    match measure(alloc, &spanned_source.source, tables) {
+        Ok(()) => None,
+        Err(fault) => Some(span_of_name(spanned_source, fault)),
+    }
+}
+
+/// Where a pass after reading refuses a text that was read by places: the rule that it breaks first,
+/// the line on which that is asked, and the offending slice; nothing if none refuses it. It
+/// takes the passes themselves, once more.
+pub fn span_in<'a>(alloc: Global, spanned_source: &SpannedSource<'a>) -> Option<RefusalSpan>
+    ensures refused { OfRead spanned_source.now
+        (λ bytes _. IfSome result
+        (λ span. RefusesLater bytes span.fault span.start span.length)) }
+    ensures accepted { OfRead spanned_source.now (λ _ text. IfNone result (IsAccepted text)) }
+{
+    match tables(alloc, &spanned_source.source) {
+        Ok(tables) => span_after(alloc, spanned_source, &tables),
+        Err(fault) => Some(span_of_name(spanned_source, fault)),
+    }
+}

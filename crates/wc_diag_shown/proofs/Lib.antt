@@ -1,0 +1,3 @@
+pub mod Calm
+pub mod CalmTexts
+pub mod OnLines

@@ -1,0 +1,59 @@
+use wc_lexer::{Shape, Token};
+
+/// The bytes of a token; none if there is none.
+pub fn text_of<'a>(token: Option<&Token<'a>>) -> &'a [u8] {
+    match token {
+        Some(token) => token.text,
+        None => b"",
+    }
+}
+
+/// The bytes of a token that is a word; none if it is none.
+pub fn word_of<'a>(token: Option<&Token<'a>>) -> &'a [u8] {
+    match token {
+        Some(token) if matches!(token.shape, Shape::Identifier) => token.text,
+        _ => b"",
+    }
+}
+
+/// Whether a token is there and has that shape.
+pub fn is_shape(token: Option<&Token<'_>>, shape: Shape) -> bool {
+    token.is_some_and(|token| token.shape == shape)
+}
+
+/// Whether a token ends a line.
+pub fn is_line_end(token: &Token<'_>) -> bool {
+    matches!(token.shape, Shape::LineEnd)
+}
+
+/// The tokens after the last line end.
+pub fn last_line<'a, 't>(tokens: &'t [Token<'a>]) -> &'t [Token<'a>] {
+    let count = tokens
+        .iter()
+        .rev()
+        .take_while(|token| !is_line_end(token))
+        .count();
+    let (_, line) = tokens.split_at(tokens.len().saturating_sub(count));
+    line
+}
+
+/// The tokens up to the last that ends no line.
+pub fn without_line_ends<'a, 't>(tokens: &'t [Token<'a>]) -> &'t [Token<'a>] {
+    let count = tokens
+        .iter()
+        .rev()
+        .take_while(|token| is_line_end(token))
+        .count();
+    let (some, _) = tokens.split_at(tokens.len().saturating_sub(count));
+    some
+}
+
+/// The first word of a line after its label, if it has one.
+pub fn operator_on<'a>(line: &[Token<'a>]) -> &'a [u8] {
+    let index = if is_shape(line.get(1), Shape::Colon) {
+        2
+    } else {
+        0
+    };
+    text_of(line.get(index))
+}

@@ -1,0 +1,82 @@
+use crate::slices::following;
+use crate::words::is_among;
+use wc_diag_texts::Case;
+
+/// Two underscores in a row.
+fn has_double_underscore(text: &[u8]) -> bool {
+    text.windows(2).any(|pair| pair.starts_with(b"__"))
+}
+
+/// What is wrong with an identifier.
+fn case_of_word(text: &[u8]) -> Case {
+    if has_double_underscore(text) {
+        Case::DoubleUnderscore
+    } else if text.last() == Some(&b'_') {
+        Case::LastUnderscore
+    } else {
+        Case::TooLong
+    }
+}
+
+/// Digits with single underscores between them.
+fn are_digits(text: &[u8]) -> bool {
+    text.iter()
+        .all(|byte| byte.is_ascii_digit() || *byte == b'_')
+        && !has_double_underscore(text)
+        && text.last() != Some(&b'_')
+}
+
+/// A sign, if any, and digits with single underscores between them.
+fn is_decimal(text: &[u8]) -> bool {
+    match text.first() {
+        Some(b'+' | b'-') => are_digits(following(text, 1)),
+        _ => are_digits(text),
+    }
+}
+
+/// The number of digits, points and underscores at the start of a text.
+fn digits_at_start(text: &[u8]) -> usize {
+    text.iter()
+        .take_while(|byte| matches!(byte, b'0'..=b'9' | b'.' | b'_'))
+        .count()
+}
+
+/// Digits and a unit of time.
+fn is_bare_duration(text: &[u8]) -> bool {
+    let digits = digits_at_start(text);
+    let units: &[u8] = b"ms s m h d";
+    digits > 0 && is_among(units, following(text, digits))
+}
+
+/// What is wrong with a number or a typed literal.
+fn case_of_number(text: &[u8]) -> Case {
+    if text.len() == 1 {
+        Case::SignAlone
+    } else if is_bare_duration(text) {
+        Case::NoDuration
+    } else if text.contains(&b'#') {
+        Case::WithBase
+    } else if text.contains(&b'.') {
+        Case::WithPoint
+    } else if is_decimal(text) {
+        Case::OutOfRange
+    } else {
+        Case::NoNumber
+    }
+}
+
+/// A byte order mark, as UTF-8 has it.
+pub const BYTE_ORDER_MARK: &[u8] = b"\xef\xbb\xbf";
+
+/// In which way a slice is not a token; `text` goes on from its start.
+pub fn case_of_lexeme(number: u16, text: &[u8], bytes_at: &[u8]) -> Case {
+    match (number, bytes_at.first()) {
+        (101, _) if text.starts_with(BYTE_ORDER_MARK) => Case::ByteOrderMark,
+        (101, _) if text.starts_with(b"\xff\xfe") || text.starts_with(b"\xfe\xff") => Case::Utf16,
+        (101, Some(byte)) => Case::Byte(*byte),
+        (104, _) => case_of_word(bytes_at),
+        (105, _) => case_of_number(bytes_at),
+        (101 | 106, _) => Case::Plain,
+        _ => Case::Unknown,
+    }
+}

@@ -1,0 +1,91 @@
+ghost use Rattle.std.specs.Prelude.{◌≡◌};
+ghost use Rattle.std.specs.List.{prefix_len};
+ghost use Rattle.wc_diag_stops.specs.Words.{first_word, from_word, is_word_byte};
+
+use crate::slices::prefix;
+use wc_model::is_word;
+
+/// Whether two bytes are there and are the same letters.
+fn are_alike(a: Option<u8>, b: Option<u8>) -> bool {
+    match (a, b) {
+        (Some(a), Some(b)) => a.eq_ignore_ascii_case(&b),
+        _ => false,
+    }
+}
+
+/// The number of bytes at the start of both that are the same letters.
+fn same_prefix(a: &[u8], b: &[u8]) -> usize {
+    a.iter()
+        .zip(b.iter())
+        .take_while(|(a, b)| a.eq_ignore_ascii_case(b))
+        .count()
+}
+
+/// The number of bytes at the end of both that are the same letters.
+fn same_end(a: &[u8], b: &[u8]) -> usize {
+    a.iter()
+        .rev()
+        .zip(b.iter().rev())
+        .take_while(|(a, b)| a.eq_ignore_ascii_case(b))
+        .count()
+}
+
+/// Whether the letter at a place of one name is that after the same place of the other, and the letter after it that at the place.
+fn are_exchanged(a: &[u8], b: &[u8], place: usize) -> bool {
+    let next = place.saturating_add(1);
+    are_alike(a.get(place).copied(), b.get(next).copied())
+        && are_alike(a.get(next).copied(), b.get(place).copied())
+}
+
+/// Whether two names differ by one letter, more, less or other, or by two neighbours that are exchanged.
+pub fn is_near(a: &[u8], b: &[u8]) -> bool {
+    let (shorter, longer) = (a.len().min(b.len()), a.len().max(b.len()));
+    let start = same_prefix(a, b);
+    let same = start.saturating_add(same_end(a, b)).min(shorter);
+    match longer.saturating_sub(same) {
+        0 | 1 => shorter > 1,
+        2 => shorter > 1 && a.len() == b.len() && are_exchanged(a, b, start),
+        _ => false,
+    }
+}
+
+/// Whether a text is one of these words. Letter case is not significant.
+pub fn is_among(words: &[u8], text: &[u8]) -> bool {
+    words
+        .split(|byte| *byte == b' ')
+        .any(|word| is_word(word, text))
+}
+
+/// Whether a byte is a letter, a digit or an underscore.
+fn is_word_byte(byte: u8) -> bool
+    ensures { result ≡ is_word_byte byte }
+{
+    byte.is_ascii_alphanumeric() || byte == b'_'
+}
+
+/// The number of letters, digits and underscores at the start of some bytes.
+fn word_length(text: &[u8]) -> usize
+    ensures { result ≡ prefix_len is_word_byte text.now }
+{
+    for count in 0..text.len() {
+        if !is_word_byte(text[count]) {
+            return count;
+        }
+    }
+    text.len()
+}
+
+/// Bytes without the white space at their start.
+fn from_word(text: &[u8]) -> &[u8]
+    ensures { result.now ≡ from_word text.now }
+{
+    text.trim_ascii_start()
+}
+
+/// The first word of some bytes.
+pub fn first_word(text: &[u8]) -> &[u8]
+    ensures { result.now ≡ first_word text.now }
+{
+    let text = from_word(text);
+    prefix(text, word_length(text))
+}
