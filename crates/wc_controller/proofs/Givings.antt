@@ -203,6 +203,18 @@ in_prefix : (allowed : JobAnswer → Type 0) (status : ℕ) (old new : Option (L
 in_prefix allowed status old new failure (inl kept) = jobs.silent failure kept
 in_prefix allowed status old new failure (inr f) = jobs.cut_short f.0 f.1 failure f.2
 
+-- more may be allowed of an ending, and of a status
+pub ends_more : (allowed more : JobAnswer → Type 0) (ending : Ending) (old new : Option (List ℕ)) → ((answer : JobAnswer) → allowed answer → more answer)
+    → EndsAs allowed ending old new → EndsAs more ending old new
+ends_more allowed more ending old new f (answered answer h is w) = answered answer (f answer h) is w
+ends_more allowed more ending old new f (failed is k) = failed is (prefix_more allowed more old new f k)
+
+pub gives_more : (allowed more : JobAnswer → Type 0) (status : ℕ) (old new : Option (List ℕ)) → ((answer : JobAnswer) → allowed answer → more answer)
+    → Gives allowed status old new → Gives more status old new
+gives_more allowed more status old new f (jobs.answered answer h is w) = jobs.answered answer (f answer h) is w
+gives_more allowed more status old new f (jobs.cut_short answer h failure w) = jobs.cut_short answer (f answer h) failure w
+gives_more allowed more status old new f (jobs.silent failure kept) = jobs.silent failure kept
+
 -- an ending's status
 pub gives : (allowed : JobAnswer → Type 0) (ending : Ending) (old new : Option (List ℕ)) → EndsAs allowed ending old new → Gives allowed (status_of ending) old new
 gives allowed ended.Done old new (answered answer h is w) = jobs.answered answer h (sym is) w

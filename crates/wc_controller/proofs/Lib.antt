@@ -1,6 +1,8 @@
 pub mod ScanEndings
 pub mod ManyChanges
 pub mod LoadedTexts
+pub mod HeadlineRuns
+pub mod Frames
 pub mod Refusals
 pub mod Givings
 pub mod Allowing

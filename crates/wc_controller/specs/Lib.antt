@@ -1,4 +1,6 @@
 pub mod Headline
+pub mod HeadlineRuns
+pub mod Frames
 pub mod Loads
 pub mod Checking
 pub mod Jobs

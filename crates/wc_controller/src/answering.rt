@@ -2,10 +2,13 @@ ghost use Rattle.std.specs.Prelude.{◌≡◌, ◌⊎◌, ℕ, List, Some, IfErr
 ghost use Rattle.wc_controller.specs.Blames.{BlamesPart, IsNextUnloaded, RefusesLog, StopsForPart};
 ghost use Rattle.wc_endings.specs.Endings.{EndsAs, IsReadFaultAt, StopsAt, TakesInput, ReportsFailures, ReportsReadEndings, ReportsReadFaults, ReportsWriteFaults, WritesUpTo, fault_in_memory, raised};
 ghost use Rattle.wc_controller.specs.Files.{AnswersLog};
+ghost use Rattle.wc_controller.specs.Frames.{AnswersInFrames};
+ghost use Rattle.wc_controller.specs.HeadlineRuns.{AnswersByTheHeadline};
 ghost use Rattle.wc_controller.specs.Jobs.{Allows, AllowsSections, Gives, IsStatus};
 ghost use Rattle.wc_controller.specs.TakenLogs.{IsLater, log_alongside};
 ghost use Rattle.wc_job.specs.Views.{sections_view};
 ghost use Rattle.wc_laws_loading.specs.Laws.{HasOne};
+ghost use Rattle.wc_model.specs.Instrument.Plates.{IsPlate, PlateData};
 ghost use Rattle.wc_model.specs.Language.Views.{text_view};
 ghost use Rattle.wc_model.specs.Run.JobSections.{sections_of};
 ghost use Rattle.wc_model.specs.Run.Log.{log_of};
@@ -196,6 +199,12 @@ pub fn job<R: ByteIn, W: ByteOut>(alloc: Global, reader: &mut R, writer: &mut W)
         → (R.failure_count reader.new ≡ R.failure_count reader.old)
         × (W.failure_count writer.new ≡ W.failure_count writer.old) }
     ensures taken { TakesInput (R.bytes_left reader.old) (R.bytes_left reader.new) }
+    // The text that is loaded has the headline, and what is written is the report of the rows of which it speaks.
+    ensures headline { IfSome (R.bytes_left reader.old)
+        (λ bytes. Gives (AnswersByTheHeadline bytes) result (W.bytes_taken writer.old)
+        (W.bytes_taken writer.new)) }
+    // Each complete request is answered once, in a frame, so that a host can count the answers.
+    ensures frames { (plate : PlateData) → IsPlate plate → AnswersInFrames plate }
     // There is one such answer: a job that is run again, without a fault, writes the same bytes.
     ensures replay { (bytes : List ℕ) → HasOne (Allows bytes) }
 {

@@ -1,10 +1,13 @@
 ghost use Rattle.std.specs.Prelude.{◌≡◌, ◌≤◌, false};
-ghost use Rattle.wc_endings.specs.Endings.{IsAt, StopsAt};
+ghost use Rattle.wc_endings.specs.Endings.{EndsAs, IsAt, StopsAt};
 ghost use Rattle.wc_controller.specs.Files.{report_observed};
+ghost use Rattle.wc_controller.specs.Frames.{AnswersInFrames};
+ghost use Rattle.wc_controller.specs.HeadlineRuns.{OfRunsByTheHeadline};
 ghost use Rattle.wc_controller.specs.InputRuns.{RunsAs, RunsUpTo};
 ghost use Rattle.wc_controller.specs.InputStates.{observed_by, writer_of};
 ghost use Rattle.wc_controller.specs.TakenLogs.{OfPrograms};
 ghost use Rattle.wc_controller.specs.WrittenRuns.{EndsSaying, OfRun, OnEnd, says_of};
+ghost use Rattle.wc_model.specs.Instrument.Plates.{IsPlate, PlateData};
 ghost use Rattle.wc_record.specs.Reported.{fields_reported};
 ghost use Rattle.wc_run.specs.Observing.{said_by};
 
@@ -101,6 +104,10 @@ pub fn run_files<P: ByteIn, T: ByteIn, N: ByteIn, L: ByteIn, W: ByteOut, O: Obse
     // What the observer says of the bytes of a run that came to its end, or to a refused row.
     ensures ended { EndsSaying (O.has_ended (O.settings observer.old)) inputs.old result
         (W.bytes_taken writer.old) (W.bytes_taken writer.new) }
+    // The text that is loaded has the headline, and what is written belongs to the rows of which it speaks.
+    ensures headline { OfRunsByTheHeadline (observed_by O.plan O.begins observer.old) inputs.old
+        (λ allowed. EndsAs allowed result (said_by O.speaks W.bytes_taken writer.old)
+        (said_by O.speaks W.bytes_taken writer.new)) }
     ensures runs { RunsAs (observed_by O.plan O.begins observer.old) inputs.old inputs.new
         (fields_reported reported.new) result
         (writer_of (said_by O.speaks W.bytes_taken) W.failure_count writer.old)
@@ -117,10 +124,16 @@ pub fn report_files<P: ByteIn, T: ByteIn, N: ByteIn, L: ByteIn, W: ByteOut>(
     writer: &mut W,
     reported: &mut RefusedRow,
 ) -> Ending
-    ensures { RunsAs (report_observed None) inputs.old inputs.new
+    ensures runs { RunsAs (report_observed None) inputs.old inputs.new
         (fields_reported reported.new) result
         (writer_of W.bytes_taken W.failure_count writer.old)
         (writer_of W.bytes_taken W.failure_count writer.new) }
+    // The text that is loaded has the headline, and what is written is the report of the rows of which it speaks.
+    ensures headline { OfRunsByTheHeadline (report_observed None) inputs.old
+        (λ allowed. EndsAs allowed result (W.bytes_taken writer.old)
+        (W.bytes_taken writer.new)) }
+    // Each complete request is answered once, in a frame, so that a host can count the answers.
+    ensures frames { (plate : PlateData) → IsPlate plate → AnswersInFrames plate }
 {
     run_files(alloc, &mut Report::new(alloc), inputs, writer, reported)
 }
@@ -135,11 +148,14 @@ pub fn last_files<P: ByteIn, T: ByteIn, N: ByteIn, L: ByteIn, W: ByteOut>(
     reported: &mut RefusedRow,
 ) -> Ending
     requires few { (1 ≤ last) × (last ≤ 1000) }
-    ensures { RunsAs (report_observed (Some last)) inputs.old inputs.new
+    ensures runs { RunsAs (report_observed (Some last)) inputs.old inputs.new
         (fields_reported reported.new)
         result
         (writer_of W.bytes_taken W.failure_count writer.old)
         (writer_of W.bytes_taken W.failure_count writer.new) }
+    ensures headline { OfRunsByTheHeadline (report_observed (Some last)) inputs.old
+        (λ allowed. EndsAs allowed result (W.bytes_taken writer.old)
+        (W.bytes_taken writer.new)) }
 {
     match LastScans::new(alloc, last) {
         Ok(mut scans) => run_files(alloc, &mut scans, inputs, writer, reported),

@@ -2,3 +2,8 @@ pub mod Replays
 pub mod Plans
 pub mod RowsSoFar
 pub mod Observed
+pub mod CutAgain
+pub mod ReadBack
+pub mod ReadLogs
+pub mod PreludeRanges
+pub mod LogAgain

@@ -14,7 +14,7 @@ at_one_time ms [] = refl
 at_one_time ms (row ∷ rows) = ap (λ text. line_of ms row ++ text) (at_one_time ms rows)
 
 -- what they bring
-brought_back : (ms : ℕ) (rows : List RowData) → brought_by (map (row_at_time ms) rows) ≡ rows
+pub brought_back : (ms : ℕ) (rows : List RowData) → brought_by (map (row_at_time ms) rows) ≡ rows
 brought_back ms [] = refl
 brought_back ms (row ∷ rows) = ap (λ r. row ∷ r) (brought_back ms rows)
 

@@ -1,6 +1,12 @@
 ghost use Rattle.wc_controller.specs.InputRuns.{RunsAs};
 ghost use Rattle.wc_controller.specs.InputStates.{writer_of};
+ghost use Rattle.std.specs.Prelude.{ℕ, ◌<◌, List};
+ghost use Rattle.wc_cut.specs.CutAgain.{IsCutAgain};
 ghost use Rattle.wc_cut.specs.Cuts.{cut_observed};
+ghost use Rattle.wc_cut.specs.ReadBack.{IsReadBack};
+ghost use Rattle.wc_cut.specs.ReadLogs.{IsLogAgain};
+ghost use Rattle.wc_model.specs.Instrument.Plates.{IsPlate, PlateData};
+ghost use Rattle.wc_model.specs.Run.Rows.{LogRow};
 ghost use Rattle.wc_record.specs.Reported.{fields_reported};
 
 use crate::cutter::Cutter;
@@ -23,10 +29,19 @@ pub fn cut_files<P: ByteIn, T: ByteIn, N: ByteIn, L: ByteIn, W: ByteOut>(
     writer: &mut W,
     reported: &mut RefusedRow,
 ) -> Ending
-    ensures { RunsAs (cut_observed count) inputs.old inputs.new
+    ensures runs { RunsAs (cut_observed count) inputs.old inputs.new
         (fields_reported reported.new) result
         (writer_of W.bytes_taken W.failure_count writer.old)
         (writer_of W.bytes_taken W.failure_count writer.new) }
+    // A log that is cut and cut again is, byte for byte, the log that is cut once.
+    ensures again { (plate : PlateData) → 0 < plate.window → (first more : ℕ)
+        (rows : List LogRow) → IsCutAgain plate first more rows }
+    // `csv` reads of what is written the fields of its rows.
+    ensures read { (plate : PlateData) → 0 < plate.window → (first : ℕ) (rows : List LogRow)
+        → IsReadBack plate first rows }
+    // So what is written is a log of these rows, unless they are too many.
+    ensures log { (plate : PlateData) → IsPlate plate → (first : ℕ) (rows : List LogRow)
+        → IsLogAgain plate first rows }
 {
     run_files(
         alloc,

@@ -1,5 +1,6 @@
 use Rattle.wc_controller.proofs.EndedRuns.{run_ended}
 use Rattle.wc_controller.proofs.Givings.{ends_said}
+use Rattle.wc_controller.proofs.HeadlineRuns.{by_headline}
 use Rattle.wc_controller.proofs.RefusedNames.{stopped_at_names}
 use Rattle.wc_controller.proofs.WrittenRuns.{run_after}
 use Rattle.wc_controller.proofs.running.run_files.Goals as goal
@@ -19,6 +20,12 @@ returns-clause-runs g c =
     (writer c.args.writer.now) (writer c.run_inputs-answer.new.writer) (writer c.end.new.writer)
     ran (ends_said speaks c.run_inputs-answer.result c.end.result (taken c.run_inputs-answer.new.writer) (taken c.end.new.writer) c.end.ensures.ends)
     (c.end.ensures.failures (failures c.args.writer.now) ran.failures)
+
+pub returns-clause-headline : goal.returns-clause-headline
+returns-clause-headline g c =
+    let taken = said_by g.O.Observer.speaks g.W.ByteOut.bytes_taken in
+    by_headline (observed_by g.O.Observer.plan g.O.Observer.begins c.args.observer.now) c.args.inputs.now c.end.result (taken c.args.writer.now) (taken c.end.new.writer)
+    (returns-clause-runs g c).ends
 
 pub returns-clause-refused : goal.returns-clause-refused
 returns-clause-refused g c = λ at.
