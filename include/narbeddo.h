@@ -45,7 +45,7 @@ extern "C" {
  *     narbeddo_load                      CLOSED, then REFUSED or NO_MEMORY; after it any time is accepted
  *     narbeddo_change                    CLOSED, NO_PROGRAM, then REFUSED or NO_MEMORY; the time of the last scan stays
  *     narbeddo_sample                    CLOSED, COUNTS_OUT_OF_RANGE
- *     narbeddo_byte, _inputs, _read, _plate, _prelude    CLOSED (and of a byte LINE_FAILED, which never comes)
+ *     narbeddo_byte, _inputs, _read, _plate, _plate_digest, _prelude    CLOSED (and of a byte LINE_FAILED, which never comes)
  *     narbeddo_scan                      CLOSED, NO_PROGRAM, MOMENT_OUT_OF_RANGE, MOMENT_BACK
  *     narbeddo_value                     CLOSED, NO_PROGRAM, then NO_MEMORY or NO_VARIABLE
  *     narbeddo_about, narbeddo_path      REFUSED, NO_MEMORY or NO_UNIT; of a path also NO_ROOM
@@ -110,6 +110,12 @@ typedef struct narbeddo_engraved {
     int32_t max;      /* the greatest load (Max), in units of the last decimal */
     int32_t e;        /* the scale interval (e), in units of the last decimal */
 } narbeddo_engraved;
+
+/* The digest of a plate: SHA-256 of its seven lines. */
+typedef struct narbeddo_digest {
+    uint32_t status;
+    uint8_t bytes[32];   /* zeros of a closed scale */
+} narbeddo_digest;
 
 /* What the indicator shows, for a display. Weights are in units of the plate's last decimal, and 0 while it is not valid. */
 typedef struct narbeddo_reading {
@@ -240,6 +246,14 @@ narbeddo_reading narbeddo_read(const narbeddo_scale *scale);
         || \result.status == NARBEDDO_CLOSED && \result.e == 0 && \result.max == 0;
     ensures ReportsEngraved: 0 <= \result.decimals <= 3; */
 narbeddo_engraved narbeddo_plate(const narbeddo_scale *scale);
+
+/* The digest of the plate's seven values, for a display next to what `narbeddo_identify` returns: that names the software, this the parameters.
+ * It is what `sha256sum` gives of a file with the lines `unit = "kg"`, `decimals = 3`, `max = 15000`, `e = 5`, `zero_counts = 10000`,
+ * `span_counts = 600000`, `window = 4`, each ended by a line feed, with the values of this plate. */
+/*@ requires narbeddo_is_readable(scale);
+    assigns \result \from *scale;
+    ensures ReportsDigest: \result.status == NARBEDDO_DONE || \result.status == NARBEDDO_CLOSED && (\forall integer i; 0 <= i < 32 ==> \result.bytes[i] == 0); */
+narbeddo_digest narbeddo_plate_digest(const narbeddo_scale *scale);
 
 /* The value of a variable of the program. */
 typedef struct narbeddo_variable {

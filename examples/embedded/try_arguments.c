@@ -88,6 +88,8 @@ static void closed(narbeddo_scale *scale)
     is("scan of a closed scale", narbeddo_scan(scale, 0).status, NARBEDDO_CLOSED);
     is("reading of a closed scale", narbeddo_read(scale).status, NARBEDDO_CLOSED);
     is("plate of a closed scale", narbeddo_plate(scale).status, NARBEDDO_CLOSED);
+    is("digest of a closed scale", narbeddo_plate_digest(scale).status, NARBEDDO_CLOSED);
+    is("bytes of a closed scale's digest", narbeddo_plate_digest(scale).bytes[31], 0);
     is("load into a closed scale", narbeddo_load(scale, text, 0).status, NARBEDDO_CLOSED);
     is("change of a closed scale", narbeddo_change(scale, text, 0).status, NARBEDDO_CLOSED);
     is("value of a closed scale", narbeddo_value(scale, text, 0).status, NARBEDDO_CLOSED);

@@ -13,5 +13,7 @@ pub use changes::{narbeddo_change, narbeddo_close, narbeddo_load, narbeddo_open}
 pub use identifying::narbeddo_identify;
 pub use making::{narbeddo_make, narbeddo_size};
 pub use programs::{narbeddo_about, narbeddo_path};
-pub use readings::{narbeddo_plate, narbeddo_prelude, narbeddo_read, narbeddo_value};
+pub use readings::{
+    narbeddo_plate, narbeddo_plate_digest, narbeddo_prelude, narbeddo_read, narbeddo_value,
+};
 pub use rows::{narbeddo_byte, narbeddo_inputs, narbeddo_sample, narbeddo_scan};

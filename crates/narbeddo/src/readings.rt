@@ -4,11 +4,12 @@ ghost use Rattle.std.specs.Ptr.{lies_at};
 ghost use Rattle.wc_scale.specs.contracts.scale.Scale.{the_row};
 ghost use Rattle.std.specs.Prelude.{◌≡◌};
 ghost use Rattle.wc_scale.specs.Calls.{ShowsNoPlate, ShowsNothing, ReportsEngraved, ReportsReading};
+ghost use Rattle.wc_scale.specs.PlateDigests.{ReportsDigest, ShowsNoDigest};
 ghost use Rattle.wc_scale.specs.Preludes.{HasZerosBesides, HoldsNothing, ReportsPrelude};
 ghost use Rattle.wc_scale.specs.Representation.{IsClosed};
 ghost use Rattle.wc_scale.specs.Values.{RefusesValue, ReportsValue};
 
-use wc_scale::{Engraved, PreludeAnswer, Reading, Scale, VariableRead};
+use wc_scale::{Engraved, PlateDigest, PreludeAnswer, Reading, Scale, VariableRead};
 
 /// What the indicator shows. The scale stays as it is.
 fn reading_of(scale: &mut Scale) -> Reading
@@ -50,6 +51,27 @@ pub unsafe extern "C" fn narbeddo_plate(scale: *mut u8) -> Engraved
         × (after ≡ before) ⌝) }
 {
     engraved_of(&mut *(scale as *mut Scale))
+}
+
+/// The digest of the plate. The scale stays as it is.
+fn plate_digest_of(scale: &mut Scale) -> PlateDigest
+    ensures reports { ReportsDigest scale.old result }
+    ensures closed { IsClosed scale.old → ShowsNoDigest result }
+    ensures kept { scale.new ≡ scale.old }
+{
+    scale.plate_digest()
+}
+
+/// The digest of the plate.
+#[unsafe(no_mangle)]
+pub unsafe extern "C" fn narbeddo_plate_digest(scale: *mut u8) -> PlateDigest
+    ghost before: { Scale }
+    requires* { sem 𝓛 (lies_at the_row full_share scale before) }
+    ensures* { ∃ₛ (λ (after : Scale). sem 𝓛 (lies_at the_row full_share scale after)
+        ∗ ⌜ (ReportsDigest before result) × (IsClosed before → ShowsNoDigest result)
+        × (after ≡ before) ⌝) }
+{
+    plate_digest_of(&mut *(scale as *mut Scale))
 }
 
 /// What brings a new scale of the same plate to the state of the scale. The scale stays as it is.

@@ -6,8 +6,8 @@ macro_rules! with_constants {
         $macro!(
             "0.1.0",
             "rattle-kit-13 logic dac8208d650f15bf",
-            "447321745f2b4cf931f5c8aa3776e801da89d23ba1d535ed9c2e088528bad28d",
-            "02bbf2361765de53498db54e5b92f6964290fa815310548ac564994068043d4a"
+            "24a004b73f18eb4df85ec3c3a7301333c6ff8db84e420eb5ea90a2ea11395ccc",
+            "e9d96e12606ef52ce2a46554cebbcb2d5ca8e60bc07876547b2ee0f00ddcae92"
         )
     };
 }

@@ -5,5 +5,6 @@ pub mod Opening
 pub mod Programs
 pub mod Refusals
 pub mod Representation
+pub mod PlateDigests
 pub mod Preludes
 pub mod Values

@@ -8,6 +8,7 @@ mod beginning;
 mod changing;
 mod line;
 mod opening;
+mod plate_digests;
 mod prelude_answer;
 mod reading;
 mod results;
@@ -18,8 +19,8 @@ mod units;
 mod values;
 
 pub use results::{
-    Answer, Engraved, PathAnswer, PreludeAnswer, Reading, Refusal, Scanned, UnitAnswer,
-    VariableRead,
+    Answer, Engraved, PathAnswer, PlateDigest, PreludeAnswer, Reading, Refusal, Scanned,
+    UnitAnswer, VariableRead,
 };
 pub use scale::Scale;
 pub use statuses::{

@@ -99,6 +99,16 @@ pub struct Engraved {
     pub e: i32,
 }
 
+/// The digest of the plate of a scale, and a status.
+#[repr(C)]
+#[derive(Clone, Copy)]
+pub struct PlateDigest {
+    /// The status.
+    pub status: u32,
+    /// SHA-256 of the plate's lines; zeros of a closed scale.
+    pub bytes: [u8; 32],
+}
+
 /// The value of a variable of the program: a status, the kind of the value, and its number.
 #[repr(C)]
 #[derive(Clone, Copy)]
