@@ -325,10 +325,12 @@ function firstAfter(moments, ms) {
 const firstOf = run => Math.min(run.rows?.[0]?.ms ?? Infinity, run.count ? run.ms(0) : Infinity, 1e15);
 const lastOf = run => Math.max(run.rows?.at(-1)?.ms ?? 0, run.count ? run.ms(run.count - 1) : 0);
 
-// The lanes of a run: requests, what changed of inputs and outputs, and other names that the user has chosen; `chosen` maps names to whether.
-export function lanesOf(run, chosen) {
+// The lanes of a run: requests, what changed of inputs and outputs in it or in the run that is kept, or differs between them, and other names
+// that the user has chosen; `chosen` maps names to whether.
+export function lanesOf(run, chosen, before) {
   const lanes = run.host.length ? [{ name: "host", isHost: true, isBit: true }] : [];
-  const image = run.names.filter(name => /^%(IX0|QX|QD)/.test(name) && (chosen.get(name) ?? !run.isFlat(name)));
+  const isStill = name => run.isFlat(name) && (!before?.count || before.isFlat(name) && Object.is(before.value(name, 0), run.value(name, 0)));
+  const image = run.names.filter(name => /^%(IX0|QX|QD)/.test(name) && (chosen.get(name) ?? !isStill(name)));
   const names = [...image, ...[...chosen.keys()].filter(name => chosen.get(name) && run.names.includes(name) && !image.includes(name))];
   return [...lanes, ...names.slice(0, 40).map(name => ({ name, isBit: run.typeOf(name) === "BOOL" }))];
 }

@@ -57,15 +57,17 @@ export async function readFiles(files) {
     texts[place] = text;
     said.push(`${name} is the ${place === "next" ? "next program" : place}${remark}`);
   };
+  let isJob = false;
   for (const file of files) {
     const name = shownText(file.name), found = textOf(await file.arrayBuffer()), kind = found && kindOf(file.name, found.text);
     if (!kind) said.push(whyNot(name, found));
     else if (kind !== "job") take(kind, found.text, name, found.remark);
     else {
       for (const [part, own] of Object.entries(sectionsOf(found.text))) take(part, own, `the ${part} of ${name}`);
-      // a job is a whole run: without its own it has no next program
-      texts.next ??= "";
+      isJob = true;
     }
   }
+  // a job is a whole run: without its own it has no next program, and its log is of no scenario
+  if (isJob) { texts.next ??= ""; texts.scenario ??= ""; }
   return { texts, said: said.join("; ") };
 }

@@ -59,7 +59,7 @@ class Page {
   build() {
     $("language_help").append(languageHelp(FIELDS));
     $("example").append(element("option", { value: "empty" }, "empty: begin with a program of three lines"), ...Object.entries(EXAMPLES).map(([name, { title }]) => element("option", { value: name }, `${name}: ${title}`)));
-    $("example").onchange = event => { if (event.target.value) this.takeExample(event.target.value, true); event.target.value = ""; };
+    $("example").onchange = event => { const name = event.target.value; event.target.value = ""; if (name) this.chooseExample(name); };
     $("open").onchange = event => { this.openFiles([...event.target.files]); event.target.value = ""; };
     $("run").onclick = () => this.run();
     $("stop").onclick = () => this.runner.stop();
@@ -149,6 +149,12 @@ class Page {
     const bringBack = () => { this.old = null; this.replace(old, "it is here again"); };
     say(said, ...(old ? [" ", button("bring back what was written", bringBack, { className: "small" })] : []));
     return done;
+  }
+
+  async chooseExample(name) {
+    const names = listed(this.work.unsaved.map(it => `the ${LONG_NAMES[it] ?? it}`));
+    if (names && await ask(`What is written here is not saved, and would be replaced: ${names}.`, ["Replace", "Cancel"]) !== "Replace") { say("the example is not taken"); return; }
+    this.takeExample(name, true);
   }
 
   takeExample(name, isChosen = false) {

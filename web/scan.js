@@ -112,7 +112,9 @@ function reveal(place, row) {
   row.classList.add("hit");
   const box = place.getBoundingClientRect(), its = row.getBoundingClientRect();
   if (its.top < box.top || its.bottom > box.bottom) place.scrollTop += its.top - box.top - place.clientHeight / 2;
-  if (box.bottom > innerHeight || box.top < 0) place.scrollIntoView({ block: "nearest" });
+  // no farther than needed, so that the curves stay in view where they can
+  const { top, bottom } = row.getBoundingClientRect();
+  if (bottom > innerHeight || top < 0) row.scrollIntoView({ block: "nearest" });
 }
 
 // The lines of the text of a scan, with what each gave.

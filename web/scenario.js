@@ -16,7 +16,7 @@ export class Mistake extends Error {
 // A decimal number as a whole number of 10^-12.
 export function decimal(text) {
   const found = /^(-?)(\d{1,12})(?:\.(\d{1,9}))?$/.exec(text);
-  if (!found) throw `\`${text}\` is not a number`;
+  if (!found) throw `\`${text}\` is not a number${/^-?\d+,\d+$/.test(text) ? `: write a point, \`${text.replace(",", ".")}\`` : ""}`;
   const value = BigInt(found[2] + (found[3] ?? "").padEnd(PLACES, "0"));
   return found[1] ? -value : value;
 }
@@ -152,10 +152,32 @@ function readSpan(made, words, line) {
   }
 }
 
-// The last moment of the scenario: the one it names, or a second after the last that is named.
-export function endOf(made) {
+// The last moment that a line names but the one of its end; 0 if there is none.
+function lastNamed(made) {
   const named = [...made.segments.map(segment => segment.to), ...[...made.inputs, ...made.requests, ...made.changes].map(event => event.at)];
-  return made.until ?? named.reduce((most, at) => Math.max(most, at), 0) + 1000;
+  return named.reduce((most, at) => Math.max(most, at), 0);
+}
+
+// The last moment of the scenario: the one it names, or a second after the last that is named.
+export const endOf = made => made.until ?? lastNamed(made) + 1000;
+
+// A second at which nothing begins yet, within the scenario: 1 if there is none, or if the scenario has a mistake.
+export function freeSecond(text) {
+  let made;
+  try { made = readScenario(text); } catch { return 1; }
+  const next = Math.ceil(lastNamed(made) / 1000) || 1;
+  return made.until !== null && next * 1000 >= made.until ? 1 : next;
+}
+
+// What is likely a mistake: lines that begin after the end, and weights within a slope that another line began. Each line is named once.
+export function remarksOf(made) {
+  const { until } = made, events = [...made.segments.map(it => ({ ...it, at: it.from })), ...made.inputs, ...made.requests, ...made.changes];
+  const late = until === null ? [] : events.filter(it => it.at > until).map(({ line }) => ({ line, sentence: `begins after the end, which is at ${until} ms: it is left out` }));
+  const within = inTime(made.segments).flatMap((it, place, all) => place && all[place - 1].to > it.from && all[place - 1].from < it.from
+    ? [{ line: it.line, sentence: `begins within the slope of line ${all[place - 1].line}, which goes no further` }] : []);
+  const found = new Map();
+  for (const remark of [...late, ...within]) if (!found.has(remark.line)) found.set(remark.line, remark);
+  return [...found.values()].sort((a, b) => a.line - b.line);
 }
 
 const inTime = segments => inOrder(segments.map(segment => ({ ...segment, at: segment.from })));

@@ -26,8 +26,8 @@ export function asked(run, text) {
   if (quoted) return { answer: quoted[1].toLowerCase() };
   const scan = /^scan\s+(\d+)$/i.exec(words), line = /^(?:line\s+)?(\d+)$/i.exec(words), moment = timeOf(words);
   if (scan) return scanOf(run, Number(scan[1]));
-  if (line) return { line: Number(line[1]) };
-  if (moment !== null) return moment > run.ms(run.count - 1) ? { fault: `the last scan is at ${timeText(run.ms(run.count - 1))}` } : { index: run.scanAt(moment) };
+  if (line) return lineOf(run, Number(line[1]));
+  if (moment !== null) return momentOf(run, moment);
   const compared = /^(.+?)\s*(<=|>=|<>|!=|==|:=|=|<|>)\s*(.+)$/.exec(words), typed = (compared ? compared[1] : words).trim(), name = run.nameOf(typed);
   if (!name) { const near = run.near(typed); return { fault: `the run has no ${typed}${near.length ? `: did you mean ${near.join(" or ")}?` : ""}` }; }
   if (!compared) return { name };
@@ -35,6 +35,17 @@ export function asked(run, text) {
   if (typeof value === "string") return { fault: value };
   if (!Number.isInteger(value) && /^(=|<>)$/.test(sign)) return { fault: `no ${name} is ${compared[3]}: the plate shows ${run.weight(1)} at least` };
   return { name, sign, value, said: `${name} ${sign} ${Number.isInteger(value) ? run.text(name, value) : compared[3]}: ` };
+}
+
+function momentOf(run, ms) {
+  const first = run.ms(0), last = run.ms(run.count - 1);
+  if (ms < first) return { fault: `the first scan is at ${timeText(first)}` };
+  return ms > last ? { fault: `the last scan is at ${timeText(last)}` } : { index: run.scanAt(ms) };
+}
+
+function lineOf(run, line) {
+  const last = Math.max(...[run.texts.program, run.texts.next].map(text => text.replace(/\n$/, "").split("\n").length));
+  return line > 0 && line <= last ? { line } : { fault: `there is no line ${line}: the last one is ${last}` };
 }
 
 function scanOf(run, number) {

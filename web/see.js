@@ -65,7 +65,7 @@ export class See {
     this.go(ms === null ? 0 : run.scanAt(ms));
   }
 
-  draw() { this.curves.set(this.run, this.before, lanesOf(this.run, this.chosen)); }
+  draw() { this.curves.set(this.run, this.before, lanesOf(this.run, this.chosen, this.before)); }
 
   choose(name, is) {
     this.chosen.set(name, is);
@@ -125,12 +125,21 @@ export class See {
     $("found").textContent = "searching …";
     const hit = await find(this.caller, run, what, this.at, step);
     if (this.run !== run) return;
-    $("found").textContent = (what.said ?? "") + (hit ? `found at ${timeText(hit.ms ?? run.ms(hit.index))}` : step > 0 ? "none after the cursor" : "none before the cursor");
+    const said = hit ? `found at ${timeText(hit.ms ?? run.ms(hit.index))}` : await this.elsewhere(run, what, step);
+    if (this.run !== run) return;
+    $("found").textContent = (what.said ?? "") + said;
     if (!hit) return;
     this.go(hit.index);
     if (what.name) this.values.reveal(what.name);
     else if (what.line) this.lines.reveal(what.line);
     else if (what.answer) this.host.reveal(hit.ms);
+  }
+
+  // Of what is not found in one direction: the nearest one in the other.
+  async elsewhere(run, what, step) {
+    const [side, button] = step > 0 ? ["after", "Previous"] : ["before", "Next"], other = await find(this.caller, run, what, this.at + step, -step);
+    if (!other) return what.line ? `line ${what.line} runs in no scan` : "nowhere in this run";
+    return `none ${side} the cursor: ${other.index === this.at ? "it is here" : `${button} goes to the one at ${timeText(other.ms ?? run.ms(other.index))}`}`;
   }
 
   // whether weights of both runs are counted in the same unit

@@ -4,16 +4,18 @@ import { Editor, MOST_SHOWN } from "./editor.js";
 import { PlateForm } from "./plate_view.js";
 import { readPlate } from "./plate.js";
 import { Sketch, withDrawn } from "./sketch.js";
-import { makeLog, Mistake } from "./scenario.js";
+import { makeLog, readScenario, freeSecond, remarksOf, Mistake } from "./scenario.js";
 import { shownMessages, showMessages, unitsOf, showUnits, pathLines } from "./messages.js";
 import { HEADING } from "./log.js";
 
 const TABS = { program: "1 Program", plate: "2 Plate", scenario: "3 Scenario", log: "Log", next: "Next program" };
 const MODES = { program: "il", next: "il", plate: "plate", scenario: "scenario", log: "log" };
 const KEPT = "narbeddo texts";
+// the lines that buttons insert at a moment
 const INSERTED = {
-  "+ step": "at 1 s weight WEIGHT", "+ slope": "from 1 to 3 s weight from 0 to WEIGHT", "+ button": "from 1 to 1.3 s input 0 on", "+ input on": "at 1 s input 0 on",
-  "+ request": "at 1 s request W", "+ end": "until 10 s",
+  "+ step": (at, weight) => `at ${at} s weight ${weight}`, "+ slope": (at, weight) => `from ${at} to ${at + 2} s weight from 0 to ${weight}`,
+  "+ button": at => `from ${at} to ${(at + 0.3).toFixed(1)} s input 0 on`, "+ input on": at => `at ${at} s input 0 on`, "+ request": at => `at ${at} s request W`,
+  "+ end": at => `until ${Math.max(10, at + 2)} s`,
 };
 // a tenth of Max in whole intervals
 const tenthOf = ({ max, e, decimals, unit }) => `${weightText(Math.max(1, Math.round(max / e / 10)) * e, decimals)} ${unit}`;
@@ -48,7 +50,7 @@ export class Work {
   buildTools() {
     const tools = Object.entries(INSERTED).map(([label, line]) => button(label, () => {
       const plate = readPlate(this.text("plate")), text = this.text("scenario").replace(/\s*$/, "\n");
-      this.editors.scenario.change(text.replace(/^\n$/, "") + line.replace("WEIGHT", plate && this.accepted.plate ? tenthOf(plate) : "1 kg") + "\n");
+      this.editors.scenario.change(text.replace(/^\n$/, "") + line(freeSecond(text), plate && this.accepted.plate ? tenthOf(plate) : "1 kg") + "\n");
       this.editors.scenario.goTo(this.text("scenario").split("\n").length - 1);
     }, { className: "small" }));
     $("sketch_tools").replaceChildren(...tools, element("span", { className: "hint" }, "or drag on the picture to draw the weight"));
@@ -58,7 +60,13 @@ export class Work {
   drawn(from, to, lines) {
     const { text, said } = withDrawn(this.text("scenario"), from, to, lines, this.sketch.plate.unit);
     if (text) this.editors.scenario.change(text);
-    this.say(said, ...(text ? [" ", button("undo", () => { this.editors.scenario.undo(); this.say("undone"); }, { className: "small" })] : []));
+    const drawn = this.text("scenario");
+    const undo = () => {
+      if (this.text("scenario") !== drawn) { this.say("the scenario was changed after the drawing: Ctrl+Z in its text undoes step by step"); return; }
+      this.editors.scenario.undo();
+      this.say("undone");
+    };
+    this.say(said, ...(text ? [" ", button("undo", undo, { className: "small" })] : []));
   }
 
   open(name) {
@@ -87,7 +95,7 @@ export class Work {
       this.editors[name].text = texts[name] ?? "";
       this.saved[name] = texts.unsaved?.includes(name) ? null : this.text(name);
     }
-    if (texts.scenario !== undefined) $("by_scenario").checked = true;
+    if (texts.scenario?.trim()) $("by_scenario").checked = true;
     else if (texts.log !== undefined) $("by_log").checked = true;
     if (texts.isByScenario !== undefined) $(texts.isByScenario ? "by_scenario" : "by_log").checked = true;
     return this.check();
@@ -169,11 +177,12 @@ export class Work {
     this.sketch.show(text, plate);
     this.editors.log.isReadOnly = this.isByScenario;
     $("log_hint").textContent = this.isByScenario ? "Made of the scenario. Choose the line above to type or paste one." : "A row has a time in ms, a kind and data: C counts, L bytes of the host in hex, I inputs in hex, S a scan, P the next program.";
-    let mistake = null;
+    let mistake = null, remarks = [];
     if (this.isByScenario) {
       try {
         if (!plate) throw new Mistake(0, "the plate's values cannot be read: write them as seven lines of key = value");
         this.takeMade(makeLog(text, plate));
+        remarks = remarksOf(readScenario(text)).map(it => ({ ...it, column: 1, endColumn: 200, isWarning: true }));
       } catch (error) {
         if (!(error instanceof Mistake)) throw error;
         mistake = { line: error.line || undefined, column: error.line ? 1 : undefined, endColumn: 200, sentence: error.sentence, isWarning: false };
@@ -182,8 +191,9 @@ export class Work {
     if (this.editors.log.isCut) $("log_hint").textContent += ` It has ${this.text("log").split("\n").length - 1} lines: the first ${MOST_SHOWN} are shown, and it is too long to be edited here.`;
     this.accepted.scenario = !mistake;
     this.mistake = mistake && (mistake.line ? `line ${mistake.line}: ` : "") + mistake.sentence;
-    showMessages($("messages_scenario"), mistake ? [mistake] : [], { goTo: line => this.editors.scenario.goTo(line), where: it => it.line ? `line ${it.line}` : "" });
-    this.editors.scenario.showMessages(mistake ? [mistake] : []);
+    const shown = mistake ? [mistake] : remarks;
+    showMessages($("messages_scenario"), shown, { goTo: line => this.editors.scenario.goTo(line), where: it => it.line ? `line ${it.line}` : "" });
+    this.editors.scenario.showMessages(shown);
     this.mark("scenario", !mistake);
   }
 

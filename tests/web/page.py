@@ -91,17 +91,24 @@ class Page:
     def written(self, tab):
         return self.script("return document.querySelector(arguments[0] + ' .CodeMirror').CodeMirror.getValue()", f"#editor_{tab}")
 
-    def choose(self, example):
+    def choose(self, example, answer="Replace"):
         self.script("const list = document.getElementById('example'); list.value = arguments[0]; list.dispatchEvent(new Event('change'))", example)
+        question = self.question(answer)
         self.settle()
+        return question
+
+    def question(self, answer):
+        """Answers the question whether something that is not saved is replaced, if it is asked. Returns the question."""
+        question = self.script("return document.querySelector('dialog')?.innerText ?? ''")
+        if question and answer:
+            self.driver.find_element("xpath", f"//dialog//button[text()='{answer}']").click()
+        return question
 
     def files(self, *paths, answer="Replace"):
         """Opens files; to the question whether they replace what is not saved, if it comes, the answer is this one. Returns the question."""
         self.one("open").send_keys("\n".join(str(Path(path).resolve()) for path in paths))
         self.settle(0.4)
-        question = self.script("return document.querySelector('dialog')?.innerText ?? ''")
-        if question and answer:
-            self.driver.find_element("xpath", f"//dialog//button[text()='{answer}']").click()
+        question = self.question(answer)
         self.settle()
         return question
 

@@ -79,6 +79,13 @@ def search_faults(page, folder):
         yield f"an answer is not found: {page.text('found')}"
     if "no such" not in page.find("such") and "no such" not in page.text("found"):
         yield f"an unknown name: {page.text('found')!r}"
+    lines = page.written("program").rstrip("\n").count("\n") + 1
+    for text, back, part in (("fills.count", False, "none after the cursor"), ("fills.count", False, "Previous goes to"), ("“net”", True, "none before the cursor: Next goes to"), ("net > 100 kg", False, "nowhere in this run"),
+                             (str(lines + 1), False, f"the last one is {lines}"), (str(lines), False, f"line {lines} runs in no scan"), ("-5 s", False, "the first scan is at 0 ms")):
+        page.go(0 if back else 10**6)
+        page.find(text, back)
+        if part not in page.text("found"):
+            yield f"{text} finds {page.text('found')!r}, and not {part!r}"
     page.go(10**6)
     page.find("fills.count", back=True)
     if f"scan {first(lambda now, past: now['fills.count'] != past['fills.count'], back=True)} at " not in page.text("where"):
@@ -159,6 +166,13 @@ def kept_run_faults(page, folder):
     page.one("drop_before").click()
     if page.text("compared"):
         yield f"the run before is not forgotten: {page.text('compared')!r}"
+    page.choose("filling")
+    page.one("keep_before").click()
+    page.write("program", page.written("program").replace("%QX0.1", "%QX0.9"))
+    names = [it[0] for it in drawn(page, "plot", 600)]
+    if not {"%QX0.1", "%QX0.9"} <= set(names):
+        yield f"an output that changes in one of two runs has no lane: {names}"
+    page.one("drop_before").click()
 
 
 def meaning_faults(page, folder):

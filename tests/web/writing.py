@@ -77,6 +77,45 @@ def question_faults(page, folder):
         yield "a saved text has other ends of lines than its file"
 
 
+def example_faults(page, folder):
+    """An example does not take the place of what is not saved without a question; a job that is opened alone leaves no scenario of before."""
+    mine = "PROGRAM Mine\n    LD %IX0.1\n    ST %QX0.1\nEND_PROGRAM\n"
+    page.choose("filling")
+    if question := page.choose("batch"):
+        yield f"an example that nobody changed asks {question!r}"
+    page.write("program", mine)
+    question = page.choose("filling", answer="Cancel")
+    if "the program" not in question or page.written("program") != mine:
+        yield f"an example replaces what is not saved: {question!r}"
+    page.choose("filling")
+    if page.written("program") != (EXAMPLES / "filling" / "program.il").read_text():
+        yield "with `Replace` the program is not that of the example"
+    page.files(EXAMPLES / "first" / "job.txt")
+    if page.written("scenario") or not page.one("by_log").is_selected() or "scans" not in page.text("outcome"):
+        yield f"a job leaves the scenario {page.written('scenario')!r}: {page.text('outcome')}"
+
+
+def remark_faults(page, folder):
+    """Lines after the end and weights within a slope have a remark, and the scenario still runs; a comma in a number is explained."""
+    page.choose("filling")
+    page.write("scenario", "from 1 to 3 s weight from 0 to 1 kg\nat 2 s weight 2 kg\nat 7 s input 0 on\nfrom 8 to 9 s request W every 100 ms\nuntil 6 s\n")
+    said = page.text("messages_scenario")
+    for part in ("within the slope of line 1", "begins after the end, which is at 6000 ms"):
+        if part not in said:
+            yield f"the page says {said!r}, and not {part!r}"
+    if said.count("after the end") != 2 or page.text("stale") or "scans" not in page.text("outcome"):
+        yield f"remarks: {said!r}, {page.text('stale')!r}, {page.text('outcome')!r}"
+    page.write("scenario", "at 2,5 s weight 2 kg\n")
+    if "write a point, `2.5`" not in page.text("messages_scenario"):
+        yield f"a comma: {page.text('messages_scenario')!r}"
+    page.write("scenario", "at 1 s weight 1 kg\nuntil 9 s\n")
+    for label, line in (("+ button", "from 1 to 1.3 s input 0 on"), ("+ request", "at 2 s request W"), ("+ input on", "at 2 s input 0 on")):
+        page.driver.find_element("xpath", f"//button[text()='{label}']").click()
+        page.settle()
+        if page.written("scenario").rstrip("\n").split("\n")[-1] != line:
+            yield f"{label} writes {page.written('scenario')!r}"
+
+
 def saved_faults(page, folder):
     """A scenario with a mistake marks the run below it, and there is no log or job of it; a job is the run."""
     page.choose("filling")
@@ -135,7 +174,8 @@ def drawn_faults(page, folder):
         gone = [row for row in before.splitlines() if row not in now.splitlines()]
         if not all(row.strip() in said for row in gone) or "drawn from" not in said:
             yield f"{gone} are replaced, and the page says {said!r}"
-        page.driver.find_element("xpath", "//span[@id='said']/button").click()
+        undo = page.driver.find_element("xpath", "//span[@id='said']/button")
+        undo.click()
         page.settle()
         if page.written("scenario") != before:
             yield f"what was drawn is not undone: {page.written('scenario')!r}"
@@ -162,4 +202,4 @@ def interval_faults(page, folder):
                 yield f"{label} writes what is refused: {page.text('messages_scenario')}"
 
 
-TRIALS = (log_faults, question_faults, saved_faults, drawn_faults, interval_faults)
+TRIALS = (log_faults, question_faults, example_faults, remark_faults, saved_faults, drawn_faults, interval_faults)
