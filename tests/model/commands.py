@@ -1,10 +1,13 @@
 """The commands `check`, `run`, `line` and a job: standard output and exit status (docs/LOG.md, 3 to 5)."""
+import functools
+
 from .machine import Program, preview
 from .plate import MOST_BYTES, read_plate
 from .refusal import Refused
 from .runs import run
 
 
+@functools.lru_cache(maxsize=4)
 def read_program(content):
     """A program of the bytes of a file."""
     if len(content) > MOST_BYTES:

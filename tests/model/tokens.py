@@ -11,6 +11,9 @@ BELOW = {"h": 24, "m": 60, "s": 60, "ms": 1000}
 PART = re.compile(r"([0-9]+(?:_[0-9]+)*)(?:\.([0-9]{1,9}))?(ms|d|h|m|s)")
 DIGITS = {2: "01", 8: "0-7", 10: "0-9", 16: "0-9A-Fa-f"}
 SIGNS = (":=", "=>", "(", ")", ",", ":", ";", ".")
+LETTER, WORD, REST = re.compile("[A-Za-z_]"), re.compile("[A-Za-z0-9_]+"), re.compile("-?[A-Za-z0-9_#.]*")
+NUMBER, ADDRESS = re.compile("[+-]?[0-9][A-Za-z0-9_#.]*"), re.compile("%[A-Za-z0-9.]*")
+OPERATOR = re.compile("&[Nn](?![A-Za-z0-9_])|&")
 
 
 @dataclass
@@ -98,10 +101,10 @@ def comment_end(text, at, line):
 
 def word_token(text, at, line):
     """An identifier or a typed literal, and where it ends."""
-    run = re.compile("[A-Za-z0-9_]+").match(text, at)[0]
+    run = WORD.match(text, at)[0]
     end = at + len(run)
     if text[end : end + 1] == "#":
-        rest = re.compile("-?[A-Za-z0-9_#.]*").match(text, end + 1)[0]
+        rest = REST.match(text, end + 1)[0]
         return typed_literal(run, rest, line), end + 1 + len(rest)
     if "__" in run or run.endswith("_") or len(run) > 32:
         raise Refused(104, line)
@@ -110,7 +113,7 @@ def word_token(text, at, line):
 
 def other_token(text, at, line):
     """A number, an address, an operator or a sign, and where it ends."""
-    number = re.compile("[+-]?[0-9][A-Za-z0-9_#.]*").match(text, at)
+    number = NUMBER.match(text, at)
     if number:
         value = number_value(number[0])
         if value is None:
@@ -118,10 +121,10 @@ def other_token(text, at, line):
         return Token("number", value, line), number.end()
     if text[at] in "+-":
         raise Refused(105, line)
-    address = re.compile("%[A-Za-z0-9.]*").match(text, at)
+    address = ADDRESS.match(text, at)
     if address:
         return Token("address", address[0].upper(), line), address.end()
-    operator = re.compile("&[Nn](?![A-Za-z0-9_])|&").match(text, at)
+    operator = OPERATOR.match(text, at)
     if operator:
         return Token("&", "ANDN" if len(operator[0]) == 2 else "AND", line), operator.end()
     for sign in SIGNS:
@@ -134,18 +137,17 @@ def tokens(content):
     """The tokens of a text, given as bytes."""
     if len(content) > MOST_BYTES:
         raise Refused(107, 0)
-    text, at, found = content.decode("latin-1"), 0, []
+    text, at, line, found = content.decode("latin-1"), 0, 1, []
     while at < len(text):
-        line = 1 + text.count("\n", 0, at)
         if text[at] == "\n":
             found.append(Token("eol", "\n", line))
-            at += 1
+            at, line = at + 1, line + 1
         elif text[at] in " \t" or text.startswith("\r\n", at):
             at += 1
         elif text.startswith("(*", at):
-            at = comment_end(text, at, line)
+            end = comment_end(text, at, line)
+            at, line = end, line + text.count("\n", at, end)
         else:
-            letter = re.match("[A-Za-z_]", text[at])
-            token, at = (word_token if letter else other_token)(text, at, line)
+            token, at = (word_token if LETTER.match(text, at) else other_token)(text, at, line)
             found.append(token)
     return found
