@@ -68,6 +68,6 @@ OfProgramRuns o plate (Some program) next log said =
     IfSome plate.bytes (λ table. IfSome program.bytes (λ text. IfKnown next (λ known. IfSome log.bytes
     (λ bytes. said (RunsByTheHeadline o table text known bytes)))))
 
--- likewise for the inputs of a run
+-- what is known of the inputs of a run
 abbrev pub OfRunsByTheHeadline : Observed → InputStates → ((JobAnswer → Type 0) → Type 0) → Type 0
 OfRunsByTheHeadline o inputs said = OfProgramRuns o inputs.plate inputs.program inputs.next inputs.log said
