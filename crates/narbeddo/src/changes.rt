@@ -2,7 +2,8 @@ ghost use types.Logic.{sem};
 ghost use Rattle.std.specs.Borrow.{full_share};
 ghost use Rattle.std.specs.Ptr.{lies_at};
 ghost use Rattle.wc_scale.specs.contracts.scale.Scale.{the_row};
-ghost use Rattle.std.specs.Prelude.{◌≡◌};
+ghost use Rattle.std.specs.Prelude.{◌≡◌, []};
+ghost use Rattle.wc_laws_calls.specs.LineCalls.{Change, IsStep, Load};
 ghost use Rattle.wc_scale.specs.Calls.{RefusesOpen, TakesOpen};
 ghost use Rattle.wc_scale.specs.Programs.{RefusesChange, RefusesLoad, TakesChange, TakesLoad};
 ghost use Rattle.wc_scale.specs.Representation.{IsEmptied};
@@ -31,6 +32,15 @@ pub unsafe extern "C" fn narbeddo_close(scale: *mut u8) -> u32
     (&mut *(scale as *mut Scale)).close()
 }
 
+/// Loads a program, which leaves the line as it is.
+fn load_of(scale: &mut Scale, text: &'static [u8]) -> Refusal
+    ensures taken { TakesLoad scale.old scale.new text.now result }
+    ensures refused { RefusesLoad scale.old scale.new text.now result }
+    ensures line { IsStep (Load text.now) scale.old scale.new [] }
+{
+    scale.load(text)
+}
+
 /// Loads a program, which starts over. Its text is not copied.
 #[unsafe(no_mangle)]
 pub unsafe extern "C" fn narbeddo_load(scale: *mut u8, text: &'static [u8]) -> Refusal
@@ -38,9 +48,19 @@ pub unsafe extern "C" fn narbeddo_load(scale: *mut u8, text: &'static [u8]) -> R
     requires* { sem 𝓛 (lies_at the_row full_share scale before) }
     ensures* { ∃ₛ (λ (after : Scale). sem 𝓛 (lies_at the_row full_share scale after)
         ∗ ⌜ (TakesLoad before after text.now result)
-        × (RefusesLoad before after text.now result) ⌝) }
+        × (RefusesLoad before after text.now result)
+        × (IsStep (Load text.now) before after []) ⌝) }
 {
-    (&mut *(scale as *mut Scale)).load(text)
+    load_of(&mut *(scale as *mut Scale), text)
+}
+
+/// Changes the program between two scans, which leaves the line as it is.
+fn change_of(scale: &mut Scale, text: &'static [u8]) -> Refusal
+    ensures taken { TakesChange scale.old scale.new text.now result }
+    ensures refused { RefusesChange scale.old scale.new text.now result }
+    ensures line { IsStep (Change text.now) scale.old scale.new [] }
+{
+    scale.change(text)
 }
 
 /// Changes the program between two scans. Its text is not copied.
@@ -50,7 +70,8 @@ pub unsafe extern "C" fn narbeddo_change(scale: *mut u8, text: &'static [u8]) ->
     requires* { sem 𝓛 (lies_at the_row full_share scale before) }
     ensures* { ∃ₛ (λ (after : Scale). sem 𝓛 (lies_at the_row full_share scale after)
         ∗ ⌜ (TakesChange before after text.now result)
-        × (RefusesChange before after text.now result) ⌝) }
+        × (RefusesChange before after text.now result)
+        × (IsStep (Change text.now) before after []) ⌝) }
 {
-    (&mut *(scale as *mut Scale)).change(text)
+    change_of(&mut *(scale as *mut Scale), text)
 }

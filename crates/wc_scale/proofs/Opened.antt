@@ -1,10 +1,11 @@
 -- A call of what is open in a scale is a call of the scale.
 use Rattle.std.proofs.Common.{◌≡◌, ◌≤◌, ℕ, List, Option, Some, IfSome, sym, subst}
 use Rattle.wc_controller.specs.Loads.{IsNeverRefused}
+use Rattle.wc_laws_histories.proofs.Going.{goes_on}
 use Rattle.wc_machine.specs.Machines.{MachineState, RepresentsText}
 use Rattle.wc_model.specs.Instrument.Plates.{PlateData}
 use Rattle.wc_model.specs.Language.Tree.{Text}
-use Rattle.wc_open_scale.specs.Changing.{IsChangedTo as IsOpenChangedTo}
+use Rattle.wc_open_scale.specs.Changing.{IsChangedTo as IsOpenChangedTo, changed_program}
 use Rattle.wc_open_scale.specs.Coming.{with_program}
 use Rattle.wc_open_scale.specs.Representation.{Came, Goes, Running, Represents as OpenRepresents, started}
 use Rattle.wc_open_scale.specs.declared.open_scale.OpenScale.{OpenScale}
@@ -38,6 +39,11 @@ pub is_changed : (old : Scale) (opened new : OpenScale SlotStore) (text : Text) 
 is_changed old opened new text is changed =
     record {
       represents = λ plate came running runs at. changed.represents plate came running runs (is_allowed_in old.opened opened plate came is at);
+      histories = λ plate came running runs at. record {
+        store = (changed_program running text).store;
+        represents = changed.represents plate came running runs (is_allowed_in old.opened opened plate came is at);
+        histories = goes_on running.text text running.store;
+      };
       last = λ ms early. changed.last ms (subst (λ held. IfSome (machine_in held) (λ machine. machine.last ≤ ms)) is early);
       stays = λ ms late. subst (λ held. IfSome (machine_in held) (λ machine. machine.last ≤ ms)) (sym is) (changed.stays ms late);
     }

@@ -1,8 +1,10 @@
 -- What a call with a program's text does to a scale and what it answers. (The profile's own.)
 use Rattle.std.specs.Prelude.{◌≡◌, ℕ, ◌≤◌, List, IfSome, Some}
 use Rattle.wc_controller.specs.Loads.{IsNeverRefused}
+use Rattle.wc_laws_histories.specs.Laws.{HistoriesGoOn}
 use Rattle.wc_model.specs.Instrument.Plates.{PlateData}
 use Rattle.wc_model.specs.Language.Loading.{IsLoaded}
+use Rattle.wc_model.specs.Language.Store.{Store}
 use Rattle.wc_model.specs.Language.Tree.{Text}
 use Rattle.wc_open_scale.specs.Changing.{changed_program}
 use Rattle.wc_open_scale.specs.Coming.{with_program}
@@ -34,10 +36,18 @@ pub record RefusesLoad (old new : Scale) (bytes : List ℕ) (reported : Refusal)
   pub bare : IsBare reported
   pub else : ¬ (IsClosed old) → reported.status ≤ 2
 
--- the store of the new text is what is carried over to it, and the moment of the last scan stays
+-- the scale has the text with a store in which the history of each standard block goes on that the program before had
+pub record GoesOnWith (new : Scale) (plate : PlateData) (came : Came) (before : Running) (text : Text) : Type 0 where
+  pub store : Store
+  pub represents : Represents new plate (with_program (record { text = text; store = store }) came)
+  pub histories : HistoriesGoOn before.text before.store text store
+
+-- the store of the new text is what is carried over to it, histories go on, and the moment of the last scan stays
 pub record IsChangedTo (old new : Scale) (text : Text) : Type 0 where
   pub represents : (plate : PlateData) (came : Came) (running : Running) → came.program ≡ Some running → Represents old plate came →
       Represents new plate (with_program (changed_program running text) came)
+  pub histories : (plate : PlateData) (came : Came) (running : Running) → came.program ≡ Some running → Represents old plate came →
+      GoesOnWith new plate came running text
   pub last : (ms : ℕ) → IsNotAfter old ms → IsNotAfter new ms
   pub stays : (ms : ℕ) → IsNotAfter new ms → IsNotAfter old ms
 

@@ -1,5 +1,6 @@
--- The scale at the pointer is borrowed for one call of `change`.
+-- The scale at the pointer is borrowed for one call of `change_of`.
 use Rattle.narbeddo.proofs.Steps.{[], ◌∷◌, ◌++◌, refl, proved, full_share, id⊢, sep, GName, ftrue, flft, flent, named, vptr, fact, tables, sem, Body, lft_new, lft_end, ‵, raw, ◌⊛◌, some, later, prop, ◌$◌, ◌∵◌, !, qed, done, move, keep, use1, use2, use3, split, join, fsplit, pick, show, await, regoal, suffices, frame, group, enter, of_opd, addr, stop, no_more, and_then, returns, alloc_all, pass_all, free_all, look_at, get, through, sets, lands_as, u8, yes, Is, shows, lends_ref, ref_back, mem, ShrSlice, shr_slice_vals, shr_slice_Tells, shr_slice_Lawful, Ptr, RawPtr, block_ptr, lies_at, in_a_block, rawptr_vals, rawptr_Tells, MutRef, plain, shr_slice_of, name_of, nothing, heard, peeks, calls_at, lasts, triple_of, Stays, walk_of, says, stay_dropped, Goes-dropped, ends_at, framed, WpFn}
+use Rattle.wc_laws_calls.specs.LineCalls.{Change, IsStep}
 use Rattle.wc_scale.specs.contracts.scale.Scale.{the_row as R}
 use Rattle.wc_scale.specs.Programs.{TakesChange, RefusesChange}
 use Rattle.wc_scale.specs.contracts.results.Refusal.{the_row as T}
@@ -7,8 +8,8 @@ use Rattle.wc_scale.proofs.results.Refusal.TheLaws.{the_row_laws as T-laws}
 use Rattle.narbeddo.specs.contracts.changes.narbeddo_change as f
 use Rattle.narbeddo.proofs.changes.narbeddo_change.Statement.{statement}
 use Rattle.narbeddo.proofs.changes.narbeddo_change.Code as code
-use Rattle.wc_scale.specs.contracts.scale.Scale.change as g
-use Rattle.wc_scale.proofs.scale.Scale.change.Met.{met}
+use Rattle.narbeddo.specs.contracts.changes.change_of as g
+use Rattle.narbeddo.proofs.changes.change_of.Met.{met}
 
 pub narbeddo_change_spec : {M : Type 1} → statement M
 narbeddo_change_spec 𝓤 𝓛 𝓜 𝓡 wired =
@@ -33,17 +34,17 @@ narbeddo_change_spec 𝓤 𝓛 𝓜 𝓡 wired =
     let z : G.Ghost = (((α ∷ [], tt), (full_share, tt), tt, (record { ref_ptr = (b, o); ghost_name = δ; now = h }, (x, tt)), (vptr b o ∷ [], (shr_slice_vals x, tt))), tt) in
     nothing ! $ move ! (4 ∷ 0 ∷ []) $ join ! $ move ! (1 ∷ 0 ∷ []) $ join ! $ nothing ! $ move ! (3 ∷ 0 ∷ []) $ join ! $ join ! $
     nothing ! $ move ! (1 ∷ 0 ∷ []) $ use2 𝓛 (raw (G.pre z)) (id⊢ 𝓤 _) $
-    calls_at ! (framed 𝓤 𝓛.H 𝓜 (tables 𝓤 𝓛.H 𝓜 𝓡 𝓡.env)) G (met 𝓤 𝓛 𝓜 𝓡 (code.calls-wc_scale::scale::Scale::change 𝓡.env wired)) z
+    calls_at ! (framed 𝓤 𝓛.H 𝓜 (tables 𝓤 𝓛.H 𝓜 𝓡 𝓡.env)) G (met 𝓤 𝓛 𝓜 𝓡 (code.calls-narbeddo::changes::change_of 𝓡.env wired)) z
     (and_then ! (get ! refl) (and_then ! (get ! refl) (no_more !))) (λ v.
     use1 𝓛 (later (some (λ (r : T.Denot). ((‵ (flft (α ∷ []) full_share) ⊛ ‵ ftrue) ⊛ ‵ (T.own_val r (v ∷ []))) ⊛
-    some (λ (ws : (R.Denot × (Unit {0} × Unit {0}))). ‵ (lasts g.ended z.0.0 z.0.3 ws) ⊛ (raw (fact 𝓤 (TakesChange h ws.0 x.now r)) ⊛ raw (fact 𝓤 (RefusesChange h ws.0 x.now r))))))) (id⊢ 𝓤 _) $
+    some (λ (ws : (R.Denot × (Unit {0} × Unit {0}))). ‵ (lasts g.ended z.0.0 z.0.3 ws) ⊛ (raw (fact 𝓤 (TakesChange h ws.0 x.now r)) ⊛ (raw (fact 𝓤 (RefusesChange h ws.0 x.now r)) ⊛ raw (fact 𝓤 (IsStep (Change x.now) h ws.0 [])))))))) (id⊢ 𝓤 _) $
     await ! tt $ pick ! (λ r. split ! $ split ! $ split ! $ lft_end ! tt $
     -- [α is over; the other tokens; the result; its facts; what the lender keeps]
     move ! (2 ∷ []) $ peeks ! T (Is T) (shows 𝓛 T) r (v ∷ []) (λ is. lands_as ! refl refl ((T-laws.lawful 𝓛).typed r _ is).0 $
-    move ! (3 ∷ []) $ pick ! (λ ws. split ! $ move ! (1 ∷ []) $ split ! $ heard ! _ (λ f0. heard ! _ (λ f1. fsplit ! $ fsplit ! $
+    move ! (3 ∷ []) $ pick ! (λ ws. split ! $ move ! (1 ∷ []) $ split ! $ heard ! _ (λ f0. split ! $ heard ! _ (λ f1. heard ! _ (λ f2. fsplit ! $ fsplit ! $
     -- [the last value; its borrow; nothing; the result; α is over; the other tokens; what the lender keeps]
     move ! (4 ∷ 6 ∷ 0 ∷ []) $ use3 𝓛 (later (‵ (lies_at R full_share (block_ptr b o) ws.0))) (ref_back 𝓛 R (α ∷ []) δ ws.0 b o) $ await ! tt $
     returns ! (look_at ! 0 refl) $ free_all ! refl $ keep ! (3 ∷ 0 ∷ []) $
     suffices ! _ (ends_at 𝓛 f.ended stayed c (y (block_ptr b o)) v r (tt, (tt, tt)) (tt, (tt, tt))) $
     nothing ! $ nothing ! $ join ! $ nothing ! $ join ! $ nothing ! $ group ! 3 $ frame ! $
-    show ! (λ (k : R.Denot). sep 𝓤 (sem 𝓛 (lies_at R full_share (block_ptr b o) k)) (fact 𝓤 ((TakesChange h k x.now r) × (RefusesChange h k x.now r)))) ws.0 $ says ! (f0, f1) $ done !)))))))))))
+    show ! (λ (k : R.Denot). sep 𝓤 (sem 𝓛 (lies_at R full_share (block_ptr b o) k)) (fact 𝓤 ((TakesChange h k x.now r) × (RefusesChange h k x.now r) × (IsStep (Change x.now) h k [])))) ws.0 $ says ! (f0, f1, f2) $ done !))))))))))))

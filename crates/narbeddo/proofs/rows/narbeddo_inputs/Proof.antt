@@ -1,12 +1,13 @@
--- The scale at the pointer is borrowed for one call of `inputs`.
+-- The scale at the pointer is borrowed for one call of `inputs_of`.
 use Rattle.narbeddo.proofs.Steps.{ℕ, [], ◌∷◌, ◌++◌, refl, w16, w32, proved, full_share, id⊢, sep, GName, ftrue, flft, flent, named, vptr, fact, tables, sem, Body, lft_new, lft_end, ‵, raw, ◌⊛◌, some, later, prop, ◌$◌, ◌∵◌, !, qed, done, move, keep, drop, use1, use2, use3, split, join, fsplit, pick, show, await, regoal, suffices, frame, group, enter, of_opd, addr, stop, no_more, and_then, returns, alloc_all, pass_all, free_all, look_at, get, through, sets, lands_as, u16, u32, yes, Is, shows, lends_ref, ref_back, mem, uint_Makes, uint_vals, uint_Tells, uint_Lawful, Ptr, RawPtr, block_ptr, lies_at, in_a_block, rawptr_vals, rawptr_Tells, MutRef, plain, nothing, owned, heard, peeks, calls_at, lasts, on_entry, triple_of, Stays, walk_of, says, stay_dropped, Goes-dropped, ends_at, framed, WpFn}
+use Rattle.wc_laws_calls.specs.LineCalls.{Inputs, IsStep}
 use Rattle.wc_scale.specs.contracts.scale.Scale.{the_row as R}
 use Rattle.wc_scale.specs.Calls.{TakesInputs, RefusesInputs}
 use Rattle.narbeddo.specs.contracts.rows.narbeddo_inputs as f
 use Rattle.narbeddo.proofs.rows.narbeddo_inputs.Statement.{statement}
 use Rattle.narbeddo.proofs.rows.narbeddo_inputs.Code as code
-use Rattle.wc_scale.specs.contracts.scale.Scale.inputs as g
-use Rattle.wc_scale.proofs.scale.Scale.inputs.Met.{met}
+use Rattle.narbeddo.specs.contracts.rows.inputs_of as g
+use Rattle.narbeddo.proofs.rows.inputs_of.Met.{met}
 
 pub narbeddo_inputs_spec : {M : Type 1} → statement M
 narbeddo_inputs_spec 𝓤 𝓛 𝓜 𝓡 wired =
@@ -30,17 +31,17 @@ narbeddo_inputs_spec 𝓤 𝓛 𝓜 𝓡 wired =
     let z : G.Ghost = (((α ∷ [], tt), (full_share, tt), tt, (record { ref_ptr = (b, o); ghost_name = δ; now = h }, (x, tt)), (vptr b o ∷ [], (uint_vals w16 x, tt))), tt) in
     nothing ! $ owned ! u16 (Is u16) (uint_Makes 𝓛 w16) x _ are.1.0 $ join ! $ move ! (1 ∷ 0 ∷ []) $ join ! $ nothing ! $ move ! (3 ∷ 0 ∷ []) $ join ! $ join ! $
     nothing ! $ move ! (1 ∷ 0 ∷ []) $ use2 𝓛 (raw (G.pre z)) (id⊢ 𝓤 _) $
-    calls_at ! (framed 𝓤 𝓛.H 𝓜 (tables 𝓤 𝓛.H 𝓜 𝓡 𝓡.env)) G (met 𝓤 𝓛 𝓜 𝓡 (code.calls-wc_scale::scale::Scale::inputs 𝓡.env wired)) z
+    calls_at ! (framed 𝓤 𝓛.H 𝓜 (tables 𝓤 𝓛.H 𝓜 𝓡 𝓡.env)) G (met 𝓤 𝓛 𝓜 𝓡 (code.calls-narbeddo::rows::inputs_of 𝓡.env wired)) z
     (and_then ! (get ! refl) (and_then ! (get ! refl) (no_more !))) (λ v.
     use1 𝓛 (later (some (λ (r : ℕ). ((‵ (flft (α ∷ []) full_share) ⊛ ‵ ftrue) ⊛ ‵ (u32.own_val r (v ∷ []))) ⊛
-    some (λ (ws : (R.Denot × (Unit {0} × Unit {0}))). ‵ (lasts g.ended z.0.0 z.0.3 ws) ⊛ (raw (fact 𝓤 (TakesInputs h ws.0 x r)) ⊛ raw (fact 𝓤 (RefusesInputs h ws.0 r))))))) (id⊢ 𝓤 _) $
+    some (λ (ws : (R.Denot × (Unit {0} × Unit {0}))). ‵ (lasts g.ended z.0.0 z.0.3 ws) ⊛ (raw (fact 𝓤 (TakesInputs h ws.0 x r)) ⊛ (raw (fact 𝓤 (RefusesInputs h ws.0 r)) ⊛ raw (fact 𝓤 (IsStep (Inputs x) h ws.0 [])))))))) (id⊢ 𝓤 _) $
     await ! tt $ pick ! (λ r. split ! $ split ! $ split ! $ lft_end ! tt $
     -- [α is over; the other tokens; the result; its facts; what the lender keeps]
     move ! (2 ∷ []) $ peeks ! u32 (Is u32) (shows 𝓛 u32) r (v ∷ []) (λ is. lands_as ! refl refl ((uint_Lawful 𝓛 w32).typed r _ is).0 $
-    move ! (3 ∷ []) $ pick ! (λ ws. split ! $ move ! (1 ∷ []) $ split ! $ heard ! _ (λ f0. heard ! _ (λ f1. fsplit ! $ fsplit ! $
+    move ! (3 ∷ []) $ pick ! (λ ws. split ! $ move ! (1 ∷ []) $ split ! $ heard ! _ (λ f0. split ! $ heard ! _ (λ f1. heard ! _ (λ f2. fsplit ! $ fsplit ! $
     -- [the last value; its borrow; nothing; the result; α is over; the other tokens; what the lender keeps]
     move ! (4 ∷ 6 ∷ 0 ∷ []) $ use3 𝓛 (later (‵ (lies_at R full_share (block_ptr b o) ws.0))) (ref_back 𝓛 R (α ∷ []) δ ws.0 b o) $ await ! tt $
     returns ! (look_at ! 0 refl) $ free_all ! refl $ keep ! (3 ∷ 0 ∷ []) $
     suffices ! _ (ends_at 𝓛 f.ended stayed c (y (block_ptr b o)) v r (tt, (tt, tt)) (tt, (tt, tt))) $
     nothing ! $ nothing ! $ join ! $ nothing ! $ join ! $ nothing ! $ group ! 3 $ frame ! $
-    show ! (λ (k : R.Denot). sep 𝓤 (sem 𝓛 (lies_at R full_share (block_ptr b o) k)) (fact 𝓤 ((TakesInputs h k x r) × (RefusesInputs h k r)))) ws.0 $ says ! (f0, f1) $ done !)))))))))))
+    show ! (λ (k : R.Denot). sep 𝓤 (sem 𝓛 (lies_at R full_share (block_ptr b o) k)) (fact 𝓤 ((TakesInputs h k x r) × (RefusesInputs h k r) × (IsStep (Inputs x) h k [])))) ws.0 $ says ! (f0, f1, f2) $ done !))))))))))))

@@ -1,0 +1,2 @@
+pub mod LineCalls
+pub mod LineSteps

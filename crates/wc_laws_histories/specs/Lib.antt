@@ -1,0 +1,2 @@
+pub mod BlockHistories
+pub mod Laws
