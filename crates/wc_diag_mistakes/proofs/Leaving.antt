@@ -1,7 +1,7 @@
--- Whether some tokens leave, from the first on.
-use Rattle.std.proofs.Common.{◌≡◌, ◌<◌, ◌+◌, ◌&&◌, ◌||◌, not, ℕ, Bool, true, false, drop, IsTrue, ◌↔◌, List, [], ◌∷◌, ◌++◌, get_or, length, refl, sym, ap, ◌∙◌}
+-- Whether some tokens leave, from the first on; the last that leaves or may pass decides.
+use Rattle.std.proofs.Common.{◌≡◌, ◌<◌, ◌+◌, ◌&&◌, ◌||◌, not, ℕ, Bool, true, false, drop, take, IsTrue, ◌↔◌, List, [], ◌∷◌, ◌++◌, get_or, length, refl, sym, ap, ◌∙◌}
 use Rattle.std.proofs.lemmas.Bool.{and_parts}
-use Rattle.std.proofs.lemmas.List.{drop_more}
+use Rattle.std.proofs.lemmas.List.{drop_more, take-append-drop}
 use Rattle.std.specs.List.{list_any}
 use Rattle.wc_lexer.specs.declared.shape.Token.{Token}
 use Rattle.wc_diag_mistakes.specs.Unreached.{IsLeft, leaves, may_pass}
@@ -10,12 +10,6 @@ use Rattle.wc_diag_mistakes.specs.Unreached.{IsLeft, leaves, may_pass}
 abbrev pub left_after : Bool → List Token → Bool
 left_after before [] = before
 left_after before (token ∷ tokens) = left_after (leaves token || before && not (may_pass token)) tokens
-
--- a token more
-pub token_more : (before after : Bool) (tokens : List Token) (index : ℕ) (other : Token) → index < length tokens → after ≡ (leaves (get_or tokens index other) || before && not (may_pass (get_or tokens index other)))
-    → left_after after (drop (index + 1) tokens) ≡ left_after before (drop index tokens)
-token_more before after tokens index other within e =
-    ap (λ b. left_after b (drop (index + 1) tokens)) e ∙ sym (ap (left_after before) (drop_more tokens index other within))
 
 -- it is what the tokens say
 none_of : (a b : Bool) → (a || b) ≡ false → (a ≡ false) × (b ≡ false)
@@ -80,3 +74,64 @@ is_left tokens e = by (left_by false tokens e)
 
 pub says : (result : Bool) (tokens : List Token) → result ≡ left_after false tokens → IsTrue result ↔ IsLeft tokens
 says result tokens e = (λ t. is_left tokens (sym e ∙ t), λ left. e ∙ from_left tokens left)
+
+-- a token decides: it leaves, or may pass
+abbrev pub decides : Token → Bool
+decides token = leaves token || may_pass token
+
+pub after_append : (before : Bool) (above below : List Token) → left_after before (above ++ below) ≡ left_after (left_after before above) below
+after_append before [] below = refl
+after_append before (token ∷ above) below = after_append (leaves token || before && not (may_pass token)) above below
+
+-- what leaves no token decides stays
+keeps_one : (before l m : Bool) → (l || m) ≡ false → (l || before && not m) ≡ before
+keeps_one true true m e = absurd (cc)
+keeps_one false true m e = absurd (cc)
+keeps_one before false true e = absurd (cc)
+keeps_one true false false e = refl
+keeps_one false false false e = refl
+
+pub undecided : (before : Bool) (tokens : List Token) → list_any decides tokens ≡ false → left_after before tokens ≡ before
+undecided before [] e = refl
+undecided before (token ∷ tokens) e =
+    let parts = none_of (decides token) (list_any decides tokens) e in
+    ap (λ b. left_after b tokens) (keeps_one before (leaves token) (may_pass token) parts.0) ∙ undecided before tokens parts.1
+
+-- the token at an index is the last that decides
+pub at : (tokens : List Token) (index : ℕ) (other : Token) → index < length tokens → list_any decides (drop (index + 1) tokens) ≡ false
+    → left_after false tokens ≡ (leaves (get_or tokens index other) || left_after false (take index tokens) && not (may_pass (get_or tokens index other)))
+at tokens index other within e =
+    ap (left_after false) (sym (take-append-drop index tokens))
+    ∙ after_append false (take index tokens) (drop index tokens)
+    ∙ ap (left_after (left_after false (take index tokens))) (drop_more tokens index other within)
+    ∙ undecided (leaves (get_or tokens index other) || left_after false (take index tokens) && not (may_pass (get_or tokens index other))) (drop (index + 1) tokens) e
+
+by_leaving : (l b m : Bool) → l ≡ true → (l || b && not m) ≡ true
+by_leaving true b m e = refl
+by_leaving false b m e = absurd (cc)
+
+by_passing : (l b m : Bool) → l ≡ false → m ≡ true → (l || b && not m) ≡ false
+by_passing true b m e f = absurd (cc)
+by_passing false b false e f = absurd (cc)
+by_passing false true true e f = refl
+by_passing false false true e f = refl
+
+pub leaves_at : (tokens : List Token) (index : ℕ) (other : Token) → index < length tokens → list_any decides (drop (index + 1) tokens) ≡ false
+    → leaves (get_or tokens index other) ≡ true → left_after false tokens ≡ true
+leaves_at tokens index other within e is =
+    at tokens index other within e ∙ by_leaving (leaves (get_or tokens index other)) (left_after false (take index tokens)) (may_pass (get_or tokens index other)) is
+
+pub passes_at : (tokens : List Token) (index : ℕ) (other : Token) → index < length tokens → list_any decides (drop (index + 1) tokens) ≡ false
+    → leaves (get_or tokens index other) ≡ false → may_pass (get_or tokens index other) ≡ true → left_after false tokens ≡ false
+passes_at tokens index other within e is_not is =
+    at tokens index other within e ∙ by_passing (leaves (get_or tokens index other)) (left_after false (take index tokens)) (may_pass (get_or tokens index other)) is_not is
+
+none_of_three : (a b c : Bool) → a ≡ false → b ≡ false → c ≡ false → (a || b || c) ≡ false
+none_of_three a b c e f g = rw (e, f, g) refl
+
+-- a token more that does not decide
+pub one_more : (tokens : List Token) (index : ℕ) (other : Token) → index < length tokens → list_any decides (drop (index + 1) tokens) ≡ false
+    → leaves (get_or tokens index other) ≡ false → may_pass (get_or tokens index other) ≡ false → list_any decides (drop index tokens) ≡ false
+one_more tokens index other within e is_not may_not =
+    ap (list_any decides) (drop_more tokens index other within)
+    ∙ none_of_three (leaves (get_or tokens index other)) (may_pass (get_or tokens index other)) (list_any decides (drop (index + 1) tokens)) is_not may_not e

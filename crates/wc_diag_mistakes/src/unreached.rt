@@ -1,4 +1,4 @@
-ghost use Rattle.std.specs.Prelude.{◌≡◌, ◌&&◌, ◌||◌, ◌↔◌, ◌<◌, ◌≤◌, ℕ, not, IsTrue, IfNone, IfSome, Some, if◌then◌else◌, is_some, length};
+ghost use Rattle.std.specs.Prelude.{◌≡◌, ◌&&◌, ◌↔◌, ◌<◌, ◌≤◌, ℕ, IsTrue, IfNone, IfSome, Some, if◌then◌else◌, is_some, length};
 ghost use Rattle.wc_diag_mistakes.specs.Unreached.{FollowsLeaving, IsDeclaredOnce, IsLeft, IsUnreached, begins_block, count_above, declares, has_label, is_colon_shape, is_frame, is_leaving, keyword_of, leaves, may_pass};
 
 use wc_built_in::{Keyword, keyword_named};
@@ -61,22 +61,26 @@ fn may_pass(token: &Token<'_>) -> bool
     is_colon(token) || is_frame(keyword_of(token))
 }
 
-/// Whether the tokens up to this one leave, if this is so of those before it or not.
-fn leaving_after(leaving: bool, token: &Token<'_>) -> bool
-    ensures { result ≡ (leaves token.now || leaving && not (may_pass token.now)) }
+/// Whether a token is the operator of an instruction that leaves.
+fn leaves(token: &Token<'_>) -> bool
+    ensures { result ≡ leaves token.now }
 {
-    is_leaving(keyword_of(token)) || leaving && !may_pass(token)
+    is_leaving(keyword_of(token))
 }
 
-/// Whether some tokens leave by a jump or a return, after which none may pass.
+/// Whether some tokens leave by a jump or a return, after which none may pass: the last that does either decides.
 fn leaves_in(tokens: &[Token<'_>]) -> bool
     ensures { IsTrue result ↔ IsLeft tokens.now }
 {
-    let mut leaving = false;
-    for index in 0..tokens.len() {
-        leaving = leaving_after(leaving, &tokens[index]);
+    for index in (0..tokens.len()).rev() {
+        if leaves(&tokens[index]) {
+            return true;
+        }
+        if may_pass(&tokens[index]) {
+            return false;
+        }
     }
-    leaving
+    false
 }
 
 /// Whether a line of a body surely follows a jump or a return, and no label is between: nothing leads to it but its own label.

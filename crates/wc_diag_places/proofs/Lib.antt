@@ -1,4 +1,2 @@
 pub mod Placing
-mod Positions
-mod Breaking
 mod Units

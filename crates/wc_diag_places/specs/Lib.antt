@@ -1,5 +1,2 @@
 pub mod LaterSpans
-pub mod OperandTokens
-pub mod Lists
-pub mod Arguments
 pub mod Spotting

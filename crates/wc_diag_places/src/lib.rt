@@ -2,14 +2,9 @@
 //! is the pass itself once more, over places for lines.
 #![tactic(auto)]
 
-mod arguments;
-mod calls;
 mod instances;
-mod kinds;
-mod lists;
-mod operand_tokens;
 mod paths;
-mod result_kind;
+mod results;
 mod spanned_source;
 mod spans;
 mod twice;

@@ -1,28 +1,26 @@
 ghost use Rattle.std.specs.Prelude.{◌≡◌, true, None, IfOk, IfNone, IfSome};
 ghost use Rattle.wc_model.specs.Language.Faults.{declaration_fault};
 ghost use Rattle.wc_names.specs.RepresentsText.{AreTables};
-ghost use Rattle.wc_diag_places.specs.Arguments.{IsArgument};
+ghost use Rattle.wc_diag_operands.specs.Arguments.{IsArgument};
 ghost use Rattle.wc_diag_places.specs.LaterSpans.{IsAccepted, OfRead, RefusesLater, unit_number};
 ghost use Rattle.wc_model.specs.Language.Scopes.{Scope};
 ghost use Rattle.wc_model.specs.Language.Views.{text_view};
 ghost use Rattle.wc_verify.specs.Seeing.{IsScope};
-ghost use Rattle.wc_diag_places.specs.OperandTokens.{IsOperatorOrOperand, IsOperandOf, IsPlainOperand, is_listed, on_line, operator_of, operand_by_number, tokens_from};
+ghost use Rattle.wc_diag_operands.specs.OperandTokens.{IsOperatorOrOperand, IsOperandOf, IsPlainOperand, is_listed, on_line, operator_of, operand_by_number, tokens_from};
 ghost use Rattle.wc_diag_places.specs.Spotting.{IsInBody, IsNamed, PointsTo, PointsToOffending};
 
-use crate::calls::{offending_in_call, operand_of_call};
 use crate::instances::{block_in, slice_of};
-use crate::kinds::unfit;
-use crate::operand_tokens::{
-    case_of_operand, is_listed, line_at, opens, operand_of, operator_of, span_of, tokens_at,
-    tokens_from,
-};
 use crate::paths::paths_to_label;
-use crate::result_kind::{result_after, result_outside};
+use crate::results::results_at;
 use crate::spanned_source::SpannedSource;
 use crate::twice::{case_of_capacity, first_of_two, unit_at};
 use std::alloc::Global;
 use wc_cost::measure;
 use wc_declare::tables;
+use wc_diag_operands::{
+    case_of_operand, is_listed, line_at, offending_in_call, opens, operand_of, operand_of_call,
+    operator_of, span_of, tokens_at, tokens_from, unfit,
+};
 use wc_diag_stops::{RefusalSpan, ResultKind, Slice};
 use wc_diag_texts::Case;
 use wc_lexer::{Shape, Token};
@@ -193,42 +191,36 @@ fn on_line<'a, 't>(tokens: &'t [Token<'a>], found: Found<'a, 't>) -> Found<'a, '
     }
 }
 
-/// The tokens above the line on which these begin, if nothing comes before them on it.
-fn lines_above<'a, 't>(
-    spanned_source: &'t SpannedSource<'a>,
-    tokens: &[Token<'_>],
-) -> Option<&'t [Token<'a>]> {
-    let count = spanned_source.tokens.len().saturating_sub(tokens.len());
-    match spanned_source.tokens.get(count.saturating_sub(1)) {
-        Some(token) if matches!(token.shape, Shape::LineEnd) => {
-            Some(tokens_at(&spanned_source.tokens, 0, count.saturating_sub(1)))
-        }
-        _ => None,
-    }
-}
-
-/// The kinds of the result before the instruction at which these tokens begin, and before the parenthesis that it closes, if that is
-/// what does not fit.
+/// The kinds of the result before the instruction at a place, and before the parenthesis that it closes, if that is what does not fit.
 fn results_before(
     spanned_source: &SpannedSource<'_>,
     tables: &Tables<'_>,
     unit: usize,
-    tokens: &[Token<'_>],
+    place: u32,
     case: Case,
 ) -> (Option<ResultKind>, Option<ResultKind>) {
-    let Some(above) = lines_above(spanned_source, tokens) else {
+    let Some(source) = spanned_source.source.units.get(unit) else {
         return (None, None);
     };
+    let results = results_at(tables, unit, &source.body, place);
+    let (before, outer) = (
+        on_its_line(spanned_source, results.before),
+        on_its_line(spanned_source, results.outer),
+    );
     match case {
-        Case::Unlike(_) | Case::Result => (result_after(tables, unit, above), None),
-        Case::Closing => {
-            (
-                result_after(tables, unit, above),
-                result_outside(tables, unit, above),
-            )
-        }
+        Case::Unlike(_) | Case::Result => (before, None),
+        Case::Closing => (before, outer),
         _ => (None, None),
     }
+}
+
+/// A result with the line in place of the place.
+fn on_its_line(spanned_source: &SpannedSource<'_>, made: Option<ResultKind>) -> Option<ResultKind> {
+    let ResultKind { kind, line } = made?;
+    Some(ResultKind {
+        kind,
+        line: line_at(tokens_from(&spanned_source.tokens, line).first()),
+    })
 }
 
 /// A refusal with what is found in its instruction.
@@ -268,9 +260,9 @@ fn span_of_instruction<'a>(
     let Ok(found) = found_in(alloc, tables, unit, tokens, number) else {
         return RefusalSpan::new(Fault::Memory, 0, 0);
     };
-    let (result, outer) = results_before(spanned_source, tables, unit, tokens, found.case);
+    let (result, outer) = results_before(spanned_source, tables, unit, place, found.case);
     let paths = match number {
-        403 => paths_to_label(spanned_source, tables, unit, tokens),
+        403 => paths_to_label(spanned_source, tables, unit, place),
         _ => None,
     };
     let block = block_in(

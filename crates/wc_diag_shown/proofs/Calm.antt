@@ -5,8 +5,8 @@ use Rattle.std.proofs.lemmas.Bool.Decides.{nat_tests}
 use Rattle.std.proofs.lemmas.Str.{IsCharBoundary-start, IsUtf8-from_is_utf8}
 use Rattle.std.specs.Str.{is_utf8}
 use Rattle.wc_diag_shown.specs.Plain.{acts, acts_nowhere, is_calm, is_control, passes}
-use Rattle.wc_view_trace_rows.proofs.Acting.{begin_not, no_fourth, no_second, no_third}
-use Rattle.wc_view_trace_rows.specs.Shown.{acting_by, acting_length}
+use Rattle.wc_diag_shown.proofs.ActingBytes.{begin_not, no_fourth, no_second, no_third}
+use Rattle.wc_diag_shown.specs.Acting.{acting_by, acting_length}
 
 -- no character ends with a byte with which another begins, so more text after a character makes it no other
 before_more : (byte : ℕ) (bytes more : List ℕ) → (128 ≤ get_or more 0 0 → 192 ≤ get_or more 0 0) → acting_length (byte ∷ bytes) ≡ 0 → acting_length (byte ∷ (bytes ++ more)) ≡ 0

@@ -1,1 +1,2 @@
+pub mod Acting
 pub mod Plain

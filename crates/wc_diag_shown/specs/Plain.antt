@@ -2,7 +2,7 @@
 use Rattle.std.specs.Prelude.{◌≡◌, ◌<◌, ℕ, ◌+◌, ◌/◌, ◌%◌, Bool, true, false, not, ◌==◌, ◌||◌, ◌&&◌, nat_le, nat_lt, if◌then◌else◌, List, [], ◌∷◌, ◌++◌, count_by, map, take}
 use Rattle.std.specs.List.{flat_map}
 use Rattle.std.specs.Str.{is_utf8}
-use Rattle.wc_view_trace_rows.specs.Shown.{acting_length}
+use Rattle.wc_diag_shown.specs.Acting.{acting_length}
 
 -- a control character of ASCII
 abbrev pub is_control : ℕ → Bool

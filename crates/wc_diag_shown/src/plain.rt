@@ -2,8 +2,8 @@ ghost use Rattle.std.specs.Prelude.{◌≡◌, ◌≤◌, IfOk, false, length};
 ghost use Rattle.std.specs.Str.{is_utf8};
 ghost use Rattle.wc_diag_shown.specs.Plain.{acts, characters, column_of, is_calm, is_control, passes, spaced, starts_acting, with_spaces};
 
+use crate::acting::hidden_length;
 use std::alloc::{AllocError, Global};
-use wc_view_trace_rows::hidden_length;
 
 /// The number of characters of a UTF-8 text.
 pub fn characters(text: &[u8]) -> usize

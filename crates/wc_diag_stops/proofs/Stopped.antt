@@ -1,9 +1,12 @@
 -- Where the reading of a text stops.
-use Rattle.std.proofs.Common.{◌≡◌, ◌==◌, ℕ, ◌≤◌, ◌<◌, true, false, List, length, map, refl, ap, subst, sym, ◌∙◌, arith, inr, Result, Ok, Err, IfOk}
+use Rattle.std.proofs.Common.{◌≡◌, ◌==◌, ℕ, ◌≤◌, ◌<◌, true, false, List, length, map, refl, ap, subst, sym, ◌∙◌, arith, inl, inr, Result, Ok, Err, IfOk}
 use Rattle.std.proofs.lemmas.List.{length-map}
 use Rattle.std.specs.Prelude.{if◌then◌else◌}
 use Rattle.wc_laws_grammar.proofs.Readings.{read_is_spelled, refused_is_first}
 use Rattle.wc_laws_grammar.specs.Moves.{at_first, reading}
+use Rattle.wc_laws_tokens.proofs.TokenLaws.{cut_has_no_fault}
+use Rattle.wc_lexer.proofs.Spans.{span_is_first}
+use Rattle.wc_lexer.specs.Spans.{StopsAt}
 use Rattle.wc_lexer.specs.Views.{token_view}
 use Rattle.wc_lexer.specs.declared.shape.Token.{Token}
 use Rattle.wc_text_lines.specs.Words.{marks_of}
@@ -21,7 +24,7 @@ use Rattle.wc_text_short_lines.proofs.WalkSteps.{walk_reports}
 use Rattle.wc_text_short_lines.specs.Walks.{walk}
 use Rattle.wc_diag_stops.proofs.StopSteps.{walk_stops}
 use Rattle.wc_diag_stops.specs.Allowed.{allowed, allowed_with}
-use Rattle.wc_diag_stops.specs.ReadingSpans.{AreReadByPlaces, IsReadByPlaces, StopsReading, place_mark, place_marks}
+use Rattle.wc_diag_stops.specs.ReadingSpans.{AreReadByPlaces, AreThoseRead, IsReadByPlaces, StopsReading, place_mark, place_marks}
 use Rattle.wc_diag_stops.specs.Stopping.{IsAllowedAs, IsRaisedWith, IsOffendingAt, IsStopAt, ReadsText, ReportsRaised}
 use Rattle.wc_diag_texts.specs.declared.expected.Expected.{Expected}
 use Rattle.wc_diag_texts.specs.declared.expected.Expected.TheVariants.{Nothing as nothing}
@@ -107,3 +110,16 @@ pub stop_expected : (bytes : List ℕ) (tokens : List Token) (fault : Fault) (th
 stop_expected bytes tokens Memory there stop is = nothing_reported stop.fault stop.expected is.1
 stop_expected bytes tokens (Refused number place) there stop is =
     subst (λ fault. IsAllowedAs fault stop.expected) (sym is.fault_is) (rw is.expected_is (reported_again number there))
+
+-- where the lexer stops the reader does not
+pub not_read : (bytes : List ℕ) (fault : Fault) (start count : ℕ) (expected : Expected) (tokens : List Token) → StopsAt bytes fault start count
+    → AreThoseRead bytes fault start count expected tokens
+not_read bytes Memory start count expected tokens stops = tt
+not_read bytes (Refused number place) start count expected tokens stops =
+    λ read. absurd (cut_has_no_fault bytes (map token_view read.tokens) number place read.short read.cut (span_is_first bytes number place start count stops))
+
+-- there it stops
+pub lexer_stops : (bytes : List ℕ) (fault : Fault) (start count : ℕ) (expected : Expected) → StopsAt bytes fault start count
+    → StopsReading bytes fault start count expected
+lexer_stops bytes Memory start count expected stops = stops
+lexer_stops bytes (Refused number place) start count expected stops = inl stops

@@ -132,3 +132,9 @@ AreBefore bytes start tokens = IsCut (take (min start (length bytes)) bytes) (ma
 -- the tokens of bytes, or those before the place at which they can't be cut further
 abbrev pub AreUpTo : List ℕ → ℕ → List Token → Type 0
 AreUpTo bytes start tokens = IsCut bytes (map token_view tokens) ⊎ AreBefore bytes start tokens
+
+-- if the reader stops there, these are the tokens of the bytes
+abbrev pub AreThoseRead : List ℕ → Fault → (start count : ℕ) → Expected → List Token → Type 0
+AreThoseRead bytes Memory start count expected tokens = Unit {0}
+AreThoseRead bytes (Refused number place) start count expected tokens =
+    IsReadingSpan bytes number place start count expected → IsCut bytes (map token_view tokens)

@@ -2,6 +2,7 @@ ghost use Rattle.std.specs.Prelude.{◌≡◌, ◌==◌, ◌≤◌, ◌<◌, [],
 ghost use Rattle.std.specs.List.{prefix_len};
 ghost use Rattle.std.specs.Option.{option_copied};
 ghost use Rattle.wc_laws_grammar.specs.Moves.{at_first};
+ghost use Rattle.wc_lexer.specs.Spans.{StopsAt};
 ghost use Rattle.wc_lexer.specs.Views.{token_view};
 ghost use Rattle.wc_text_lines.specs.Words.{marks_of};
 ghost use Rattle.wc_model.specs.Text.Reading.{last_line};
@@ -9,7 +10,7 @@ ghost use Rattle.wc_model.specs.Text.Tokens.{IsCut, most_bytes};
 ghost use Rattle.wc_reader.specs.TextViews.{IsStateCounted, reading_view};
 ghost use Rattle.wc_text_short_lines.specs.Walks.{walk};
 ghost use Rattle.wc_diag_stops.specs.Allowed.{allowed_with};
-ghost use Rattle.wc_diag_stops.specs.ReadingSpans.{AreBefore, AreUpTo, IsReadByPlaces, StopsReading, is_left_out, left_out_or_token, length_of, line_of, offending_at, start_of, token_at, token_before, word_or_token};
+ghost use Rattle.wc_diag_stops.specs.ReadingSpans.{AreBefore, AreThoseRead, AreUpTo, IsReadByPlaces, StopsReading, is_left_out, left_out_or_token, length_of, line_of, offending_at, start_of, token_at, token_before, word_or_token};
 ghost use Rattle.wc_diag_stops.specs.Stopping.{IsAllowedAs, IsOffendingAt, IsStopAt, ReadsText, ReportsRaised};
 
 use crate::expected::expected_at;
@@ -275,7 +276,7 @@ fn stopped_at<'a>(
     text: &'a [u8],
     span: RefusalSpan,
 ) -> Result<StoppedText<'a>, AllocError>
-    requires stops { StopsReading text.now span.fault span.start span.length span.expected }
+    requires stops { StopsAt text.now span.fault span.start span.length }
     requires allowed { IsAllowedAs span.fault span.expected }
     ensures stopped { IfOk result (λ stopped. StopsReading text.now stopped.span.fault
         stopped.span.start stopped.span.length stopped.span.expected) }
@@ -283,6 +284,9 @@ fn stopped_at<'a>(
         (λ stopped. IsAllowedAs stopped.span.fault stopped.span.expected) }
     ensures tokens { IfOk result
         (λ stopped. AreBefore text.now stopped.span.start stopped.tokens.items) }
+    ensures those { IfOk result
+        (λ stopped. AreThoseRead text.now stopped.span.fault stopped.span.start
+        stopped.span.length stopped.span.expected stopped.tokens.items) }
 {
     match tokens(alloc, prefix(text, span.start)) {
         Ok(tokens) => Ok(StoppedText { span, tokens }),
@@ -304,6 +308,9 @@ pub fn stop_of<'a>(alloc: Global, text: &'a [u8]) -> Result<Option<StoppedText<'
         (λ stopped. IsAllowedAs stopped.span.fault stopped.span.expected)) }
     ensures tokens { IfOk result (λ found. IfSome found
         (λ stopped. AreUpTo text.now stopped.span.start stopped.tokens.items)) }
+    ensures those { IfOk result (λ found. IfSome found
+        (λ stopped. AreThoseRead text.now stopped.span.fault stopped.span.start
+        stopped.span.length stopped.span.expected stopped.tokens.items)) }
     ensures read { IfOk result (λ found. IfNone found (IsReadByPlaces text.now)) }
 {
     match tokens_or_stop(alloc, text) {

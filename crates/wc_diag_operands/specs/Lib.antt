@@ -1,0 +1,3 @@
+pub mod OperandTokens
+pub mod Lists
+pub mod Arguments
