@@ -4,7 +4,8 @@ use Rattle.std.specs.Prelude.{◌==◌, ◌&&◌, nat_le}
 use Rattle.std.proofs.Common.{tests}
 use Rattle.std.proofs.lemmas.List.{append_assoc, drop_more, drop-take, take-append-drop, take-take}
 use Rattle.wc_view_trace_rows.specs.Columns.{columns_of, first_columns, fitted}
-use Rattle.wc_view_trace_rows.specs.Shown.{acting_length, shown_bytes, shown_first, single_spaces}
+use Rattle.wc_diag_shown.specs.Acting.{acting_length}
+use Rattle.wc_view_trace_rows.specs.Shown.{shown_bytes, shown_first, single_spaces}
 
 -- a byte of a character that is shown already
 pub passed : (is_text : Bool) (n next i : ℕ) (bytes : List ℕ) → 0 < n → next ≡ n - 1 → i < length bytes → shown_bytes is_text next (drop (i + 1) bytes) ≡ shown_bytes is_text n (drop i bytes)

@@ -1,10 +1,10 @@
-pub mod Acting
 pub mod Bodies
 pub mod Digits
 pub mod Ends
 pub mod HandedOn
 pub mod Joins
 pub mod LastCalls
+pub mod NamesNoted
 pub mod NotesFound
 pub mod Chunks
 pub mod RowsPut

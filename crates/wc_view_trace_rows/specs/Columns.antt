@@ -1,6 +1,7 @@
 -- The columns of a row. (The profile's own.)
 use Rattle.std.specs.Prelude.{ℕ, zero, suc, ◌+◌, ◌*◌, ◌-◌, max, min, nat_le, not, List, [], ◌∷◌, ◌++◌, length, replicate, Option, Some, None, codes, count_by, decimal, if◌then◌else◌}
-use Rattle.wc_view_trace_rows.specs.Shown.{between_words, continues, shown}
+use Rattle.wc_diag_shown.specs.Acting.{continues}
+use Rattle.wc_view_trace_rows.specs.Shown.{between_words, shown}
 
 abbrev pub spaces : ℕ → List ℕ
 spaces n = replicate n 32

@@ -1,11 +1,12 @@
 -- What a legend says: the lines of the text, what they name, and the kinds of the program's places. (No rule of the language.)
-use Rattle.std.specs.Prelude.{◌≡◌, ℕ, zero, suc, ◌+◌, ◌-◌, ◌==◌, ◌&&◌, nat_le, List, [], ◌∷◌, length, Option, Some, None, option_and_then, slice_get, slice_range, if◌then◌else◌}
+use Rattle.std.specs.Prelude.{◌≡◌, ℕ, zero, suc, ◌+◌, ◌-◌, ◌==◌, List, [], ◌∷◌, Option, Some, None, option_and_then, slice_get, if◌then◌else◌}
 use Rattle.wc_built_in.specs.Fields.{value_kind}
 use Rattle.wc_model.specs.Language.CarriedPlaces.{frame_of_text}
 use Rattle.wc_model.specs.Language.Frames.{slot_kinds}
 use Rattle.wc_model.specs.Language.Tree.{Text}
 use Rattle.wc_model.specs.declared.kind.Kind.{Kind}
-use Rattle.wc_view_trace_rows.specs.Notes.{note_among}
+use Rattle.wc_view_trace_rows.specs.Named.{notes_named, text_named}
+use Rattle.wc_view_trace_rows.specs.Notes.{note_among, part_of}
 use Rattle.wc_view_trace_rows.specs.declared.legend.Legend.{Legend}
 use Rattle.wc_view_trace_rows.specs.declared.notes.Note.{Note}
 
@@ -17,15 +18,13 @@ starts_from n (byte ∷ bytes) = if byte == 10 then (n + 1) ∷ starts_from (n +
 abbrev pub line_starts : List ℕ → List ℕ
 line_starts bytes = 0 ∷ starts_from 0 bytes
 
--- a legend is that of a text with these bytes: it has them, where their lines start, and the kinds of the program's places
+-- a legend is that of a text with these bytes: it has them, where their lines start, what they name, and the kinds of the program's
+-- places
 pub record IsLegendOf (legend : Legend) (bytes : List ℕ) (text : Text) : Type 0 where
   pub text_is : legend.text.items ≡ bytes
   pub starts_are : legend.starts.items ≡ line_starts bytes
+  pub named_are : notes_named legend.notes ≡ text_named text
   pub kinds_are : legend.kinds.items ≡ slot_kinds (frame_of_text text)
-
--- the part of a text from one byte up to another, if they are in it
-abbrev pub part_of : List ℕ → ℕ → ℕ → List ℕ
-part_of text from to = if nat_le from to && nat_le to (length text) then slice_range text from to else []
 
 -- the line of that number, counted from 1: it begins where the legend says, and ends before the byte before the next one
 abbrev pub bytes_between : List ℕ → Option ℕ → Option ℕ → List ℕ

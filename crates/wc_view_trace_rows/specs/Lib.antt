@@ -4,6 +4,7 @@ pub mod Items
 pub mod Legends
 pub mod LevelViews
 pub mod Levels
+pub mod Named
 pub mod Notes
 pub mod Puts
 pub mod Rows

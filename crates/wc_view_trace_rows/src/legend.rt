@@ -3,9 +3,11 @@ ghost use Rattle.wc_model.specs.Language.CarriedPlaces.{frame_of_text};
 ghost use Rattle.wc_model.specs.Language.Frames.{slot_kinds};
 ghost use Rattle.wc_model.specs.Language.Views.{text_view};
 ghost use Rattle.wc_view_trace_rows.specs.Legends.{IsLegendOf, kind_at, line_of, line_starts, literal_kind, name_of, note_of};
+ghost use Rattle.wc_view_trace_rows.specs.Named.{IsWhole, notes_named, text_named};
 ghost use Rattle.wc_view_trace_rows.specs.Puts.{Puts};
 
-use crate::notes::{Note, Notes, note_among, note_units};
+use crate::notes::{Note, Notes, note_among};
+use crate::noting::note_units;
 use std::alloc::Global;
 use wc_cost::Loaded;
 use wc_model::{Fault, Kind, Place, SlotKind, or_memory, put_bytes};
@@ -58,9 +60,12 @@ impl Legend {
 
     /// Takes over what is said of a text and its program, since both are borrowed for the time of a call.
     fn copy(&mut self, text: &[u8], loaded: &Loaded<'_>) -> Result<(), Fault>
+        requires { IsWhole self.old.notes }
         ensures text { OnOk result (self.new.text.items ≡ self.old.text.items ++ text.now) }
         ensures starts { OnOk result
             (self.new.starts.items ≡ self.old.starts.items ++ line_starts text.now) }
+        ensures named { OnOk result (notes_named self.new.notes
+            ≡ notes_named self.old.notes ++ text_named (text_view loaded.now.source)) }
         ensures kinds { OnOk result (self.new.kinds.items ≡ self.old.kinds.items
             ++ slot_kinds (frame_of_text (text_view loaded.now.source))) }
         ensures memory { IsOkUnless result Fault.Memory }
