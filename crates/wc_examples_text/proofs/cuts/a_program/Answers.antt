@@ -1,6 +1,0 @@
-use Rattle.std.proofs.Common.{refl}
-use Rattle.wc_laws_tokens.proofs.FoundTokens.{found_cut}
-use Rattle.wc_examples_text.proofs.cuts.a_program.Goals as goal
-
-pub returns : goal.returns
-returns c = found_cut _ _ refl

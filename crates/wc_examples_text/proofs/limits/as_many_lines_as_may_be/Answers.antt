@@ -1,5 +1,0 @@
-use Rattle.wc_examples_text.proofs.Loads.{not_too_many}
-use Rattle.wc_examples_text.proofs.limits.as_many_lines_as_may_be.Goals as goal
-
-pub returns : goal.returns
-returns c = not_too_many

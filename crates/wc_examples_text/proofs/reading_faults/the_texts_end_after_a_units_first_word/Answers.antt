@@ -1,9 +1,0 @@
-use Rattle.std.proofs.Common.{refl, [], ◌∷◌}
-use Rattle.std.specs.Prelude.{codes}
-use Rattle.wc_examples_text.proofs.reading_faults.the_texts_end_after_a_units_first_word.Goals as goal
-use Rattle.wc_examples_text.specs.Texts.{ident}
-use Rattle.wc_laws_grammar.proofs.FaultLaws.{raised_at_end}
-use Rattle.wc_model.specs.Text.ReadingFaults.{UnitNotClosed}
-
-pub returns : goal.returns
-returns c = raised_at_end (ident (codes "PROGRAM") 1 ∷ []) 1 (record { fault = UnitNotClosed; line = 1 }) _ refl tt refl

@@ -1,3 +1,0 @@
-pub mod Spelled
-pub mod Texts
-pub mod Faulty
