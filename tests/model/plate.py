@@ -51,6 +51,11 @@ def interval_allowed(unit, decimals, e):
     return e in allowed and e * GRAMS[unit] >= 5 * 10**decimals
 
 
+def count_allowed(intervals):
+    """506: from 500 to 10000 intervals."""
+    return 500 <= intervals <= 10000
+
+
 def read_plate(content):
     """The plate of the bytes of a file."""
     if len(content) > MOST_BYTES:
@@ -66,7 +71,7 @@ def read_plate(content):
     if not interval_allowed(values["unit"], values["decimals"], values["e"]):
         raise Refused(505, 0)
     intervals, rest = divmod(values["max"], values["e"])
-    if rest or not 500 <= intervals <= 10000:
+    if rest or not count_allowed(intervals):
         raise Refused(506, 0)
     if not -8388608 <= values["zero_counts"] <= 8388607 or not 4 * intervals <= values["span_counts"] <= 8000000:
         raise Refused(507, 0)

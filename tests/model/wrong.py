@@ -1,4 +1,4 @@
-"""The wrong bodies of the legally relevant part as changes of the model, each by the edit that makes it of the code."""
+"""The wrong bodies of the plate, the indicator and the line as changes of the model, each by the edit that makes it of the code."""
 from contextlib import contextmanager
 from unittest import mock
 
@@ -15,17 +15,30 @@ def over_before_rounding(self):
     return bool(self.samples) and (self.in_intervals(self.load()) > n + 9 or self.load() * n > self.plate.span_counts * (n + 9))
 
 
+def centre_within_half_an_interval(self):
+    """The centre of zero reaches to half an interval."""
+    return bool(self.samples) and 2 * abs(self.load() * self.plate.intervals) <= self.plate.span_counts
+
+
 def centre_depends_on_net(self):
     """The centre of zero is that of the net weight."""
     return bool(self.samples) and 4 * abs((self.load() - self.tare) * self.plate.intervals) <= self.plate.span_counts
 
 
-def tare_of(may_move=False, least=1, rounded=False):
-    """The tare command, which takes a moving load, one from a number of intervals on, or a rounded one."""
+def over_one_interval_late(self):
+    """Over is said from Max and eleven intervals on."""
+    return bool(self.samples) and self.in_intervals(self.load()) > self.plate.intervals + 10
+
+
+def tare_of(may_move=False, least=1, above=0, rounded=False, is_kept=False):
+    """The tare command, which takes a moving load, one from a number of intervals on or up to some above Max, or a rounded one, or keeps an
+    active tare."""
 
     def set_tare(self):
-        if not self.samples or not (may_move or self.stable()) or not least <= self.in_intervals(self.load()) <= self.plate.intervals:
+        if not self.samples or not (may_move or self.stable()) or not least <= self.in_intervals(self.load()) <= self.plate.intervals + above:
             return False
+        if is_kept and self.tare_active:
+            return True
         self.tare, self.tare_active = self.load(), True
         if rounded:
             self.tare -= self.tare % (self.plate.span_counts // self.plate.intervals)
@@ -34,14 +47,14 @@ def tare_of(may_move=False, least=1, rounded=False):
     return set_tare
 
 
-def zero_of(parts=50, keeps_tare=False):
-    """The zero command, which reaches to a part of the span, or keeps the tare."""
+def zero_of(parts=50, keeps_tare=False, may_move=False):
+    """The zero command, which reaches to a part of the span, keeps the tare, or takes a moving load."""
 
     def set_zero(self):
-        away = abs(self.samples[-1] - self.plate.zero_counts) if self.samples else 0
-        if not self.stable() or parts * away > self.plate.span_counts:
+        present = self.samples[-1] if self.samples else self.plate.zero_counts
+        if not (may_move or self.stable()) or parts * abs(present - self.plate.zero_counts) > self.plate.span_counts:
             return False
-        self.zero = self.samples[-1]
+        self.zero = present
         if not keeps_tare:
             self.clear_tare()
         return True
@@ -74,6 +87,17 @@ def request_cut_is_forgotten(self, content):
     return b"".join(self.take(byte) for byte in content)
 
 
+def with_letter(place, letter, instead):
+    """An answer with another letter at a place, where it has this one."""
+    answered = line.Line.answer
+
+    def answer(self, **more):
+        text = answered(self, **more)
+        return text[:place] + instead + text[place + 1 :] if text[place : place + 1] == letter else text
+
+    return answer
+
+
 def plate_with(change):
     """A plate that is changed once it is read."""
     read = plate.Plate.__init__
@@ -85,10 +109,14 @@ def plate_with(change):
     return made
 
 
-def interval_below_five_grams(unit, decimals, e):
-    """An interval of two grams is enough."""
-    allowed = (1, 2, 5) + ((10, 20, 50) if decimals in (0, 3) else ())
-    return e in allowed and e * plate.GRAMS[unit] >= 2 * 10**decimals
+def intervals_of(ones=(1, 2, 5), least=5):
+    """An interval that is one of these, or with 0 or 3 decimals one of 10, 20 and 50, and has at least that number of grams."""
+
+    def interval_allowed(unit, decimals, e):
+        allowed = ones + ((10, 20, 50) if decimals in (0, 3) else ())
+        return e in allowed and e * plate.GRAMS[unit] >= least * 10**decimals
+
+    return interval_allowed
 
 
 def read_without(change):
@@ -102,6 +130,11 @@ def without_a_note(values):
     return {key: value for key, value in values.items() if key != "note"}
 
 
+def a_hundred_intervals_are_enough(intervals):
+    """From 100 to 10000 intervals."""
+    return 100 <= intervals <= 10000
+
+
 def a_part_is_left(numerator, denominator):
     """A quotient whose rest does not count."""
     return numerator // denominator, 0
@@ -112,17 +145,26 @@ SCALE, LINE = indication.Indicator, line.Line
 BODIES = {
     "tools/edits/wc_plate/unit_is_cut": (plate.Plate, "__init__", plate_with(lambda self: setattr(self, "unit", self.unit[:1]))),
     "tools/edits/wc_plate/interval_is_doubled": (plate.Plate, "__init__", plate_with(lambda self: setattr(self, "e", 2 * self.e))),
-    "tools/edits/wc_plate/interval_below_five_grams": (plate, "interval_allowed", interval_below_five_grams),
+    "tools/edits/wc_plate/interval_below_five_grams": (plate, "interval_allowed", intervals_of(least=2)),
+    "tools/edits/wc_plate/an_interval_of_four": (plate, "interval_allowed", intervals_of(ones=(1, 2, 4, 5))),
     "tools/edits/wc_plate/part_of_an_interval_is_left": (plate, "divmod", a_part_is_left),
+    "tools/edits/wc_plate/a_hundred_intervals_are_enough": (plate, "count_allowed", a_hundred_intervals_are_enough),
     "tools/edits/wc_plate/other_keys_are_passed_over": (plate, "read_table", read_without(without_a_note)),
     "tools/edits/wc_indicator/ties_go_toward_zero": (indication, "nearest", ties_go_toward_zero),
     "wc_indicator/must-fail/over_before_rounding": (SCALE, "over", over_before_rounding),
+    "tools/edits/wc_indicator/over_one_interval_late": (SCALE, "over", over_one_interval_late),
+    "tools/edits/wc_indicator/tare_above_the_greatest": (SCALE, "set_tare", tare_of(above=9)),
+    "tools/edits/wc_sma/net_is_reported_as_gross": (LINE, "answer", with_letter(3, b"N", b"G")),
+    "tools/edits/wc_sma/motion_is_never_reported": (LINE, "answer", with_letter(4, b"M", b" ")),
     "tools/edits/wc_indicator/stable_within_a_whole_interval": (SCALE, "stable", stable_within_a_whole_interval),
     "tools/edits/wc_indicator/zero_within_four_percent": (SCALE, "set_zero", zero_of(parts=25)),
     "wc_indicator/must-fail/zero_keeps_the_tare": (SCALE, "set_zero", zero_of(keeps_tare=True)),
+    "tools/edits/wc_indicator/zero_in_motion": (SCALE, "set_zero", zero_of(may_move=True)),
     "wc_indicator/must-fail/centre_depends_on_net": (SCALE, "centre_of_zero", centre_depends_on_net),
+    "tools/edits/wc_indicator/centre_within_half_an_interval": (SCALE, "centre_of_zero", centre_within_half_an_interval),
     "tools/edits/wc_indicator/tare_value_is_gross": (SCALE, "tare_value", SCALE.gross),
     "tools/edits/wc_indicator/tare_at_zero": (SCALE, "set_tare", tare_of(least=0)),
+    "tools/edits/wc_indicator/an_active_tare_is_kept": (SCALE, "set_tare", tare_of(is_kept=True)),
     "tools/edits/wc_indicator/shown_is_always_gross": (SCALE, "shown", SCALE.gross),
     "wc_indicator/must-fail/tare_in_motion": (SCALE, "set_tare", tare_of(may_move=True)),
     "wc_indicator/must-fail/tare_is_rounded": (SCALE, "set_tare", tare_of(rounded=True)),
