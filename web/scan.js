@@ -121,9 +121,9 @@ function reveal(place, row) {
 export class ScanLines {
   constructor(place, find) { this.place = place; this.find = find; this.text = null; }
 
-  build(text) {
-    if (text === this.text) return;
-    this.text = text;
+  build(text, heading) {
+    if (text === this.text && heading === this.heading) return;
+    Object.assign(this, { text, heading });
     this.isPlaced = false;
     const lines = text.replace(/\n$/, "").split("\n");
     this.rows = lines.map((line, at) => {
@@ -134,7 +134,7 @@ export class ScanLines {
     this.note = element("p", { className: "note", hidden: true });
     const head = element("tr", {}, ...["line", "text", "result", "writes"].map(name => element("th", { scope: "col" }, name)));
     const columns = element("colgroup", {}, ...["n", "t", "r", "w"].map(name => element("col", { className: name })));
-    this.place.replaceChildren(element("h2", {}, "Lines of this scan"), this.note, element("table", {}, columns, element("thead", {}, head), element("tbody", {}, ...this.rows.map(it => it.row))));
+    this.place.replaceChildren(element("h2", {}, heading), this.note, element("table", {}, columns, element("thead", {}, head), element("tbody", {}, ...this.rows.map(it => it.row))));
   }
 
   // null: there is no trace of the scan yet

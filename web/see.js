@@ -106,7 +106,7 @@ export class See {
   // The lines of the scan come from the program; while the cursor moves only the last one asked for is fetched.
   async showLines() {
     const [run, at] = this.traced, kept = run.traces.get(at), isAsked = () => this.traced[0] === run && this.traced[1] === at;
-    this.lines.build(run.textOf(at));
+    this.lines.build(run.textOf(at), run === this.run ? "Lines of this scan" : "Lines of this scan in the run before");
     if (kept) { this.lines.show(kept, run.note); return; }
     if (this.isTracing) return;
     this.isTracing = true;
@@ -167,8 +167,10 @@ export class See {
     while (index < this.run.count && !this.isDifferent(index, names)) index++;
     if (index >= this.run.count) { $("compared").textContent = `${this.comparison()}; none after the cursor`; return; }
     this.go(index);
-    const other = this.other(index), name = names.find(it => other !== null && !Object.is(this.run.value(it, index), this.before.value(it, other)));
-    $("compared").textContent = name ? `${name}: ${this.run.text(name, this.run.value(name, index))}, before ${this.before.text(name, this.before.value(name, other))}` : "the scans are at other times";
+    const other = this.other(index), differing = names.filter(it => other !== null && !Object.is(this.run.value(it, index), this.before.value(it, other))), [name] = differing;
+    // with its time, since it stays when the cursor moves on
+    const said = name ? `${name}: ${this.run.text(name, this.run.value(name, index))}, before ${this.before.text(name, this.before.value(name, other))}` : "the scans are at other times";
+    $("compared").textContent = `at ${timeText(this.run.ms(index))}: ${said}${differing.length > 1 ? `, and ${differing.length - 1} more` : ""}`;
     if (name) this.values.reveal(name);
   }
 }

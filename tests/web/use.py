@@ -274,11 +274,11 @@ def walk_faults(page, folder):
     page.write("program", FILLING.replace("LT 10000", "GE 10000"))
     page.one("next_difference").click()
     page.settle(0.3)
-    if page.text("compared") != "filling: TRUE, before FALSE":
+    if not re.fullmatch(r"at [\d.]+ m?s: filling: TRUE, before FALSE(, and \d+ more)?", page.text("compared")):
         yield f"after the error was mended: {page.text('compared')!r}"
     page.one("lines_before").click()
     page.settle(0.3)
-    if page.lines().get(8) != "TRUE" or "LT 10000" not in page.text("lines"):
+    if page.lines().get(8) != "TRUE" or "LT 10000" not in page.text("lines") or "in the run before" not in page.text("lines"):
         yield f"the lines of the run before: {page.lines()}"
     page.one("lines_before").click()
     page.go(0)
