@@ -50,8 +50,9 @@ LONG_TEXTS = {
     411: doubling(),
 }
 
-# the seconds after which a call is ended, unless the caller says otherwise
-LIMIT = 120
+# the seconds after which a call is ended, unless the caller says otherwise: the gate's scripts run side by side, so a call
+# of some seconds may take minutes on few processors
+LIMIT = 900
 
 
 def call(words, limit=LIMIT, **more):
