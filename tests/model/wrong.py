@@ -48,11 +48,11 @@ def tare_of(may_move=False, least=1, above=0, rounded=False, is_kept=False):
 
 
 def zero_of(parts=50, keeps_tare=False, may_move=False):
-    """The zero command, which reaches to a part of the span, keeps the tare, or takes a moving load."""
+    """The zero command, which reaches to a part of the span, keeps the tare, or takes a moving load once the window is full."""
 
     def set_zero(self):
         present = self.samples[-1] if self.samples else self.plate.zero_counts
-        if not (may_move or self.stable()) or parts * abs(present - self.plate.zero_counts) > self.plate.span_counts:
+        if not (may_move and len(self.samples) >= self.plate.window or self.stable()) or parts * abs(present - self.plate.zero_counts) > self.plate.span_counts:
             return False
         self.zero = present
         if not keeps_tare:
@@ -72,6 +72,17 @@ def ties_go_toward_zero(numerator, denominator):
     """Of two whole numbers that are nearest the one nearer to 0."""
     size = (2 * abs(numerator) + denominator - 1) // (2 * denominator)
     return size if numerator >= 0 else -size
+
+
+def weights_are_cut(numerator, denominator):
+    """The whole number that a quotient has reached."""
+    return abs(numerator) // denominator * (1 if numerator >= 0 else -1)
+
+
+def tare_in_steps_of_two_intervals(self):
+    """The tare value has twice the interval of the scale."""
+    intervals = self.in_intervals(self.tare)
+    return abs(intervals) // 2 * 2 * self.plate.e * (1 if intervals >= 0 else -1)
 
 
 def a_long_chunk_is_a_fault(self, content):
@@ -119,7 +130,7 @@ def intervals_of(ones=(1, 2, 5), least=5):
     return interval_allowed
 
 
-def read_without(change):
+def read_with(change):
     """A plate of whose values some are changed before they are checked."""
     read = plate.read_table
     return lambda content: change(read(content))
@@ -130,9 +141,14 @@ def without_a_note(values):
     return {key: value for key, value in values.items() if key != "note"}
 
 
-def a_hundred_intervals_are_enough(intervals):
-    """From 100 to 10000 intervals."""
-    return 100 <= intervals <= 10000
+def with_a_greatest_load(values):
+    """Without a key `max` the greatest load is 15000."""
+    return {"max": 15000, **values}
+
+
+def intervals_from(least, most=10000):
+    """From a number of intervals to another."""
+    return lambda intervals: least <= intervals <= most
 
 
 def a_part_is_left(numerator, denominator):
@@ -148,9 +164,12 @@ BODIES = {
     "tools/edits/wc_plate/interval_below_five_grams": (plate, "interval_allowed", intervals_of(least=2)),
     "tools/edits/wc_plate/an_interval_of_four": (plate, "interval_allowed", intervals_of(ones=(1, 2, 4, 5))),
     "tools/edits/wc_plate/part_of_an_interval_is_left": (plate, "divmod", a_part_is_left),
-    "tools/edits/wc_plate/a_hundred_intervals_are_enough": (plate, "count_allowed", a_hundred_intervals_are_enough),
-    "tools/edits/wc_plate/other_keys_are_passed_over": (plate, "read_table", read_without(without_a_note)),
+    "tools/edits/wc_plate/a_hundred_intervals_are_enough": (plate, "count_allowed", intervals_from(100)),
+    "tools/edits/wc_plate/twenty_thousand_intervals": (plate, "count_allowed", intervals_from(500, 20000)),
+    "tools/edits/wc_plate/other_keys_are_passed_over": (plate, "read_table", read_with(without_a_note)),
+    "tools/edits/wc_plate/a_missing_greatest_load_is_supplied": (plate, "read_table", read_with(with_a_greatest_load)),
     "tools/edits/wc_indicator/ties_go_toward_zero": (indication, "nearest", ties_go_toward_zero),
+    "tools/edits/wc_indicator/weights_are_cut": (indication, "nearest", weights_are_cut),
     "wc_indicator/must-fail/over_before_rounding": (SCALE, "over", over_before_rounding),
     "tools/edits/wc_indicator/over_one_interval_late": (SCALE, "over", over_one_interval_late),
     "tools/edits/wc_indicator/tare_above_the_greatest": (SCALE, "set_tare", tare_of(above=9)),
@@ -163,6 +182,7 @@ BODIES = {
     "wc_indicator/must-fail/centre_depends_on_net": (SCALE, "centre_of_zero", centre_depends_on_net),
     "tools/edits/wc_indicator/centre_within_half_an_interval": (SCALE, "centre_of_zero", centre_within_half_an_interval),
     "tools/edits/wc_indicator/tare_value_is_gross": (SCALE, "tare_value", SCALE.gross),
+    "tools/edits/wc_indicator/tare_in_steps_of_two_intervals": (SCALE, "tare_value", tare_in_steps_of_two_intervals),
     "tools/edits/wc_indicator/tare_at_zero": (SCALE, "set_tare", tare_of(least=0)),
     "tools/edits/wc_indicator/an_active_tare_is_kept": (SCALE, "set_tare", tare_of(is_kept=True)),
     "tools/edits/wc_indicator/shown_is_always_gross": (SCALE, "shown", SCALE.gross),
