@@ -3,3 +3,5 @@ pub mod ReadOnce
 pub mod Reasons
 pub mod LoadLaws
 pub mod JobLaws
+pub mod OneWorstPath
+pub mod OneReport
