@@ -36,7 +36,8 @@ pub fn each_unit_has_one_worst_path()
     ensures { EachUnitHasOneWorstPath }
 {}
 
-/// A text that is loaded has one report, with paths and without: so two checks of it write the same bytes, on whatever machine.
+/// A text that is loaded has one report, with paths and without: so two checks of it write the same
+/// bytes, on whatever machine.
 pub fn a_text_has_one_report()
     ensures { OneReport }
 {}
