@@ -5,3 +5,5 @@ pub mod LoadLaws
 pub mod JobLaws
 pub mod Fitting
 pub mod FittingTexts
+pub mod OneWorstPath
+pub mod OneReport

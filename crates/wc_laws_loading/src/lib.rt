@@ -4,6 +4,7 @@
 
 ghost use Rattle.wc_laws_loading.specs.Laws.{LoadedOrRefused, NeverBoth, OneAnswer, OneRefusal, OneText};
 ghost use Rattle.wc_laws_loading.specs.Sizes.{LoadedTextsAreSmall, TokensAreFew};
+ghost use Rattle.wc_laws_loading.specs.Reports.{EachUnitHasOneWorstPath, OneReport};
 
 /// Any bytes are loaded as a text, or refused with a number and a line.
 pub fn bytes_are_loaded_or_refused()
@@ -40,4 +41,15 @@ pub fn tokens_are_few()
 /// have the flat lines of its bodies together.
 pub fn loaded_texts_are_small()
     ensures { LoadedTextsAreSmall }
+{}
+
+/// The lines of a unit's worst path are one list: so a check has no choice of a path.
+pub fn each_unit_has_one_worst_path()
+    ensures { EachUnitHasOneWorstPath }
+{}
+
+/// A text that is loaded has one report, with paths and without: so two checks of it write the same
+/// bytes, on whatever machine.
+pub fn a_text_has_one_report()
+    ensures { OneReport }
 {}
