@@ -110,7 +110,7 @@ call_alike block_path scope line condition instance arguments =
     (λ i j m n a b. (listed i a.0 ∙ sym (listed j b.0), inl (a.1 ∙ sym b.1))) (exactly_alike (At line ∷ []) Onward)
     (λ i j m n a b. (listed i a.0 ∙ sym (ap own_lines b.0), inl (a.1 ∙ sym b.1)))
 
--- any two ways of a step are alike
+-- any two passages through a step are alike
 step_alike : (block_path : Name → List Item → Type 0) (scope : Scope) (line : ℕ) (step : Step) → AreAlike (MayStep block_path scope line step)
 step_alike block_path scope line (Load negated operand) = exactly_alike (At line ∷ []) Onward
 step_alike block_path scope line (Store storing target) = exactly_alike (At line ∷ []) Onward
