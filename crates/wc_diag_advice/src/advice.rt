@@ -1,270 +1,211 @@
 use crate::fields::{input_advice, number_advice, point_advice};
-use crate::members::{hidden_advice, input_of, member_advice};
+use crate::members::{declares_own, first_input, member_advice};
 use crate::near::{
-    Wanted, advice_for, instance_advice, label_advice, near_word, operator_advice, type_advice,
-    unit_advice,
+    Wanted, instance_advice, label_advice, likely, near_name, near_word, operator_advice,
+    type_advice,
 };
-use std::alloc::{AllocError, Global};
-use wc_built_in::{Keyword, keyword_named, variable_at};
-use wc_diag_mistakes::{Refused, follows_leaving};
+use std::alloc::AllocError;
+use wc_built_in::variable_at;
+use wc_diag_mistakes::{Refused, Said, follows_leaving, words};
 use wc_diag_stops::{Brought, first_word, following, is_near, word_of};
-use wc_diag_texts::{
-    Case, InstructionValues, NameValues, empty_path_advice, hint_of, instruction_text, name_text,
-};
+use wc_diag_texts::{Case, empty_path_advice, hint_of};
 use wc_model::{Kind, is_word};
 
-/// Text that is longer than a name is not printed in an advice.
-const LONGEST_NAME: usize = 32;
-
-/// Bytes as words, if they are no more than a name has.
-pub(crate) fn short_words(text: &[u8]) -> &str {
-    if text.len() > LONGEST_NAME {
-        return "";
-    }
-    str::from_utf8(text).unwrap_or("")
-}
-
 /// The likely operator for one whose letters are exchanged.
-fn exchanged_advice(alloc: Global, word: &[u8]) -> Result<String, AllocError> {
-    let likely = near_word(b"JMPCN CALCN RETCN", word);
-    name_text(
-        alloc,
-        NameValues::NearOf(likely, "The C comes before the N"),
-    )
+fn exchanged_advice(refused: &Refused<'_, '_>) -> Said {
+    let likely = near_word("JMPCN CALCN RETCN", refused.token())?;
+    Some(format!(in refused.alloc; "did you mean `{likely}`? The C comes before the N"))
 }
 
 /// How to set an input that is used as an operator: the instance is the word after it.
-fn setting_advice(alloc: Global, refused: &Refused<'_, '_>) -> Result<String, AllocError> {
-    let input = short_words(refused.token());
-    let instance = short_words(word_of(refused.next()));
-    if input.is_empty() || instance.is_empty() {
-        return Ok(String::new(alloc));
-    }
-    instruction_text(alloc, InstructionValues::Setting(input, instance))
+fn setting_advice(refused: &Refused<'_, '_>) -> Said {
+    let input = words(refused.token())?;
+    let instance = words(word_of(refused.next()))?;
+    Some(format!(in refused.alloc;
+        "write CAL {instance}({input} := a), or ST {instance}.{input} and then CAL {instance}: a store does not call the block"
+    ))
 }
 
 /// What to write for lines of STL: around them a unit too, if none starts above.
-fn frame_advice(
-    alloc: Global,
-    refused: &Refused<'_, '_>,
-    mistake: Case,
-) -> Result<String, AllocError> {
-    match hint_of(refused.number, mistake) {
-        Some(hint) if refused.unit_kind().is_none() => {
-            instruction_text(alloc, InstructionValues::Framed(hint))
-        }
-        _ => Ok(String::new(alloc)),
+fn frame_advice(refused: &Refused<'_, '_>, mistake: Case) -> Said {
+    let hint = hint_of(refused.number, mistake)?;
+    if refused.unit_kind().is_some() {
+        return None;
     }
+    Some(format!(in refused.alloc;
+        "{hint}; write all between PROGRAM P (in place of ORGANIZATION_BLOCK and BEGIN) and END_PROGRAM"
+    ))
 }
 
-/// What to write at the label before the slice; empty if something may lead to it.
-fn unreached_label_advice(alloc: Global, refused: &Refused<'_, '_>) -> Result<String, AllocError> {
-    match refused.label_before() {
-        Some(label) if follows_leaving(refused.tokens, label.line) => {
-            instruction_text(
-                alloc,
-                InstructionValues::UnreachedLabel(short_words(label.text)),
-            )
-        }
-        _ => Ok(String::new(alloc)),
+/// What to write at the label before the slice, if surely nothing leads to it.
+fn unreached_label_advice(refused: &Refused<'_, '_>) -> Said {
+    let token = refused.label_before()?;
+    let label = words(token.text)?;
+    if !follows_leaving(refused.tokens, token.line) {
+        return None;
     }
+    Some(format!(in refused.alloc;
+        "make the JMP or RET above conditional (JMPC, JMPCN, RETC), jump to `{label}` from a line above, or delete this line"
+    ))
 }
 
 /// What to write if no path is known to a label, or one alone, which brings nothing.
-fn path_advice(alloc: Global, refused: &Refused<'_, '_>) -> Result<String, AllocError> {
+fn path_advice(refused: &Refused<'_, '_>) -> Said {
     match refused.span.paths {
-        None => unreached_label_advice(alloc, refused),
+        None => unreached_label_advice(refused),
         Some(paths) if paths.other.is_none() && matches!(paths.first.brought, Brought::Nothing) => {
-            empty_path_advice(alloc, paths.first.line)
+            Some(empty_path_advice(refused.alloc, paths.first.line))
         }
-        _ => Ok(String::new(alloc)),
-    }
-}
-
-/// What to write for a word to which a jump leads: it is a label without its colon.
-fn colon_advice(alloc: Global, word: &[u8]) -> Result<String, AllocError> {
-    let label = short_words(word);
-    if label.is_empty() {
-        return Ok(String::new(alloc));
-    }
-    instruction_text(alloc, InstructionValues::LabelColon(label))
-}
-
-/// The likely END_VAR for a word almost like it; empty if the word before is not one.
-fn section_advice(alloc: Global, refused: &Refused<'_, '_>) -> Result<String, AllocError> {
-    let word = refused.word_before();
-    if is_word(b"END_VAR", word) || !is_near(b"END_VAR", word) {
-        return Ok(String::new(alloc));
-    }
-    let line = refused.previous().map_or(0, |token| token.line);
-    name_text(alloc, NameValues::NearEnd(short_words(word), line))
-}
-
-/// Whether an address is one of an output; nothing if it is not one of an input either.
-fn is_output(address: &[u8]) -> Option<bool> {
-    match address.get(1).copied() {
-        Some(b'q' | b'Q') => Some(true),
-        Some(b'i' | b'I') => Some(false),
         _ => None,
     }
 }
 
-/// The bits of an area, in words.
-fn bits_of(is_output: bool) -> &'static str {
-    if is_output {
-        "The output bits are %QX0.0 to %QX0.15"
-    } else {
-        "The input bits are %IX0.0 to %IX0.15 and %IX1.0 to %IX1.5"
-    }
+/// What to write for a word to which a jump leads: it is a label without its colon.
+fn colon_advice(refused: &Refused<'_, '_>) -> Said {
+    let label = words(refused.token())?;
+    Some(format!(in refused.alloc; "a label ends with a colon: write `{label}:`"))
 }
 
-/// What is said of a likely address, if it is a valid one; else nothing.
-fn address_advice(alloc: Global, address: &str, is_output: bool) -> Result<String, AllocError> {
-    if variable_at(address.as_bytes()).is_none() {
-        return Ok(String::new(alloc));
+/// The likely END_VAR for a word almost like it, if the word before is one.
+fn section_advice(refused: &Refused<'_, '_>) -> Said {
+    let token = refused.previous()?;
+    let (line, word) = (token.line, words(refused.word_before())?);
+    if is_word(b"END_VAR", token.text) || !is_near(b"END_VAR", token.text) {
+        return None;
     }
-    name_text(alloc, NameValues::NearOf(address, bits_of(is_output)))
+    Some(format!(in refused.alloc;
+        "did you mean END_VAR on line {line}? `{word}` there is read as the name of a variable"
+    ))
 }
 
-/// A likely address of one bit for another without the bit; empty if it is not one.
-fn bit_advice(alloc: Global, address: &[u8]) -> Result<String, AllocError> {
-    let Some(is_output) = is_output(address) else {
-        return Ok(String::new(alloc));
+/// A likely address of one bit for another without the bit.
+fn bit_advice(refused: &Refused<'_, '_>) -> Said {
+    let address = refused.token();
+    let number = words(following(address, 2))?;
+    let (area, bits) = match address.get(1)? {
+        b'q' | b'Q' => ("Q", "The output bits are %QX0.0 to %QX0.15"),
+        b'i' | b'I' => (
+            "I",
+            "The input bits are %IX0.0 to %IX0.15 and %IX1.0 to %IX1.5",
+        ),
+        _ => return None,
     };
-    let area = if is_output { "Q" } else { "I" };
-    let number = short_words(following(address, 2));
-    let first = format!(in alloc; "%{area}X{number}.0")?;
-    address_advice(alloc, &first, is_output)
+    let Ok(likely) = format!(in refused.alloc; "%{area}X{number}.0") else {
+        return Some(Err(AllocError));
+    };
+    if variable_at(likely.as_bytes()).is_none() {
+        return None;
+    }
+    Some(format!(in refused.alloc; "did you mean `{likely}`? {bits}"))
 }
 
-/// What to write for a field that a block does not have.
-fn field_advice(alloc: Global, refused: &Refused<'_, '_>) -> Result<String, AllocError> {
-    let block = refused.block();
-    if block.is_empty() {
-        return point_advice(alloc, refused);
-    }
-    let wanted = (refused.offending(), refused.field());
-    member_advice(
-        alloc,
-        refused.units,
-        block.as_bytes(),
-        refused.sets(),
-        wanted,
-    )
+/// What to write for a field, or a name in the list of a call, that a block does not have.
+fn name_advice(refused: &Refused<'_, '_>) -> Said {
+    let Some(block) = refused.block() else {
+        return point_advice(refused);
+    };
+    let name = refused.offending();
+    Some(if refused.number == 409 {
+        member_advice(refused, block, refused.span.is_passed, (b"", name))
+    } else {
+        member_advice(refused, block, refused.sets(), (name, refused.field()))
+    })
 }
 
-/// What to write for a name in the list of a call that the block does not have.
-fn formal_advice(alloc: Global, refused: &Refused<'_, '_>) -> Result<String, AllocError> {
-    let block = refused.block();
-    if block.is_empty() {
-        return Ok(String::new(alloc));
+/// What to write for a field in a VAR of a block of the text, which nothing outside reads or sets.
+fn unseen_advice(refused: &Refused<'_, '_>) -> Said {
+    let (block, name) = (refused.block()?, words(refused.field())?);
+    if refused.span.formal.is_some() || !declares_own(refused, block, name) {
+        return None;
     }
-    let wanted: (&[u8], &[u8]) = (b"", refused.offending());
-    member_advice(
-        alloc,
-        refused.units,
-        block.as_bytes(),
-        refused.span.is_passed,
-        wanted,
-    )
-}
-
-/// What to write for a field in a VAR of a block of the text, which nothing outside reads or sets; empty if it is none.
-fn unseen_advice(alloc: Global, refused: &Refused<'_, '_>) -> Result<String, AllocError> {
-    let (block, name) = (refused.block(), refused.field());
-    if block.is_empty() || name.is_empty() || refused.span.formal.is_some() {
-        return Ok(String::new(alloc));
-    }
-    hidden_advice(alloc, refused.units, block.as_bytes(), name, refused.sets())
+    let section = if refused.sets() {
+        "VAR_INPUT"
+    } else {
+        "VAR_OUTPUT"
+    };
+    Some(format!(in refused.alloc; "{name} is in VAR of {block}: declare it in {section} there"))
 }
 
 /// What to write for an instance that is a target: one of its inputs.
-fn target_advice(alloc: Global, refused: &Refused<'_, '_>) -> Result<String, AllocError> {
-    let instance = short_words(refused.offending());
-    let block = refused.word_at(refused.span.block).as_bytes();
-    let input = input_of(alloc, refused.units, block)?;
-    if input.is_empty() {
-        return member_advice(alloc, refused.units, block, true, (&[], &[]));
+fn target_advice(refused: &Refused<'_, '_>) -> Said {
+    let block = refused.word_at(refused.span.block)?;
+    let instance = words(refused.offending())?;
+    match first_input(refused, block) {
+        Some(input) => Some(format!(in refused.alloc;
+            "name one of its inputs, such as {instance}.{input}"
+        )),
+        None => Some(member_advice(refused, block, true, (&[], &[]))),
     }
-    name_text(alloc, NameValues::Input(instance, &input))
 }
 
 /// What to write for a name that is not declared, by what it is used for.
-fn undeclared_advice(alloc: Global, refused: &Refused<'_, '_>) -> Result<String, AllocError> {
-    let wanted = match keyword_named(refused.word_before()) {
-        _ if refused.sets() => Wanted::Target,
-        Some(Keyword::Call(_)) if refused.span.formal.is_none() => Wanted::Instance,
-        _ => Wanted::Value,
+fn undeclared_advice(refused: &Refused<'_, '_>) -> Said {
+    let wanted = if refused.sets() {
+        Wanted::Target
+    } else if refused.span.formal.is_none() && refused.is_called() {
+        Wanted::Instance
+    } else {
+        Wanted::Value
     };
-    advice_for(alloc, refused, wanted)
+    likely(refused, near_name(refused, refused.offending(), wanted))
 }
 
 /// What to write for a declaration with its type before its name.
-fn declaration_advice(alloc: Global, refused: &Refused<'_, '_>) -> Result<String, AllocError> {
-    let name = short_words(refused.token());
-    let kind = short_words(refused.word_before());
-    instruction_text(alloc, InstructionValues::TypeFirst(name, kind))
+fn declaration_advice(refused: &Refused<'_, '_>) -> Said {
+    let name = words(refused.token()).unwrap_or("");
+    let kind = words(refused.word_before()).unwrap_or("");
+    Some(format!(in refused.alloc; "the name comes before its type: write `{name} : {kind};`"))
 }
 
 /// What to write for a name between quotation marks.
-fn unquoted_advice(alloc: Global, refused: &Refused<'_, '_>) -> Result<String, AllocError> {
-    let name = short_words(first_word(following(refused.lexeme, 1)));
-    instruction_text(alloc, InstructionValues::Unquoted(name))
+fn unquoted_advice(refused: &Refused<'_, '_>) -> Said {
+    let name = words(first_word(following(refused.lexeme, 1))).unwrap_or("");
+    Some(format!(in refused.alloc; "write the name without quotation marks: `{name}`"))
 }
 
-/// What to write for a number that is passed to a TIME; empty if it is more than its digits.
-fn duration_advice(alloc: Global, word: &[u8]) -> Result<String, AllocError> {
-    if word.is_empty() || word.iter().any(|byte| !byte.is_ascii_digit()) {
-        return Ok(String::new(alloc));
+/// What to write for a number that is passed to a TIME, if it is digits alone.
+fn duration_advice(refused: &Refused<'_, '_>) -> Said {
+    let number = refused.offending();
+    if number.is_empty() || number.iter().any(|byte| !byte.is_ascii_digit()) {
+        return None;
     }
-    instruction_text(alloc, InstructionValues::Duration(short_words(word)))
+    let milliseconds = words(number).unwrap_or("");
+    Some(format!(in refused.alloc; "write a duration, such as T#{milliseconds}ms, or pass a TIME"))
 }
 
-/// What to write instead at a token (up to 304), with the available values; empty: nothing beyond the hint.
-fn advice_of_token(
-    alloc: Global,
-    refused: &Refused<'_, '_>,
-    mistake: Case,
-) -> Result<String, AllocError> {
-    let word = refused.token();
+/// What to write instead, with the available values; nothing beyond the hint, if nothing is found.
+pub fn advice_at(refused: &Refused<'_, '_>, mistake: Case) -> Said {
     match (refused.number, mistake) {
-        (201, Case::NoOperator) => operator_advice(alloc, refused),
-        (201, Case::LabelWithoutColon) => colon_advice(alloc, word),
-        (201, Case::NoUnit) => unit_advice(alloc, word),
-        (201, Case::ConditionSpelling) => exchanged_advice(alloc, word),
-        (201, Case::InputOperator) => setting_advice(alloc, refused),
-        (201, Case::OpenSection) => section_advice(alloc, refused),
-        (101, Case::QuotedName) => unquoted_advice(alloc, refused),
-        (201, Case::TypeFirst) => declaration_advice(alloc, refused),
-        (201, Case::BareInputs) => input_advice(alloc, refused),
-        (201, Case::NoAddress) => number_advice(alloc, refused),
+        (101, Case::QuotedName) => unquoted_advice(refused),
         (101, Case::StatementAssign | Case::StatementComparison)
         | (105, Case::StatementAddress)
-        | (201, Case::StatementList) => frame_advice(alloc, refused, mistake),
-        (302, Case::Plain) => type_advice(alloc, refused),
-        (304, Case::NoSuchBit) => bit_advice(alloc, word),
-        _ => Ok(String::new(alloc)),
-    }
-}
-
-/// What to write instead, with the available values; empty: nothing beyond the hint.
-pub fn advice_at(
-    alloc: Global,
-    refused: &Refused<'_, '_>,
-    mistake: Case,
-) -> Result<String, AllocError> {
-    match (refused.number, mistake) {
-        (403, Case::AtLabel) => path_advice(alloc, refused),
-        (401, Case::Plain) => undeclared_advice(alloc, refused),
-        (401, Case::BlockType) => instance_advice(alloc, refused),
-        (402, Case::InstanceTarget) => target_advice(alloc, refused),
-        (402, Case::Unpassed(Kind::Dint, Kind::Time)) => {
-            duration_advice(alloc, refused.offending())
+        | (201, Case::StatementList) => frame_advice(refused, mistake),
+        (201, Case::NoOperator) => operator_advice(refused),
+        (201, Case::LabelWithoutColon) => colon_advice(refused),
+        (201, Case::NoUnit) => {
+            likely(
+                refused,
+                near_word("PROGRAM FUNCTION_BLOCK", refused.token()),
+            )
         }
-        (404 | 405, _) => unseen_advice(alloc, refused),
-        (401, Case::Field) => field_advice(alloc, refused),
-        (406, Case::Plain) => label_advice(alloc, refused),
-        (409, Case::NotOfBlock(_) | Case::NotOfOwnBlock) => formal_advice(alloc, refused),
-        _ => advice_of_token(alloc, refused, mistake),
+        (201, Case::ConditionSpelling) => exchanged_advice(refused),
+        (201, Case::InputOperator) => setting_advice(refused),
+        (201, Case::OpenSection) => section_advice(refused),
+        (201, Case::TypeFirst) => declaration_advice(refused),
+        (201, Case::BareInputs) => input_advice(refused),
+        (201, Case::NoAddress) => number_advice(refused),
+        (302, Case::Plain) => type_advice(refused),
+        (304, Case::NoSuchBit) => bit_advice(refused),
+        (401, Case::Plain) => undeclared_advice(refused),
+        (401, Case::BlockType) => instance_advice(refused),
+        (402, Case::InstanceTarget) => target_advice(refused),
+        (402, Case::Unpassed(Kind::Dint, Kind::Time)) => duration_advice(refused),
+        (403, Case::AtLabel) => path_advice(refused),
+        (404 | 405, _) => unseen_advice(refused),
+        (406, Case::Plain) => label_advice(refused),
+        (401, Case::Field) | (409, Case::NotOfBlock(_) | Case::NotOfOwnBlock) => name_advice(
+            refused,
+        ),
+        _ => None,
     }
 }

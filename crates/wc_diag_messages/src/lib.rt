@@ -13,7 +13,6 @@ mod parts;
 mod placing;
 mod short;
 mod snippets;
-mod warned_lines;
 mod warned_parts;
 mod warning_entries;
 

@@ -2,8 +2,7 @@ ghost use Rattle.std.specs.Prelude.{◌≡◌, ◌++◌, IfOk, IfSome, OnOk, is_
 ghost use Rattle.wc_diag_messages.specs.Paged.{ReportsPage, answer_line, help_lines, number_line, page_line, page_lines, plate_line, raised_at, raised_lines, shown_line};
 ghost use Rattle.wc_diag_texts.specs.Numbers.{is_from, is_refusal};
 
-use crate::warned_lines::write_warning_number;
-use crate::warning_entries::{WarningEntry, warning_of};
+use crate::warning_entries::warning_of;
 use std::alloc::{AllocError, Global};
 use wc_diag_shown::Message;
 use wc_diag_texts::{Entry, entry_of};
@@ -126,13 +125,10 @@ pub fn page(alloc: Global, number: u16) -> Result<Option<Message>, AllocError>
 }
 
 /// The page of a warning, as it is printed.
-fn warned_message(alloc: Global, warning: &WarningEntry) -> Result<Message, AllocError> {
+fn warned_message(alloc: Global, warning: &Entry) -> Result<Message, AllocError> {
     let mut message = Message::new(alloc);
-    write_warning_number(&mut message, warning.number)?;
-    message.say(": ")?;
-    message.say(warning.subject)?;
-    message.say(warning.sentence)?;
-    message.end_line()?;
+    message.say("W")?;
+    write_number(&mut message, warning.number, warning.sentence)?;
     write_line(&mut message, "place", warning.place)?;
     write_line(&mut message, "example (` / ` is a line end)", warning.input)?;
     write_help(&mut message, warning.hint, warning.usual)?;

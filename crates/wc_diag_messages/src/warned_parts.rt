@@ -83,7 +83,7 @@ fn marked(name: &[u8], start: usize, line: &[u8]) -> Span
 /// The sentence of a warning.
 fn sentence(number: u8) -> &'static str {
     match warning_of(number) {
-        Some(entry) => entry.sentence,
+        Some(entry) => entry.quoted,
         None => "is suspicious",
     }
 }

@@ -1,34 +1,21 @@
 ghost use Rattle.std.specs.Prelude.{◌≡◌, IfSome, is_some};
 ghost use Rattle.wc_diag_texts.specs.Numbers.{is_from};
 
-/// All that is said of a warning by its number alone. docs/REFUSALS.md has the same numbers.
-pub(crate) struct WarningEntry {
-    pub(crate) number: u8,
-    /// What kind of name it is of, in the page; empty if it is of none.
-    pub(crate) subject: &'static str,
-    /// What is suspicious, of a name if there is one.
-    pub(crate) sentence: &'static str,
-    /// What its line is.
-    pub(crate) place: &'static str,
-    /// An input that has it, in which ` / ` ends a line.
-    pub(crate) input: &'static str,
-    /// What to write instead.
-    pub(crate) hint: &'static str,
-    /// The lines of a usual text that has it, why it is suspicious, and the text mended.
-    pub(crate) usual: &'static [&'static str],
-}
+use wc_diag_texts::Entry;
 
-/// The entry of a number among these, if there is one.
+/// The entry of a number among these, if there is one. The subject is what kind of name it is of, in the page; empty if it is of none.
 macro_rules! warning_among {
     ($among:expr; $($number:literal $subject:literal $sentence:literal at $place:literal, $input:literal, help $hint:literal,
         suspicious $($usual:literal)* why $why:literal mended $($mended:literal)*;)*) => {
         match $among {
-            $($number => Some(&WarningEntry {
+            $($number => Some(&Entry {
                 number: $number,
-                subject: $subject,
-                sentence: $sentence,
+                pass: "",
+                sentence: concat!($subject, $sentence),
+                quoted: $sentence,
                 place: $place,
                 input: $input,
+                answer: 0,
                 hint: $hint,
                 usual: &[
                     "suspicious:", $(concat!("    ", $usual),)* concat!("why: ", $why), "mended:", $(concat!("    ", $mended),)*
@@ -39,8 +26,8 @@ macro_rules! warning_among {
     };
 }
 
-/// The entry of a warning, if there is one of that number.
-pub(crate) fn warning_of(number: u8) -> Option<&'static WarningEntry>
+/// All that is said of a warning by its number alone, if there is one of that number. docs/REFUSALS.md has the same numbers.
+pub(crate) fn warning_of(number: u8) -> Option<&'static Entry>
     ensures known { is_some result ≡ is_from 1 9 number }
     ensures number { IfSome result (λ entry. entry.now.number ≡ number) }
 {

@@ -1,89 +1,83 @@
 use wc_built_in::{Keyword, elementary_type, keyword_named, standard_block};
 use wc_diag_stops::is_among;
 use wc_diag_texts::Case;
-use wc_model::is_word;
 
 /// Words with spaces between, and the mistake that each of them is.
 type Row = (&'static [u8], Case);
 
+/// Rows of words, each with its mistake.
+macro_rules! rows {
+    ($($words:expr => $case:ident;)*) => {
+        [$(($words, Case::$case)),*]
+    };
+}
+
 /// Standard functions.
-const FUNCTIONS: [Row; 7] = [
-    (b"limit", Case::Limit),
-    (b"max", Case::Greatest),
-    (b"min", Case::Least),
-    (b"neg", Case::Negative),
-    (b"sel mux", Case::Select),
-    (b"move", Case::Move),
-    (
-        b"abs sqrt expt exp ln log sin cos tan asin acos atan shl shr rol ror len left right mid concat insert find trunc",
-        Case::StandardFunction,
-    ),
-];
+const FUNCTIONS: [Row; 7] = rows! {
+    b"limit" => Limit;
+    b"max" => Greatest;
+    b"min" => Least;
+    b"neg" => Negative;
+    b"sel mux" => Select;
+    b"move" => Move;
+    b"abs sqrt expt exp ln log sin cos tan asin acos atan shl shr rol ror len left right mid concat insert find trunc" => StandardFunction;
+};
 
 /// Words of the standard that this language leaves out.
-const LEFT_OUT: [Row; 6] = [
-    (b"at", Case::AtAddress),
-    (b"var_global var_external", Case::GlobalVariable),
-    (b"var_in_out", Case::SharedVariable),
-    (b"var_temp", Case::OpenVariable),
-    (b"constant", Case::Constant),
-    (b"retain", Case::Retain),
-];
+const LEFT_OUT: [Row; 7] = rows! {
+    b"at" => AtAddress;
+    b"var_global var_external" => GlobalVariable;
+    b"var_in_out" => SharedVariable;
+    b"var_temp" => OpenVariable;
+    b"constant" => Constant;
+    b"retain" => Retain;
+    b"persistent" => Persistent;
+};
 
 /// Words in which a program is bound to a controller.
-const CONFIGURATION: Row = (
-    b"configuration end_configuration resource end_resource task with",
-    Case::Configuration,
-);
+const CONFIGURATION: &[u8] = b"configuration end_configuration resource end_resource task with";
 
 /// Operators of STL (AWL) that are written otherwise here.
-const STATEMENT_LIST: Row = (
-    b"a an o on u un x xn l t spa spb spbn ju jc network",
-    Case::StatementList,
-);
+const STATEMENT_LIST: &[u8] = b"a an o on u un x xn l t spa spb spbn ju jc network";
 
 /// Words with which other tools begin a unit.
-const UNITS: [Row; 4] = [
-    CONFIGURATION,
-    (b"type end_type struct end_struct", Case::OwnType),
-    (
-        b"organization_block function_block_end data_block network begin",
-        Case::StatementList,
-    ),
-    STATEMENT_LIST,
-];
+const UNITS: [Row; 4] = rows! {
+    CONFIGURATION => Configuration;
+    b"type end_type struct end_struct" => OwnType;
+    b"organization_block function_block_end data_block begin" => StatementList;
+    STATEMENT_LIST => StatementList;
+};
 
 /// Words in the place of an operator; the inputs of standard blocks the standard also writes as operators.
-const OPERATORS: [Row; 4] = [
-    (b"cd", Case::DownCounter),
-    (b"cu pv in pt clk s1 r1", Case::InputOperator),
-    STATEMENT_LIST,
-    CONFIGURATION,
-];
+const OPERATORS: [Row; 4] = rows! {
+    b"cd" => DownCounter;
+    b"cu pv in pt clk s1 r1" => InputOperator;
+    STATEMENT_LIST => StatementList;
+    CONFIGURATION => Configuration;
+};
 
 /// Types that this language does not have, and words that begin one.
-const TYPES: [Row; 5] = [
-    (
-        b"int sint uint usint udint lint ulint byte word dword lword",
-        Case::SmallInteger,
-    ),
-    (b"real lreal", Case::RealNumber),
-    (
-        b"string wstring char date tod time_of_day dt date_and_time array struct pointer",
-        Case::TextType,
-    ),
-    (b"f_trig", Case::FallingEdge),
-    (b"ctd ctud", Case::DownCounter),
+const TYPES: [Row; 5] = rows! {
+    b"int sint uint usint udint lint ulint byte word dword lword" => SmallInteger;
+    b"real lreal" => RealNumber;
+    b"string wstring char date tod time_of_day dt date_and_time array struct pointer" => TextType;
+    b"f_trig" => FallingEdge;
+    b"ctd ctud" => DownCounter;
+};
+
+/// Fields of standard blocks, by the block that has them.
+const FIELDS: [(&str, &str); 5] = [
+    ("q et in pt", "TON"),
+    ("cv cu pv", "CTU"),
+    ("clk", "R_TRIG"),
+    ("q1 s1", "SR"),
+    ("r1", "RS"),
 ];
 
 /// The mistake that a word is by one of these rows.
 fn row_of(rows: &[Row], word: &[u8]) -> Option<Case> {
-    for (words, case) in rows {
-        if is_among(words, word) {
-            return Some(*case);
-        }
-    }
-    None
+    let (_, case) = rows.iter().find(|(words, _)| is_among(words, word))?;
+    Some(*case)
 }
 
 /// Whether a word has a part, in letters of either case.
@@ -94,14 +88,10 @@ fn has_part(word: &[u8], part: &[u8]) -> bool {
 
 /// A word of a type, `_TO_` and a type, if it is one; between numbers nothing is to convert.
 fn mistaken_conversion(word: &[u8]) -> Option<Case> {
+    let mut others = "time bool date ring char bcd_ _bcd".split(' ');
     if !has_part(word, b"_to_") {
-        return None;
-    }
-    let others: &[u8] = b"time bool date ring char bcd_ _bcd";
-    if others
-        .split(|byte| *byte == b' ')
-        .any(|other| has_part(word, other))
-    {
+        None
+    } else if others.any(|other| has_part(word, other.as_bytes())) {
         Some(Case::Conversion)
     } else {
         Some(Case::NumberConversion)
@@ -146,19 +136,10 @@ pub(crate) fn mistaken_type(word: &[u8]) -> Case {
     row_of(&TYPES, word).unwrap_or(Case::Plain)
 }
 
-/// The standard block that has a field of that name; empty if none has, or if that is not sure.
-pub fn block_with(field: &[u8]) -> &'static str {
-    if is_among(b"q et in pt", field) {
-        "TON"
-    } else if is_among(b"cv cu pv", field) {
-        "CTU"
-    } else if is_word(b"clk", field) {
-        "R_TRIG"
-    } else if is_among(b"q1 s1", field) {
-        "SR"
-    } else if is_word(b"r1", field) {
-        "RS"
-    } else {
-        ""
-    }
+/// The standard block that has a field of that name; nothing if none has, or if that is not sure.
+pub fn block_with(field: &[u8]) -> Option<&'static str> {
+    let (_, block) = FIELDS
+        .iter()
+        .find(|(fields, _)| is_among(fields.as_bytes(), field))?;
+    Some(*block)
 }

@@ -11,6 +11,6 @@ mod unreached;
 
 pub use differences::{difference_said, names_operator};
 pub use foreign::block_with;
-pub use mistakes::{mistake_at, names_type};
-pub use refused::Refused;
+pub use mistakes::mistake_at;
+pub use refused::{Refused, Said, said_text, words};
 pub use unreached::{block_line, follows_leaving, is_unreached};

@@ -2,12 +2,13 @@ use crate::foreign::{
     is_type, left_out, mistaken_function, mistaken_name, mistaken_type, mistaken_unit,
 };
 use crate::refused::Refused;
-use crate::types::{is_conditional, type_hint};
+use crate::types::{Family, family_of, is_conditional, type_hint};
 use crate::unreached::{block_line, is_unreached};
-use wc_built_in::{Keyword, elementary_type, keyword_named, standard_block};
+use wc_built_in::{Keyword, elementary_type, keyword_named};
 use wc_diag_stops::{
     following, follows_digit, is_among, is_digit, is_line_end, is_near, is_operator, is_shape,
     mistaken_byte, mistaken_duration, mistaken_number, mistaken_statement, operator_on, text_of,
+    without_line_ends,
 };
 use wc_diag_texts::{Case, Expected};
 use wc_lexer::{Shape, Token};
@@ -15,31 +16,28 @@ use wc_model::{Kind, UnitKind, is_word};
 
 /// What a word in the place of an operator is, by the token after it.
 fn mistaken_word(word: &[u8], next: Option<&Token<'_>>) -> Case {
-    match mistaken_function(word) {
-        Some(function) => function,
+    match mistaken_statement(word).or(mistaken_function(word)) {
+        Some(mistake) => mistake,
         None if is_shape(next, Shape::Opening) => Case::InstanceCall,
         None => mistaken_name(word),
     }
 }
 
-/// A word in the place of an operator.
+/// A word in the place of an operator, which only a colon could follow.
 fn mistaken_operator(refused: &Refused<'_, '_>) -> Case {
     let (word, next) = (refused.token(), refused.next());
-    match keyword_named(word) {
-        Some(Keyword::SectionStart(_) | Keyword::SectionEnd) => return Case::SectionWord,
-        Some(Keyword::UnitStart(_)) => return Case::OpenBlock,
-        Some(Keyword::UnitEnd(_)) => return Case::UnitEnd,
-        Some(Keyword::Kept) => return left_out(word),
-        _ => {}
-    }
-    match next.map(|token| token.shape) {
-        Some(Shape::Colon | Shape::Assign) => Case::Assignment,
-        Some(Shape::Point) => Case::FieldAssignment,
+    match (keyword_named(word), next.map(|token| token.shape)) {
+        (Some(Keyword::SectionStart(_) | Keyword::SectionEnd), _) => Case::SectionWord,
+        (Some(Keyword::UnitStart(_)), _) if refused.is_in_program() => Case::OpenProgram,
+        (Some(Keyword::UnitStart(_)), _) => Case::OpenBlock,
+        (Some(Keyword::UnitEnd(_)), _) => Case::UnitEnd,
+        (Some(Keyword::Kept), _) => left_out(word),
+        (_, Some(Shape::Colon | Shape::Assign)) => Case::Assignment,
+        (_, Some(Shape::Point)) => Case::FieldAssignment,
         _ if is_among(b"jmpnc calnc retnc", word) => Case::ConditionSpelling,
-        _ => match (mistaken_statement(word), mistaken_word(word, next)) {
-            (Some(statement), _) => statement,
-            (None, Case::NoOperator) if is_label(refused) => Case::LabelWithoutColon,
-            (None, mistake) => mistake,
+        _ => match mistaken_word(word, next) {
+            Case::NoOperator if is_label(refused) => Case::LabelWithoutColon,
+            mistake => mistake,
         },
     }
 }
@@ -71,120 +69,75 @@ fn mistaken_before(before: &[u8], expected: Expected) -> Option<Case> {
             Case::NegatedOperand,
         ),
         (Some(Keyword::Kept), Expected::CommaOrColon) => Some(left_out(before)),
+        (Some(_), Expected::CommaOrColon) => Some(Case::OpenSection),
         (None, Expected::CommaOrColon) if is_word(b"persistent", before) => Some(Case::Persistent),
-        (None, Expected::CommaOrColon) if is_among(b"end var_end", before) => Some(
+        (None, Expected::CommaOrColon)
+            if is_among(b"end var_end", before) || is_near(b"END_VAR", before) => Some(
             Case::OpenSection,
         ),
-        (Some(_), Expected::CommaOrColon) => Some(Case::OpenSection),
-        (None, Expected::CommaOrColon) if is_near(b"END_VAR", before) => Some(Case::OpenSection),
         _ => None,
     }
 }
 
-/// Something after the program.
-fn mistaken_after_program(token: &[u8]) -> Case {
-    match mistaken_unit(token) {
-        Case::Configuration => Case::Configuration,
-        _ => Case::AfterProgram,
-    }
-}
-
-/// A token after a value of a call's list, by the token after it.
-fn mistaken_after_value(next: Option<&Token<'_>>) -> Case {
-    if is_shape(next, Shape::Assign) || is_shape(next, Shape::Arrow) {
-        Case::MissingComma
-    } else {
-        Case::NoVariable
-    }
-}
-
-/// A mistake that a token shows in an operand or in the list of a call, by the token after it.
-fn mistaken_in_list(token: &[u8], next: Option<&Token<'_>>, expected: Expected) -> Option<Case> {
-    match (expected, token.first()) {
-        (Expected::Field, Some(b'0'..=b'9')) => Some(Case::NoAddress),
-        (Expected::UnitName, _) => Some(Case::UnnamedUnit),
-        (Expected::Operand, Some(b'(')) => Some(Case::LoadParenthesis),
-        (Expected::LineEnd | Expected::PointOrLineEnd | Expected::OperandOrLineEnd, Some(b')')) => {
-            Some(Case::Closing)
-        }
-        (Expected::FormalOrClosing | Expected::Formal | Expected::AssignOrArrow, _) => Some(
+/// A mistake that an unexpected token inside a unit shows, by the token after it: in an operand or the list of a call, then as a `;`
+/// where none can be, then on the line of an instruction, then in a declaration.
+fn mistaken_in_unit(token: &[u8], next: Option<&Token<'_>>, expected: Expected) -> Case {
+    match (expected, token.first(), keyword_named(token)) {
+        (Expected::Field, Some(b'0'..=b'9'), _) => Case::NoAddress,
+        (Expected::UnitName, _, _) => Case::UnnamedUnit,
+        (Expected::Operand, Some(b'('), _) => Case::LoadParenthesis,
+        (
+            Expected::LineEnd | Expected::PointOrLineEnd | Expected::OperandOrLineEnd,
+            Some(b')'),
+            _,
+        ) => Case::Closing,
+        (Expected::Formal, Some(b')'), _) => Case::LastComma,
+        (Expected::FormalOrClosing | Expected::Formal | Expected::AssignOrArrow, _, _) =>
             Case::UnnamedInput,
-        ),
-        (Expected::OpeningOrLineEnd, Some(b'A'..=b'Z' | b'a'..=b'z' | b'%')) => Some(
-            Case::BareInputs,
-        ),
-        (Expected::CommaPointOrClosing | Expected::CommaOrClosing, Some(_)) => {
-            Some(mistaken_after_value(next))
-        }
-        _ => None,
-    }
-}
-
-/// A `;` where none can be.
-fn mistaken_semicolon(expected: Expected) -> Case {
-    match expected {
-        Expected::CommaOrColon => Case::MissingType,
-        Expected::Name | Expected::TypeName | Expected::Literal => Case::Declaration,
-        _ => Case::Semicolon,
-    }
-}
-
-/// A mistake that a token shows on the line of an instruction.
-fn mistaken_on_line(token: &[u8], expected: Expected) -> Option<Case> {
-    match (expected, token.first()) {
-        (Expected::InstructionOrLineEnd, _) if is_type(token) => Some(Case::OutsideSection),
-        (Expected::LineEnd | Expected::PointOrLineEnd, Some(b',')) => Some(Case::InstructionComma),
-        (Expected::LineEnd | Expected::PointOrLineEnd, _) => match keyword_named(token) {
-            Some(Keyword::Apply(_)) => Some(Case::SecondOperator),
-            _ => None,
-        },
-        (Expected::Instruction | Expected::InstructionOrLineEnd, Some(b'%')) => Some(
-            Case::Assignment,
-        ),
-        (Expected::Instruction | Expected::InstructionOrLineEnd, Some(b'(')) => Some(
-            Case::ListBelow,
-        ),
-        _ => None,
-    }
-}
-
-/// A mistake in a declaration, or none that is known.
-fn mistaken_declaration(expected: Expected) -> Case {
-    match expected {
-        Expected::NameOrEndVar
-        | Expected::CommaOrColon
-        | Expected::Name
-        | Expected::TypeName
-        | Expected::AssignOrSemicolon
-        | Expected::Literal
-        | Expected::Semicolon => Case::Declaration,
+        (Expected::OpeningOrLineEnd, Some(b'A'..=b'Z' | b'a'..=b'z' | b'%'), _) => Case::BareInputs,
+        (Expected::CommaPointOrClosing | Expected::CommaOrClosing, Some(_), _)
+            if is_shape(next, Shape::Assign) || is_shape(next, Shape::Arrow) => Case::MissingComma,
+        (Expected::CommaPointOrClosing | Expected::CommaOrClosing, Some(_), _) => Case::NoVariable,
+        (Expected::CommaOrColon, Some(b';'), _) => Case::MissingType,
+        (Expected::Name | Expected::TypeName | Expected::Literal, Some(b';'), _) =>
+            Case::Declaration,
+        (_, Some(b';'), _) => Case::Semicolon,
+        (Expected::InstructionOrLineEnd, _, _) if is_type(token) => Case::OutsideSection,
+        (Expected::LineEnd | Expected::PointOrLineEnd, Some(b','), _) => Case::InstructionComma,
+        (Expected::LineEnd | Expected::PointOrLineEnd, _, Some(Keyword::Apply(_))) =>
+            Case::SecondOperator,
+        (Expected::Instruction | Expected::InstructionOrLineEnd, Some(b'%'), _) => Case::Assignment,
+        (Expected::Instruction | Expected::InstructionOrLineEnd, Some(b'('), _) => Case::ListBelow,
+        (_, _, Some(Keyword::Kept)) => left_out(token),
+        _ if is_in_section(expected) => Case::Declaration,
         _ => Case::Unknown,
     }
 }
 
-/// A mistake that a token inside a unit shows, by the token after it.
-fn mistaken_in_unit(token: &[u8], next: Option<&Token<'_>>, expected: Expected) -> Case {
-    if let Some(case) = mistaken_in_list(token, next, expected) {
-        return case;
-    }
-    if token.first() == Some(&b';') {
-        return mistaken_semicolon(expected);
-    }
-    if let Some(case) = mistaken_on_line(token, expected) {
-        return case;
-    }
-    match keyword_named(token) {
-        Some(Keyword::Kept) => left_out(token),
-        _ => mistaken_declaration(expected),
-    }
+/// Whether that could be in a section of declarations.
+fn is_in_section(expected: Expected) -> bool {
+    matches!(
+        expected,
+        Expected::NameOrEndVar
+            | Expected::CommaOrColon
+            | Expected::Name
+            | Expected::TypeName
+            | Expected::AssignOrSemicolon
+            | Expected::Literal
+            | Expected::Semicolon
+    )
 }
 
 /// A mistake that an unexpected token shows, by the token after it.
-fn mistaken_token(token: &[u8], next: Option<&Token<'_>>, expected: Expected) -> Case {
-    match expected {
-        Expected::Nothing => mistaken_after_program(token),
+fn mistaken_token(refused: &Refused<'_, '_>) -> Case {
+    let token = refused.token();
+    match refused.span.expected {
+        Expected::Nothing => match mistaken_unit(token) {
+            Case::Configuration => Case::Configuration,
+            _ => Case::AfterProgram,
+        },
         Expected::UnitWord => mistaken_unit(token),
-        _ => mistaken_in_unit(token, next, expected),
+        expected => mistaken_in_unit(token, refused.next(), expected),
     }
 }
 
@@ -198,36 +151,6 @@ fn is_decimal_comma(refused: &Refused<'_, '_>) -> bool {
     is_before_digit
         && refused.token().starts_with(b",")
         && follows_digit(refused.before(), refused.span.start)
-}
-
-/// A comma between two digits: in an address, or in a number.
-fn mistaken_comma(before: &[u8]) -> Case {
-    if before.starts_with(b"%") && !before.contains(&b'.') {
-        Case::AddressComma
-    } else {
-        Case::DecimalComma
-    }
-}
-
-/// Whether a line begins with the keyword of a unit.
-fn begins_unit(line: &[Token<'_>]) -> bool {
-    matches!(
-        keyword_named(text_of(line.first())),
-        Some(Keyword::UnitStart(_))
-    )
-}
-
-/// A mistake that an unexpected token shows by where it is, and else by itself.
-fn mistaken_at(refused: &Refused<'_, '_>) -> Case {
-    match mistaken_by_place(refused) {
-        // A `)` on the line of its opening, or on another.
-        Case::Closing
-            if refused
-                .line_before()
-                .iter()
-                .any(|token| matches!(token.shape, Shape::Opening)) => { Case::ClosingOperand }
-        mistake => mistake,
-    }
 }
 
 /// A mistake in an instruction by what is before a token on its line.
@@ -256,58 +179,51 @@ fn is_type_first(refused: &Refused<'_, '_>) -> bool {
         && (is_type(before) || block_line(refused.tokens, before).is_some())
 }
 
-/// A word after VAR that this language does not have.
-fn mistaken_section(word: &[u8]) -> Option<Case> {
-    match left_out(word) {
-        _ if is_word(b"persistent", word) => Some(Case::Persistent),
-        mistake @ (Case::Constant | Case::Retain) => Some(mistake),
-        _ => None,
-    }
-}
-
 /// What a token shows on its line, before what the word before it shows.
 fn mistaken_first(refused: &Refused<'_, '_>) -> Option<Case> {
-    match refused.span.expected {
-        Expected::CommaOrColon if is_type_first(refused) => Some(Case::TypeFirst),
-        Expected::CommaOrColon => mistaken_section(refused.token()),
-        expected => mistaken_after(refused.line_before(), refused.token(), expected),
+    match (refused.span.expected, left_out(refused.token())) {
+        (Expected::CommaOrColon, _) if is_type_first(refused) => Some(Case::TypeFirst),
+        (Expected::CommaOrColon, mistake @ (Case::Constant | Case::Retain | Case::Persistent)) => {
+            Some(mistake)
+        }
+        (Expected::CommaOrColon, _) => None,
+        (expected, _) => mistaken_after(refused.line_before(), refused.token(), expected),
     }
 }
 
-/// A mistake that an unexpected token shows, wherever the opening of a parenthesis is.
-fn mistaken_by_place(refused: &Refused<'_, '_>) -> Case {
+/// A mistake that an unexpected token shows by where it is, and else by itself.
+fn mistaken_at(refused: &Refused<'_, '_>) -> Case {
+    let (line, expected) = (refused.line_before(), refused.span.expected);
     if let Some(mistake) = mistaken_first(refused) {
         return mistake;
     }
-    let (token, expected) = (refused.token(), refused.span.expected);
-    match (mistaken_before(refused.word_before(), expected), expected) {
-        (Some(mistake), _) => mistake,
-        (None, Expected::AssignOrSemicolon | Expected::Semicolon) if refused.begins_line() => {
+    if let Some(mistake) = mistaken_before(refused.word_before(), expected) {
+        return mistake;
+    }
+    match expected {
+        Expected::AssignOrSemicolon | Expected::Semicolon if refused.begins_line() => {
             Case::DeclarationAbove
         }
-        (None, Expected::LineEnd | Expected::Semicolon) if is_decimal_comma(refused) => {
-            mistaken_comma(text_of(refused.previous()))
+        Expected::LineEnd | Expected::Semicolon if is_decimal_comma(refused) => {
+            match text_of(refused.previous()) {
+                before @ [b'%', ..] if !before.contains(&b'.') => Case::AddressComma,
+                _ => Case::DecimalComma,
+            }
         }
-        (None, Expected::Instruction | Expected::InstructionOrLineEnd)
-            if token.starts_with(b"(") && begins_unit(refused.line_before()) => { Case::UnitList }
-        (None, expected) => mistaken_token(token, refused.next(), expected),
-    }
-}
-
-/// A unit that is not closed.
-fn mistaken_end(word: &[u8]) -> Case {
-    match keyword_named(word) {
-        Some(Keyword::UnitStart(UnitKind::Program)) => Case::OpenProgram,
-        _ => Case::OpenBlock,
-    }
-}
-
-/// A unit after the program, or none.
-fn mistaken_program(refused: &Refused<'_, '_>, case: Case) -> Case {
-    match keyword_named(refused.token()) {
-        _ if refused.tokens.iter().all(is_line_end) => Case::EmptyText,
-        Some(Keyword::UnitStart(UnitKind::Program)) => Case::SecondProgram,
-        _ => case,
+        Expected::Instruction | Expected::InstructionOrLineEnd
+            if refused.token().starts_with(b"(")
+                && matches!(
+                    keyword_named(text_of(line.first())),
+                    Some(Keyword::UnitStart(_))
+                ) => { Case::UnitList }
+        _ => match mistaken_token(refused) {
+            // A `)` on the line of its opening, or on another.
+            Case::Closing
+                if line
+                    .iter()
+                    .any(|token| matches!(token.shape, Shape::Opening)) => { Case::ClosingOperand }
+            mistake => mistake,
+        },
     }
 }
 
@@ -348,46 +264,33 @@ fn mistaken_address(address: &[u8]) -> Case {
 /// What cannot be written.
 fn mistaken_target(refused: &Refused<'_, '_>) -> Case {
     let target = refused.token();
-    match target.first() {
-        Some(b'%') => Case::InputAddress,
-        Some(b'0'..=b'9' | b'+' | b'-') => Case::LiteralTarget,
+    match (target.first(), keyword_named(target)) {
+        (Some(b'%'), _) => Case::InputAddress,
+        (Some(b'0'..=b'9' | b'+' | b'-'), _) | (_, Some(Keyword::Truth(_))) => Case::LiteralTarget,
         _ if target.contains(&b'#') => Case::LiteralTarget,
-        _ if matches!(keyword_named(target), Some(Keyword::Truth(_))) => Case::LiteralTarget,
         _ if !refused.names_one() => Case::OutputTarget,
         _ if refused.is_in_program() => Case::ProgramInput,
         _ => Case::Plain,
     }
 }
 
-/// Whether the name of a type is used as that of a variable.
-pub fn names_type(word: &[u8]) -> bool {
-    standard_block(word).is_some()
-}
-
-/// Which mistake a word shows that only a colon could follow.
-fn mistaken_label(refused: &Refused<'_, '_>) -> Case {
-    match mistaken_operator(refused) {
-        Case::OpenBlock if refused.is_in_program() => Case::OpenProgram,
-        mistake => mistake,
-    }
-}
-
-/// Which mistake a refusal of the tokens or of the reading refers to.
-fn mistake_in_reading(refused: &Refused<'_, '_>, case: Case) -> Case {
-    let token = refused.token();
-    let rest = following(refused.lexeme, token.len());
-    match (refused.number, refused.span.expected) {
-        (101, _) => { mistaken_byte(refused.before(), refused.span.start, refused.lexeme, case) }
-        (105, _) => mistaken_number(text_of(refused.previous()), token, rest, case),
-        (106, _) => mistaken_duration(token, rest, case),
-        (201, Expected::LabelColon) => mistaken_label(refused),
-        (201, Expected::CommaPointOrClosing | Expected::CommaOrClosing)
-            if keyword_named(token).is_some() && refused.begins_line() => { Case::OpenList }
-        (201, _) => mistaken_at(refused),
-        (202, _) => mistaken_end(token),
-        (203, _) => mistaken_program(refused, case),
-        _ => case,
-    }
+/// Whether a sign is apart from its number, where a number can be: `rest` begins after it.
+fn is_spaced_sign(refused: &Refused<'_, '_>, rest: &[u8]) -> bool {
+    let takes_number = match (
+        family_of(refused.operator()),
+        without_line_ends(refused.before()),
+    ) {
+        (Family::Order | Family::Equal | Family::Add | Family::Multiply | Family::Divide, _) =>
+            true,
+        (_, [.., kind, assign]) if matches!(assign.shape, Shape::Assign) => {
+            matches!(elementary_type(kind.text), Some(Kind::Dint))
+        }
+        _ => is_word(b"LD", refused.operator()),
+    };
+    takes_number
+        && !refused.begins_line()
+        && matches!(refused.token(), b"+" | b"-")
+        && is_digit(rest.iter().find(|byte| !matches!(byte, b' ' | b'\t')))
 }
 
 /// Which mistake a refusal of a later pass refers to.
@@ -413,9 +316,25 @@ fn mistake_in_rules(refused: &Refused<'_, '_>, case: Case) -> Case {
 
 /// Which mistake a refusal refers to that breaks a rule in that way: its hint.
 pub fn mistake_at(refused: &Refused<'_, '_>, case: Case) -> Case {
-    if refused.number < 300 {
-        mistake_in_reading(refused, case)
-    } else {
-        mistake_in_rules(refused, case)
+    let (token, before) = (refused.token(), refused.before());
+    let rest = following(refused.lexeme, token.len());
+    let begins_program = matches!(
+        keyword_named(token),
+        Some(Keyword::UnitStart(UnitKind::Program))
+    );
+    match (refused.number, refused.span.expected) {
+        (101, _) => mistaken_byte(before, refused.span.start, refused.lexeme, case),
+        (105, _) if is_spaced_sign(refused, rest) => Case::SpacedSign,
+        (105, _) => mistaken_number(text_of(refused.previous()), token, rest, case),
+        (106, _) => mistaken_duration(token, rest, case),
+        (201, Expected::LabelColon) => mistaken_operator(refused),
+        (201, Expected::CommaPointOrClosing | Expected::CommaOrClosing)
+            if keyword_named(token).is_some() && refused.begins_line() => { Case::OpenList }
+        (201, _) => mistaken_at(refused),
+        (202, _) if begins_program => Case::OpenProgram,
+        (202, _) => Case::OpenBlock,
+        (203, _) if refused.tokens.iter().all(is_line_end) => Case::EmptyText,
+        (203, _) if begins_program => Case::SecondProgram,
+        _ => mistake_in_rules(refused, case),
     }
 }

@@ -2,6 +2,7 @@ ghost use Rattle.std.specs.Prelude.{◌≡◌};
 ghost use Rattle.wc_diag_mistakes.specs.Offending.{count_before, offending_text, tokens_after, tokens_before};
 
 use crate::types::{Family, family_of};
+use std::alloc::{AllocError, Global};
 use wc_built_in::{Keyword, elementary_type, keyword_named};
 use wc_diag_stops::{
     RefusalSpan, Slice, is_line_end, last_line, prefix, text_of, without_line_ends, word_of,
@@ -9,9 +10,30 @@ use wc_diag_stops::{
 use wc_lexer::{Shape, Token};
 use wc_model::{Unit, UnitKind};
 
+/// What is said with values of a text, if something is. The error is out of memory.
+pub type Said = Option<Result<String, AllocError>>;
+
+/// What is said; no text, if nothing is.
+pub fn said_text(alloc: Global, said: Said) -> Result<String, AllocError> {
+    said.unwrap_or(Ok(String::new(alloc)))
+}
+
+/// Text that is longer than a name is not printed in what is said.
+const LONGEST_NAME: usize = 32;
+
+/// Bytes as words, if there are some, and no more than a name has.
+pub fn words(text: &[u8]) -> Option<&str> {
+    if text.is_empty() || text.len() > LONGEST_NAME {
+        return None;
+    }
+    str::from_utf8(text).ok()
+}
+
 /// A text that is refused, by its tokens and its tree.
 #[derive(Clone, Copy)]
 pub struct Refused<'a, 't> {
+    /// From which what is said of it takes its memory.
+    pub alloc: Global,
     /// Its tokens; those before the malformed lexeme, if it has one.
     pub tokens: &'t [Token<'a>],
     /// The index of the first offending one, or of the first after the offending slice; their number, if none is there.
@@ -38,11 +60,8 @@ fn count_before(tokens: &[Token<'_>], place: usize) -> usize
 
 /// What the unit is that a token begins, if it begins one.
 fn unit_kind_of(token: &Token<'_>) -> Option<UnitKind> {
-    match token.shape {
-        Shape::Identifier => match keyword_named(token.text)? {
-            Keyword::UnitStart(kind) => Some(kind),
-            _ => None,
-        },
+    match keyword_named(word_of(Some(token)))? {
+        Keyword::UnitStart(kind) => Some(kind),
         _ => None,
     }
 }
@@ -50,6 +69,7 @@ fn unit_kind_of(token: &Token<'_>) -> Option<UnitKind> {
 impl<'a, 't> Refused<'a, 't> {
     /// A text with these tokens that is refused at a span of a tree, or of none.
     pub fn new(
+        alloc: Global,
         tokens: &'t [Token<'a>],
         lexeme: &'a [u8],
         units: &'t [Unit<'a>],
@@ -62,6 +82,7 @@ impl<'a, 't> Refused<'a, 't> {
         ensures span { result.span ≡ span }
     {
         Refused {
+            alloc,
             tokens,
             index: count_before(tokens, span.start),
             lexeme,
@@ -176,24 +197,24 @@ impl<'a, 't> Refused<'a, 't> {
         self.span.length == self.token().len()
     }
 
-    /// The token of the text that a slice begins with; no bytes, if there is none.
-    pub fn word_at(&self, slice: Option<Slice>) -> &'a str {
-        match slice {
-            Some(slice) => {
-                let token = self.tokens.get(count_before(self.tokens, slice.start));
-                str::from_utf8(text_of(token)).unwrap_or("")
-            }
-            None => "",
+    /// The token of the text that a slice begins with, if there is one.
+    pub fn word_at(&self, slice: Option<Slice>) -> Option<&'a str> {
+        let index = count_before(self.tokens, slice?.start);
+        words(text_of(self.tokens.get(index)))
+    }
+
+    /// The block of the instance that is referred to, if it is a block.
+    pub fn block(&self) -> Option<&'a str> {
+        let block = self.word_at(self.span.block)?;
+        match elementary_type(block.as_bytes()) {
+            Some(_) => None,
+            None => Some(block),
         }
     }
 
-    /// The block of the instance that is referred to; empty if it is not a block.
-    pub fn block(&self) -> &'a str {
-        let block = self.word_at(self.span.block);
-        if elementary_type(block.as_bytes()).is_some() {
-            return "";
-        }
-        block
+    /// Whether it is what a call names.
+    pub fn is_called(&self) -> bool {
+        matches!(keyword_named(self.word_before()), Some(Keyword::Call(_)))
     }
 
     /// The operator before it; no bytes, if another token is there.

@@ -1,31 +1,30 @@
 -- Which one of a call's list breaks a rule first.
-use Rattle.std.proofs.Common.{◌≡◌, ℕ, suc, ◌+◌, ◌<◌, ◌≤◌, Bool, true, false, not, List, [], ◌∷◌, ◌++◌, Option, Some, None, Result, Ok, Err, append-nil, add-one, refl, sym, ap, subst, ◌∙◌, arith, ◌⊎◌, inl, inr}
+use Rattle.std.proofs.Common.{◌≡◌, ℕ, suc, ◌+◌, ◌<◌, ◌≤◌, Bool, true, false, not, List, [], ◌∷◌, map, ◌++◌, Option, Some, None, Result, Ok, Err, append-nil, add-one, refl, sym, ap, subst, ◌∙◌, arith, ◌⊎◌, inl, inr}
 use Rattle.std.specs.List.{list_any}
-use Rattle.std.specs.Prelude.{IfOk, ◌||◌, ◌&&◌, if◌then◌else◌, is_some, slice_get}
+use Rattle.std.specs.Prelude.{IfOk, if◌then◌else◌, is_some, slice_get}
 use Rattle.std.proofs.lemmas.Bool.{cases_order}
 use Rattle.std.proofs.lemmas.List.Sums.{prefix_len-le-length}
 use Rattle.wc_diag_operands.proofs.Positions.{earlier_there, first_before, item_far, item_there, previous_of}
-use Rattle.wc_diag_operands.specs.Arguments.{IsArgument, IsArgumentAt, IsFirstBrokenOf, argument_count, argument_from, broken_at, means_name}
+use Rattle.wc_diag_operands.specs.Arguments.{IsArgument, IsArgumentAt, IsFirstBrokenOf, KeepsNames, RuleIs, argument_count, argument_from, broken_at, means_name}
 use Rattle.wc_diag_operands.specs.OperandTokens.{begins_item, is_closing_shape, list_end, tokens_at}
-use Rattle.wc_diag_operands.specs.Lists.{AreListed, IsListedAs, item_after, item_at, text_at}
+use Rattle.wc_diag_operands.specs.Lists.{AreListed, IsListedAs, item_after, item_at, operand_in, text_at}
 use Rattle.wc_diag_operands.specs.declared.arguments.Broken.{Broken}
 use Rattle.wc_diag_operands.specs.declared.lists.Item.{Item}
 use Rattle.wc_lexer.specs.declared.shape.Token.{Token}
-use Rattle.wc_model.specs.Language.BodyRules.{actual_checks, formal_named, is_bit_literal, is_of, suits_input}
-use Rattle.wc_model.specs.Language.Checks.{Check, Position, Refusal, asks, first_broken, positions_of}
-use Rattle.wc_model.specs.Language.DeclarationRules.{is_among}
+use Rattle.wc_model.specs.Language.BodyRules.{actual_checks, argument_checks, formal_named, is_readable, is_writable, suits_input, suits_output}
+use Rattle.wc_model.specs.Language.Checks.{Position, Refusal, asks, first_broken, positions_of}
 use Rattle.wc_model.specs.Language.Declarations.{Member, VariableType, members_of, same_name}
-use Rattle.wc_model.specs.Language.Kinds.{elementary_kind, is_kind, term_kind}
 use Rattle.wc_model.specs.Language.Names.{Name, name_of}
-use Rattle.wc_model.specs.Language.Scopes.{Scope}
+use Rattle.wc_model.specs.Language.Scopes.{Scope, entity_of}
 use Rattle.wc_model.specs.Language.Tree.{Assignment, Term}
-use Rattle.wc_model.specs.declared.kind.Kind.{Kind}
-use Rattle.wc_model.specs.declared.kind.Kind.TheVariants.{Bool as KindBool}
+use Rattle.wc_model.specs.Language.Validation.{Validates}
+use Rattle.wc_model.specs.declared.fault.Fault.{Fault}
+use Rattle.wc_model.specs.declared.fault.Fault.TheVariants.{Refused}
 use Rattle.wc_model.specs.declared.operator.Direction.{Direction}
+use Rattle.wc_model.specs.declared.operator.Direction.TheVariants.{Into, OutOf}
 use Rattle.wc_names.specs.Numbered.{numbered_type}
 use Rattle.wc_names.specs.declared.declared_type.DeclaredType.{DeclaredType}
 use Rattle.wc_names.specs.declared.kept.Tables.{Tables}
-use Rattle.wc_verify.proofs.Calling.{IsFormal, one_more}
 use Rattle.wc_verify.specs.Calls.{HoldsNames}
 use Rattle.wc_verify.specs.Found.{first_at}
 use Rattle.wc_verify.specs.Seeing.{IsScope}
@@ -35,22 +34,70 @@ abbrev number_of : Option Refusal → ℕ
 number_of None = 0
 number_of (Some refusal) = refusal.number
 
--- whether an input takes a value, by its kind
-pub input_suits : (scope : Scope) (m : Member) (term : Term) (kind : Kind) (found : Option Kind) → elementary_kind m.type ≡ Some kind → term_kind scope term ≡ found
-    → suits_input scope (Some m) term ≡ (is_of (is_kind kind) found || (is_kind KindBool kind && is_bit_literal term))
-input_suits scope m term kind found e same = rw (e, suits_input) (ap (λ o. is_of (is_kind kind) o || (is_kind KindBool kind && is_bit_literal term)) same)
+-- the rules of one of a list without their line
+abbrev rules_of : Scope → Direction → Option Member → Term → List (ℕ × Bool)
+rules_of scope Into formal term = (401, is_some (entity_of scope term)) ∷ (405, is_readable (entity_of scope term)) ∷ (402, suits_input scope formal term) ∷ []
+rules_of scope OutOf formal term = (401, is_some (entity_of scope term)) ∷ (404, is_writable (entity_of scope term)) ∷ (402, suits_output scope formal term) ∷ []
 
--- the first rule that one breaks whose input or output there is, and whose name is new
-pub actual_broken : (scope : Scope) (members : List Member) (line : ℕ) (position : Position Assignment) (direction : Direction) (name : Name) (term : Term) (kind : Kind) (found : Option ℕ)
-    → position.item.direction ≡ direction → position.item.formal ≡ name → position.item.actual ≡ term → IsFormal (formal_named direction members name) kind
-    → not (list_any (λ a. same_name a.formal position.item.formal) position.before) ≡ true
-    → ((m : Member) (rest : List Check) → elementary_kind m.type ≡ Some kind → first_broken (actual_checks scope line direction (Some m) term ++ rest) ≡ first_at found line (first_broken rest))
+abbrev first_number : List (ℕ × Bool) → Option ℕ
+first_number [] = None
+first_number (rule ∷ rules) = if rule.1 then first_number rules else Some rule.0
+
+asked_more : (holds : Bool) (number line : ℕ) (found : Option Refusal) (others : Option ℕ) → found ≡ first_at others line None
+    → (if holds then found else Some (record { number = number; line = line })) ≡ first_at (if holds then others else Some number) line None
+asked_more true number line found others e = e
+asked_more false number line found others e = refl
+
+asked_on : (line : ℕ) (rules : List (ℕ × Bool)) → first_broken (map (λ rule. asks rule.0 line rule.1) rules) ≡ first_at (first_number rules) line None
+asked_on line [] = refl
+asked_on line (rule ∷ rules) = asked_more rule.1 rule.0 line (first_broken (map (λ rule. asks rule.0 line rule.1) rules)) (first_number rules) (asked_on line rules)
+
+number_broken : (scope : Scope) (members : List Member) (position : Position Assignment) → Option ℕ
+number_broken scope members position =
+    first_number ((409, is_some (formal_named position.item.direction members position.item.formal)) ∷ (410, not (list_any (λ a. same_name a.formal position.item.formal) position.before))
+    ∷ rules_of scope position.item.direction (formal_named position.item.direction members position.item.formal) position.item.actual)
+
+on_line : (scope : Scope) (members : List Member) (line : ℕ) (position : Position Assignment) → broken_at scope line members position ≡ first_at (number_broken scope members position) line None
+unfolding number_broken
+on_line scope members line position = by position.item.direction
+  where
+    by : (direction : Direction) →
+        first_broken (asks 409 line (is_some (formal_named direction members position.item.formal)) ∷ asks 410 line (not (list_any (λ a. same_name a.formal position.item.formal) position.before))
+        ∷ actual_checks scope line direction (formal_named direction members position.item.formal) position.item.actual)
+        ≡ first_at (first_number ((409, is_some (formal_named direction members position.item.formal)) ∷ (410, not (list_any (λ a. same_name a.formal position.item.formal) position.before))
+        ∷ rules_of scope direction (formal_named direction members position.item.formal) position.item.actual)) line None
+    by Into = asked_on line ((409, is_some (formal_named Into members position.item.formal)) ∷ (410, not (list_any (λ a. same_name a.formal position.item.formal) position.before)) ∷ rules_of scope Into (formal_named Into members position.item.formal) position.item.actual)
+    by OutOf = asked_on line ((409, is_some (formal_named OutOf members position.item.formal)) ∷ (410, not (list_any (λ a. same_name a.formal position.item.formal) position.before)) ∷ rules_of scope OutOf (formal_named OutOf members position.item.formal) position.item.actual)
+
+same_number : (one other : Option ℕ) (line place : ℕ) → first_at one line None ≡ first_at other place None → one ≡ other
+same_number None None line place e = refl
+same_number (Some n) (Some m) line place e = ap (λ found. Some (number_of found)) e
+same_number None (Some m) line place e = cc
+same_number (Some n) None line place e = cc
+
+-- what the verifier finds of one of a list, on a line, it finds on any
+pub any_line : (scope : Scope) (members : List Member) (line place : ℕ) (position : Position Assignment) (argument : Assignment) (found : Option ℕ) → position.item ≡ argument
+    → first_broken (argument_checks scope 0 members (record { before = position.before; item = argument; following = position.following }) ++ []) ≡ first_at found place None
     → broken_at scope line members position ≡ first_at found line None
-actual_broken scope members line position direction name term kind found d n t formal new rule =
-    let there : formal_named position.item.direction members position.item.formal ≡ Some formal.member = (λ i. formal_named (d i) members (n i)) ∙ formal.is in
-    (λ i. first_broken (asks 409 line (is_some (there i)) ∷ asks 410 line (new i) ∷ actual_checks scope line (d i) (there i) (t i)))
-    ∙ ap first_broken (sym (append-nil (actual_checks scope line direction (Some formal.member) term)))
-    ∙ rule formal.member [] formal.kind_is
+any_line scope members line place position argument found same e =
+    let here : broken_at scope 0 members position ≡ first_at found place None =
+    ap (λ one. broken_at scope 0 members (record { before = position.before; item = one; following = position.following })) same
+    ∙ ap first_broken (sym (append-nil (argument_checks scope 0 members (record { before = position.before; item = argument; following = position.following })))) ∙ e in
+    on_line scope members line position ∙ ap (λ number. first_at number line None) (same_number (number_broken scope members position) found 0 place (sym (on_line scope members 0 position) ∙ here))
+
+-- the number of a fault that the verifier finds
+pub refused_at : (X : Type 0) (found rest : Option Refusal) (fault : Fault) (number place : ℕ) → fault ≡ Refused number place → Validates {X = X} found rest (Err fault) → found ≡ first_at (Some number) place None
+refused_at X found rest fault number place is h = subst (λ one. Validates {X = X} found rest (Err one)) is h
+
+-- one of a list as the verifier is asked of it
+pub same_assignment : (tokens : List Token) (item : Item) (assignment : Assignment) (name : List ℕ) (value : List Token) (term : Term) → IsListedAs tokens item assignment
+    → name ≡ text_at tokens item.name → value ≡ tokens_at tokens item.value item.count → Some term ≡ operand_in value
+    → assignment ≡ record { direction = item.direction; formal = name_of name; actual = term }
+same_assignment tokens item assignment name value term listed named there read =
+    let both : Some assignment.actual ≡ Some term = listed.actual ∙ ap operand_in (sym there) ∙ sym read in
+    let same : assignment.actual ≡ term = (cc (both)) in
+    let formal : assignment.formal ≡ name_of name = listed.formal ∙ ap name_of (sym named) in
+    λ i. record { direction = listed.direction i; formal = formal i; actual = same i }
 
 -- what is known of those before a number: the next one is where it is, their names are kept, and none of them breaks a rule
 pub record NoneBroken (tables : Tables) (unit : ℕ) (declared : DeclaredType) (tokens : List Token) (names : List Name) (item : Item) (n : ℕ) : Type 0 where
@@ -71,43 +118,29 @@ at_first tables unit declared tokens names item none is = record {
   none = λ scope type line arguments j earlier is num listed below there. absurd (omega (arith, below));
 }
 
--- what is found of an item, if its name is new among those kept
-abbrev pub RuleIs : Tables → ℕ → DeclaredType → List Token → Item → Bool → Option ℕ → Type 0
-RuleIs tables unit declared tokens item is_new found =
-    (scope : Scope) (type : VariableType) (line : ℕ) (position : Position Assignment) → IsScope tables unit scope → numbered_type scope.before type ≡ Some declared
-    → IsListedAs tokens item position.item → not (list_any (λ a. same_name a.formal position.item.formal) position.before) ≡ is_new
-    → broken_at scope line (members_of scope.before type) position ≡ first_at found line None
-
 module _ (tables : Tables) (unit : ℕ) (declared : DeclaredType) (tokens : List Token) (names : List Name) (item : Item) (n : ℕ) (so_far : NoneBroken tables unit declared tokens names item n) where
   -- the item is that of the position
   listed_here : (arguments : List Assignment) (position : Position Assignment) → AreListed tokens arguments → slice_get (positions_of arguments) n ≡ Some position → IsListedAs tokens item position.item
   listed_here arguments position listed there =
       subst (λ (one : Item). IsListedAs tokens one position.item) (sym so_far.here) (listed n position.item (item_there [] arguments n position there))
 
-  module _ (is_new : Bool) (found : Option ℕ) (new : is_new ≡ not (is_among names (name_of (text_at tokens item.name)))) (rule : RuleIs tables unit declared tokens item is_new found) where
+  module _ (found : Option ℕ) (rule : RuleIs tables unit declared tokens names item found) where
     pub broken_here : (scope : Scope) (type : VariableType) (line : ℕ) (arguments : List Assignment) (position : Position Assignment) → IsScope tables unit scope
         → numbered_type scope.before type ≡ Some declared → AreListed tokens arguments → slice_get (positions_of arguments) n ≡ Some position
         → broken_at scope line (members_of scope.before type) position ≡ first_at found line None
     broken_here scope type line arguments position is num listed there =
-        let there_is = listed_here arguments position listed there in
-        rule scope type line position is num there_is
-        (ap not (sym (so_far.held arguments position listed there position.item.formal)) ∙ ap (λ name. not (is_among names name)) there_is.formal ∙ sym new)
+        rule scope type line position is num (listed_here arguments position listed there) (so_far.held arguments position listed there)
 
     -- it breaks none: one more
-    pub one_further : (more : List Name) (next : Item) → found ≡ None → (found ≡ None → is_new ≡ true)
-        → more ≡ (if is_new then names ++ name_of (text_at tokens item.name) ∷ [] else names) → next ≡ item_after tokens item.end → NoneBroken tables unit declared tokens more next (n + 1)
+    pub one_further : (more : List Name) (next : Item) → found ≡ None → KeepsNames tokens names more item → next ≡ item_after tokens item.end → NoneBroken tables unit declared tokens more next (n + 1)
     unfolding item_at
-    one_further more next is_none fresh kept is = record {
+    one_further more next is_none keeps is = record {
       here = is ∙ ap (λ (one : Item). item_after tokens one.end) so_far.here ∙ ap (item_at tokens) (sym (add-one n));
       held = λ arguments position listed there.
           let at : slice_get (positions_of arguments) (suc n) ≡ Some position = ap (slice_get (positions_of arguments)) (sym (add-one n)) ∙ there in
           let after = previous_of [] arguments n position at in
-          let one = listed_here arguments after.previous listed after.there in
-          let all : more ≡ names ++ after.previous.item.formal ∷ [] =
-          kept ∙ ap (λ b. if b then names ++ name_of (text_at tokens item.name) ∷ [] else names) (fresh is_none) ∙ ap (λ name. names ++ name ∷ []) (sym one.formal) in
-          subst (λ list. HoldsNames list position.before) (sym all)
-          (subst (λ (before : List Assignment). HoldsNames (names ++ after.previous.item.formal ∷ []) before) (sym after.before_is)
-          (one_more names after.previous.before after.previous.item (so_far.held arguments after.previous listed after.there)));
+          subst (λ (before : List Assignment). HoldsNames more before) (sym after.before_is)
+          (keeps after.previous (listed_here arguments after.previous listed after.there) (so_far.held arguments after.previous listed after.there));
       none = λ scope type line arguments j earlier is num listed below there.
           by scope type line arguments j earlier is num listed below there (cases_order j n);
     }
@@ -139,14 +172,14 @@ module _ (tables : Tables) (unit : ℕ) (declared : DeclaredType) (tokens : List
       by (inr (inl less)) = none_below scope type line k number arguments is num listed first less
       by (inr (inr more)) = let one = earlier_there (positions_of arguments) n k first.position first.there more in here one.0 one.1
 
-  module _ (is_new : Bool) (number : ℕ) (new : is_new ≡ not (is_among names (name_of (text_at tokens item.name)))) (rule : RuleIs tables unit declared tokens item is_new (Some number)) where
+  module _ (found : Option ℕ) (number : ℕ) (is_found : found ≡ Some number) (rule : RuleIs tables unit declared tokens names item found) where
     -- if it breaks one, it is the first
     pub found_first : (scope : Scope) (type : VariableType) (line k other : ℕ) (arguments : List Assignment) → IsScope tables unit scope → numbered_type scope.before type ≡ Some declared
         → AreListed tokens arguments → IsFirstBrokenOf scope line (members_of scope.before type) arguments other k → (number ≡ other) × (item ≡ item_at tokens k)
     found_first scope type line k other arguments is num listed first = by (cases_order k n)
       where
         here : (position : Position Assignment) → slice_get (positions_of arguments) n ≡ Some position → broken_at scope line (members_of scope.before type) position ≡ Some (record { number = number; line = line })
-        here position there = broken_here is_new (Some number) new rule scope type line arguments position is num listed there
+        here position there = broken_here found rule scope type line arguments position is num listed there ∙ ap (λ one. first_at one line None) is_found
 
         by : (k ≡ n) ⊎ ((k < n) ⊎ (n < k)) → (number ≡ other) × (item ≡ item_at tokens k)
         by (inl same) =

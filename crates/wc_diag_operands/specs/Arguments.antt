@@ -1,19 +1,36 @@
 -- Which one of a call's list breaks a rule first, and the tokens of it to which a refusal refers. (The profile's own.)
-use Rattle.std.specs.Prelude.{◌≡◌, ◌<◌, ◌==◌, ◌||◌, ℕ, Bool, true, List, Option, Some, None, slice_get, if◌then◌else◌}
+use Rattle.std.specs.Prelude.{◌≡◌, ◌<◌, ◌==◌, ◌||◌, ℕ, Bool, true, List, ◌∷◌, Option, Some, None, slice_get, if◌then◌else◌}
 use Rattle.wc_diag_operands.specs.OperandTokens.{tokens_at}
-use Rattle.wc_diag_operands.specs.Lists.{AreListed, item_at, text_at}
+use Rattle.wc_diag_operands.specs.Lists.{AreListed, IsListedAs, item_at, text_at}
 use Rattle.wc_diag_operands.specs.declared.lists.Item.{Item}
 use Rattle.wc_lexer.specs.declared.shape.Token.{Token}
 use Rattle.wc_model.specs.Language.BodyRules.{argument_checks, is_instance}
 use Rattle.wc_model.specs.Language.Checks.{Position, Refusal, first_broken, positions_of}
 use Rattle.wc_model.specs.Language.Declarations.{Member, VariableType, members_of}
-use Rattle.wc_model.specs.Language.Names.{name_of}
+use Rattle.wc_model.specs.Language.Names.{Name, name_of}
 use Rattle.wc_model.specs.Language.Scopes.{Scope, type_of}
 use Rattle.wc_model.specs.Language.Tree.{Assignment}
+use Rattle.wc_names.specs.Numbered.{numbered_type}
+use Rattle.wc_names.specs.declared.declared_type.DeclaredType.{DeclaredType}
+use Rattle.wc_names.specs.declared.kept.Tables.{Tables}
+use Rattle.wc_verify.specs.Calls.{HoldsNames}
+use Rattle.wc_verify.specs.Found.{first_at}
+use Rattle.wc_verify.specs.Seeing.{IsScope}
 
 -- the first rule that one of a list breaks, with those before it
 abbrev pub broken_at : Scope → ℕ → List Member → Position Assignment → Option Refusal
 broken_at scope line members position = first_broken (argument_checks scope line members position)
+
+-- what is found of an item after those whose names are kept: the rule that it breaks first, if it breaks one
+abbrev pub RuleIs : Tables → ℕ → DeclaredType → List Token → List Name → Item → Option ℕ → Type 0
+RuleIs tables unit declared tokens names item found =
+    (scope : Scope) (type : VariableType) (line : ℕ) (position : Position Assignment) → IsScope tables unit scope → numbered_type scope.before type ≡ Some declared
+    → IsListedAs tokens item position.item → HoldsNames names position.before → broken_at scope line (members_of scope.before type) position ≡ first_at found line None
+
+-- and its name is kept after theirs
+abbrev pub KeepsNames : List Token → (names more : List Name) → Item → Type 0
+KeepsNames tokens names more item =
+    (position : Position Assignment) → IsListedAs tokens item position.item → HoldsNames names position.before → HoldsNames more (position.item ∷ position.before)
 
 -- the one of that number breaks this rule first, and none before it breaks any
 pub record IsFirstBrokenOf (scope : Scope) (line : ℕ) (members : List Member) (arguments : List Assignment) (number k : ℕ) : Type 0 where

@@ -5,7 +5,6 @@
 
 mod diagnostic;
 mod lines;
-mod parentheses;
 mod plates;
 mod programs;
 mod refusal;

@@ -3,10 +3,10 @@ use crate::lines::{column_at, line_length, line_of};
 use memchr::{memchr, memmem};
 use std::alloc::{AllocError, Global};
 use std::fmt::Write;
-use toml::Table;
 use toml::de::Error;
+use wc_diag_mistakes::{Said, said_text};
 use wc_diag_stops::{bytes_at, following};
-use wc_diag_texts::{Case, PlateValues, plate_text};
+use wc_diag_texts::Case;
 use wc_plate::{BrokenRule, allows_interval, plate_of};
 
 /// The scale intervals that some plate may have.
@@ -56,11 +56,6 @@ fn key_on(line: &[u8], above: usize, name: &str) -> Option<KeyLine> {
     })
 }
 
-/// The number of line feeds with which a text begins.
-fn feeds(text: &[u8]) -> usize {
-    text.iter().take_while(|byte| **byte == b'\n').count()
-}
-
 /// Searches the text for the one line that gives a value to that key: once through it, line by line. Nothing is found if
 /// two do so, or if a text could run over lines.
 fn search_key(text: &[u8], name: &str) -> Option<KeyLine> {
@@ -71,7 +66,8 @@ fn search_key(text: &[u8], name: &str) -> Option<KeyLine> {
     let mut found = None;
     let (mut start, mut number) = (0_usize, 0_usize);
     for _line in 0..text.len() {
-        let above = feeds(following(text, start));
+        let rest = following(text, start).iter();
+        let above = rest.take_while(|byte| **byte == b'\n').count();
         start = start.saturating_add(above);
         number = number.saturating_add(above);
         if let Some(here) = key_on(following(text, start), number, name) {
@@ -101,38 +97,28 @@ fn point_to(diagnostic: &mut Diagnostic, text: &[u8], name: &str, is_key: bool) 
     }
 }
 
-/// A unit as a plate writes it.
-fn unit_word(unit: [u8; 3]) -> &'static str {
-    match &unit {
-        b"t  " => "t",
-        b"kg " => "kg",
-        _ => "g",
-    }
-}
-
-/// Adds a scale interval to a list.
-fn add_interval(list: &mut String, e: i64) -> Result<(), AllocError> {
-    if !list.is_empty() {
-        list.push_str(", ")?;
-    }
-    write!(list, "{e}")
-}
-
-/// Adds the scale intervals that are allowed with a unit and decimals, with commas between.
-fn add_intervals(list: &mut String, unit: [u8; 3], decimals: u32) -> Result<(), AllocError> {
-    for e in INTERVALS {
-        if allows_interval(unit, decimals, e) {
-            add_interval(list, e)?;
-        }
-    }
-    Ok(())
-}
-
-/// The scale intervals that are allowed with a unit and decimals.
+/// The scale intervals that are allowed with a unit and decimals, with commas between.
 fn allowed_intervals(alloc: Global, unit: [u8; 3], decimals: u32) -> Result<String, AllocError> {
     let mut list = String::new(alloc);
-    add_intervals(&mut list, unit, decimals)?;
+    for e in &INTERVALS {
+        if allows_interval(unit, decimals, *e) {
+            let mark = if list.is_empty() { "" } else { ", " };
+            write!(list, "{mark}{e}")?;
+        }
+    }
     Ok(list)
+}
+
+/// Which scale intervals are allowed with a unit and decimals.
+fn interval_advice(alloc: Global, unit: [u8; 3], decimals: u32) -> Result<String, AllocError> {
+    let allowed = allowed_intervals(alloc, unit, decimals)?;
+    let unit = str::from_utf8(&unit).unwrap_or("g").trim();
+    if allowed.is_empty() {
+        return format!(in alloc;
+            "no e is allowed with unit = \"{unit}\" and decimals = {decimals}; write fewer decimals"
+        );
+    }
+    format!(in alloc; "with unit = \"{unit}\" and decimals = {decimals}, e is one of {allowed}")
 }
 
 /// The key whose value a rule on values refers to, and what is said of it if the rule's number does not say it.
@@ -149,18 +135,18 @@ fn key_of(rule: BrokenRule<'_>) -> (&'static str, Case) {
 }
 
 /// Which values a rule on values allows, if its number does not say it.
-fn advice_of(alloc: Global, rule: BrokenRule<'_>) -> Result<String, AllocError> {
+fn advice_of(alloc: Global, rule: BrokenRule<'_>) -> Said {
     match rule {
-        BrokenRule::Interval { unit, decimals } => {
-            let allowed = allowed_intervals(alloc, unit, decimals)?;
-            plate_text(
-                alloc,
-                PlateValues::Interval(unit_word(unit), decimals, &allowed),
-            )
+        BrokenRule::Interval { unit, decimals } => Some(interval_advice(alloc, unit, decimals)),
+        BrokenRule::Load { e } => {
+            let (least, most) = (e as u64 * 500, e as u64 * 10000);
+            Some(format!(in alloc; "with e = {e}, max is a multiple of {e} from {least} to {most}"))
         }
-        BrokenRule::Load { e } => plate_text(alloc, PlateValues::Load(e)),
-        BrokenRule::SpanCounts { n } => plate_text(alloc, PlateValues::Span(n)),
-        _ => Ok(String::new(alloc)),
+        BrokenRule::SpanCounts { n } => {
+            let least = n as u64 * 4;
+            Some(format!(in alloc; "with max / e = {n}, span_counts is {least} to 8000000"))
+        }
+        _ => None,
     }
 }
 
@@ -185,10 +171,8 @@ fn report_rule(
         BrokenRule::UnknownKey { key, missing } => {
             point_to(diagnostic, text, key, true);
             if let Some(missing) = missing {
-                diagnostic.advice = plate_text(
-                    alloc,
-                    PlateValues::MissingKey(likely_key(text, key, missing)),
-                )?;
+                let likely = likely_key(text, key, missing);
+                diagnostic.advice = format!(in alloc; "{likely} is missing")?;
             }
             diagnostic.report(key.as_bytes(), Case::UnknownKey)
         }
@@ -205,7 +189,7 @@ fn report_rule(
             let (key, case) = key_of(rule);
             point_to(diagnostic, text, key, false);
             diagnostic.case = case;
-            diagnostic.advice = advice_of(alloc, rule)?;
+            diagnostic.advice = said_text(alloc, advice_of(alloc, rule))?;
             Ok(())
         }
     }
@@ -229,20 +213,6 @@ fn report_syntax(
     Ok(())
 }
 
-/// Says which rule of that number the table of a plate breaks first, if it is one of that number.
-fn report_table(
-    alloc: Global,
-    diagnostic: &mut Diagnostic,
-    text: &[u8],
-    number: u16,
-    table: &Table,
-) -> Result<(), AllocError> {
-    match plate_of(table) {
-        Err(rule) if rule.number() == number => report_rule(alloc, diagnostic, text, rule),
-        _ => Ok(()),
-    }
-}
-
 /// Finds the fault of a plate: the rule of that number that its check names.
 pub(crate) fn find_plate_fault(
     alloc: Global,
@@ -251,7 +221,10 @@ pub(crate) fn find_plate_fault(
     number: u16,
 ) -> Result<(), AllocError> {
     match toml::table_from_slice(alloc, text) {
-        Ok(table) => report_table(alloc, diagnostic, text, number, &table),
+        Ok(table) => match plate_of(&table) {
+            Err(rule) if rule.number() == number => report_rule(alloc, diagnostic, text, rule),
+            _ => Ok(()),
+        },
         Err(error) if number == 501 => report_syntax(alloc, diagnostic, text, &error),
         // a text that is too long was not read to its end
         Err(_) => Ok(()),

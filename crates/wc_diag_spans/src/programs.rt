@@ -7,21 +7,20 @@ ghost use Rattle.wc_model.specs.Language.Views.{text_view};
 
 use crate::diagnostic::Diagnostic;
 use crate::lines::column_at;
-use crate::parentheses::open_since;
 use std::alloc::{AllocError, Global};
-use wc_built_in::{Keyword, keyword_named};
+use wc_built_in::{Keyword, keyword_named, standard_block};
 use wc_diag_advice::advice_at;
 use wc_diag_mistakes::{
-    Refused, block_line, block_with, difference_said, follows_leaving, is_unreached, mistake_at,
-    names_operator, names_type,
+    Refused, Said, block_line, block_with, difference_said, follows_leaving, is_unreached,
+    mistake_at, names_operator, said_text, words,
 };
 use wc_diag_places::{SpannedSource, read_by_places, span_in};
 use wc_diag_stops::{
     BYTE_ORDER_MARK, Brought, LabelPaths, PathToLabel, RefusalSpan, bytes_at, case_of_lexeme,
     following, prefix, stop_of,
 };
-use wc_diag_texts::{Case, Expected, Paths, PlaceValues, paths_text, place_text, sentence_of};
-use wc_lexer::Token;
+use wc_diag_texts::{Case, Expected, Paths, own_sentence_of, paths_text, sentence_of};
+use wc_lexer::{Shape, Token};
 use wc_model::{Fault, Kind, Unit, is_word};
 
 /// In which way a word does not begin a line, if only a colon could follow it.
@@ -45,10 +44,11 @@ fn case_of_token(token: &[u8]) -> Case {
     }
 }
 
-/// Whether a call names a function block of the text.
-fn calls_block(refused: &Refused<'_, '_>) -> bool {
-    matches!(keyword_named(refused.word_before()), Some(Keyword::Call(_)))
-        && block_line(refused.tokens, refused.token()).is_some()
+/// Whether it is the name of a standard block, or a call names a function block of the text.
+fn names_block(refused: &Refused<'_, '_>) -> bool {
+    let token = refused.token();
+    standard_block(token).is_some()
+        || refused.is_called() && block_line(refused.tokens, token).is_some()
 }
 
 /// In which way a rule is broken at the slice of a text.
@@ -59,54 +59,17 @@ fn case_at(refused: &Refused<'_, '_>) -> Case {
         (201, Expected::CommaOrColon) if is_word(b"PERSISTENT", token) => Case::LeftOut,
         (201, Expected::LabelColon) => case_of_word(token),
         (201..=208, _) => case_of_token(token),
-        (401, _) if refused.names_one() && (names_type(token) || calls_block(refused)) => {
-            Case::BlockType
-        }
+        (401, _) if refused.names_one() && names_block(refused) => Case::BlockType,
         _ => span.case,
     }
 }
 
-/// The case of which the sentence speaks: some mistakes have a sentence of their own.
-fn case_said(case: Case, mistake: Case) -> Case {
+/// The case of which the sentence speaks: that of the mistake, if it has a sentence of its own.
+fn case_said(number: u16, case: Case, mistake: Case) -> Case {
     match mistake {
-        Case::Limit
-        | Case::Greatest
-        | Case::Least
-        | Case::Select
-        | Case::Move
-        | Case::Negative
-        | Case::StandardFunction
-        | Case::Conversion
-        | Case::NumberConversion => Case::StandardFunction,
-        Case::Configuration | Case::OwnType => Case::Configuration,
+        Case::LeftOut | Case::Utf16 => case,
         Case::Constant | Case::Persistent | Case::Retain if matches!(case, Case::LeftOut) => case,
-        Case::StatementAssign
-        | Case::StatementComparison
-        | Case::NoBreakSpace
-        | Case::OpenProgram
-        | Case::OpenBlock
-        | Case::AtLabel
-        | Case::NoCondition
-        | Case::SecondProgram
-        | Case::EmptyText
-        | Case::TypedNumber
-        | Case::TypedTruth
-        | Case::LongDuration
-        | Case::NegativeDuration
-        | Case::UnitOrder
-        | Case::UnitTwice
-        | Case::SpacedDuration
-        | Case::DecimalComma
-        | Case::MissingUnit
-        | Case::Constant
-        | Case::Persistent
-        | Case::Retain
-        | Case::Unreached
-        | Case::InitialBool
-        | Case::InitialNumber
-        | Case::InitialTime
-        | Case::InitialInstance
-        | Case::BlockInItself => mistake,
+        _ if own_sentence_of(number, mistake).is_some() => mistake,
         _ => case,
     }
 }
@@ -146,25 +109,30 @@ fn quoted_length(refused: &Refused<'_, '_>, case: Case) -> usize {
     }
 }
 
-/// What follows the sentence of a refusal on a line: which parenthesis is open, where the first of two is.
-fn detail_of(alloc: Global, refused: &Refused<'_, '_>) -> Result<String, AllocError> {
-    let (number, first) = (refused.number, refused.span.first);
-    if number == 205 {
-        if let Some(line) = open_since(refused.before()) {
-            return place_text(alloc, PlaceValues::OpenSince(line));
+/// The line of the innermost parenthesis that is open after some tokens, if one is. The tokens are passed backwards, and no further
+/// than to that parenthesis.
+fn open_since(tokens: &[Token<'_>]) -> Option<u32> {
+    let mut closed = 0_usize;
+    for token in tokens.iter().rev() {
+        match token.shape {
+            Shape::Closing => closed = closed.saturating_add(1),
+            Shape::Opening if closed == 0 => return Some(token.line),
+            Shape::Opening => closed = closed.saturating_sub(1),
+            _ => {}
         }
     }
-    if first != 0 && number != 406 {
-        return place_text(alloc, PlaceValues::FirstLine(first));
-    }
-    Ok(String::new(alloc))
+    None
 }
 
-/// The block whose input a word is, if it is used as an operator.
-fn block_of_input(word: &[u8]) -> &'static str {
-    match block_with(word) {
-        "TON" => "TON, TOF and TP",
-        block => block,
+/// What follows the sentence of a refusal on a line: which parenthesis is open, where the first of two is.
+fn detail_of(refused: &Refused<'_, '_>) -> Said {
+    match (refused.number, refused.span.first) {
+        (205, _) => {
+            let line = open_since(refused.before())?;
+            Some(format!(in refused.alloc; "the parenthesis of line {line} is open"))
+        }
+        (406, _) | (_, 0) => None,
+        (_, line) => Some(format!(in refused.alloc; "the first is on line {line}")),
     }
 }
 
@@ -183,123 +151,98 @@ fn words_brought(tokens: &[Token<'_>], path: PathToLabel) -> &'static str {
     }
 }
 
-/// What is said of the paths to a label; nothing if that is not sure.
-fn paths_said<'a>(refused: &Refused<'a, '_>, found: &Token<'a>) -> Option<Paths<'a>> {
-    let (tokens, line) = (refused.tokens, found.line);
-    let label = str::from_utf8(found.text).unwrap_or("");
-    let Some(paths) = refused.span.paths else {
-        return if follows_leaving(tokens, line) {
-            Some(Paths::None(label))
-        } else {
-            None
-        };
-    };
+/// What is said of the paths to a label that brings no single result.
+fn paths_found<'a>(
+    tokens: &[Token<'_>],
+    label: &'a str,
+    line: u32,
+    paths: LabelPaths,
+) -> Paths<'a> {
     let (first, brought) = (paths.first.line, words_brought(tokens, paths.first));
     match paths.other {
-        Some(other) => {
-            Some(Paths::Two(
-                label,
-                first,
-                brought,
-                other.line,
-                words_brought(tokens, other),
+        Some(other) => Paths::Two(
+            label,
+            first,
+            brought,
+            other.line,
+            words_brought(tokens, other),
+        ),
+        None if matches!(paths.first.brought, Brought::Nothing) => Paths::Empty(label, first),
+        None => Paths::Unsure(label, line),
+    }
+}
+
+/// Which paths to the label before the slice bring what, if that is sure.
+fn label_said(refused: &Refused<'_, '_>) -> Said {
+    let (tokens, found) = (refused.tokens, refused.label_before()?);
+    let (label, line) = (words(found.text).unwrap_or(""), found.line);
+    match refused.span.paths {
+        Some(paths) => Some(paths_text(refused.alloc, paths_found(tokens, label, line, paths))),
+        None if follows_leaving(tokens, line) => Some(paths_text(
+            refused.alloc,
+            Paths::None(label),
+        )),
+        None => None,
+    }
+}
+
+/// What is said in place of the sentence, with the available values.
+fn said_there(refused: &Refused<'_, '_>, case: Case, mistake: Case) -> Said {
+    let word = words(refused.token()).unwrap_or("");
+    match mistake {
+        Case::LabelAbove => {
+            let line = refused.span.first;
+            Some(format!(in refused.alloc; "is the label of line {line}, above this jump"))
+        }
+        Case::AtLabel => label_said(refused),
+        Case::BlockBelow => {
+            let line = block_line(refused.tokens, refused.token())?;
+            Some(format!(in refused.alloc;
+                "is a function block that is declared below, on line {line}"
             ))
         }
-        None if matches!(paths.first.brought, Brought::Nothing) => Some(Paths::Empty(label, first)),
-        None => Some(Paths::Unsure(label, line)),
+        Case::InputOperator => {
+            let block = match block_with(refused.token())? {
+                "TON" => "TON, TOF and TP",
+                block => block,
+            };
+            Some(format!(in refused.alloc; "is an input of {block}, not an operator"))
+        }
+        Case::StatementAddress => {
+            let area = words(refused.word_before()).unwrap_or("");
+            Some(format!(in refused.alloc;
+                "is not a number, and `{area} {word}` is not an address"
+            ))
+        }
+        _ => difference_said(refused, case),
     }
 }
 
-/// Which paths to the label before the slice bring what; empty if that is not sure.
-fn label_text(alloc: Global, refused: &Refused<'_, '_>) -> Result<String, AllocError> {
-    match refused.label_before() {
-        Some(label) => match paths_said(refused, label) {
-            Some(said) => paths_text(alloc, said),
-            None => Ok(String::new(alloc)),
-        },
-        None => Ok(String::new(alloc)),
-    }
-}
-
-/// Where a function block is declared that the text has below; empty if that is not sure.
-fn block_text(alloc: Global, refused: &Refused<'_, '_>) -> Result<String, AllocError> {
-    match block_line(refused.tokens, refused.token()) {
-        Some(line) => place_text(alloc, PlaceValues::BlockBelow(line)),
-        None => Ok(String::new(alloc)),
-    }
-}
-
-/// What is said in place of the sentence, with the available values; empty: nothing.
-fn said_there(
-    alloc: Global,
-    refused: &Refused<'_, '_>,
-    case: Case,
-    mistake: Case,
-) -> Result<String, AllocError> {
-    let word = refused.token();
-    match mistake {
-        Case::LabelAbove => place_text(alloc, PlaceValues::LabelLine(refused.span.first)),
-        Case::AtLabel => label_text(alloc, refused),
-        Case::BlockBelow => block_text(alloc, refused),
-        Case::InputOperator => place_text(alloc, PlaceValues::InputOf(block_of_input(word))),
-        Case::StatementAddress => place_text(
-            alloc,
-            PlaceValues::ForeignAddress(
-                str::from_utf8(refused.word_before()).unwrap_or(""),
-                str::from_utf8(word).unwrap_or(""),
-            ),
-        ),
-        _ => difference_said(alloc, refused, case),
-    }
-}
-
-/// What is said in place of the sentence, also of an offending slice on a line below; empty: nothing.
-fn said_of(
-    alloc: Global,
-    refused: &Refused<'_, '_>,
-    case: Case,
-    mistake: Case,
-) -> Result<String, AllocError> {
-    let said = said_there(alloc, refused, case, mistake)?;
-    let Some(below) = refused.span.below else {
-        return Ok(said);
-    };
-    let sentence = match sentence_of(refused.number, case) {
-        Some(sentence) if said.is_empty() => sentence,
-        _ => &said,
-    };
-    if sentence.is_empty() {
-        return Ok(String::new(alloc));
-    }
+/// What is said in place of the sentence, of an offending slice on a line below.
+fn said_below(refused: &Refused<'_, '_>, line: u32, sentence: &str) -> Said {
     let word = str::from_utf8(refused.offending()).unwrap_or("");
-    if refused.field().is_empty() {
-        return place_text(alloc, PlaceValues::Below(word, below.line, sentence));
-    }
-    let field = str::from_utf8(refused.field()).unwrap_or("");
-    let full = format!(in alloc; "{word}.{field}")?;
-    place_text(alloc, PlaceValues::Below(&full, below.line, sentence))
+    let (point, field) = match words(refused.field()) {
+        Some(field) => (".", field),
+        None => ("", ""),
+    };
+    Some(format!(in refused.alloc; "`{word}{point}{field}` (line {line}) {sentence}"))
 }
 
-/// The case by which the headline is made: what is said in place of the sentence is in the detail.
-fn case_reported(said: &str, case: Case) -> Case {
-    if said.is_empty() {
-        case
-    } else {
-        Case::Detailed
+/// What is said in place of the sentence, also of an offending slice on a line below.
+fn said_of(refused: &Refused<'_, '_>, case: Case, mistake: Case) -> Said {
+    let said = said_there(refused, case, mistake);
+    let Some(below) = refused.span.below else {
+        return said;
+    };
+    match said {
+        Some(Ok(said)) => said_below(refused, below.line, &said),
+        Some(Err(error)) => Some(Err(error)),
+        None => said_below(refused, below.line, sentence_of(refused.number, case)?),
     }
-}
-
-/// What is said in place of the sentence, or what follows that.
-fn detail_or(alloc: Global, said: String, refused: &Refused<'_, '_>) -> Result<String, AllocError> {
-    if said.is_empty() {
-        return detail_of(alloc, refused);
-    }
-    Ok(said)
 }
 
 /// Says what is wrong with a slice of a text: what is found is the number of bytes to quote, and the mistake.
 fn say_of_span(
-    alloc: Global,
     diagnostic: &mut Diagnostic,
     refused: &Refused<'_, '_>,
 ) -> Result<(usize, Case), AllocError>
@@ -309,17 +252,19 @@ fn say_of_span(
     let case = case_at(refused);
     let mistake = mistake_at(refused, case);
     diagnostic.expected = expected_at(refused.span.expected, mistake);
-    let case = case_said(case, mistake);
-    let said = said_of(alloc, refused, case, mistake)?;
-    diagnostic.case = case_reported(&said, case);
-    diagnostic.detail = detail_or(alloc, said, refused)?;
-    diagnostic.advice = advice_at(alloc, refused, mistake)?;
+    let case = case_said(refused.number, case, mistake);
+    let (reported, detail) = match said_of(refused, case, mistake) {
+        Some(said) => (Case::Detailed, said?),
+        None => (case, said_text(refused.alloc, detail_of(refused))?),
+    };
+    diagnostic.case = reported;
+    diagnostic.detail = detail;
+    diagnostic.advice = said_text(refused.alloc, advice_at(refused, mistake))?;
     Ok((quoted_length(refused, case), mistake))
 }
 
 /// Points to the slice at which a pass refuses a text, and says what is wrong with it.
 fn point_to_span(
-    alloc: Global,
     diagnostic: &mut Diagnostic,
     text: &[u8],
     refused: &Refused<'_, '_>,
@@ -335,7 +280,7 @@ fn point_to_span(
 {
     let span = refused.span;
     diagnostic.point(column_at(text, span.start), span.length);
-    let (length, mistake) = say_of_span(alloc, diagnostic, refused)?;
+    let (length, mistake) = say_of_span(diagnostic, refused)?;
     let case = diagnostic.case;
     diagnostic.report(bytes_at(text, span.start, length), case)?;
     diagnostic.hint = mistake;
@@ -382,8 +327,8 @@ fn find_stop(
             // What can't be cut into tokens goes on from the malformed lexeme.
             let rest = if number < 200 { span.start } else { text.len() };
             let lexeme = following(text, rest);
-            let refused = Refused::new(&stopped.tokens, lexeme, &[], number, span);
-            point_to_span(alloc, diagnostic, text, &refused)
+            let refused = Refused::new(alloc, &stopped.tokens, lexeme, &[], number, span);
+            point_to_span(diagnostic, text, &refused)
         }
         None => Ok(()),
     }
@@ -404,8 +349,9 @@ fn find_later_fault<'a>(
 {
     match fault_of(span_in(alloc, read), number, diagnostic.line)? {
         Some(span) => {
-            let refused = Refused::new(&read.tokens, b"", &read.source.units, number, span);
-            point_to_span(alloc, diagnostic, text, &refused)
+            let units = &read.source.units;
+            let refused = Refused::new(alloc, &read.tokens, b"", units, number, span);
+            point_to_span(diagnostic, text, &refused)
         }
         None => Ok(()),
     }

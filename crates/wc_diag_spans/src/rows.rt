@@ -66,39 +66,24 @@ fn has_semicolons(row: &RefusedRow) -> bool {
     row.len() == 1 && shown_field(row, 0).contains(&b';')
 }
 
-/// What is wrong with the first row.
-fn case_of_heading(row: &RefusedRow) -> Case {
-    if row.len() == 0 {
-        Case::EmptyLog
-    } else if has_semicolons(row) {
-        Case::SemicolonHeading
-    } else {
-        Case::Heading
-    }
-}
-
-/// Says the number of fields of a row.
+/// Says the number of fields of a row, or what is wrong with the first row.
 fn report_fields(diagnostic: &mut Diagnostic, row: &RefusedRow, place: u32) {
-    diagnostic.case = if place == 1 {
-        case_of_heading(row)
-    } else if row.len() > 3 {
-        diagnostic.point(field_start(row, 2) + shown_field(row, 2).len(), 1);
-        Case::MoreFields
-    } else if has_semicolons(row) {
-        Case::Semicolons
-    } else {
-        Case::Plain
+    diagnostic.case = match (place, row.len()) {
+        (1, 0) => Case::EmptyLog,
+        (1, _) if has_semicolons(row) => Case::SemicolonHeading,
+        (1, _) => Case::Heading,
+        (_, 4..) => {
+            diagnostic.point(field_start(row, 2) + shown_field(row, 2).len(), 1);
+            Case::MoreFields
+        }
+        _ if has_semicolons(row) => Case::Semicolons,
+        _ => Case::Plain,
     };
-}
-
-/// Whether all bytes are digits, of which there is one at least.
-fn are_digits(text: &[u8]) -> bool {
-    !text.is_empty() && text.iter().all(|byte| byte.is_ascii_digit())
 }
 
 /// What is wrong with a number of at most that number of digits.
 fn case_of_number(digits: &[u8], most: usize) -> Case {
-    if !are_digits(digits) {
+    if digits.is_empty() || digits.iter().any(|byte| !byte.is_ascii_digit()) {
         Case::NoNumber
     } else if digits.len() > most {
         Case::TooLong
@@ -119,17 +104,6 @@ fn hexadecimal_length(text: &[u8]) -> usize
     text.len()
 }
 
-/// What is wrong with the number of hexadecimal digits.
-fn case_of_length(kind: &[u8], digits: usize) -> Case {
-    if kind.first() == Some(&b'I') {
-        Case::Inputs
-    } else if digits % 2 == 1 {
-        Case::OddDigits
-    } else {
-        Case::Plain
-    }
-}
-
 /// Says what is wrong with hexadecimal data.
 fn report_hexadecimal(diagnostic: &mut Diagnostic, row: &RefusedRow) -> Result<(), AllocError>
     ensures { IfSome diagnostic.new.span (IsInField (fields_reported row.now) 2) }
@@ -142,7 +116,11 @@ fn report_hexadecimal(diagnostic: &mut Diagnostic, row: &RefusedRow) -> Result<(
         return diagnostic.report(bytes_at(data, digits, 1), Case::NoDigit);
     }
     diagnostic.point(start, digits.max(1));
-    diagnostic.case = case_of_length(shown_field(row, 1), digits);
+    diagnostic.case = match shown_field(row, 1) {
+        [b'I', ..] => Case::Inputs,
+        _ if digits % 2 == 1 => Case::OddDigits,
+        _ => Case::Plain,
+    };
     Ok(())
 }
 

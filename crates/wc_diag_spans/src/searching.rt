@@ -12,6 +12,7 @@ use crate::refusal::{Evidence, Part, Refusal};
 use crate::rows::{report_row, shown_row};
 use std::alloc::{AllocError, Global};
 use wc_diag_advice::watched_advice;
+use wc_diag_mistakes::{Said, said_text};
 use wc_diag_places::{SpannedSource, read_by_places};
 use wc_diag_stops::{bytes_at, first_word};
 use wc_diag_texts::Case;
@@ -133,25 +134,21 @@ fn find_text(alloc: Global, refusal: &Refusal<'_>, text: &[u8]) -> Result<Diagno
     Ok(diagnostic)
 }
 
-/// Which variable of a program that was read a watched name may be; empty if none is near, or if the program has its first word.
-fn near_advice(alloc: Global, read: &SpannedSource<'_>, name: &[u8]) -> Result<String, AllocError> {
-    let word = first_word(name);
-    if read
-        .tokens
-        .iter()
-        .any(|token| token.text.eq_ignore_ascii_case(word))
-    {
-        return Ok(String::new(alloc));
+/// Which variable of a program that was read a watched name may be, if one is near, and the program does not have its first word.
+fn near_advice(alloc: Global, read: &SpannedSource<'_>, name: &[u8]) -> Said {
+    let (mut tokens, word) = (read.tokens.iter(), first_word(name));
+    if tokens.any(|token| token.text.eq_ignore_ascii_case(word)) {
+        return None;
     }
     watched_advice(alloc, &read.source.units, name)
 }
 
-/// Which variable of a program's text a watched name may be; empty if the text can't be read.
-fn name_advice(alloc: Global, program: &[u8], name: &[u8]) -> Result<String, AllocError> {
+/// Which variable of a program's text a watched name may be, if the text can be read.
+fn name_advice(alloc: Global, program: &[u8], name: &[u8]) -> Said {
     match read_by_places(alloc, program) {
         Ok(read) => near_advice(alloc, &read, name),
-        Err(Fault::Memory) => Err(AllocError),
-        Err(_) => Ok(String::new(alloc)),
+        Err(Fault::Memory) => Some(Err(AllocError)),
+        Err(_) => None,
     }
 }
 
@@ -171,7 +168,7 @@ fn find_name(
     if !name.is_empty() {
         diagnostic.report(name, Case::Watched)?;
     }
-    diagnostic.advice = name_advice(alloc, program, name)?;
+    diagnostic.advice = said_text(alloc, name_advice(alloc, program, name))?;
     diagnostic.hint = Case::Watched;
     diagnostic.point(start, length);
     diagnostic.line = 1;

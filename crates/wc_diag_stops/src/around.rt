@@ -28,13 +28,10 @@ pub fn is_line_end(token: &Token<'_>) -> bool {
 
 /// The tokens after the last line end.
 pub fn last_line<'a, 't>(tokens: &'t [Token<'a>]) -> &'t [Token<'a>] {
-    let count = tokens
-        .iter()
-        .rev()
-        .take_while(|token| !is_line_end(token))
-        .count();
-    let (_, line) = tokens.split_at(tokens.len().saturating_sub(count));
-    line
+    tokens
+        .rsplit(|token| is_line_end(token))
+        .next()
+        .unwrap_or(tokens)
 }
 
 /// The tokens up to the last that ends no line.

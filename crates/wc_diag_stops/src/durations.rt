@@ -2,20 +2,14 @@ use crate::slices::{following, prefix};
 use wc_diag_texts::Case;
 use wc_model::is_word;
 
-/// The milliseconds of a unit of time; 0 if it is none.
-fn milliseconds_of(unit: &[u8]) -> u64 {
-    if is_word(b"d", unit) {
-        86_400_000
-    } else if is_word(b"h", unit) {
-        3_600_000
-    } else if is_word(b"m", unit) {
-        60_000
-    } else if is_word(b"s", unit) {
-        1_000
-    } else {
-        u64::from(is_word(b"ms", unit))
-    }
-}
+/// The units of time, in milliseconds.
+const UNITS: [(&[u8], u64); 5] = [
+    (b"d", 86_400_000),
+    (b"h", 3_600_000),
+    (b"m", 60_000),
+    (b"s", 1_000),
+    (b"ms", 1),
+];
 
 /// The number that the digits of a text are, underscores apart; the greatest if it is above that.
 fn number_of(digits: &[u8]) -> u64 {
@@ -37,14 +31,31 @@ fn length_until(text: &[u8], letter: bool) -> usize {
         .count()
 }
 
-/// The milliseconds of the first number of a duration with its unit, without a fraction, and what comes after them.
-fn first_part(text: &[u8]) -> (u64, &[u8]) {
+/// A number of a duration with its unit.
+#[derive(Clone, Copy)]
+struct Part<'t> {
+    /// The number, without a fraction.
+    number: u64,
+    /// The unit in milliseconds; 0 if it is none of the language.
+    unit: u64,
+    /// What comes after them.
+    after: &'t [u8],
+}
+
+/// The first number of a duration with its unit.
+fn first_part(text: &[u8]) -> Part<'_> {
     let number = prefix(text, length_until(text, true));
     let letters = following(text, number.len());
     let unit = prefix(letters, length_until(letters, false));
     let whole = number.split(|byte| *byte == b'.').next().unwrap_or(b"");
-    let milliseconds = number_of(whole).saturating_mul(milliseconds_of(unit));
-    (milliseconds, following(letters, unit.len()))
+    Part {
+        number: number_of(whole),
+        unit: UNITS
+            .iter()
+            .find(|(word, _)| is_word(word, unit))
+            .map_or(0, |(_, milliseconds)| *milliseconds),
+        after: following(letters, unit.len()),
+    }
 }
 
 /// What follows the `#` of a literal.
@@ -65,18 +76,11 @@ pub(crate) fn is_long_duration(token: &[u8]) -> bool {
     };
     let mut total = 0_u64;
     for _ in 0..token.len() {
-        let (milliseconds, after) = first_part(rest);
-        total = total.saturating_add(milliseconds);
-        rest = after;
+        let part = first_part(rest);
+        total = total.saturating_add(part.number.saturating_mul(part.unit));
+        rest = part.after;
     }
     total > most
-}
-
-/// The milliseconds of the first unit of a duration, and what comes after it; 0 if none of the language is there.
-fn first_unit(text: &[u8]) -> (u64, &[u8]) {
-    let letters = following(text, length_until(text, true));
-    let unit = prefix(letters, length_until(letters, false));
-    (milliseconds_of(unit), following(letters, unit.len()))
 }
 
 /// The mistake in the units of a duration, if all are of the language and one is not smaller than that before it.
@@ -87,26 +91,15 @@ pub(crate) fn mistaken_units(token: &[u8]) -> Option<Case> {
         if rest.is_empty() {
             return mistake;
         }
-        let (unit, after) = first_unit(rest);
-        if unit == 0 {
-            return None;
-        }
-        if mistake.is_none() {
-            mistake = mistaken_pair(before, unit);
-        }
-        before = unit;
-        rest = after;
+        let part = first_part(rest);
+        mistake = match mistake {
+            _ if part.unit == 0 => return None,
+            None if part.unit == before => Some(Case::UnitTwice),
+            None if part.unit > before => Some(Case::UnitOrder),
+            found => found,
+        };
+        before = part.unit;
+        rest = part.after;
     }
     mistake
-}
-
-/// The mistake of a unit after another, both in milliseconds, if it is not smaller.
-fn mistaken_pair(before: u64, unit: u64) -> Option<Case> {
-    if unit == before {
-        Some(Case::UnitTwice)
-    } else if unit > before {
-        Some(Case::UnitOrder)
-    } else {
-        None
-    }
 }

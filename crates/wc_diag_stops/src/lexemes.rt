@@ -18,34 +18,24 @@ fn case_of_word(text: &[u8]) -> Case {
     }
 }
 
-/// Digits with single underscores between them.
-fn are_digits(text: &[u8]) -> bool {
-    text.iter()
-        .all(|byte| byte.is_ascii_digit() || *byte == b'_')
-        && !has_double_underscore(text)
-        && text.last() != Some(&b'_')
-}
-
 /// A sign, if any, and digits with single underscores between them.
 fn is_decimal(text: &[u8]) -> bool {
-    match text.first() {
-        Some(b'+' | b'-') => are_digits(following(text, 1)),
-        _ => are_digits(text),
-    }
-}
-
-/// The number of digits, points and underscores at the start of a text.
-fn digits_at_start(text: &[u8]) -> usize {
-    text.iter()
-        .take_while(|byte| matches!(byte, b'0'..=b'9' | b'.' | b'_'))
-        .count()
+    let digits = match text {
+        [b'+' | b'-', digits @ ..] => digits,
+        _ => text,
+    };
+    digits.iter().all(|byte| matches!(byte, b'0'..=b'9' | b'_'))
+        && !has_double_underscore(digits)
+        && digits.last() != Some(&b'_')
 }
 
 /// Digits and a unit of time.
 fn is_bare_duration(text: &[u8]) -> bool {
-    let digits = digits_at_start(text);
-    let units: &[u8] = b"ms s m h d";
-    digits > 0 && is_among(units, following(text, digits))
+    let digits = text
+        .iter()
+        .take_while(|byte| matches!(byte, b'0'..=b'9' | b'.' | b'_'))
+        .count();
+    digits > 0 && is_among(b"ms s m h d", following(text, digits))
 }
 
 /// What is wrong with a number or a typed literal.

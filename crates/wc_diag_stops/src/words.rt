@@ -2,19 +2,11 @@ ghost use Rattle.std.specs.Prelude.{◌≡◌};
 ghost use Rattle.std.specs.List.{prefix_len};
 ghost use Rattle.wc_diag_stops.specs.Words.{first_word, from_word, is_word_byte};
 
-use crate::slices::prefix;
+use crate::slices::{following, prefix};
 use wc_model::is_word;
 
-/// Whether two bytes are there and are the same letters.
-fn are_alike(a: Option<u8>, b: Option<u8>) -> bool {
-    match (a, b) {
-        (Some(a), Some(b)) => a.eq_ignore_ascii_case(&b),
-        _ => false,
-    }
-}
-
 /// The number of bytes at the start of both that are the same letters.
-fn same_prefix(a: &[u8], b: &[u8]) -> usize {
+pub fn same_prefix(a: &[u8], b: &[u8]) -> usize {
     a.iter()
         .zip(b.iter())
         .take_while(|(a, b)| a.eq_ignore_ascii_case(b))
@@ -30,11 +22,14 @@ fn same_end(a: &[u8], b: &[u8]) -> usize {
         .count()
 }
 
-/// Whether the letter at a place of one name is that after the same place of the other, and the letter after it that at the place.
-fn are_exchanged(a: &[u8], b: &[u8], place: usize) -> bool {
-    let next = place.saturating_add(1);
-    are_alike(a.get(place).copied(), b.get(next).copied())
-        && are_alike(a.get(next).copied(), b.get(place).copied())
+/// Whether the first two letters of both are the same, exchanged.
+fn are_exchanged(a: &[u8], b: &[u8]) -> bool {
+    match (a, b) {
+        ([first, next, ..], [other, last, ..]) => {
+            first.eq_ignore_ascii_case(last) && next.eq_ignore_ascii_case(other)
+        }
+        _ => false,
+    }
 }
 
 /// Whether two names differ by one letter, more, less or other, or by two neighbours that are exchanged.
@@ -44,7 +39,9 @@ pub fn is_near(a: &[u8], b: &[u8]) -> bool {
     let same = start.saturating_add(same_end(a, b)).min(shorter);
     match longer.saturating_sub(same) {
         0 | 1 => shorter > 1,
-        2 => shorter > 1 && a.len() == b.len() && are_exchanged(a, b, start),
+        2 => shorter > 1
+            && a.len() == b.len()
+            && are_exchanged(following(a, start), following(b, start)),
         _ => false,
     }
 }

@@ -9,6 +9,9 @@ use wc_model::{Kind, StandardBlock};
 /// number of the refusal says all.
 type Words = (&'static str, &'static str);
 
+/// What is said of a standard function.
+const NO_FUNCTION: &str = "is a standard function, and functions are not supported";
+
 /// What to write for a CTD.
 macro_rules! counting_down {
     () => {
@@ -50,8 +53,16 @@ pub fn sentence_of(number: u16, case: Case) -> Option<&'static str>
     if matches!(case, Case::Unknown) {
         return None;
     }
+    own_sentence_of(number, case).or(said(entry.quoted))
+}
+
+/// What is said of a refusal of that number in that case alone; nothing if another sentence says all.
+pub fn own_sentence_of(number: u16, case: Case) -> Option<&'static str>
+    ensures { IsSome result → is_refusal number ≡ true }
+{
+    let _known = entry_of(number)?;
     let (sentence, _) = words_in(number, case);
-    said(sentence).or(said(entry.quoted))
+    said(sentence)
 }
 
 /// What to write in place of what a refusal of that number refuses in that case; nothing if the number's own hint says all.
@@ -111,6 +122,7 @@ fn token_words(number: u16, case: Case) -> Words {
         104, Case::LastUnderscore => "has an underscore at its end", "";
         105, Case::ThinArrow => "", "an output is read with =>, such as Q => a";
         105, Case::SignAlone => "is a sign without a number", "write ADD or SUB and the number on a line of its own, such as LD n, then ADD m in place of an L m and a +I; the negative of a number is LD 0, and on the next line SUB and the number";
+        105, Case::SpacedSign => "", "write the number right after its sign, without a space, such as -5";
         105, Case::AddressSpace => "", "write an address without a space, such as %IX0.0";
         105, Case::WithBase => "is not a valid literal, or is out of range", "the largest is 16#7FFFFFFF: write -2147483648 for 16#80000000, -1 for 16#FFFFFFFF";
         105, Case::TypedNumber => "is not a literal of this language", "write the number without its type, such as 5";
@@ -175,25 +187,26 @@ fn reading_words(number: u16, case: Case) -> Words {
         201, Case::MissingType => "", "a declaration names a type, such as d, e : DINT;";
         201, Case::DecimalComma => "", "numbers are integers, without a decimal comma: write 1,5 kg as 1500, if weights have 3 decimals";
         201, Case::Configuration => "is not supported", "leave out CONFIGURATION, RESOURCE and TASK: the one PROGRAM runs in every scan";
-        201, Case::OwnType => "", "delete TYPE .. END_TYPE: values are BOOL, DINT or TIME; for an enumeration use a DINT with 0, 1, 2, for a structure one variable for each part";
-        201, Case::Conversion => "", counting_seconds!("there are no conversions: compare a TIME with a TIME, such as GE T#15s");
-        201, Case::NumberConversion => "", "leave this line out: every number is a DINT, so there are no conversions";
-        201, Case::Negative => "", "the negative of a number is LD 0, and on the next line SUB and the number";
+        201, Case::OwnType => "is not supported", "delete TYPE .. END_TYPE: values are BOOL, DINT or TIME; for an enumeration use a DINT with 0, 1, 2, for a structure one variable for each part";
+        201, Case::Conversion => NO_FUNCTION, counting_seconds!("there are no conversions: compare a TIME with a TIME, such as GE T#15s");
+        201, Case::NumberConversion => NO_FUNCTION, "leave this line out: every number is a DINT, so there are no conversions";
+        201, Case::Negative => NO_FUNCTION, "the negative of a number is LD 0, and on the next line SUB and the number";
         201, Case::NoUnit => "", "begin with PROGRAM and a name; then come VAR .. END_VAR, the instructions and END_PROGRAM";
         201, Case::DownCounter => "", counting_down!();
-        201, Case::Limit => "", "for LIMIT(lo, x, hi) write LD x, ST y, GT hi, JMPCN low; LD hi, ST y; `low:` LD y, LT lo, JMPCN done; LD lo, ST y; `done:` LD y";
-        201, Case::Greatest => "", "for MAX(a, b) write LD a, ST y, LT b, JMPCN done; LD b, ST y; `done:` LD y";
-        201, Case::Least => "", "for MIN(a, b) write LD a, ST y, GT b, JMPCN done; LD b, ST y; `done:` LD y";
-        201, Case::Select => "", "for SEL(g, a, b) write LD a, ST y; LD g, JMPCN done; LD b, ST y; `done:` LD y";
-        201, Case::Move => "", "leave MOVE out: LD loads the value, ST on the next line names where it goes";
+        201, Case::Limit => NO_FUNCTION, "for LIMIT(lo, x, hi) write LD x, ST y, GT hi, JMPCN low; LD hi, ST y; `low:` LD y, LT lo, JMPCN done; LD lo, ST y; `done:` LD y";
+        201, Case::Greatest => NO_FUNCTION, "for MAX(a, b) write LD a, ST y, LT b, JMPCN done; LD b, ST y; `done:` LD y";
+        201, Case::Least => NO_FUNCTION, "for MIN(a, b) write LD a, ST y, GT b, JMPCN done; LD b, ST y; `done:` LD y";
+        201, Case::Select => NO_FUNCTION, "for SEL(g, a, b) write LD a, ST y; LD g, JMPCN done; LD b, ST y; `done:` LD y";
+        201, Case::Move => NO_FUNCTION, "leave MOVE out: LD loads the value, ST on the next line names where it goes";
         201, Case::GlobalVariable => "", "declare the variable in VAR of the PROGRAM, and pass it to blocks as an input or output";
         201, Case::SharedVariable => "", "declare a VAR_INPUT and a VAR_OUTPUT, and name the variable at both in the CAL; an input cannot be written: copy it to the output first";
         201, Case::OpenVariable => "", "declare the variable in VAR, and store to it before you load it";
-        201, Case::StandardFunction => "is a standard function, and functions are not supported", "compute it with ADD, SUB, MUL, DIV, MOD and comparisons, or in a FUNCTION_BLOCK";
+        201, Case::StandardFunction => NO_FUNCTION, "compute it with ADD, SUB, MUL, DIV, MOD and comparisons, or in a FUNCTION_BLOCK";
         201, Case::OpenSection => "", "close the section of declarations with END_VAR before the first instruction";
         201, Case::MissingComma => "", "separate the parameters with commas, such as CAL t(IN := a, PT := T#1s)";
         201, Case::AtAddress => "", "leave out AT and use the address itself (LD %IX0.0, ST %QX0.0); or copy inputs to variables on the first lines, and variables to outputs on the last";
         201, Case::UnnamedInput => "", "name each input of the block, such as CAL e(CLK := a) of an R_TRIG, CAL t(IN := a, PT := T#1s) of a TON";
+        201, Case::LastComma => "", "delete the comma before this `)`: a comma is only between two inputs or outputs";
         201, Case::BareInputs => "", "put the inputs of the call in parentheses, each with its name, such as CAL t(IN := a, PT := T#1s) of a TON";
         201, Case::OutsideSection => "", "declarations go between VAR and END_VAR, before the first instruction";
         201, Case::OpenList => "", "close the list of the call above with `)`";

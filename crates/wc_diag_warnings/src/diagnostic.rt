@@ -1,8 +1,7 @@
-ghost use Rattle.std.specs.Prelude.{◌≡◌, [], ◌++◌, IfOk, OnOk, IsOkUnless};
+ghost use Rattle.std.specs.Prelude.{◌≡◌, ◌++◌, IfOk, OnOk, IsOkUnless};
 ghost use Rattle.wc_model.specs.Language.Declarations.{variables_of};
-ghost use Rattle.wc_model.specs.Language.Names.{Name};
 ghost use Rattle.wc_model.specs.Language.Views.{text_view, unit_view};
-ghost use Rattle.wc_diag_warnings.specs.Seen.{events_view, uses_view, warnings_view};
+ghost use Rattle.wc_diag_warnings.specs.Seen.{events_view, warnings_view};
 ghost use Rattle.wc_diag_warnings.specs.Uses.{used_in};
 ghost use Rattle.wc_diag_warnings.specs.Warnings.{declared_cautions, unit_cautions, warnings};
 
@@ -10,30 +9,12 @@ use crate::body::warn_body;
 use crate::declared::warn_declared;
 use crate::event::Event;
 use crate::events::events_of;
-use crate::used::{Uses, fill, unused};
+use crate::used::{fill, unused};
 use crate::warning::Warning;
 use std::alloc::Global;
 use wc_model::{Fault, Source, Unit};
 
 /// Adds the warnings of what a unit declares, with what its events use.
-fn warn_used<'a>(
-    uses: &mut Uses<'a>,
-    warnings: &mut Vec<Warning<'a>>,
-    unit: &Unit<'a>,
-    events: &[Event<'a>],
-) -> Result<(), Fault>
-    ensures added { OnOk result (((name : Name) → uses_view uses.old name ≡ used_in [] name)
-        → warnings_view warnings.new.items
-        ≡ warnings_view warnings.old.items
-        ++ declared_cautions unit.now.kind (used_in (events_view events.now))
-        (variables_of (unit_view unit.now))) }
-    ensures memory { IsOkUnless result Fault.Memory }
-{
-    fill(uses, events)?;
-    warn_declared(warnings, unit, uses)
-}
-
-/// Adds the warnings of what a unit declares.
 fn warn_names<'a>(
     alloc: Global,
     warnings: &mut Vec<Warning<'a>>,
@@ -47,7 +28,8 @@ fn warn_names<'a>(
     ensures memory { IsOkUnless result Fault.Memory }
 {
     let mut uses = unused(alloc);
-    warn_used(&mut uses, warnings, unit, events)
+    fill(&mut uses, events)?;
+    warn_declared(warnings, unit, &uses)
 }
 
 /// Adds the warnings of a unit.

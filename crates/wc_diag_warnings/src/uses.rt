@@ -3,7 +3,7 @@ ghost use Rattle.wc_model.specs.Language.Declarations.{same_name};
 ghost use Rattle.wc_model.specs.Language.Names.{Name, name_of};
 ghost use Rattle.wc_model.specs.Language.Views.{term_view};
 ghost use Rattle.wc_diag_warnings.specs.Seen.{does, event_view};
-ghost use Rattle.wc_diag_warnings.specs.Uses.{doing_calls, doing_gives, doing_reads, doing_writes, is_this, is_variable};
+ghost use Rattle.wc_diag_warnings.specs.Uses.{is_this, is_variable};
 
 use crate::event::{Deed, Event};
 use wc_model::{Operand, is_word};
@@ -45,60 +45,19 @@ fn given_time<'a>(instance: &'a [u8], input: &[u8]) -> Option<&'a [u8]>
     }
 }
 
-/// The variable that the event reads.
-fn name_read<'a>(event: &Event<'a>) -> Option<&'a [u8]>
-    ensures { (name : Name) → doing_reads (event_view event.now).doing name
-        ≡ is_this (option_map (λ text. name_of text.now) result) name }
-{
-    match event.deed {
-        Deed::Read(operand) => variable_of(operand),
-        _ => None,
-    }
-}
-
-/// The variable that the event writes.
-fn name_written<'a>(event: &Event<'a>) -> Option<&'a [u8]>
-    ensures { (name : Name) → doing_writes (event_view event.now).doing name
-        ≡ is_this (option_map (λ text. name_of text.now) result) name }
-{
-    match event.deed {
-        Deed::Store(target) | Deed::Set(target) => variable_of(target),
-        _ => None,
-    }
-}
-
-/// The instance that the event calls.
-fn name_called<'a>(event: &Event<'a>) -> Option<&'a [u8]>
-    ensures { (name : Name) → doing_calls (event_view event.now).doing name
-        ≡ is_this (option_map (λ text. name_of text.now) result) name }
-{
-    match event.deed {
-        Deed::Call(instance) => Some(instance),
-        _ => None,
-    }
-}
-
-/// The instance that the event gives a PT.
-fn name_given<'a>(event: &Event<'a>) -> Option<&'a [u8]>
-    ensures { (name : Name) → doing_gives (event_view event.now).doing name (codes "pt")
-        ≡ is_this (option_map (λ text. name_of text.now) result) name }
-{
-    match event.deed {
-        Deed::Give { instance, input } => given_time(instance, input),
-        Deed::Store(Operand::Field { instance, field }) => given_time(instance, field),
-        _ => None,
-    }
-}
-
 /// The name that the event uses so.
 pub(crate) fn name_used<'a>(wanted: Use, event: &Event<'a>) -> Option<&'a [u8]>
     ensures { (name : Name) → does wanted (event_view event.now).doing name
         ≡ is_this (option_map (λ text. name_of text.now) result) name }
 {
-    match wanted {
-        Use::Read => name_read(event),
-        Use::Written => name_written(event),
-        Use::Called => name_called(event),
-        Use::Given => name_given(event),
+    match (wanted, event.deed) {
+        (Use::Read, Deed::Read(operand)) => variable_of(operand),
+        (Use::Written, Deed::Store(target) | Deed::Set(target)) => variable_of(target),
+        (Use::Called, Deed::Call(instance)) => Some(instance),
+        (Use::Given, Deed::Give { instance, input }) => given_time(instance, input),
+        (Use::Given, Deed::Store(Operand::Field { instance, field })) => given_time(
+            instance, field,
+        ),
+        _ => None,
     }
 }

@@ -3,3 +3,7 @@ pub mod ReadOnce
 pub mod Reasons
 pub mod LoadLaws
 pub mod JobLaws
+pub mod Fitting
+pub mod FittingTexts
+pub mod OneWorstPath
+pub mod OneReport

@@ -1,8 +1,10 @@
-//! Laws of loading a text from its bytes: it is loaded or refused, never both, as one text, with one refusal. Each function has
-//! an empty body: its clause is the law.
+//! Laws of loading a text from its bytes: it is loaded or refused, never both, as one text, with one refusal, and is no larger
+//! than its bytes. Each function has an empty body: its clause is the law.
 #![tactic(auto)]
 
 ghost use Rattle.wc_laws_loading.specs.Laws.{LoadedOrRefused, NeverBoth, OneAnswer, OneRefusal, OneText};
+ghost use Rattle.wc_laws_loading.specs.Sizes.{LoadedTextsAreSmall, TokensAreFew};
+ghost use Rattle.wc_laws_loading.specs.Reports.{EachUnitHasOneWorstPath, OneReport};
 
 /// Any bytes are loaded as a text, or refused with a number and a line.
 pub fn bytes_are_loaded_or_refused()
@@ -28,4 +30,26 @@ pub fn one_loaded_text()
 /// whatever machine.
 pub fn a_job_has_one_answer()
     ensures { OneAnswer }
+{}
+
+/// A text has at most as many tokens as bytes.
+pub fn tokens_are_few()
+    ensures { TokensAreFew }
+{}
+
+/// A text that is loaded has at most 65536 bytes and 64 units; its tree has at most as many parts as the text has bytes, and so
+/// have the flat lines of its bodies together.
+pub fn loaded_texts_are_small()
+    ensures { LoadedTextsAreSmall }
+{}
+
+/// The lines of a unit's worst path are one list: so a check has no choice of a path.
+pub fn each_unit_has_one_worst_path()
+    ensures { EachUnitHasOneWorstPath }
+{}
+
+/// A text that is loaded has one report, with paths and without: so two checks of it write the same
+/// bytes, on whatever machine.
+pub fn a_text_has_one_report()
+    ensures { OneReport }
 {}

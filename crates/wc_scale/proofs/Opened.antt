@@ -2,6 +2,7 @@
 use Rattle.std.proofs.Common.{◌≡◌, ◌≤◌, ℕ, List, Option, Some, IfSome, sym, subst}
 use Rattle.wc_controller.specs.Loads.{IsNeverRefused}
 use Rattle.wc_laws_histories.proofs.Going.{goes_on}
+use Rattle.wc_laws_loading.proofs.FittingTexts.{loaded_is_small}
 use Rattle.wc_machine.specs.Machines.{MachineState, RepresentsText}
 use Rattle.wc_model.specs.Instrument.Plates.{PlateData}
 use Rattle.wc_model.specs.Language.Tree.{Text}
@@ -28,6 +29,7 @@ is_started old opened new bytes machine is begins accepted represents has =
     record {
       text = begins.text;
       loaded = begins.loaded;
+      small = loaded_is_small bytes begins.text begins.loaded;
       accepted = accepted;
       represents = λ plate came at. represents (started begins.text) begins.represents plate came (is_allowed_in old.opened opened plate came is at);
       last = subst (λ held. IfSome held (λ m. m.last ≡ 0)) (sym has) begins.last;

@@ -2,6 +2,7 @@
 use Rattle.std.specs.Prelude.{◌≡◌, ℕ, ◌≤◌, List, IfSome, Some}
 use Rattle.wc_controller.specs.Loads.{IsNeverRefused}
 use Rattle.wc_laws_histories.specs.Laws.{HistoriesGoOn}
+use Rattle.wc_laws_loading.specs.Sizes.{IsSmall}
 use Rattle.wc_model.specs.Instrument.Plates.{PlateData}
 use Rattle.wc_model.specs.Language.Loading.{IsLoaded}
 use Rattle.wc_model.specs.Language.Store.{Store}
@@ -17,10 +18,12 @@ use Rattle.wc_scale.specs.Representation.{HasNoProgram, IsClosed, IsKept, IsNotA
 use Rattle.wc_scale.specs.declared.results.Refusal.{Refusal}
 use Rattle.wc_scale.specs.declared.scale.Scale.{Scale}
 
--- the bytes are loaded as a text, which starts from its declarations, and no time is before its first scan
+-- the bytes are loaded as a text that is no larger than they are, which starts from its declarations, and no time is before its first
+-- scan
 pub record IsStarted (old new : Scale) (bytes : List ℕ) : Type 0 where
   pub text : Text
   pub loaded : IsLoaded bytes text
+  pub small : IsSmall bytes text
   pub accepted : IsNeverRefused bytes
   pub represents : (plate : PlateData) (came : Came) → Represents old plate came → Represents new plate (with_program (started text) came)
   pub last : IfSome (machine_in new.opened) (λ machine. machine.last ≡ 0)
@@ -56,10 +59,11 @@ abbrev pub IsChangeStatus : ChangeFault → ℕ → Type 0
 IsChangeStatus NoProgram status = status ≡ 5
 IsChangeStatus Memory status = status ≡ 2
 
--- the bytes are loaded as a text, to which the program is changed
+-- the bytes are loaded as a text that is no larger than they are, to which the program is changed
 pub record IsChanged (old new : Scale) (bytes : List ℕ) : Type 0 where
   pub text : Text
   pub loaded : IsLoaded bytes text
+  pub small : IsSmall bytes text
   pub accepted : IsNeverRefused bytes
   pub changed : IsChangedTo old new text
 

@@ -82,7 +82,7 @@ fn validate_actual(
 }
 
 /// Checks one of a call's list after others, and keeps its name: 409, 410, and what is passed.
-fn validate_argument<'a>(
+pub fn validate_argument<'a>(
     tables: &Tables<'a>,
     unit: usize,
     declared: DeclaredType,

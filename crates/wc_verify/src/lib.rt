@@ -17,5 +17,6 @@ mod seen;
 mod steps;
 mod verifying;
 
+pub use calls::validate_argument;
 pub use checked::Checked;
 pub use verifying::{validate_bodies, verify};

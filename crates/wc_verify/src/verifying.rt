@@ -11,8 +11,7 @@ use std::alloc::Global;
 use wc_model::{Fault, Source};
 use wc_names::Tables;
 
-/// Checks the bodies of a text by its tables, unit by unit: the first of the refusals 401 to 410, at
-/// its line. The lines of the text are passed on alone, so they may be places as well.
+/// Checks bodies unit by unit: the first of the refusals 401 to 410, at its line, or its place.
 pub fn validate_bodies<'a>(
     alloc: Global,
     source: &Source<'a>,

@@ -59,10 +59,8 @@ impl LastTexts {
         ensures empty { IfOk result (λ ring. HoldsLast ring number []) }
         ensures memory { IsOkUnless result Fault.Memory }
     {
-        match empty_texts(alloc, number, length) {
-            Ok(texts) => Ok(LastTexts { texts, first: 0 }),
-            Err(fault) => Err(fault),
-        }
+        let texts = empty_texts(alloc, number, length)?;
+        Ok(LastTexts { texts, first: 0 })
     }
 
     /// Keeps a text in the place of the oldest one. `Memory` is the only fault.

@@ -20,10 +20,7 @@ pub(crate) fn all_watched(
     let mut all = Vec::new(alloc);
     for name in names {
         let watched = variable_named(alloc, loaded, name)?;
-        match all.push(watched) {
-            Ok(()) => {}
-            Err(_) => return Err(Fault::Memory),
-        }
+        all.push(watched).map_err(|_| Fault::Memory)?;
     }
     Ok(all)
 }

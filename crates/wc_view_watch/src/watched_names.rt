@@ -38,29 +38,8 @@ pub struct WatchedNames<'n> {
     pub(crate) unknown: Option<UnknownName>,
 }
 
-/// Puts a name and its value. `Memory` is the only fault.
-fn put_named(
-    line: &mut Vec<u8>,
-    machine: &Machine<'_, SlotStore>,
-    name: &[u8],
-    watched: &NamedVariable,
-) -> Result<(), Fault>
-    ensures puts { (text : Text) (store : Contents) → RepresentsText machine.now text store
-        → variable_named text name.now ≡ Some watched.now
-        → OnOk result (line.new.items ≡ line.old.items ++ value_text text store name.now) }
-    ensures memory { IsOkUnless result Fault.Memory }
-{
-    let Some(number) = machine.number(watched.place) else {
-        return Ok(());
-    };
-    put_bytes(line, b" ")?;
-    put_bytes(line, name)?;
-    put_bytes(line, b"=")?;
-    put_value(line, watched.kind, number)
-}
-
 /// Puts a name and its value, if it means something. `Memory` is the only fault.
-fn put_if_watched(
+fn put_named(
     line: &mut Vec<u8>,
     machine: &Machine<'_, SlotStore>,
     name: &[u8],
@@ -71,20 +50,23 @@ fn put_if_watched(
         → OnOk result (line.new.items ≡ line.old.items ++ value_text text store name.now) }
     ensures memory { IsOkUnless result Fault.Memory }
 {
-    match watched {
-        Some(watched) => put_named(line, machine, name, watched),
-        None => Ok(()),
-    }
+    let Some(watched) = watched else {
+        return Ok(());
+    };
+    let Some(number) = machine.number(watched.place) else {
+        return Ok(());
+    };
+    put_bytes(line, b" ")?;
+    put_bytes(line, name)?;
+    put_bytes(line, b"=")?;
+    put_value(line, watched.kind, number)
 }
 
 /// Whether the name of that number means something.
 fn is_watched(watched: &[Option<NamedVariable>], index: usize) -> bool
     ensures { result ≡ is_some (option_and_then (λ found. found) (slice_get watched.now index)) }
 {
-    match watched.get(index) {
-        Some(watched) => watched.is_some(),
-        None => false,
-    }
+    matches!(watched.get(index), Some(Some(_)))
 }
 
 /// What was loaded of a program, if there is one.
@@ -108,13 +90,10 @@ fn all_watched_next(
         (text_of_next (option_map (λ loaded. loaded.now) next.entry))) }
     ensures memory { IsOkUnless result Fault.Memory }
 {
-    match next {
-        Some(next) => match all_watched(alloc, next, names) {
-            Ok(all) => Ok(Some(all)),
-            Err(fault) => Err(fault),
-        },
-        None => Ok(None),
-    }
+    let Some(next) = next else {
+        return Ok(None);
+    };
+    Ok(Some(all_watched(alloc, next, names)?))
 }
 
 /// The number of bytes a list has.
@@ -191,10 +170,7 @@ impl<'n> WatchedNames<'n> {
             (text_of_next (option_map (λ loaded. loaded.now) next.entry)))) self.new.unknown) }
         ensures memory { IsOkUnless result Fault.Memory }
     {
-        match WatchedNames::look(alloc, list, first, next) {
-            Ok(names) => *self = names,
-            Err(fault) => return Err(fault),
-        }
+        *self = WatchedNames::look(alloc, list, first, next)?;
         self.unknown = self.find_unknown(list);
         Ok(())
     }
@@ -220,10 +196,7 @@ impl<'n> WatchedNames<'n> {
         let Some(first) = first else {
             return Ok(());
         };
-        match self.look_up(alloc, list, first.loaded, loaded(next)) {
-            Ok(()) => {}
-            Err(_) => return Err(RunFault::Memory),
-        }
+        self.look_up(alloc, list, first.loaded, loaded(next))?;
         self.refuse_unknown()
     }
 
@@ -350,7 +323,7 @@ impl<'n> WatchedNames<'n> {
             let Some(watched) = self.watched.get(index) else {
                 continue;
             };
-            put_if_watched(line, machine, name, watched)?;
+            put_named(line, machine, name, watched)?;
         }
         Ok(())
     }

@@ -56,13 +56,10 @@ fn last_texts(alloc: Global, number: Option<u16>, length: usize) -> Result<Optio
     ensures empty { IfOk result (λ last. KeepsLast last number []) }
     ensures memory { IsOkUnless result Fault.Memory }
 {
-    match number {
-        Some(number) => match LastTexts::new(alloc, number, length) {
-            Ok(texts) => Ok(Some(texts)),
-            Err(fault) => Err(fault),
-        },
-        None => Ok(None),
-    }
+    let Some(number) = number else {
+        return Ok(None);
+    };
+    Ok(Some(LastTexts::new(alloc, number, length)?))
 }
 
 /// Puts the line of a scan, and if a program runs that of its values.
@@ -78,17 +75,11 @@ fn put_scan(
         ≡ text.old.items ++ line_with_values list logic (line_of_record record.now)) }
     ensures memory { IsOkUnless result RunFault.Memory }
 {
-    match put_record(text, record) {
-        Ok(()) => {}
-        Err(fault) => return Err(fault),
+    put_record(text, record)?;
+    if let Some(machine) = machine {
+        names.put_line(text, record.ms, machine)?;
     }
-    match machine {
-        Some(machine) => match names.put_line(text, record.ms, machine) {
-            Ok(()) => Ok(()),
-            Err(_) => Err(RunFault::Memory),
-        },
-        None => Ok(()),
-    }
+    Ok(())
 }
 
 /// Whether a scan is written that this machine has made: every scan is, or if only changes are wanted one that leaves other values
@@ -115,10 +106,7 @@ fn is_written(
         values.forget();
         return Ok(true);
     };
-    match values.keep(names, machine) {
-        Ok(differs) => Ok(differs),
-        Err(_) => Err(RunFault::Memory),
-    }
+    Ok(values.keep(names, machine)?)
 }
 
 impl<'n> Watcher<'n> {
@@ -130,20 +118,17 @@ impl<'n> Watcher<'n> {
         ensures empty { IfOk result IsNew }
         ensures memory { IsOkUnless result Fault.Memory }
     {
-        match last_texts(alloc, choice.last, scan_length(choice.names)) {
-            Ok(last) => Ok(Watcher {
-                alloc,
-                list: choice.names,
-                names: WatchedNames::new(alloc),
-                number: choice.last,
-                changes: choice.changes,
-                last,
-                values: LastValues::new(alloc),
-                text: Vec::new(alloc),
-                scan: Vec::new(alloc),
-            }),
-            Err(fault) => Err(fault),
-        }
+        Ok(Watcher {
+            alloc,
+            list: choice.names,
+            names: WatchedNames::new(alloc),
+            number: choice.last,
+            changes: choice.changes,
+            last: last_texts(alloc, choice.last, scan_length(choice.names))?,
+            values: LastValues::new(alloc),
+            text: Vec::new(alloc),
+            scan: Vec::new(alloc),
+        })
     }
 
     /// Keeps the text of a scan, or appends it to the text of the row.
@@ -161,15 +146,10 @@ impl<'n> Watcher<'n> {
         ensures memory { IsOkUnless result RunFault.Memory }
     {
         match &mut self.last {
-            Some(last) => match last.keep(&self.scan) {
-                Ok(()) => Ok(()),
-                Err(_) => Err(RunFault::Memory),
-            },
-            None => match put_bytes(&mut self.text, &self.scan) {
-                Ok(()) => Ok(()),
-                Err(_) => Err(RunFault::Memory),
-            },
+            Some(last) => last.keep(&self.scan)?,
+            None => put_bytes(&mut self.text, &self.scan)?,
         }
+        Ok(())
     }
 
     /// Puts what is written of a row.
@@ -213,10 +193,7 @@ impl<'n> Watcher<'n> {
     {
         self.text.clear();
         self.scan.clear();
-        match put_answer(&mut self.text, seen) {
-            Ok(()) => {}
-            Err(fault) => return Err(fault),
-        }
+        put_answer(&mut self.text, seen)?;
         let Some(scan) = &seen.scan else {
             return Ok(());
         };
@@ -224,10 +201,8 @@ impl<'n> Watcher<'n> {
         if !is_written(self.changes, &mut self.values, &self.names, machine)? {
             return Ok(());
         }
-        match put_scan(&mut self.scan, &self.names, &scan.record, machine) {
-            Ok(()) => self.keep_scan(),
-            Err(fault) => Err(fault),
-        }
+        put_scan(&mut self.scan, &self.names, &scan.record, machine)?;
+        self.keep_scan()
     }
 
     /// Puts what is written at the end.
@@ -238,13 +213,10 @@ impl<'n> Watcher<'n> {
         ensures memory { IsOkUnless result RunFault.Memory }
     {
         self.text.clear();
-        match &self.last {
-            Some(last) => match last.put_all(&mut self.text) {
-                Ok(()) => Ok(()),
-                Err(_) => Err(RunFault::Memory),
-            },
-            None => Ok(()),
+        if let Some(last) = &self.last {
+            last.put_all(&mut self.text)?;
         }
+        Ok(())
     }
 }
 
@@ -289,16 +261,12 @@ impl<W: ByteOut> Observer<SlotStore, W> for Watcher<'_> {
         writer: &mut W,
     ) -> Result<(), RunFault> {
         self.names.turn(seen);
-        match self.put_row(seen, scale) {
-            Ok(()) => write_text(&self.text, writer),
-            Err(fault) => Err(fault),
-        }
+        self.put_row(seen, scale)?;
+        write_text(&self.text, writer)
     }
 
     fn end(&mut self, _refused: Option<(u16, u32)>, writer: &mut W) -> Result<(), RunFault> {
-        match self.put_end() {
-            Ok(()) => write_text(&self.text, writer),
-            Err(fault) => Err(fault),
-        }
+        self.put_end()?;
+        write_text(&self.text, writer)
     }
 }

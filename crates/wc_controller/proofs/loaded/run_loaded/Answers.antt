@@ -5,7 +5,7 @@ use Rattle.wc_controller.proofs.Blaming.{taken_alongside}
 use Rattle.wc_controller.proofs.Givings.{answered_so, next_loaded, next_unloaded, not_started, written_by}
 use Rattle.wc_controller.proofs.RefusedNames.{next_refused}
 use Rattle.wc_controller.proofs.Unbegun.{elsewhere, not_by_reader, reader_kept, unblamed, writer_kept}
-use Rattle.wc_controller.proofs.WrittenRuns.{end_more, next_logic, not_begun, run_ended}
+use Rattle.wc_controller.proofs.WrittenRuns.{end_more, next_logic, not_begun, run_ended, written_at_log}
 use Rattle.wc_controller.proofs.loaded.run_loaded.Goals as goal
 use Rattle.wc_controller.proofs.Blaming.{one_input}
 use Rattle.wc_controller.specs.TakenLogs.{log_alongside, log_by}
@@ -205,3 +205,13 @@ returns-in-Err-begin-clause-reader g c = λ at. reader_kept c.in-Err-begin.stopp
 
 pub returns-in-Err-begin-clause-failures : goal.returns-in-Err-begin-clause-failures
 returns-in-Err-begin-clause-failures g c = writer_kept c.in-Err-begin.stopped.fault _ _ c.in-Err-begin.ensures.refused (g.W.ByteOut.failure_count c.args.writer.now)
+
+pub returns-in-Err-clause-unwritten : goal.returns-in-Err-clause-unwritten
+returns-in-Err-clause-unwritten g c = λ elsewhere. refl
+
+pub returns-in-Err-begin-clause-unwritten : goal.returns-in-Err-begin-clause-unwritten
+returns-in-Err-begin-clause-unwritten g c = λ elsewhere. refl
+
+pub returns-in-Ok-scale_of-clause-unwritten : goal.returns-in-Ok-scale_of-clause-unwritten
+returns-in-Ok-scale_of-clause-unwritten g c =
+    written_at_log c.stopped_at_log.result (g.W.ByteOut.bytes_taken c.args.writer.now) (g.W.ByteOut.bytes_taken c.run.new.writer) c.stopped_at_log.ensures.input

@@ -1,7 +1,7 @@
 use Rattle.std.proofs.Common.{IfErr, subst}
 use Rattle.wc_controller.proofs.LoadedTexts.{headline_holds}
 use Rattle.wc_controller.proofs.Refusals.{is_loaded, not_costed, not_declared, not_read, not_verified, with_headline}
-use Rattle.wc_controller.proofs.Settled.{never_refused, only_refusal}
+use Rattle.wc_controller.proofs.Settled.{is_small, never_refused, only_refusal}
 use Rattle.wc_controller.proofs.loading.load.Goals as goal
 use Rattle.wc_controller.specs.Loads.{IsRefusedLoad}
 use Rattle.wc_cost.specs.Costs.{IsCosted}
@@ -41,6 +41,9 @@ returns-clause-loaded c =
 
 pub returns-clause-headline : goal.returns-clause-headline
 returns-clause-headline c = with_headline c.args.text.now c.cost.result (returns-clause-loaded c) headline_holds
+
+pub returns-clause-small : goal.returns-clause-small
+returns-clause-small c = is_small c.args.text.now c.cost.result (returns-clause-loaded c)
 
 pub returns-clause-accepted : goal.returns-clause-accepted
 returns-clause-accepted c = never_refused c.args.text.now c.cost.result (returns-clause-loaded c)

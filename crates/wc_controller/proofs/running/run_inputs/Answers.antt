@@ -1,4 +1,4 @@
-use Rattle.std.proofs.Common.{◌≡◌, List, ℕ, false, subst}
+use Rattle.std.proofs.Common.{◌≡◌, List, ℕ, false, subst, refl}
 use Rattle.std.specs.Prelude.{IfErr, IfSome, Option, Some, Err, is_some, option_map}
 use Rattle.wc_controller.proofs.RefusedNames.{alone_read, programs_read}
 use Rattle.wc_controller.proofs.Blaming.{one_input}
@@ -216,3 +216,21 @@ returns-clause-ended g c =
     (subst (λ (known : Option (List ℕ)). OfLogic first known (of_log (start_with text known (taken c.args.writer.now)))) c.borrowed.ensures
     (subst (λ all. OfLogic first (option_map (λ text. text.now) c.borrowed.result) (of_log (start_with all (option_map (λ text. text.now) c.borrowed.result) (taken c.args.writer.now)))) c.deref-2.ensures.value says))))
     c.run_loaded.ensures.ended)
+
+pub returns-in-Err-clause-unwritten : goal.returns-in-Err-clause-unwritten
+returns-in-Err-clause-unwritten g c = λ elsewhere. refl
+
+pub returns-in-Err-read_optional-clause-unwritten : goal.returns-in-Err-read_optional-clause-unwritten
+returns-in-Err-read_optional-clause-unwritten g c = λ elsewhere. refl
+
+pub returns-in-Err-load_input-clause-unwritten : goal.returns-in-Err-load_input-clause-unwritten
+returns-in-Err-load_input-clause-unwritten g c = λ elsewhere. refl
+
+pub returns-in-Err-read_optional-2-clause-unwritten : goal.returns-in-Err-read_optional-2-clause-unwritten
+returns-in-Err-read_optional-2-clause-unwritten g c = λ elsewhere. refl
+
+pub returns-in-None-clause-unwritten : goal.returns-in-None-clause-unwritten
+returns-in-None-clause-unwritten g c = c.run_alone.ensures.unwritten
+
+pub returns-clause-unwritten : goal.returns-clause-unwritten
+returns-clause-unwritten g c = c.run_loaded.ensures.unwritten

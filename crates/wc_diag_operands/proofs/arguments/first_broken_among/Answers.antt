@@ -1,9 +1,6 @@
-use Rattle.std.proofs.Common.{◌∙◌, ◌∷◌, ◌++◌, [], Some, ap, arith, not}
-use Rattle.std.specs.Prelude.{if◌then◌else◌}
+use Rattle.std.proofs.Common.{Some, arith}
 use Rattle.wc_diag_operands.proofs.Breaking.{all_looked_at, at_first, found_first, one_further, past_end}
 use Rattle.wc_diag_operands.proofs.arguments.first_broken_among.Goals as goal
-use Rattle.wc_model.specs.Language.DeclarationRules.{is_among}
-use Rattle.wc_model.specs.Language.Names.{name_of}
 
 pub loop-number-init : goal.loop-number-init
 loop-number-init c = at_first c.args.tables.now c.args.unit c.args.declared c.args.tokens.now c.args.names.now c.item_after-item.result c.requires.none c.item_after-item.ensures
@@ -18,17 +15,15 @@ pub returns-in-Some : goal.returns-in-Some
 returns-in-Some c = λ scope type line k number arguments is num listed first.
     let l = c.loop-number in
     let one =
-    found_first c.args.tables.now c.args.unit c.args.declared c.args.tokens.now l.names l.item l._number l.invariant c.in_ok-is_new.is_new c.in-Some.number
-    (c.in_ok-is_new.ensures.new ∙ ap (λ text. not (is_among l.names (name_of text))) c.text_at.ensures) c.in-Some.ensures.rule scope type line k number arguments is num listed first in
+    found_first c.args.tables.now c.args.unit c.args.declared c.args.tokens.now l.names l.item l._number l.invariant c.in_ok-found.found c.in-Some.number c.in-Some.is
+    c.in_ok-found.ensures.rule scope type line k number arguments is num listed first in
     (λ i. Some (record { item = one.1 i; number = one.0 i }))
 
 pub loop-number-preserved : goal.loop-number-preserved
 loop-number-preserved c =
     let l = c.loop-number in
-    one_further c.args.tables.now c.args.unit c.args.declared c.args.tokens.now l.names l.item l._number l.invariant c.in_ok-is_new.is_new c.broken_rule.result
-    (c.in_ok-is_new.ensures.new ∙ ap (λ text. not (is_among l.names (name_of text))) c.text_at.ensures) c.broken_rule.ensures.rule c.add.new.self c.item_after-item-in-loop-number.result
-    c.in_default.is c.broken_rule.ensures.new
-    (c.in_ok-is_new.ensures.names ∙ ap (λ text. if c.in_ok-is_new.is_new then l.names ++ name_of text ∷ [] else l.names) c.text_at.ensures) c.item_after-item-in-loop-number.ensures
+    one_further c.args.tables.now c.args.unit c.args.declared c.args.tokens.now l.names l.item l._number l.invariant c.in_ok-found.found c.in_ok-found.ensures.rule
+    c.broken_rule.new.names c.item_after-item-in-loop-number.result c.in_default.is (c.in_ok-found.ensures.held c.in_default.is) c.item_after-item-in-loop-number.ensures
 
 pub returns : goal.returns
 returns c = λ scope type line k number arguments is num listed first.

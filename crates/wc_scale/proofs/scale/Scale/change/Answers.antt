@@ -8,6 +8,7 @@ returns-in-Ok-change-clause-taken c = λ done.
     record {
       text = text_view c.in-Ok.loaded.source;
       loaded = c.in-Ok.ensures.loaded;
+      small = c.in-Ok.ensures.small;
       accepted = c.in-Ok.ensures.accepted;
       changed = is_changed c.args.self.now c.in-Some.opened c.change.new.self (text_view c.in-Ok.loaded.source) c.in-Some.is c.in-Ok-change.ensures.changed;
     }

@@ -5,4 +5,4 @@ use Rattle.wc_view_watch.proofs.watched_names.WatchedNames.look_up.Goals as goal
 
 pub returns-clause-unknown : goal.returns-clause-unknown
 returns-clause-unknown c =
-    c.find_unknown-self.ensures (text_view c.args.first.now.source) (text_of_next (option_map (λ loaded. loaded.now) c.args.next)) c.in-Ok.ensures.looked_up
+    c.find_unknown-self.ensures (text_view c.args.first.now.source) (text_of_next (option_map (λ loaded. loaded.now) c.args.next)) c.in_ok-self.ensures.looked_up

@@ -20,9 +20,9 @@ loop-index-preserved c = λ list text next store looked represents.
     ap (λ (xs : List (Option NamedVariable)). slice_get xs index) (sym c.deref-in-loop-index.ensures.value)
     ∙ got_some c.deref-in-loop-index.result.now index c.in-Some-get.watched.now c.in-Some-get.ensures.lookup.3.0 c.in-Some-get.ensures.lookup.1 in
     let there = name_at names.names.items list index c.in-Some.name.now looked.listed name_there in
-    one_name_more (value_text text store) (names_in list) index c.in-Some.name.now.now c.args.line.now.items c.loop-index.line.items c.put_if_watched.new.line.items there
+    one_name_more (value_text text store) (names_in list) index c.in-Some.name.now.now c.args.line.now.items c.loop-index.line.items c.put_named.new.line.items there
     (c.loop-index.invariant list text next store looked represents)
-    (c.in_ok-put_if_watched.ensures.puts text store represents
+    (c.in_ok-put_named.ensures.puts text store represents
     (same_meaning (variable_named text) names.watched.items (names_in list) index c.in-Some.name.now.now c.in-Some-get.watched.now looked.here there found_there))
 
 pub returns-clause-puts : goal.returns-clause-puts

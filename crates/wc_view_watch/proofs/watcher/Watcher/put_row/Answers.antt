@@ -12,7 +12,7 @@ pub returns-in_default-clause-text : goal.returns-in_default-clause-text
 returns-in_default-clause-text c = λ plate logic past shown represents fit kept values.
     let old = c.args.self.now in
     row_without_scan old.list.now old.changes old.number plate logic past c.args.seen.now shown c.clear.new.self.items c.put_answer.new.text.items
-    c.in_default.is c.clear.ensures.items c.in-Ok.ensures.text
+    c.in_default.is c.clear.ensures.items c.in_ok-put_answer.ensures.text
 
 pub returns-in_default-clause-scans : goal.returns-in_default-clause-scans
 returns-in_default-clause-scans c = λ plate logic past shown represents fit kept values.
@@ -24,8 +24,8 @@ returns-in_default-clause-values c = λ plate logic past shown represents fit va
     let old = c.args.self.now in
     values chosen ∙ sym (values_without_scan old.list.now old.changes old.number plate logic past c.args.seen.now shown c.in_default.is)
 
-pub returns-in-Ok-put_scan-clause-text : goal.returns-in-Ok-put_scan-clause-text
-returns-in-Ok-put_scan-clause-text c =
+pub returns-clause-text : goal.returns-clause-text
+returns-clause-text c =
     let old = c.args.self.now in
     let list = old.list.now in
     on_ok c.keep_scan.result
@@ -35,13 +35,13 @@ returns-in-Ok-put_scan-clause-text c =
     let written : is_written old.changes (last_values list plate logic past) (values_of list after) ≡ true =
     sym (c.in_ok-is_written.ensures.written list after (last_values list plate logic past) fit runs values) ∙ c.if-not-branch.false in
     row_with_scan list old.changes old.number plate logic past c.args.seen.now shown c.in-Some.scan c.clear.new.self.items c.put_answer.new.text.items c.clear-2.new.self.items
-    c.put_scan.new.text.items c.keep_scan.new.self.text.items c.in-Some.is written c.clear.ensures.items c.in-Ok.ensures.text c.clear-2.ensures.items
-    (c.in-Ok-put_scan.ensures.puts list after fit runs)
+    c.put_scan.new.text.items c.keep_scan.new.self.text.items c.in-Some.is written c.clear.ensures.items c.in_ok-put_answer.ensures.text c.clear-2.ensures.items
+    (c.in_ok-put_scan.ensures.puts list after fit runs)
     (puts (scans_so_far list old.changes plate logic past) kept))
     c.keep_scan.ensures.text
 
-pub returns-in-Ok-put_scan-clause-scans : goal.returns-in-Ok-put_scan-clause-scans
-returns-in-Ok-put_scan-clause-scans c =
+pub returns-clause-scans : goal.returns-clause-scans
+returns-clause-scans c =
     let old = c.args.self.now in
     let list = old.list.now in
     on_ok c.keep_scan.result
@@ -51,6 +51,6 @@ returns-in-Ok-put_scan-clause-scans c =
     let written : is_written old.changes (last_values list plate logic past) (values_of list after) ≡ true =
     sym (c.in_ok-is_written.ensures.written list after (last_values list plate logic past) fit runs values) ∙ c.if-not-branch.false in
     kept_with_scan list old.changes old.number plate logic past c.args.seen.now shown c.keep_scan.new.self.last c.in-Some.scan c.clear-2.new.self.items c.put_scan.new.text.items
-    c.in-Some.is written c.clear-2.ensures.items (c.in-Ok-put_scan.ensures.puts list after fit runs)
+    c.in-Some.is written c.clear-2.ensures.items (c.in_ok-put_scan.ensures.puts list after fit runs)
     (keeps (scans_so_far list old.changes plate logic past) kept))
     c.keep_scan.ensures.keeps

@@ -4,9 +4,9 @@ use Rattle.wc_view_watch.proofs.Observed.{end_is}
 use Rattle.wc_view_watch.proofs.watcher.WatcherObserverSlotStore.end.Goals as goal
 use Rattle.wc_view_watch.specs.Plans.{scans_so_far}
 
-pub returns-in-Ok-clause-writes : goal.returns-in-Ok-clause-writes
-returns-in-Ok-clause-writes g c = λ plate logic past seen.
+pub returns-clause-writes : goal.returns-clause-writes
+returns-clause-writes g c = λ plate logic past seen.
     let old = c.args.self.now in
     subst (λ written. Writes written c.write_text.result (g.W.ByteOut.bytes_taken c.args.writer.now) (g.W.ByteOut.bytes_taken c.write_text.new.writer))
-    (c.deref.ensures.value ∙ end_is old plate logic past c.put_end.new.self.text.items (c.in-Ok.ensures.text (scans_so_far old.list.now old.changes plate logic past) seen.scans))
+    (c.deref.ensures.value ∙ end_is old plate logic past c.put_end.new.self.text.items (c.in_ok-put_end.ensures.text (scans_so_far old.list.now old.changes plate logic past) seen.scans))
     c.write_text.ensures.writes

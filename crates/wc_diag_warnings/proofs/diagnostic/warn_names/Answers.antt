@@ -5,12 +5,12 @@ use Rattle.wc_model.specs.Language.Declarations.{variables_of}
 use Rattle.wc_model.specs.Language.Views.{unit_view}
 use Rattle.wc_diag_warnings.specs.Seen.{warnings_view}
 use Rattle.wc_diag_warnings.specs.Warnings.{declared_cautions}
-use Rattle.wc_diag_warnings.proofs.diagnostic.warn_used.Goals as goal
+use Rattle.wc_diag_warnings.proofs.diagnostic.warn_names.Goals as goal
 
 pub returns-clause-added : goal.returns-clause-added
 returns-clause-added c =
     let unit = c.args.unit.now in
     let so_far = warnings_view c.args.warnings.now.items in
     on_ok_weaker c.warn_declared.result
-    (λ added empty. added ∙ ap (λ uses. so_far ++ declared_cautions unit.kind uses (variables_of (unit_view unit))) (fun_ext (c.in_ok-fill.ensures.found empty)))
+    (λ added. added ∙ ap (λ uses. so_far ++ declared_cautions unit.kind uses (variables_of (unit_view unit))) (fun_ext (c.in_ok-fill.ensures.found c.unused-uses.ensures)))
     c.warn_declared.ensures.added
