@@ -3,6 +3,8 @@ pub mod ManyChanges
 pub mod LoadedTexts
 pub mod HeadlineRuns
 pub mod Frames
+pub mod ShortAnswers
+pub mod OneChecked
 pub mod Refusals
 pub mod Givings
 pub mod Allowing

@@ -1,12 +1,12 @@
 -- What is said of the bytes that were written of a run, from its log to its inputs.
 use Rattle.std.proofs.Common.{◌≡◌, ℕ, ◌≤◌, Bool, List, length, Option, Some, None, Result, Ok, Err, sym, subst, ◌∙◌}
-use Rattle.std.specs.Io.KnownBytes.{Appends}
-use Rattle.std.specs.Prelude.{IfSome}
+use Rattle.std.specs.Io.KnownBytes.{Appends, Keeps}
+use Rattle.std.specs.Prelude.{◌≢◌, IfErr, IfSome}
 use Rattle.wc_controller.proofs.Allowing.{of_known, on_known}
-use Rattle.wc_endings.specs.Endings.{EndsAfter, EndsAfterFault, EndsRefused, begin_fault_input, fault_raised, raised}
+use Rattle.wc_endings.specs.Endings.{EndsAfter, EndsAfterFault, EndsRefused, IsAt, begin_fault_input, ending_of, fault_ending, fault_raised, raised}
 use Rattle.wc_controller.specs.InputStates.{InputStates, Reader}
 use Rattle.wc_controller.specs.TakenLogs.{AreReadOf, IfKnown, IsNextLoadedOf, OfLogic, log_by}
-use Rattle.wc_controller.specs.WrittenRuns.{EndsSaying, OfRun, OfStart, OnEnd, OnRefusal, says_of}
+use Rattle.wc_controller.specs.WrittenRuns.{EndsSaying, EndsUnwritten, IsUnwritten, OfRun, OfStart, OnEnd, OnRefusal, says_of}
 use Rattle.wc_endings.specs.declared.ending.Ending.{Ending}
 use Rattle.wc_endings.specs.declared.ending.Ending.TheVariants as ended
 use Rattle.wc_endings.specs.declared.input.Input.{Input}
@@ -103,25 +103,50 @@ pub run_read : (inputs : InputStates) (taken : Option (List ℕ)) (plate : Plate
     → OfRun inputs taken said
 run_read inputs taken plate said read h = on_known inputs.plate.bytes _ _ (λ table is. (plate, is.1, h)) read
 
+-- a run that stopped at its log may have written
+pub written_at_log : {X : Type 0} (answer : Result X Stopped) (old new : Option (List ℕ)) → IfErr answer (λ stopped. stopped.input ≡ input.Log) → IsUnwritten answer old new
+written_at_log (Ok done) old new at = tt
+written_at_log (Err stopped) old new at = λ elsewhere. absurd (elsewhere at)
+
+-- so it is with the ending of such a run
+pub ends_unwritten : {X : Type 0} (answer : Result X Stopped) (old new : Option (List ℕ)) → IsUnwritten answer old new → EndsUnwritten (ending_of answer) old new
+ends_unwritten (Ok done) old new unwritten = tt
+ends_unwritten (Err stopped) old new unwritten = by_fault stopped.fault where
+  by_fault : (why : RunFault) → EndsUnwritten (fault_ending stopped.input why) old new
+  by_fault (Refused number place) = unwritten
+  by_fault Read = unwritten
+  by_fault Write = tt
+  by_fault Memory = tt
+
+-- and if names are refused
+pub unwritten_at_names : (ending : Ending) (old new : Option (List ℕ)) → IsAt input.Names ending → EndsUnwritten ending old new → new ≡ old
+unwritten_at_names ended.Done old new at unwritten = absurd at
+unwritten_at_names (ended.Refused input number place) old new at unwritten = unwritten (λ log. absurd (let same = sym at ∙ log in cc))
+unwritten_at_names (ended.ReadFault input) old new at unwritten = unwritten (λ log. absurd (let same = sym at ∙ log in cc))
+unwritten_at_names ended.WriteFault old new at unwritten = absurd at
+unwritten_at_names ended.NoMemory old new at unwritten = absurd at
+
 -- once the line of a refusal is written, or the run ended with no refusal
 module _ (said : Ended) (inputs : InputStates) (old middle new : Option (List ℕ)) where
   refused_after : (at : Input) (number place : ℕ) (ending : Ending) → EndsRefused at number place ending middle new
-      → (at ≡ input.Log → OfRun inputs old (says_of said middle)) → EndsSaying said inputs ending old new
-  refused_after at number place ended.Done k h = absurd k
-  refused_after at number place (ended.Refused other n p) k h =
-      λ is. (middle, subst (λ one. Appends middle new (refused_text one p)) (sym k.1) (subst (λ one. Appends middle new (refused_text number one)) (sym k.2) k.3), h (sym k.0 ∙ is))
-  refused_after at number place (ended.ReadFault other) k h = absurd k
-  refused_after at number place ended.WriteFault k h = tt
-  refused_after at number place ended.NoMemory k h = tt
+      → (at ≡ input.Log → OfRun inputs old (says_of said middle)) → (at ≢ input.Log → middle ≡ old) → EndsSaying said inputs ending old new
+  refused_after at number place ended.Done k h unwritten = absurd k
+  refused_after at number place (ended.Refused other n p) k h unwritten =
+      let line : Appends middle new (refused_text n p) = subst (λ one. Appends middle new (refused_text one p)) (sym k.1) (subst (λ one. Appends middle new (refused_text number one)) (sym k.2) k.3) in
+      (λ is. (middle, line, h (sym k.0 ∙ is)), λ elsewhere. subst (λ before. Appends before new (refused_text n p)) (unwritten (λ is. elsewhere (k.0 ∙ is))) line)
+  refused_after at number place (ended.ReadFault other) k h unwritten = absurd k
+  refused_after at number place ended.WriteFault k h unwritten = tt
+  refused_after at number place ended.NoMemory k h unwritten = tt
 
   fault_after : (at : Input) (why : RunFault) (ending : Ending) → EndsAfterFault at why ending middle new
-      → (at ≡ input.Log → OnRefusal why (OfRun inputs old (says_of said middle))) → EndsSaying said inputs ending old new
-  fault_after at (Refused number place) ending k h = refused_after at number place ending k h
-  fault_after at Read ending k h = subst (λ e. EndsSaying said inputs e old new) (sym k.0) tt
-  fault_after at Write ending k h = subst (λ e. EndsSaying said inputs e old new) (sym k.0) tt
-  fault_after at Memory ending k h = subst (λ e. EndsSaying said inputs e old new) (sym k.0) tt
+      → (at ≡ input.Log → OnRefusal why (OfRun inputs old (says_of said middle))) → (at ≢ input.Log → middle ≡ old) → EndsSaying said inputs ending old new
+  fault_after at (Refused number place) ending k h unwritten = refused_after at number place ending k h unwritten
+  fault_after at Read ending k h unwritten =
+      subst (λ e. EndsSaying said inputs e old new) (sym k.0) (λ elsewhere. subst (λ before. Keeps before new) (unwritten elsewhere) k.1)
+  fault_after at Write ending k h unwritten = subst (λ e. EndsSaying said inputs e old new) (sym k.0) tt
+  fault_after at Memory ending k h unwritten = subst (λ e. EndsSaying said inputs e old new) (sym k.0) tt
 
   pub run_after : {X : Type 0} (answer : Result X Stopped) (ending : Ending) → EndsAfter answer ending middle new → OnEnd answer (OfRun inputs old (says_of said middle))
-      → EndsSaying said inputs ending old new
-  run_after (Ok done) ending k h = subst (λ e. EndsSaying said inputs e old new) (sym k.0) (middle, k.1, h)
-  run_after (Err stopped) ending k h = fault_after stopped.input stopped.fault ending k h
+      → IsUnwritten answer old middle → EndsSaying said inputs ending old new
+  run_after (Ok done) ending k h unwritten = subst (λ e. EndsSaying said inputs e old new) (sym k.0) (middle, k.1, h)
+  run_after (Err stopped) ending k h unwritten = fault_after stopped.input stopped.fault ending k h unwritten

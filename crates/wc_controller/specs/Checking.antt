@@ -1,5 +1,5 @@
 -- What a check of a program text answers and writes.
-use Rattle.std.specs.Prelude.{ℕ, Bool, List, Option, Result, Ok, Err}
+use Rattle.std.specs.Prelude.{◌≡◌, ⊤, ℕ, Bool, List, Option, Result, Ok, Err}
 use Rattle.std.specs.Io.KnownBytes.{Appends, Keeps}
 use Rattle.wc_model.specs.Language.Loading.{IsLoaded, IsRefused}
 use Rattle.wc_model.specs.Language.Tree.{Text}
@@ -16,3 +16,9 @@ Checks paths bytes (Err (Refused number place)) old new = IsRefused bytes number
 Checks paths bytes (Err Read) old new = ⊥
 Checks paths bytes (Err Write) old new = (text : Text) × (report : List ℕ) × IsLoaded bytes text × IsUnitReport paths text report × TakesPrefix old new report
 Checks paths bytes (Err Memory) old new = Keeps old new
+
+-- Of bytes that are loaded what is written is the one report of their text: no other satisfies what is said of it.
+abbrev pub ChecksAlone : {X : Type 0} → Bool → List ℕ → Result X RunFault → Option (List ℕ) → Option (List ℕ) → Type 0
+ChecksAlone paths bytes (Ok done) old new =
+    (report : List ℕ) × Appends old new report × ((text : Text) (other : List ℕ) → IsLoaded bytes text → IsUnitReport paths text other → other ≡ report)
+ChecksAlone paths bytes (Err fault) old new = ⊤

@@ -1,6 +1,7 @@
 pub mod Headline
 pub mod HeadlineRuns
 pub mod Frames
+pub mod ShortAnswers
 pub mod Loads
 pub mod Checking
 pub mod Jobs

@@ -1,5 +1,5 @@
 -- What an observer says of the bytes that were written of a run that came to its log's end, or to a refused row. (The profile's own.)
-use Rattle.std.specs.Prelude.{◌≡◌, ⊤, ℕ, List, Option, Some, None, IfSome, Result, Ok, Err}
+use Rattle.std.specs.Prelude.{◌≡◌, ◌≢◌, ⊤, ℕ, List, Option, Some, None, IfSome, Result, Ok, Err}
 use Rattle.std.specs.Io.KnownBytes.{Appends, Keeps}
 use Rattle.wc_controller.specs.InputStates.{InputStates, Reader}
 use Rattle.wc_controller.specs.TakenLogs.{IfKnown, OfLogic, log_by}
@@ -46,9 +46,24 @@ OnEnd (Err stopped) said = stopped.input ≡ input.Log → OnRefusal stopped.fau
 abbrev pub says_of : Ended → Option (List ℕ) → Start → PlateData → Option Logic → LogOf → Type 0
 says_of ended taken start plate logic log = ended start taken plate logic log.rows log.refusal
 
--- what it says of what was written of a run of these inputs that ended so: after a refused row the line of the refusal follows it
+-- if a run stopped at an input before its log, or at the names to observe, nothing was written
+abbrev pub IsUnwritten : {X : Type 0} → Result X Stopped → Option (List ℕ) → Option (List ℕ) → Type 0
+IsUnwritten (Ok done) old new = ⊤
+IsUnwritten (Err stopped) old new = stopped.input ≢ input.Log → new ≡ old
+
+-- likewise for an ending after which no line of a refusal is written
+abbrev pub EndsUnwritten : Ending → Option (List ℕ) → Option (List ℕ) → Type 0
+EndsUnwritten (ended.Refused at number place) old new = at ≢ input.Log → new ≡ old
+EndsUnwritten (ended.ReadFault at) old new = at ≢ input.Log → new ≡ old
+EndsUnwritten ending old new = ⊤
+
+-- What it says of what was written of a run of these inputs that ended so: after a refused row the line of the refusal follows
+-- it. Of another input that is refused, or of names, the line of the refusal is all that was written; if such an input could not
+-- be read, nothing was.
 abbrev pub EndsSaying : Ended → InputStates → Ending → Option (List ℕ) → Option (List ℕ) → Type 0
 EndsSaying said inputs ended.Done old new = (taken : Option (List ℕ)) × Keeps taken new × OfRun inputs old (says_of said taken)
 EndsSaying said inputs (ended.Refused at number place) old new =
-    at ≡ input.Log → (taken : Option (List ℕ)) × Appends taken new (refused_text number place) × OfRun inputs old (says_of said taken)
+    (at ≡ input.Log → (taken : Option (List ℕ)) × Appends taken new (refused_text number place) × OfRun inputs old (says_of said taken))
+    × (at ≢ input.Log → Appends old new (refused_text number place))
+EndsSaying said inputs (ended.ReadFault at) old new = at ≢ input.Log → Keeps old new
 EndsSaying said inputs ending old new = ⊤

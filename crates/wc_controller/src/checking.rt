@@ -1,5 +1,5 @@
 ghost use Rattle.std.specs.Prelude.{◌≡◌, IfErr, IfSome};
-ghost use Rattle.wc_controller.specs.Checking.{Checks};
+ghost use Rattle.wc_controller.specs.Checking.{Checks, ChecksAlone};
 ghost use Rattle.wc_endings.specs.Endings.{EndsAs, IsAt, TakesInput, ReportsFailures, ReportsReadEndings, ReportsReadFaults, ReportsWriteFaults, WritesUpTo, raised};
 ghost use Rattle.wc_controller.specs.Files.{AnswersCheckFile};
 ghost use Rattle.wc_run.specs.Runs.{ReportsWrites};
@@ -23,6 +23,9 @@ pub fn check<W: ByteOut>(
     writer: &mut W,
 ) -> Result<(), RunFault>
     ensures checks { Checks paths text.now result (W.bytes_taken writer.old)
+        (W.bytes_taken writer.new) }
+    // The bounds are numbers of the text, and of paths that are equally long one alone is the worst: so no other report is one.
+    ensures alone { ChecksAlone paths text.now result (W.bytes_taken writer.old)
         (W.bytes_taken writer.new) }
     ensures failures { ReportsWrites result (W.failure_count writer.old)
         (W.failure_count writer.new) }

@@ -3,7 +3,7 @@ ghost use Rattle.wc_controller.specs.Blames.{IsNextUnloaded, IsUnloaded, Refuses
 ghost use Rattle.wc_endings.specs.Endings.{HasNotFailedAt, IsReadFaultAt, StopsAt, ReportsMemory, ReportsWriteFaults, WritesUpTo, begin_fault_input, fault_raised, raised};
 ghost use Rattle.wc_controller.specs.Files.{AnswersPrinting, IsLineAnswer};
 ghost use Rattle.wc_controller.specs.InputStates.{observed_by, reader_of};
-ghost use Rattle.wc_controller.specs.WrittenRuns.{OnEnd, says_of};
+ghost use Rattle.wc_controller.specs.WrittenRuns.{IsUnwritten, OnEnd, says_of};
 ghost use Rattle.wc_controller.specs.TakenLogs.{IsLater, IsNextLoadedOf, OfLogic, log_alone, log_alongside, log_by};
 ghost use Rattle.wc_model.specs.Instrument.Plates.{PlateData};
 ghost use Rattle.wc_model.specs.Language.Loading.{IsLoaded};
@@ -196,8 +196,10 @@ pub(crate) fn run_alone<W: ByteOut, O: Observer<SlotStore, W>, L: ByteIn>(
         (raised result) (said O.speaks (W.bytes_taken writer.old))
         (said O.speaks (W.bytes_taken writer.new))) }
     ensures ended { OnEnd result (IfSome (L.bytes_left log.old)
-        (λ bytes. says_of (O.has_ended (O.settings observer.old)) (W.bytes_taken writer.new)
+        (λ bytes. says_of (O.has_ended observer.new (O.settings observer.old)) (W.bytes_taken writer.new)
         (start_of None None (W.bytes_taken writer.old)) plate.now None (log_by None bytes))) }
+    ensures unwritten { IsUnwritten result (W.bytes_taken writer.old)
+        (W.bytes_taken writer.new) }
     ensures later { IsLater result }
     ensures no_next { ¬ StopsAt Input.Next result }
     ensures names { StopsAt Input.Names result
@@ -250,9 +252,11 @@ pub(crate) fn run_loaded<W: ByteOut, O: Observer<SlotStore, W>, L: ByteIn>(
     ensures ended { OnEnd result (OfLogic (text_view programs.entry.loaded.source)
         (option_map (λ text. text.now) programs.entry.next)
         (λ logic. IfSome (L.bytes_left log.old)
-        (λ bytes. says_of (O.has_ended (O.settings observer.old)) (W.bytes_taken writer.new)
+        (λ bytes. says_of (O.has_ended observer.new (O.settings observer.old)) (W.bytes_taken writer.new)
         (start_with programs.entry.text.now (option_map (λ text. text.now) programs.entry.next)
         (W.bytes_taken writer.old)) programs.entry.plate logic (log_by logic bytes)))) }
+    ensures unwritten { IsUnwritten result (W.bytes_taken writer.old)
+        (W.bytes_taken writer.new) }
     ensures blames_next { IfErr result
         (λ stopped. stopped.input ≡ Input.Next
         → IsNextUnloaded (option_map (λ text. text.now) programs.entry.next) stopped.fault) }

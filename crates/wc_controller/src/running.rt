@@ -5,8 +5,9 @@ ghost use Rattle.wc_controller.specs.Frames.{AnswersInFrames};
 ghost use Rattle.wc_controller.specs.HeadlineRuns.{OfRunsByTheHeadline};
 ghost use Rattle.wc_controller.specs.InputRuns.{RunsAs, RunsUpTo};
 ghost use Rattle.wc_controller.specs.InputStates.{observed_by, writer_of};
+ghost use Rattle.wc_controller.specs.ShortAnswers.{AnswersAreShort};
 ghost use Rattle.wc_controller.specs.TakenLogs.{OfPrograms};
-ghost use Rattle.wc_controller.specs.WrittenRuns.{EndsSaying, OfRun, OnEnd, says_of};
+ghost use Rattle.wc_controller.specs.WrittenRuns.{EndsSaying, IsUnwritten, OfRun, OnEnd, says_of};
 ghost use Rattle.wc_model.specs.Instrument.Plates.{IsPlate, PlateData};
 ghost use Rattle.wc_record.specs.Reported.{fields_reported};
 ghost use Rattle.wc_run.specs.Observing.{said_by};
@@ -42,7 +43,11 @@ pub fn run_inputs<
         (λ logic. (O.begins observer.old logic ≡ false)
         × O.has_refused observer.old observer.new logic) }
     ensures ended { OnEnd result (OfRun inputs.old (W.bytes_taken writer.old)
-        (says_of (O.has_ended (O.settings observer.old)) (W.bytes_taken writer.new))) }
+        (says_of (O.has_ended observer.new (O.settings observer.old))
+        (W.bytes_taken writer.new))) }
+    // If an input before the log stops it, or names that are not known, nothing is written.
+    ensures unwritten { IsUnwritten result (W.bytes_taken writer.old)
+        (W.bytes_taken writer.new) }
     ensures runs { RunsUpTo (observed_by O.plan O.begins observer.old) inputs.old inputs.new
         (fields_reported reported.new) result
         (writer_of (said_by O.speaks W.bytes_taken) W.failure_count writer.old)
@@ -101,9 +106,10 @@ pub fn run_files<P: ByteIn, T: ByteIn, N: ByteIn, L: ByteIn, W: ByteOut, O: Obse
     ensures refused { IsAt Input.Names result → OfPrograms inputs.old.program inputs.old.next
         (λ logic. (O.begins observer.old logic ≡ false)
         × O.has_refused observer.old observer.new logic) }
-    // What the observer says of the bytes of a run that came to its end, or to a refused row.
-    ensures ended { EndsSaying (O.has_ended (O.settings observer.old)) inputs.old result
-        (W.bytes_taken writer.old) (W.bytes_taken writer.new) }
+    // What the observer says of the bytes of a run that came to its end, or to a refused row; if another input is refused, the
+    // line that says so is all.
+    ensures ended { EndsSaying (O.has_ended observer.new (O.settings observer.old)) inputs.old
+        result (W.bytes_taken writer.old) (W.bytes_taken writer.new) }
     // The text that is loaded has the headline, and what is written belongs to the rows of which it speaks.
     ensures headline { OfRunsByTheHeadline (observed_by O.plan O.begins observer.old) inputs.old
         (λ allowed. EndsAs allowed result (said_by O.speaks W.bytes_taken writer.old)
@@ -134,6 +140,8 @@ pub fn report_files<P: ByteIn, T: ByteIn, N: ByteIn, L: ByteIn, W: ByteOut>(
         (W.bytes_taken writer.new)) }
     // Each complete request is answered once, in a frame, so that a host can count the answers.
     ensures frames { (plate : PlateData) → IsPlate plate → AnswersInFrames plate }
+    // No answer to a row, and no line that reports one, is longer than a log's longest row allows.
+    ensures short { (plate : PlateData) → IsPlate plate → AnswersAreShort plate }
 {
     run_files(alloc, &mut Report::new(alloc), inputs, writer, reported)
 }

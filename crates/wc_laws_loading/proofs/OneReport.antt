@@ -1,5 +1,5 @@
 -- A text that is loaded has one report.
-use Rattle.std.proofs.Common.{◌≡◌, ℕ, Bool, true, false, List, [], ◌∷◌, ◌++◌, Some, None, refl, sym, ap, subst, ◌∙◌}
+use Rattle.std.proofs.Common.{Bool, true, false, List, [], ◌∷◌, ◌++◌, Some, None, refl, ap, ◌∙◌}
 use Rattle.std.specs.List.{AllByRecursion}
 use Rattle.wc_laws_language.proofs.Longest.{Found, WorstFrom, best_path, best_path_is_worst}
 use Rattle.wc_laws_language.proofs.OneBound.{one_bound}
@@ -17,7 +17,7 @@ use Rattle.wc_model.specs.Language.Scopes.{Scope}
 use Rattle.wc_model.specs.Language.Traces.{Item, own_lines}
 use Rattle.wc_model.specs.Language.Tree.{ProgramUnit}
 use Rattle.wc_model.specs.Language.WorstPaths.{AreWorstLines, IsWorstPath}
-use Rattle.wc_model.specs.Say.UnitReport.{AreUnitLines, IsBoundOf, IsPathPart, path_line, unit_line}
+use Rattle.wc_model.specs.Say.UnitReport.{AreUnitLines, IsPathPart, path_line, unit_line}
 
 -- a unit that has a path has a worst one, and its lines alone
 lines_there : (scope : Scope) → NestsSimply scope.unit.body → (path : List Item) → IsPath scope path → (found : Found)

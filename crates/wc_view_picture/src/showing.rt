@@ -1,6 +1,7 @@
-ghost use Rattle.std.specs.Prelude.{IfErr, IfOk, option_map};
+ghost use Rattle.std.specs.Prelude.{◌≡◌, IfErr, IfOk, option_map};
 ghost use Rattle.wc_controller.specs.InputRuns.{RunsAs};
 ghost use Rattle.wc_controller.specs.TakenLogs.{OfPrograms};
+ghost use Rattle.wc_controller.specs.WrittenRuns.{EndsUnwritten};
 ghost use Rattle.wc_endings.specs.Endings.{IsAt};
 ghost use Rattle.wc_record.specs.Reported.{fields_reported};
 ghost use Rattle.wc_view_picture.specs.Runs.{IsUnknownOf, drawn, unsaid};
@@ -34,6 +35,10 @@ pub fn show_files<P: ByteIn, T: ByteIn, N: ByteIn, L: ByteIn, W: ByteOut>(
         (unsaid (W.failure_count writer.new))) }
     // So no ending names them.
     ensures named { IfOk result (λ ending. ¬ (IsAt Input.Names ending)) }
+    // Nothing is written if a name is unknown, or an input before the log is refused or can't be read.
+    ensures nothing { IfErr result (λ name. W.bytes_taken writer.new ≡ W.bytes_taken writer.old) }
+    ensures silent { IfOk result (λ ending. EndsUnwritten ending (W.bytes_taken writer.old)
+        (W.bytes_taken writer.new)) }
 {
     let mut picture = Picture::new(alloc, names);
     let answer = run_inputs(alloc, &mut picture, inputs, writer, reported);

@@ -1,8 +1,8 @@
-use Rattle.std.proofs.Common.{◌≡◌, ◌∙◌, None, subst, sym}
+use Rattle.std.proofs.Common.{◌≡◌, ◌∙◌, None, refl, subst, sym}
 use Rattle.wc_controller.proofs.Allowing.{on_each, on_known}
 use Rattle.wc_controller.proofs.Givings.{answered_so, not_started, written_by}
 use Rattle.wc_controller.proofs.RefusedNames.{refused_at_names}
-use Rattle.wc_controller.proofs.WrittenRuns.{not_begun, run_ended}
+use Rattle.wc_controller.proofs.WrittenRuns.{not_begun, run_ended, written_at_log}
 use Rattle.wc_controller.proofs.loaded.run_alone.Goals as goal
 use Rattle.wc_endings.specs.Endings.{WritesUpTo, of_no_cause, raised}
 use Rattle.wc_controller.specs.Files.{answer_written}
@@ -77,9 +77,16 @@ returns-in-Ok-clause-ended g c =
     let o = g.O.Observer in
     let known = g.L.ByteIn.bytes_left c.args.log.now in
     let taken = g.W.ByteOut.bytes_taken c.run.new.writer in
-    run_ended (o.has_ended (o.settings c.args.observer.now)) (start_of None None (g.W.ByteOut.bytes_taken c.args.writer.now)) c.args.plate.now None (log_by None) c.run.result c.stopped_at_log.result known taken c.stopped_at_log.ensures.fault
+    run_ended (o.has_ended c.run.new.observer (o.settings c.args.observer.now)) (start_of None None (g.W.ByteOut.bytes_taken c.args.writer.now)) c.args.plate.now None (log_by None) c.run.result c.stopped_at_log.result known taken c.stopped_at_log.ensures.fault
     (on_known known _ _
-    (λ bytes says. subst (λ settings. EndsWhole (o.has_ended settings) (start_of None None (g.W.ByteOut.bytes_taken c.args.writer.now)) c.args.plate.now None (log_by None bytes) c.run.result taken) c.begin.ensures.settings
+    (λ bytes says. subst (λ settings. EndsWhole (o.has_ended c.run.new.observer settings) (start_of None None (g.W.ByteOut.bytes_taken c.args.writer.now)) c.args.plate.now None (log_by None bytes) c.run.result taken) c.begin.ensures.settings
     (says (start_of None None (g.W.ByteOut.bytes_taken c.args.writer.now)) c.args.plate.now None (c.in-Ok.ensures.represents None tt)
     (c.in_default.ensures.seen c.args.plate.now, c.in_default.ensures.written c.args.plate.now (g.W.ByteOut.bytes_taken c.args.writer.now))))
     c.run.ensures.ended)
+
+pub returns-in-Err-clause-unwritten : goal.returns-in-Err-clause-unwritten
+returns-in-Err-clause-unwritten g c = λ elsewhere. refl
+
+pub returns-in-Ok-clause-unwritten : goal.returns-in-Ok-clause-unwritten
+returns-in-Ok-clause-unwritten g c =
+    written_at_log c.stopped_at_log.result (g.W.ByteOut.bytes_taken c.args.writer.now) (g.W.ByteOut.bytes_taken c.run.new.writer) c.stopped_at_log.ensures.input

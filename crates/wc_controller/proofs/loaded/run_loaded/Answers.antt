@@ -5,7 +5,7 @@ use Rattle.wc_controller.proofs.Blaming.{taken_alongside}
 use Rattle.wc_controller.proofs.Givings.{answered_so, next_loaded, next_unloaded, not_started, written_by}
 use Rattle.wc_controller.proofs.RefusedNames.{next_refused}
 use Rattle.wc_controller.proofs.Unbegun.{elsewhere, not_by_reader, reader_kept, unblamed, writer_kept}
-use Rattle.wc_controller.proofs.WrittenRuns.{end_more, next_logic, not_begun, run_ended}
+use Rattle.wc_controller.proofs.WrittenRuns.{end_more, next_logic, not_begun, run_ended, written_at_log}
 use Rattle.wc_controller.proofs.loaded.run_loaded.Goals as goal
 use Rattle.wc_controller.proofs.Blaming.{one_input}
 use Rattle.wc_controller.specs.TakenLogs.{log_alongside, log_by}
@@ -140,12 +140,12 @@ returns-in-Ok-scale_of-clause-ended g c =
     let plate = c.args.programs.plate in
     let known = g.L.ByteIn.bytes_left c.args.log.now in
     let taken = g.W.ByteOut.bytes_taken c.run.new.writer in
-    let ended = o.has_ended (o.settings c.args.observer.now) in
+    let ended = o.has_ended c.run.new.observer (o.settings c.args.observer.now) in
     end_more c.stopped_at_log.result _ _
     (λ says. next_logic first held c.in-Ok.next (λ logic. IfSome known (λ bytes. says_of ended taken start plate logic (log_by logic bytes))) c.in-Ok.ensures.loaded says)
     (run_ended ended start plate (Some logic) (log_by (Some logic)) c.run.result c.stopped_at_log.result known taken c.stopped_at_log.ensures.fault
     (on_known known _ _
-    (λ bytes says. subst (λ settings. EndsWhole (o.has_ended settings) start plate (Some logic) (log_by (Some logic) bytes) c.run.result taken) c.begin.ensures.settings
+    (λ bytes says. subst (λ settings. EndsWhole (o.has_ended c.run.new.observer settings) start plate (Some logic) (log_by (Some logic) bytes) c.run.result taken) c.begin.ensures.settings
     (says start plate (Some logic) c.in-Ok-scale_of.ensures.represents (seen, written)))
     c.run.ensures.ended))
 
@@ -205,3 +205,13 @@ returns-in-Err-begin-clause-reader g c = λ at. reader_kept c.in-Err-begin.stopp
 
 pub returns-in-Err-begin-clause-failures : goal.returns-in-Err-begin-clause-failures
 returns-in-Err-begin-clause-failures g c = writer_kept c.in-Err-begin.stopped.fault _ _ c.in-Err-begin.ensures.refused (g.W.ByteOut.failure_count c.args.writer.now)
+
+pub returns-in-Err-clause-unwritten : goal.returns-in-Err-clause-unwritten
+returns-in-Err-clause-unwritten g c = λ elsewhere. refl
+
+pub returns-in-Err-begin-clause-unwritten : goal.returns-in-Err-begin-clause-unwritten
+returns-in-Err-begin-clause-unwritten g c = λ elsewhere. refl
+
+pub returns-in-Ok-scale_of-clause-unwritten : goal.returns-in-Ok-scale_of-clause-unwritten
+returns-in-Ok-scale_of-clause-unwritten g c =
+    written_at_log c.stopped_at_log.result (g.W.ByteOut.bytes_taken c.args.writer.now) (g.W.ByteOut.bytes_taken c.run.new.writer) c.stopped_at_log.ensures.input

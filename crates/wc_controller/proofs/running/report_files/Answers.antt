@@ -1,6 +1,7 @@
 use Rattle.std.proofs.Common.{None, subst, true}
 use Rattle.wc_controller.proofs.Frames.{answers_in_frames}
 use Rattle.wc_controller.proofs.HeadlineRuns.{by_headline}
+use Rattle.wc_controller.proofs.ShortAnswers.{answers_are_short}
 use Rattle.wc_controller.proofs.running.report_files.Goals as goal
 use Rattle.wc_controller.specs.Files.{report_observed}
 use Rattle.wc_controller.specs.InputRuns.{RunsAs}
@@ -22,3 +23,6 @@ returns-clause-headline g c =
 
 pub returns-clause-frames : goal.returns-clause-frames
 returns-clause-frames g c = answers_in_frames
+
+pub returns-clause-short : goal.returns-clause-short
+returns-clause-short g c = answers_are_short

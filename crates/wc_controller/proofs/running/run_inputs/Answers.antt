@@ -1,4 +1,4 @@
-use Rattle.std.proofs.Common.{◌≡◌, List, ℕ, false, subst}
+use Rattle.std.proofs.Common.{◌≡◌, List, ℕ, false, subst, refl}
 use Rattle.std.specs.Prelude.{IfErr, IfSome, Option, Some, Err, is_some, option_map}
 use Rattle.wc_controller.proofs.RefusedNames.{alone_read, programs_read}
 use Rattle.wc_controller.proofs.Blaming.{one_input}
@@ -185,7 +185,7 @@ returns-in-None-clause-ended g c =
     let next = optional_of g.N.ByteIn.bytes_left g.N.ByteIn.failure_count g.N.ByteIn.spent_count c.inputs.inside.next in
     let log = reader_of g.L.ByteIn.bytes_left g.L.ByteIn.failure_count g.L.ByteIn.spent_count c.inputs.inside.log in
     let taken = g.W.ByteOut.bytes_taken in
-    let said = says_of (o.has_ended (o.settings c.args.observer.now)) (taken c.run_alone.new.writer) in
+    let said = says_of (o.has_ended c.run_alone.new.observer (o.settings c.args.observer.now)) (taken c.run_alone.new.writer) in
     subst (λ (before : InputStates). OnEnd c.run_alone.result (OfRun before (taken c.args.writer.now) said)) c.inputs.view_is
     (end_more c.run_alone.result _ _
     (λ says. run_read (inputs_of plate program next log) (taken c.args.writer.now) c.in-Ok.plate said c.in-Ok.ensures.plate
@@ -201,7 +201,7 @@ returns-clause-ended g c =
     let next = optional_of g.N.ByteIn.bytes_left g.N.ByteIn.failure_count g.N.ByteIn.spent_count c.inputs.inside.next in
     let log = reader_of g.L.ByteIn.bytes_left g.L.ByteIn.failure_count g.L.ByteIn.spent_count c.inputs.inside.log in
     let taken = g.W.ByteOut.bytes_taken in
-    let said = says_of (o.has_ended (o.settings c.args.observer.now)) (taken c.run_loaded.new.writer) in
+    let said = says_of (o.has_ended c.run_loaded.new.observer (o.settings c.args.observer.now)) (taken c.run_loaded.new.writer) in
     let held = option_map (λ held. held.items) c.in-Ok-read_optional-2.other in
     let text = c.in-Some.text.items in
     let first = text_view c.in-Ok-load_input.loaded.source in
@@ -216,3 +216,21 @@ returns-clause-ended g c =
     (subst (λ (known : Option (List ℕ)). OfLogic first known (of_log (start_with text known (taken c.args.writer.now)))) c.borrowed.ensures
     (subst (λ all. OfLogic first (option_map (λ text. text.now) c.borrowed.result) (of_log (start_with all (option_map (λ text. text.now) c.borrowed.result) (taken c.args.writer.now)))) c.deref-2.ensures.value says))))
     c.run_loaded.ensures.ended)
+
+pub returns-in-Err-clause-unwritten : goal.returns-in-Err-clause-unwritten
+returns-in-Err-clause-unwritten g c = λ elsewhere. refl
+
+pub returns-in-Err-read_optional-clause-unwritten : goal.returns-in-Err-read_optional-clause-unwritten
+returns-in-Err-read_optional-clause-unwritten g c = λ elsewhere. refl
+
+pub returns-in-Err-load_input-clause-unwritten : goal.returns-in-Err-load_input-clause-unwritten
+returns-in-Err-load_input-clause-unwritten g c = λ elsewhere. refl
+
+pub returns-in-Err-read_optional-2-clause-unwritten : goal.returns-in-Err-read_optional-2-clause-unwritten
+returns-in-Err-read_optional-2-clause-unwritten g c = λ elsewhere. refl
+
+pub returns-in-None-clause-unwritten : goal.returns-in-None-clause-unwritten
+returns-in-None-clause-unwritten g c = c.run_alone.ensures.unwritten
+
+pub returns-clause-unwritten : goal.returns-clause-unwritten
+returns-clause-unwritten g c = c.run_loaded.ensures.unwritten

@@ -1,8 +1,10 @@
 use Rattle.std.proofs.Common.{◌≡◌, Bor, List, None, Option, false, subst, sym}
 use Rattle.std.specs.Prelude.{ℕ, option_map}
 use Rattle.wc_controller.proofs.RefusedNames.{stopped_at_names}
+use Rattle.wc_controller.proofs.WrittenRuns.{ends_unwritten, unwritten_at_names}
 use Rattle.wc_controller.specs.InputRuns.{RunsAs}
 use Rattle.wc_controller.specs.TakenLogs.{OfPrograms}
+use Rattle.wc_controller.specs.WrittenRuns.{EndsUnwritten}
 use Rattle.wc_endings.specs.Endings.{IsAt, ending_of}
 use Rattle.wc_endings.specs.declared.ending.Ending.{Ending}
 use Rattle.wc_endings.specs.declared.input.Input.TheVariants as input
@@ -35,3 +37,18 @@ returns-clause-runs g c =
     (unsaid (failures ran.new.writer)))
     c.new-picture.ensures.names
     (run_unrefused (drawn (list_of c.new-picture.result)) c.args.inputs.now ran.new.inputs (fields_reported ran.new.reported) ran.result (failures c.args.writer.now) (failures ran.new.writer) ran.ensures.runs))
+
+pub returns-clause-silent : goal.returns-clause-silent
+returns-clause-silent g c =
+    let taken = g.W.ByteOut.bytes_taken in
+    let ran = c.run_inputs-answer in
+    subst (λ (ending : Ending). EndsUnwritten ending (taken c.args.writer.now) (taken ran.new.writer)) (sym c.of-ending.ensures)
+    (ends_unwritten ran.result (taken c.args.writer.now) (taken ran.new.writer) ran.ensures.unwritten)
+
+pub returns-then-is_at_names-clause-nothing : goal.returns-then-is_at_names-clause-nothing
+returns-then-is_at_names-clause-nothing g c =
+    let taken = g.W.ByteOut.bytes_taken in
+    let ran = c.run_inputs-answer in
+    unwritten_at_names c.of-ending.result (taken c.args.writer.now) (taken ran.new.writer) (c.is_at_names.ensures.names c.if-is_at_names.true)
+    (subst (λ (ending : Ending). EndsUnwritten ending (taken c.args.writer.now) (taken ran.new.writer)) (sym c.of-ending.ensures)
+    (ends_unwritten ran.result (taken c.args.writer.now) (taken ran.new.writer) ran.ensures.unwritten))
