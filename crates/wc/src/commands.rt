@@ -10,7 +10,7 @@ use std::io;
 use std::io::{IsTerminal, Stdin};
 use wc_arguments::{ProgramFiles, ScanChoice};
 use wc_controller::{Ending, Input, RefusedRow, answer_job, check_file, last_files, report_files};
-use wc_cut::cut_files;
+use wc_cut::{TooManyRows, cut_files};
 use wc_devices::{RetryReader, TeeReader};
 use wc_diag_texts::Format;
 use wc_model::Device;
@@ -420,6 +420,16 @@ fn rows_before(at: Option<u64>) -> u64 {
     }
 }
 
+/// Says that the log that was written will be refused, since it has more rows than a log may have: the exit status.
+fn with_too_many_rows(rt: &HostRuntime, status: u8) -> u8 {
+    if status != 0 {
+        return status;
+    }
+    let _reported = rt.eprintln("error: the log that was written has more than 1000000 rows (607)");
+    let _helped = rt.eprintln("help: cut it after a later row: a prelude can have 52 rows");
+    1
+}
+
 /// Writes the log that goes on after a row of the log in a file, or after the last one: the exit status.
 pub(crate) fn cut_words<'a>(
     session: Session<'_>,
@@ -439,12 +449,18 @@ pub(crate) fn cut_words<'a>(
         log,
     };
     let mut opened = RunFiles::new(session, paths);
-    let ending = cut_files(
+    let answer = cut_files(
         session.rt.alloc(),
         rows_before(at),
         &mut opened.inputs,
         &mut Device::new(SharedWriter::new(session.gathered)),
         row,
     );
-    finish_run(session, ending, &opened, row)
+    match answer {
+        Ok(ending) => finish_run(session, ending, &opened, row),
+        Err(TooManyRows) => {
+            let status = finish_run(session, Ending::Done, &opened, row);
+            with_too_many_rows(session.rt, status)
+        }
+    }
 }

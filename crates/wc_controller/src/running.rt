@@ -43,7 +43,7 @@ pub fn run_inputs<
         (λ logic. (O.begins observer.old logic ≡ false)
         × O.has_refused observer.old observer.new logic) }
     ensures ended { OnEnd result (OfRun inputs.old (W.bytes_taken writer.old)
-        (says_of (O.has_ended (O.settings observer.old))
+        (says_of (O.has_ended observer.new (O.settings observer.old))
         (W.bytes_taken writer.new))) }
     // If an input before the log stops it, or names that are not known, nothing is written.
     ensures unwritten { IsUnwritten result (W.bytes_taken writer.old)
@@ -106,9 +106,9 @@ pub fn run_files<P: ByteIn, T: ByteIn, N: ByteIn, L: ByteIn, W: ByteOut, O: Obse
     ensures refused { IsAt Input.Names result → OfPrograms inputs.old.program inputs.old.next
         (λ logic. (O.begins observer.old logic ≡ false)
         × O.has_refused observer.old observer.new logic) }
-    // What the observer says of the bytes of a run that came to its end, or to a refused row; if
-    // another input is refused, the line that says so is all.
-    ensures ended { EndsSaying (O.has_ended (O.settings observer.old)) inputs.old
+    // What the observer says of the bytes of a run that came to its end, or to a refused row; if another input is refused, the
+    // line that says so is all.
+    ensures ended { EndsSaying (O.has_ended observer.new (O.settings observer.old)) inputs.old
         result (W.bytes_taken writer.old) (W.bytes_taken writer.new) }
     // The text that is loaded has the headline, and what is written belongs to the rows of which it speaks.
     ensures headline { OfRunsByTheHeadline (observed_by O.plan O.begins observer.old) inputs.old

@@ -1,15 +1,18 @@
 -- What an observer that cuts a log has seen, row by row.
-use Rattle.std.proofs.Common.{◌≡◌, ℕ, ◌+◌, ◌-◌, ◌<◌, Bool, true, false, List, [], ◌∷◌, ◌++◌, length, refl, ap, sym, ◌∙◌, arith}
+use Rattle.std.proofs.Common.{◌≡◌, ℕ, ◌+◌, ◌-◌, ◌<◌, ◌≤◌, Bool, true, false, List, [], ◌∷◌, ◌++◌, append-nil, append_assoc, drop, length, length-append, refl, ap, sym, ◌∙◌, arith}
 use Rattle.std.proofs.lemmas.Bool.{le-leb, lt-leb}
+use Rattle.std.proofs.lemmas.List.{drop_all, drop-append-le, length-map, take_all, take-append-le}
 use Rattle.std.specs.Prelude.{Err, Ok, OnOk, Option, Result, Some, None, is_some, if◌then◌else◌}
 use Rattle.wc_cut.proofs.Plans.{written_after, written_at, written_before}
-use Rattle.wc_cut.specs.Cuts.{end_written, opening_text, row_written}
-use Rattle.wc_cut.specs.KeptRows.{HasSeenBy, IsBefore, kept_rows}
+use Rattle.wc_cut.specs.CutAgain.{opening_rows, rows_of_cut}
+use Rattle.wc_cut.specs.Cuts.{end_written, opening_text, row_written, time_of}
+use Rattle.wc_cut.specs.KeptRows.{HasSeenBy, IsBefore, kept_rows, room_left}
+use Rattle.wc_cut.specs.Replays.{prelude_rows, row_at_time}
 use Rattle.wc_cut.specs.RowTexts.{heading_text, lines_of, row_text}
 use Rattle.wc_cut.specs.declared.cutter.Cutter.{Cutter}
 use Rattle.wc_laws_instrument.specs.Preludes.{past_after, prelude_of, scale_state}
 use Rattle.wc_model.specs.Instrument.Plates.{PlateData}
-use Rattle.wc_model.specs.Run.Log.{LogRefusal}
+use Rattle.wc_model.specs.Run.Log.{LogRefusal, most_rows}
 use Rattle.wc_model.specs.Run.Rows.{LogRow, Past}
 use Rattle.wc_model.specs.Say.ProgramReport.{Logic}
 use Rattle.wc_open_scale.specs.States.{state_view}
@@ -55,12 +58,6 @@ pub writes_more : (old : Cutter) (plate : PlateData) (logic : Option Logic) (pas
 writes_more old plate logic past row true e seen = sym (written_after old.count plate logic past row seen.more)
 writes_more old plate logic past row false e seen = absurd (cc)
 
--- after either
-pub has_opened : (old new : Cutter) (plate : PlateData) (past : Past) (row : LogRow) (opened : Bool) → HasSeenBy opened old plate past → old.left ≡ 0 →
-    new.left ≡ old.left → new.count ≡ old.count → HasSeenBy true new plate (row ∷ past)
-has_opened old new plate past row false seen none left count = record { none_left = left ∙ none; more = omega (arith, seen.left, none, count) }
-has_opened old new plate past row true seen none left count = record { none_left = left ∙ none; more = omega (arith, seen.more, count) }
-
 -- rows put together again
 again : (past : Past) (rows : List LogRow) → past_after [] (onto past rows) ≡ past_after past rows
 again [] rows = refl
@@ -69,6 +66,87 @@ again (row ∷ past) rows = again past (row ∷ rows)
 length_onto : (past : Past) (rows : List LogRow) → length (onto past rows) ≡ length past + length rows
 length_onto [] rows = omega arith
 length_onto (row ∷ past) rows = omega (arith, length_onto past (row ∷ rows))
+
+-- rows one after another, and one more
+onto_rows : (past : Past) (rows : List LogRow) → onto past rows ≡ onto past [] ++ rows
+onto_rows [] rows = refl
+onto_rows (row ∷ past) rows =
+    onto_rows past (row ∷ rows) ∙ sym (append_assoc (onto past []) (row ∷ []) rows) ∙ ap (λ first. first ++ rows) (sym (onto_rows past (row ∷ [])))
+
+-- the rows that are written of those so far and one after the cut are one more
+one_row_more : (count : ℕ) (plate : PlateData) (past : Past) (row : LogRow) → count ≤ length past →
+    length (rows_of_cut plate count (onto (row ∷ past) [])) ≡ length (rows_of_cut plate count (onto past [])) + 1
+one_row_more count plate past row more =
+    let rows : List LogRow = onto past [] in
+    let within : count ≤ length rows = omega (arith, more, length_onto past []) in
+    ap (λ all. length (rows_of_cut plate count all)) (onto_rows past (row ∷ []))
+    ∙ (λ i. length (prelude_rows plate (past_after [] (take-append-le count rows (row ∷ []) within i)) ++ drop-append-le count rows (row ∷ []) within i))
+    ∙ omega (
+      arith,
+      length-append (opening_rows plate count rows) (drop count rows ++ (row ∷ [])),
+      length-append (opening_rows plate count rows) (drop count rows),
+      length-append (drop count rows) (row ∷ []),
+    )
+
+-- those of the prelude, before any row after the cut
+opening_length : (count : ℕ) (plate : PlateData) (past : Past) → length past ≤ count →
+    length (rows_of_cut plate count (onto past [])) ≡ length (prelude_of plate.window (scale_state plate past))
+opening_length count plate past few =
+    let rows : List LogRow = onto past [] in
+    let all : length rows ≤ count = omega (arith, few, length_onto past []) in
+    (λ i. length (prelude_rows plate (past_after [] (take_all count rows all i)) ++ drop_all count rows all i))
+    ∙ ap length (append-nil (prelude_rows plate (past_after [] rows)))
+    ∙ ap (λ before. length (prelude_rows plate before)) (again past [])
+    ∙ length-map (row_at_time (time_of past)) (prelude_of plate.window (scale_state plate past))
+
+-- the room that is left after the opening
+pub room_opened : (old : Cutter) (room : ℕ) (plate : PlateData) (past : Past) → IsBefore old plate past → room ≡ most_rows - length (kept_rows old.prelude) →
+    room ≡ room_left old.count plate (onto past [])
+room_opened old room plate past seen is =
+    is ∙ ap (λ rows. most_rows - length rows) seen.rows ∙ ap (λ n. most_rows - n) (sym (opening_length old.count plate past (omega (arith, seen.left))))
+
+-- and after a row
+room_with : (count room : ℕ) (plate : PlateData) (past : Past) (row : LogRow) → count ≤ length past → room ≡ room_left count plate (onto past []) →
+    room - 1 ≡ room_left count plate (onto (row ∷ past) [])
+room_with count room plate past row more is = omega (arith, is, one_row_more count plate past row more)
+
+-- the first row after the cut has come
+pub has_opened : (old new : Cutter) (room : ℕ) (plate : PlateData) (past : Past) (row : LogRow) (opened : Bool) → opened ≡ false → HasSeenBy opened old plate past → old.left ≡ 0 →
+    new.left ≡ old.left → new.count ≡ old.count → room ≡ most_rows - length (kept_rows old.prelude) → new.room ≡ room - 1 → HasSeenBy true new plate (row ∷ past)
+has_opened old new room plate past row false e seen none left count is less = record {
+  none_left = left ∙ none;
+  more = omega (arith, seen.left, none, count);
+  room = less ∙ room_with old.count room plate past row (omega (arith, seen.left)) (room_opened old room plate past seen is)
+      ∙ ap (λ n. room_left n plate (onto (row ∷ past) [])) (sym count);
+}
+has_opened old new room plate past row true e seen none left count is less = absurd (cc)
+
+-- a further one has
+pub has_gone_on : (old new : Cutter) (plate : PlateData) (past : Past) (row : LogRow) (opened : Bool) → opened ≡ true → HasSeenBy opened old plate past → old.left ≡ 0 →
+    new.left ≡ old.left → new.count ≡ old.count → new.room ≡ old.room - 1 → HasSeenBy true new plate (row ∷ past)
+has_gone_on old new plate past row true e seen none left count less = record {
+  none_left = left ∙ none;
+  more = omega (arith, seen.more, count);
+  room = less ∙ room_with old.count old.room plate past row (omega (arith, seen.more)) seen.room
+      ∙ ap (λ n. room_left n plate (onto (row ∷ past) [])) (sym count);
+}
+has_gone_on old new plate past row false e seen none left count less = absurd (cc)
+
+-- the room at the end, of a log with a row after the cut, and of one without
+pub counted_after : (old : Cutter) (plate : PlateData) (past : Past) (opened : Bool) → opened ≡ true → HasSeenBy opened old plate past →
+    old.room ≡ room_left old.count plate (onto past [])
+counted_after old plate past true e seen = seen.room
+counted_after old plate past false e seen = absurd (cc)
+
+pub counted_before : (old : Cutter) (room : ℕ) (plate : PlateData) (past : Past) (opened : Bool) → opened ≡ false → HasSeenBy opened old plate past →
+    room ≡ most_rows - length (kept_rows old.prelude) → room ≡ room_left old.count plate (onto past [])
+counted_before old room plate past false e seen is = room_opened old room plate past seen is
+counted_before old room plate past true e seen is = absurd (cc)
+
+-- a refusal is one
+pub some_refused : (refused : Option (ℕ × ℕ)) → is_some refused ≡ true → ¬ (refusal_of refused ≡ None)
+some_refused None e = absurd (cc)
+some_refused (Some at) e = λ none. cc
 
 -- the end of a log with no row after the cut
 pub ends_before : (old : Cutter) (plate : PlateData) (logic : Option Logic) (past : Past) (opened : Bool) → opened ≡ false → HasSeenBy opened old plate past →

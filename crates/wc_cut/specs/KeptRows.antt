@@ -1,12 +1,15 @@
 -- What is kept of the rows before a cut. (The profile's own.)
-use Rattle.std.specs.Prelude.{◌≡◌, ◌+◌, ◌<◌, Bool, true, false, List, [], length, Option, Some, None}
+use Rattle.std.specs.Prelude.{◌≡◌, ℕ, ◌+◌, ◌-◌, ◌<◌, Bool, true, false, List, [], length, Option, Some, None}
+use Rattle.wc_cut.specs.CutAgain.{rows_of_cut}
 use Rattle.wc_cut.specs.Cuts.{time_of}
 use Rattle.wc_cut.specs.declared.cutter.Cutter.{Cutter}
 use Rattle.wc_laws_instrument.specs.Preludes.{prelude_of, scale_state}
 use Rattle.wc_model.specs.Instrument.Plates.{PlateData}
-use Rattle.wc_model.specs.Run.Rows.{Past, RowData}
+use Rattle.wc_model.specs.Run.Log.{LogRefusal, most_rows}
+use Rattle.wc_model.specs.Run.Rows.{LogRow, Past, RowData}
 use Rattle.wc_open_scale.specs.States.{state_view}
 use Rattle.wc_open_scale.specs.declared.preludes.Prelude.{Prelude}
+use Rattle.wc_run.specs.Observing.{onto}
 
 -- what the rows of what is kept bring, and nothing before any row
 abbrev pub kept_rows : Option Prelude → List RowData
@@ -19,15 +22,20 @@ pub record IsBefore (cutter : Cutter) (plate : PlateData) (past : Past) : Type 0
   pub rows : kept_rows cutter.prelude ≡ prelude_of plate.window (scale_state plate past)
   pub time : cutter.time ≡ time_of past
 
+-- how many rows more would be too many after those of a log that is cut after n of these
+abbrev pub room_left : ℕ → PlateData → List LogRow → ℕ
+room_left count plate rows = most_rows - length (rows_of_cut plate count rows)
+
 -- after it
-pub record IsAfter (cutter : Cutter) (past : Past) : Type 0 where
+pub record IsAfter (cutter : Cutter) (plate : PlateData) (past : Past) : Type 0 where
   pub none_left : cutter.left ≡ 0
   pub more : cutter.count < length past
+  pub room : cutter.room ≡ room_left cutter.count plate (onto past [])
 
 -- the rows so far have been seen
 abbrev pub HasSeenBy : Bool → Cutter → PlateData → Past → Type 0
 HasSeenBy false cutter plate past = IsBefore cutter plate past
-HasSeenBy true cutter plate past = IsAfter cutter past
+HasSeenBy true cutter plate past = IsAfter cutter plate past
 
 abbrev pub HasSeen : Cutter → PlateData → Past → Type 0
 HasSeen cutter plate past = HasSeenBy cutter.opened cutter plate past
@@ -38,3 +46,7 @@ pub record IsNew (cutter : Cutter) : Type 0 where
   pub shut : cutter.opened ≡ false
   pub nothing : cutter.prelude ≡ None
   pub time : cutter.time ≡ 0
+
+-- once all rows have come, the room that is left is known
+abbrev pub HasCounted : Cutter → ℕ → PlateData → List LogRow → Option LogRefusal → Type 0
+HasCounted cutter count plate rows refusal = refusal ≡ None → cutter.room ≡ room_left count plate rows

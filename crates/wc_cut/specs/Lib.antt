@@ -5,3 +5,4 @@ pub mod Replays
 pub mod CutAgain
 pub mod ReadBack
 pub mod ReadLogs
+pub mod TooMany

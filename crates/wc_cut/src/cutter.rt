@@ -1,11 +1,13 @@
-ghost use Rattle.std.specs.Prelude.{◌≡◌, ◌++◌, IsOkUnless, OnOk, Option};
+ghost use Rattle.std.specs.Prelude.{◌≡◌, ◌++◌, ◌-◌, IsOkUnless, OnOk, Option, length};
 ghost use Rattle.wc_cut.specs.Cuts.{cut_plan};
 ghost use Rattle.wc_cut.specs.KeptRows.{IsNew, kept_rows};
 ghost use Rattle.wc_cut.specs.RowTexts.{heading_text, lines_of};
+ghost use Rattle.wc_model.specs.Run.Log.{most_rows};
 
+use crate::room::room_after;
 use crate::rows::{put_prelude, put_row};
 use std::alloc::Global;
-use wc_model::{ByteOut, put_bytes};
+use wc_model::{ByteOut, MOST_ROWS, put_bytes};
 use wc_open_scale::Prelude;
 use wc_run::{Observer, Program, RowSeen, RunFault, Scale, write_text};
 use wc_store::SlotStore;
@@ -19,6 +21,8 @@ pub(crate) struct Cutter {
     time: u64,
     prelude: Option<Prelude>,
     text: Vec<u8>,
+    /// How many rows more would be too many for a log.
+    pub(crate) room: u64,
 }
 
 impl Cutter {
@@ -34,6 +38,7 @@ impl Cutter {
             time: 0,
             prelude: None,
             text: Vec::new(alloc),
+            room: u64::from(MOST_ROWS),
         }
     }
 
@@ -43,10 +48,13 @@ impl Cutter {
             ≡ heading_text ++ lines_of self.old.time (kept_rows self.old.prelude)) }
         ensures count { self.new.count ≡ self.old.count }
         ensures left { self.new.left ≡ self.old.left }
+        ensures room { OnOk result
+            (self.new.room ≡ most_rows - length (kept_rows self.old.prelude)) }
         ensures memory { IsOkUnless result RunFault.Memory }
     {
         self.text.clear();
         put_bytes(&mut self.text, b"ms,kind,data\n")?;
+        self.room = room_after(&self.prelude);
         match &self.prelude {
             Some(prelude) => put_prelude(&mut self.text, self.time, prelude),
             None => Ok(()),
@@ -55,11 +63,13 @@ impl Cutter {
 }
 
 impl<W: ByteOut> Observer<SlotStore, W> for Cutter {
-    ghost use Rattle.std.specs.Prelude.{◌≡◌, ⊤, false};
+    ghost use Rattle.std.specs.Prelude.{◌≡◌, ℕ, false};
     ghost use Rattle.wc_cut.specs.Cuts.{cut_plan};
-    ghost use Rattle.wc_cut.specs.KeptRows.{HasSeen, IsNew};
+    ghost use Rattle.wc_cut.specs.KeptRows.{HasCounted, HasSeen, IsNew};
 
-    ghost settings = { λ _. tt };
+    ghost Settings = { ℕ };
+
+    ghost settings = { λ cutter. cutter.count };
 
     ghost plan = { λ cutter. cut_plan cutter.count };
 
@@ -69,7 +79,8 @@ impl<W: ByteOut> Observer<SlotStore, W> for Cutter {
 
     ghost looks = { λ _ ms looked. looked ≡ false };
 
-    ghost has_ended = { λ _ _ _ _ _ _ _. ⊤ };
+    ghost has_ended = { λ cutter count _ _ plate _ rows refusal.
+        HasCounted cutter count plate rows refusal };
 
     fn begin(
         &mut self,
@@ -102,6 +113,7 @@ impl<W: ByteOut> Observer<SlotStore, W> for Cutter {
             self.opened = true;
         }
         put_row(&mut self.text, seen.row.ms, seen.row.kind, seen.bytes)?;
+        self.room = self.room.saturating_sub(1);
         write_text(&self.text, writer)
     }
 

@@ -5,7 +5,10 @@
 mod cutter;
 mod cutting;
 mod laws;
+mod room;
 mod rows;
+mod too_many;
 
 pub use cutting::cut_files;
 pub use laws::cut_logs_go_on;
+pub use too_many::TooManyRows;

@@ -49,8 +49,8 @@ pub trait Observer<S: Store, W: ByteOut> {
     ghost has_written: { Self → Start → Option (List ℕ) → PlateData → Option Logic → Past
         → Type 0 } = { λ _ _ _ _ _ _. ⊤ };
 
-    /// What it says of them after the end of a run of these rows, with the refusal after them or with none.
-    ghost has_ended: { Settings → Start → Option (List ℕ) → PlateData → Option Logic
+    /// What it says of them, and holds itself, after the end of a run of these rows, with the refusal after them or with none.
+    ghost has_ended: { Self → Settings → Start → Option (List ℕ) → PlateData → Option Logic
         → List LogRow → Option LogRefusal → Type 0 };
 
     /// Is shown the programs of a run before its first row: the first one, if there is one, and the next one, if there is one.
@@ -123,8 +123,8 @@ pub trait Observer<S: Store, W: ByteOut> {
         ensures ended { OnOk result ((start : Start) (plate : PlateData) (logic : Option Logic)
             (past : Past) → has_seen self.old plate logic past
             → has_written self.old start (W.bytes_taken writer.old) plate logic past
-            → has_ended (settings self.old) start (W.bytes_taken writer.new) plate logic
-            (onto past []) (refusal_of refused)) }
+            → has_ended self.new (settings self.old) start (W.bytes_taken writer.new) plate
+            logic (onto past []) (refusal_of refused)) }
         ensures held { IfErr result IsNoRefusal }
         ensures failures { ReportsWrites result (W.failure_count writer.old)
             (W.failure_count writer.new) };

@@ -88,7 +88,7 @@ impl<S: Store, W: ByteOut> Observer<S, W> for Report {
 
     ghost looks = { λ _ ms looked. looked ≡ false };
 
-    ghost has_ended = { λ _ _ _ _ _ _ _. ⊤ };
+    ghost has_ended = { λ _ _ _ _ _ _ _ _. ⊤ };
 
     fn begin(
         &mut self,

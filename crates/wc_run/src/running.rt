@@ -67,8 +67,8 @@ fn end_rows<S: Store, W: ByteOut, O: Observer<S, W>>(
         → RunsRows (seen_writing O.has_seen O.has_written start) plan plate logic log
         (observer.old, W.bytes_taken writer.old) answer taken
         (said O.speaks (W.bytes_taken writer.old))
-        → EndsWhole (O.has_ended (O.settings observer.old)) start plate logic log result
-        (W.bytes_taken writer.new) }
+        → EndsWhole (O.has_ended observer.new (O.settings observer.old)) start plate logic log
+        result (W.bytes_taken writer.new) }
     ensures reported { (records : List Record) (fields : Record)
         → ReportsRow records fields answer → ReportsRow records fields result }
     ensures failures { (count : ℕ) → ReportsWrites answer count (W.failure_count writer.old)
@@ -144,7 +144,7 @@ pub fn run<S: Store, W: ByteOut, O: Observer<S, W>, R: ByteIn>(
         → Represents scale.old plate logic []
         → seen_writing O.has_seen O.has_written start (observer.old, W.bytes_taken writer.old)
         plate logic []
-        → EndsWhole (O.has_ended (O.settings observer.old)) start plate logic
+        → EndsWhole (O.has_ended observer.new (O.settings observer.old)) start plate logic
         (log_for logic (log_of (records_of bytes))) result (W.bytes_taken writer.new)) }
     ensures reported { ReportsRefused (R.bytes_left reader.old)
         (fields_reported reported.new) result }

@@ -237,7 +237,7 @@ impl<W: ByteOut> Observer<SlotStore, W> for Picture<'_> {
 
     ghost looks = { λ picture ms looked. looked ≡ false };
 
-    ghost has_ended = { λ _ _ _ _ _ _ _. ⊤ };
+    ghost has_ended = { λ _ _ _ _ _ _ _ _. ⊤ };
 
     ghost speaks = { false };
 

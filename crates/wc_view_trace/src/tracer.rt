@@ -180,7 +180,7 @@ impl<W: ByteOut> Observer<SlotStore, W> for Tracer {
 
     ghost has_written = { λ tracer. IsTracing (tracing_of tracer) tracer };
 
-    ghost has_ended = { HasTraced };
+    ghost has_ended = { λ _. HasTraced };
 
     fn begin(
         &mut self,

@@ -240,7 +240,7 @@ impl<W: ByteOut> Observer<SlotStore, W> for Watcher<'_> {
 
     ghost looks = { λ watcher ms looked. looked ≡ false };
 
-    ghost has_ended = { λ _ _ _ _ _ _ _. ⊤ };
+    ghost has_ended = { λ _ _ _ _ _ _ _ _. ⊤ };
 
     fn begin(
         &mut self,

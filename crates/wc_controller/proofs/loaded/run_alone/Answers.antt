@@ -77,9 +77,9 @@ returns-in-Ok-clause-ended g c =
     let o = g.O.Observer in
     let known = g.L.ByteIn.bytes_left c.args.log.now in
     let taken = g.W.ByteOut.bytes_taken c.run.new.writer in
-    run_ended (o.has_ended (o.settings c.args.observer.now)) (start_of None None (g.W.ByteOut.bytes_taken c.args.writer.now)) c.args.plate.now None (log_by None) c.run.result c.stopped_at_log.result known taken c.stopped_at_log.ensures.fault
+    run_ended (o.has_ended c.run.new.observer (o.settings c.args.observer.now)) (start_of None None (g.W.ByteOut.bytes_taken c.args.writer.now)) c.args.plate.now None (log_by None) c.run.result c.stopped_at_log.result known taken c.stopped_at_log.ensures.fault
     (on_known known _ _
-    (λ bytes says. subst (λ settings. EndsWhole (o.has_ended settings) (start_of None None (g.W.ByteOut.bytes_taken c.args.writer.now)) c.args.plate.now None (log_by None bytes) c.run.result taken) c.begin.ensures.settings
+    (λ bytes says. subst (λ settings. EndsWhole (o.has_ended c.run.new.observer settings) (start_of None None (g.W.ByteOut.bytes_taken c.args.writer.now)) c.args.plate.now None (log_by None bytes) c.run.result taken) c.begin.ensures.settings
     (says (start_of None None (g.W.ByteOut.bytes_taken c.args.writer.now)) c.args.plate.now None (c.in-Ok.ensures.represents None tt)
     (c.in_default.ensures.seen c.args.plate.now, c.in_default.ensures.written c.args.plate.now (g.W.ByteOut.bytes_taken c.args.writer.now))))
     c.run.ensures.ended)

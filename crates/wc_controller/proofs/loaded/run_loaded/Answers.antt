@@ -140,12 +140,12 @@ returns-in-Ok-scale_of-clause-ended g c =
     let plate = c.args.programs.plate in
     let known = g.L.ByteIn.bytes_left c.args.log.now in
     let taken = g.W.ByteOut.bytes_taken c.run.new.writer in
-    let ended = o.has_ended (o.settings c.args.observer.now) in
+    let ended = o.has_ended c.run.new.observer (o.settings c.args.observer.now) in
     end_more c.stopped_at_log.result _ _
     (λ says. next_logic first held c.in-Ok.next (λ logic. IfSome known (λ bytes. says_of ended taken start plate logic (log_by logic bytes))) c.in-Ok.ensures.loaded says)
     (run_ended ended start plate (Some logic) (log_by (Some logic)) c.run.result c.stopped_at_log.result known taken c.stopped_at_log.ensures.fault
     (on_known known _ _
-    (λ bytes says. subst (λ settings. EndsWhole (o.has_ended settings) start plate (Some logic) (log_by (Some logic) bytes) c.run.result taken) c.begin.ensures.settings
+    (λ bytes says. subst (λ settings. EndsWhole (o.has_ended c.run.new.observer settings) start plate (Some logic) (log_by (Some logic) bytes) c.run.result taken) c.begin.ensures.settings
     (says start plate (Some logic) c.in-Ok-scale_of.ensures.represents (seen, written)))
     c.run.ensures.ended))
 

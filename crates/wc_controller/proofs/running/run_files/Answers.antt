@@ -37,5 +37,5 @@ pub returns-clause-ended : goal.returns-clause-ended
 returns-clause-ended g c =
     let o = g.O.Observer in
     let taken = g.W.ByteOut.bytes_taken in
-    run_after (o.has_ended (o.settings c.args.observer.now)) c.args.inputs.now (taken c.args.writer.now) (taken c.run_inputs-answer.new.writer) (taken c.end.new.writer)
+    run_after (o.has_ended c.run_inputs-answer.new.observer (o.settings c.args.observer.now)) c.args.inputs.now (taken c.args.writer.now) (taken c.run_inputs-answer.new.writer) (taken c.end.new.writer)
     c.run_inputs-answer.result c.end.result c.end.ensures.ends c.run_inputs-answer.ensures.ended c.run_inputs-answer.ensures.unwritten

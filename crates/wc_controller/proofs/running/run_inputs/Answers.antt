@@ -185,7 +185,7 @@ returns-in-None-clause-ended g c =
     let next = optional_of g.N.ByteIn.bytes_left g.N.ByteIn.failure_count g.N.ByteIn.spent_count c.inputs.inside.next in
     let log = reader_of g.L.ByteIn.bytes_left g.L.ByteIn.failure_count g.L.ByteIn.spent_count c.inputs.inside.log in
     let taken = g.W.ByteOut.bytes_taken in
-    let said = says_of (o.has_ended (o.settings c.args.observer.now)) (taken c.run_alone.new.writer) in
+    let said = says_of (o.has_ended c.run_alone.new.observer (o.settings c.args.observer.now)) (taken c.run_alone.new.writer) in
     subst (λ (before : InputStates). OnEnd c.run_alone.result (OfRun before (taken c.args.writer.now) said)) c.inputs.view_is
     (end_more c.run_alone.result _ _
     (λ says. run_read (inputs_of plate program next log) (taken c.args.writer.now) c.in-Ok.plate said c.in-Ok.ensures.plate
@@ -201,7 +201,7 @@ returns-clause-ended g c =
     let next = optional_of g.N.ByteIn.bytes_left g.N.ByteIn.failure_count g.N.ByteIn.spent_count c.inputs.inside.next in
     let log = reader_of g.L.ByteIn.bytes_left g.L.ByteIn.failure_count g.L.ByteIn.spent_count c.inputs.inside.log in
     let taken = g.W.ByteOut.bytes_taken in
-    let said = says_of (o.has_ended (o.settings c.args.observer.now)) (taken c.run_loaded.new.writer) in
+    let said = says_of (o.has_ended c.run_loaded.new.observer (o.settings c.args.observer.now)) (taken c.run_loaded.new.writer) in
     let held = option_map (λ held. held.items) c.in-Ok-read_optional-2.other in
     let text = c.in-Some.text.items in
     let first = text_view c.in-Ok-load_input.loaded.source in

@@ -18,7 +18,7 @@ returns-then-is_cut_short-clause-writes g c = λ start plan plate logic log take
 pub returns-then-is_cut_short-clause-ended : goal.returns-then-is_cut_short-clause-ended
 returns-then-is_cut_short-clause-ended g c = λ start plan plate logic log taken runs.
     let o = g.O.Observer in
-    came_short (o.has_ended (o.settings c.args.observer.now)) start plate logic log (g.W.ByteOut.bytes_taken c.args.writer.now)
+    came_short (o.has_ended c.args.observer.now (o.settings c.args.observer.now)) start plate logic log (g.W.ByteOut.bytes_taken c.args.writer.now)
     c.args.answer (sym c.is_cut_short.ensures ∙ c.if-is_cut_short.true)
 
 pub returns-then-is_cut_short-clause-reader : goal.returns-then-is_cut_short-clause-reader
@@ -59,8 +59,8 @@ returns-in_err-end-clause-ended g c = λ start plan plate logic log taken runs.
     let o = g.O.Observer in
     let fault = c.in_err-end.field-0.0 in
     let now = g.W.ByteOut.bytes_taken c.end.new.writer in
-    propagated (λ result. EndsWhole (o.has_ended (o.settings c.args.observer.now)) start plate logic log result now) fault c.from_residual.result c.from_residual.ensures
-    (failed_there (o.has_ended (o.settings c.args.observer.now)) start plate logic log now fault c.in_err-end.ensures.held)
+    propagated (λ result. EndsWhole (o.has_ended c.end.new.self (o.settings c.args.observer.now)) start plate logic log result now) fault c.from_residual.result c.from_residual.ensures
+    (failed_there (o.has_ended c.end.new.self (o.settings c.args.observer.now)) start plate logic log now fault c.in_err-end.ensures.held)
 
 pub returns-in_err-end-clause-failures : goal.returns-in_err-end-clause-failures
 returns-in_err-end-clause-failures g c = λ count says.
@@ -100,7 +100,7 @@ returns-clause-ended g c = λ start plan plate logic log taken runs.
     let mid = said_by o.speaks bytes_taken c.args.writer.now in
     let new = said_by o.speaks bytes_taken c.end.new.writer in
     let now = bytes_taken c.end.new.writer in
-    let ended = o.has_ended (o.settings c.args.observer.now) in
+    let ended = o.has_ended c.end.new.self (o.settings c.args.observer.now) in
     let done = all_done (seen_writing o.has_seen o.has_written start) plan plate logic log taken mid new (c.args.observer.now, bytes_taken c.args.writer.now) c.args.answer whole runs in
     came_to_end ended start plate logic log now c.args.answer whole
     (subst (λ refusal. ended start now plate logic log.rows refusal) (sym done.refusal)

@@ -51,9 +51,9 @@ returns-clause-ended g c =
     (λ bytes left start plate logic represents seen.
     let read : LogOf = log_of (records_of bytes) in
     let log : LogOf = log_for logic read in
-    classified_at_end (o.has_ended (o.settings c.args.observer.now)) start plate logic log (g.W.ByteOut.bytes_taken c.end_rows.new.writer)
+    classified_at_end (o.has_ended c.end_rows.new.observer (o.settings c.args.observer.now)) start plate logic log (g.W.ByteOut.bytes_taken c.end_rows.new.writer)
     c.in-Err.fault c.classified.result c.classified.ensures.classified
-    (subst (λ settings. EndsWhole (o.has_ended settings) start plate logic log (Err c.in-Err.fault) (g.W.ByteOut.bytes_taken c.end_rows.new.writer)) c.run_rows-answer.ensures.settings
+    (subst (λ settings. EndsWhole (o.has_ended c.end_rows.new.observer settings) start plate logic log (Err c.in-Err.fault) (g.W.ByteOut.bytes_taken c.end_rows.new.writer)) c.run_rows-answer.ensures.settings
     (c.in-Err.ensures.ended start (o.plan c.args.observer.now) plate logic log (said_by o.speaks g.W.ByteOut.bytes_taken c.args.writer.now)
     (c.run_rows-answer.ensures.runs read left start plate logic represents seen))))
 
