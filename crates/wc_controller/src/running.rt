@@ -106,8 +106,8 @@ pub fn run_files<P: ByteIn, T: ByteIn, N: ByteIn, L: ByteIn, W: ByteOut, O: Obse
     ensures refused { IsAt Input.Names result → OfPrograms inputs.old.program inputs.old.next
         (λ logic. (O.begins observer.old logic ≡ false)
         × O.has_refused observer.old observer.new logic) }
-    // What the observer says of the bytes of a run that came to its end, or to a refused row; if another input is refused, the
-    // line that says so is all.
+    // What the observer says of the bytes of a run that came to its end, or to a refused row; if
+    // another input is refused, the line that says so is all.
     ensures ended { EndsSaying (O.has_ended observer.new (O.settings observer.old)) inputs.old
         result (W.bytes_taken writer.old) (W.bytes_taken writer.new) }
     // The text that is loaded has the headline, and what is written belongs to the rows of which it speaks.

@@ -2,13 +2,12 @@ use crate::foreign::{
     is_type, left_out, mistaken_function, mistaken_name, mistaken_type, mistaken_unit,
 };
 use crate::refused::Refused;
-use crate::types::{Family, family_of, is_conditional, type_hint};
+use crate::types::{is_conditional, type_hint};
 use crate::unreached::{block_line, is_unreached};
 use wc_built_in::{Keyword, elementary_type, keyword_named};
 use wc_diag_stops::{
     following, follows_digit, is_among, is_digit, is_line_end, is_near, is_operator, is_shape,
     mistaken_byte, mistaken_duration, mistaken_number, mistaken_statement, operator_on, text_of,
-    without_line_ends,
 };
 use wc_diag_texts::{Case, Expected};
 use wc_lexer::{Shape, Token};
@@ -274,25 +273,6 @@ fn mistaken_target(refused: &Refused<'_, '_>) -> Case {
     }
 }
 
-/// Whether a sign is apart from its number, where a number can be: `rest` begins after it.
-fn is_spaced_sign(refused: &Refused<'_, '_>, rest: &[u8]) -> bool {
-    let takes_number = match (
-        family_of(refused.operator()),
-        without_line_ends(refused.before()),
-    ) {
-        (Family::Order | Family::Equal | Family::Add | Family::Multiply | Family::Divide, _) =>
-            true,
-        (_, [.., kind, assign]) if matches!(assign.shape, Shape::Assign) => {
-            matches!(elementary_type(kind.text), Some(Kind::Dint))
-        }
-        _ => is_word(b"LD", refused.operator()),
-    };
-    takes_number
-        && !refused.begins_line()
-        && matches!(refused.token(), b"+" | b"-")
-        && is_digit(rest.iter().find(|byte| !matches!(byte, b' ' | b'\t')))
-}
-
 /// Which mistake a refusal of a later pass refers to.
 fn mistake_in_rules(refused: &Refused<'_, '_>, case: Case) -> Case {
     let (token, span) = (refused.token(), refused.span);
@@ -324,7 +304,6 @@ pub fn mistake_at(refused: &Refused<'_, '_>, case: Case) -> Case {
     );
     match (refused.number, refused.span.expected) {
         (101, _) => mistaken_byte(before, refused.span.start, refused.lexeme, case),
-        (105, _) if is_spaced_sign(refused, rest) => Case::SpacedSign,
         (105, _) => mistaken_number(text_of(refused.previous()), token, rest, case),
         (106, _) => mistaken_duration(token, rest, case),
         (201, Expected::LabelColon) => mistaken_operator(refused),

@@ -156,7 +156,6 @@ pub enum Case {
     TypedNumber,
     TypedTruth,
     SpacedDuration,
-    SpacedSign,
     StatementAddress,
     StatementAssign,
     EqualInitial,

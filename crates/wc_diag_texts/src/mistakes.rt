@@ -121,8 +121,7 @@ fn token_words(number: u16, case: Case) -> Words {
         104, Case::DoubleUnderscore => "has two underscores in a row", "";
         104, Case::LastUnderscore => "has an underscore at its end", "";
         105, Case::ThinArrow => "", "an output is read with =>, such as Q => a";
-        105, Case::SignAlone => "is a sign without a number", "write ADD or SUB and the number on a line of its own, such as LD n, then ADD m in place of an L m and a +I; the negative of a number is LD 0, and on the next line SUB and the number";
-        105, Case::SpacedSign => "", "write the number right after its sign, without a space, such as -5";
+        105, Case::SignAlone => "is a sign without a number", "a sign is right before its digits, without a space, such as -5; write ADD or SUB and the number on a line of its own, such as LD n, then ADD m in place of an L m and a +I; the negative of a number is LD 0, and on the next line SUB and the number";
         105, Case::AddressSpace => "", "write an address without a space, such as %IX0.0";
         105, Case::WithBase => "is not a valid literal, or is out of range", "the largest is 16#7FFFFFFF: write -2147483648 for 16#80000000, -1 for 16#FFFFFFFF";
         105, Case::TypedNumber => "is not a literal of this language", "write the number without its type, such as 5";
