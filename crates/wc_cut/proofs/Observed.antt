@@ -6,7 +6,7 @@ use Rattle.std.specs.Prelude.{Err, Ok, OnOk, Option, Result, Some, None, is_some
 use Rattle.wc_cut.proofs.Plans.{written_after, written_at, written_before}
 use Rattle.wc_cut.specs.CutAgain.{opening_rows, rows_of_cut}
 use Rattle.wc_cut.specs.Cuts.{end_written, opening_text, row_written, time_of}
-use Rattle.wc_cut.specs.KeptRows.{HasSeenBy, IsBefore, kept_rows, room_left}
+use Rattle.wc_cut.specs.KeptRows.{HasSeenBy, IsBefore, kept_rows, capacity_left}
 use Rattle.wc_cut.specs.Replays.{prelude_rows, row_at_time}
 use Rattle.wc_cut.specs.RowTexts.{heading_text, lines_of, row_text}
 use Rattle.wc_cut.specs.declared.cutter.Cutter.{Cutter}
@@ -99,49 +99,49 @@ opening_length count plate past few =
     ∙ ap (λ before. length (prelude_rows plate before)) (again past [])
     ∙ length-map (row_at_time (time_of past)) (prelude_of plate.window (scale_state plate past))
 
--- the room that is left after the opening
-pub room_opened : (old : Cutter) (room : ℕ) (plate : PlateData) (past : Past) → IsBefore old plate past → room ≡ most_rows - length (kept_rows old.prelude) →
-    room ≡ room_left old.count plate (onto past [])
-room_opened old room plate past seen is =
+-- the capacity that is left after the opening
+pub capacity_opened : (old : Cutter) (capacity : ℕ) (plate : PlateData) (past : Past) → IsBefore old plate past → capacity ≡ most_rows - length (kept_rows old.prelude) →
+    capacity ≡ capacity_left old.count plate (onto past [])
+capacity_opened old capacity plate past seen is =
     is ∙ ap (λ rows. most_rows - length rows) seen.rows ∙ ap (λ n. most_rows - n) (sym (opening_length old.count plate past (omega (arith, seen.left))))
 
 -- and after a row
-room_with : (count room : ℕ) (plate : PlateData) (past : Past) (row : LogRow) → count ≤ length past → room ≡ room_left count plate (onto past []) →
-    room - 1 ≡ room_left count plate (onto (row ∷ past) [])
-room_with count room plate past row more is = omega (arith, is, one_row_more count plate past row more)
+capacity_with : (count capacity : ℕ) (plate : PlateData) (past : Past) (row : LogRow) → count ≤ length past → capacity ≡ capacity_left count plate (onto past []) →
+    capacity - 1 ≡ capacity_left count plate (onto (row ∷ past) [])
+capacity_with count capacity plate past row more is = omega (arith, is, one_row_more count plate past row more)
 
 -- the first row after the cut has come
-pub has_opened : (old new : Cutter) (room : ℕ) (plate : PlateData) (past : Past) (row : LogRow) (opened : Bool) → opened ≡ false → HasSeenBy opened old plate past → old.left ≡ 0 →
-    new.left ≡ old.left → new.count ≡ old.count → room ≡ most_rows - length (kept_rows old.prelude) → new.room ≡ room - 1 → HasSeenBy true new plate (row ∷ past)
-has_opened old new room plate past row false e seen none left count is less = record {
+pub has_opened : (old new : Cutter) (capacity : ℕ) (plate : PlateData) (past : Past) (row : LogRow) (opened : Bool) → opened ≡ false → HasSeenBy opened old plate past → old.left ≡ 0 →
+    new.left ≡ old.left → new.count ≡ old.count → capacity ≡ most_rows - length (kept_rows old.prelude) → new.capacity ≡ capacity - 1 → HasSeenBy true new plate (row ∷ past)
+has_opened old new capacity plate past row false e seen none left count is less = record {
   none_left = left ∙ none;
   more = omega (arith, seen.left, none, count);
-  room = less ∙ room_with old.count room plate past row (omega (arith, seen.left)) (room_opened old room plate past seen is)
-      ∙ ap (λ n. room_left n plate (onto (row ∷ past) [])) (sym count);
+  capacity = less ∙ capacity_with old.count capacity plate past row (omega (arith, seen.left)) (capacity_opened old capacity plate past seen is)
+      ∙ ap (λ n. capacity_left n plate (onto (row ∷ past) [])) (sym count);
 }
-has_opened old new room plate past row true e seen none left count is less = absurd (cc)
+has_opened old new capacity plate past row true e seen none left count is less = absurd (cc)
 
 -- a further one has
 pub has_gone_on : (old new : Cutter) (plate : PlateData) (past : Past) (row : LogRow) (opened : Bool) → opened ≡ true → HasSeenBy opened old plate past → old.left ≡ 0 →
-    new.left ≡ old.left → new.count ≡ old.count → new.room ≡ old.room - 1 → HasSeenBy true new plate (row ∷ past)
+    new.left ≡ old.left → new.count ≡ old.count → new.capacity ≡ old.capacity - 1 → HasSeenBy true new plate (row ∷ past)
 has_gone_on old new plate past row true e seen none left count less = record {
   none_left = left ∙ none;
   more = omega (arith, seen.more, count);
-  room = less ∙ room_with old.count old.room plate past row (omega (arith, seen.more)) seen.room
-      ∙ ap (λ n. room_left n plate (onto (row ∷ past) [])) (sym count);
+  capacity = less ∙ capacity_with old.count old.capacity plate past row (omega (arith, seen.more)) seen.capacity
+      ∙ ap (λ n. capacity_left n plate (onto (row ∷ past) [])) (sym count);
 }
 has_gone_on old new plate past row false e seen none left count less = absurd (cc)
 
--- the room at the end, of a log with a row after the cut, and of one without
+-- the capacity at the end, of a log with a row after the cut, and of one without
 pub counted_after : (old : Cutter) (plate : PlateData) (past : Past) (opened : Bool) → opened ≡ true → HasSeenBy opened old plate past →
-    old.room ≡ room_left old.count plate (onto past [])
-counted_after old plate past true e seen = seen.room
+    old.capacity ≡ capacity_left old.count plate (onto past [])
+counted_after old plate past true e seen = seen.capacity
 counted_after old plate past false e seen = absurd (cc)
 
-pub counted_before : (old : Cutter) (room : ℕ) (plate : PlateData) (past : Past) (opened : Bool) → opened ≡ false → HasSeenBy opened old plate past →
-    room ≡ most_rows - length (kept_rows old.prelude) → room ≡ room_left old.count plate (onto past [])
-counted_before old room plate past false e seen is = room_opened old room plate past seen is
-counted_before old room plate past true e seen is = absurd (cc)
+pub counted_before : (old : Cutter) (capacity : ℕ) (plate : PlateData) (past : Past) (opened : Bool) → opened ≡ false → HasSeenBy opened old plate past →
+    capacity ≡ most_rows - length (kept_rows old.prelude) → capacity ≡ capacity_left old.count plate (onto past [])
+counted_before old capacity plate past false e seen is = capacity_opened old capacity plate past seen is
+counted_before old capacity plate past true e seen is = absurd (cc)
 
 -- a refusal is one
 pub some_refused : (refused : Option (ℕ × ℕ)) → is_some refused ≡ true → ¬ (refusal_of refused ≡ None)

@@ -22,15 +22,15 @@ pub record IsBefore (cutter : Cutter) (plate : PlateData) (past : Past) : Type 0
   pub rows : kept_rows cutter.prelude ≡ prelude_of plate.window (scale_state plate past)
   pub time : cutter.time ≡ time_of past
 
--- how many rows more would be too many after those of a log that is cut after n of these
-abbrev pub room_left : ℕ → PlateData → List LogRow → ℕ
-room_left count plate rows = most_rows - length (rows_of_cut plate count rows)
+-- the first number of further rows that are too many after those of a log that is cut after n of these
+abbrev pub capacity_left : ℕ → PlateData → List LogRow → ℕ
+capacity_left count plate rows = most_rows - length (rows_of_cut plate count rows)
 
 -- after it
 pub record IsAfter (cutter : Cutter) (plate : PlateData) (past : Past) : Type 0 where
   pub none_left : cutter.left ≡ 0
   pub more : cutter.count < length past
-  pub room : cutter.room ≡ room_left cutter.count plate (onto past [])
+  pub capacity : cutter.capacity ≡ capacity_left cutter.count plate (onto past [])
 
 -- the rows so far have been seen
 abbrev pub HasSeenBy : Bool → Cutter → PlateData → Past → Type 0
@@ -47,6 +47,6 @@ pub record IsNew (cutter : Cutter) : Type 0 where
   pub nothing : cutter.prelude ≡ None
   pub time : cutter.time ≡ 0
 
--- once all rows have come, the room that is left is known
+-- once all rows have come, it is known how many more are a log
 abbrev pub HasCounted : Cutter → ℕ → PlateData → List LogRow → Option LogRefusal → Type 0
-HasCounted cutter count plate rows refusal = refusal ≡ None → cutter.room ≡ room_left count plate rows
+HasCounted cutter count plate rows refusal = refusal ≡ None → cutter.capacity ≡ capacity_left count plate rows

@@ -9,20 +9,20 @@ use Rattle.wc_endings.specs.declared.ending.Ending.TheVariants as ended
 use Rattle.wc_model.specs.Run.Log.{most_rows}
 
 -- how it ended: if there are too many rows, all was done
-abbrev pub ending_told : Result Ending TooManyRows → Ending
-ending_told (Ok ending) = ending
-ending_told (Err many) = ended.Done
+abbrev pub ending_reported : Result Ending TooManyRows → Ending
+ending_reported (Ok ending) = ending
+ending_reported (Err many) = ended.Done
 
--- no room is left if the rows are too many, and then only if all was done
-abbrev pub TellsRoom : Ending → ℕ → Result Ending TooManyRows → Type 0
-TellsRoom ending room (Ok told) = (told ≡ ending) × (ending ≡ ended.Done → 0 < room)
-TellsRoom ending room (Err many) = (ending ≡ ended.Done) × (room ≡ 0)
+-- no capacity is left if the rows are too many, and then only if all was done
+abbrev pub IsReported : Ending → ℕ → Result Ending TooManyRows → Type 0
+IsReported ending capacity (Ok answer) = (answer ≡ ending) × (ending ≡ ended.Done → 0 < capacity)
+IsReported ending capacity (Err many) = (ending ≡ ended.Done) × (capacity ≡ 0)
 
--- If all was done, and no row of the log is refused, what was written has as many rows as a log may have, or it is told that it has
+-- If all was done, and no row of the log is refused, what was written has as many rows as a log may have, or it is reported that it has
 -- more; the heading counts as one.
-abbrev pub TellsTooMany : ℕ → InputStates → Option (List ℕ) → Result Ending TooManyRows → Type 0
-TellsTooMany count inputs taken (Ok ended.Done) =
+abbrev pub ReportsTooMany : ℕ → InputStates → Option (List ℕ) → Result Ending TooManyRows → Type 0
+ReportsTooMany count inputs taken (Ok ended.Done) =
     OfRun inputs taken (λ start plate logic log. log.refusal ≡ None → length (rows_of_cut plate count log.rows) < most_rows)
-TellsTooMany count inputs taken (Ok ending) = ⊤
-TellsTooMany count inputs taken (Err many) =
+ReportsTooMany count inputs taken (Ok ending) = ⊤
+ReportsTooMany count inputs taken (Err many) =
     OfRun inputs taken (λ start plate logic log. log.refusal ≡ None → most_rows ≤ length (rows_of_cut plate count log.rows))

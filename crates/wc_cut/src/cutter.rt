@@ -4,7 +4,7 @@ ghost use Rattle.wc_cut.specs.KeptRows.{IsNew, kept_rows};
 ghost use Rattle.wc_cut.specs.RowTexts.{heading_text, lines_of};
 ghost use Rattle.wc_model.specs.Run.Log.{most_rows};
 
-use crate::room::room_after;
+use crate::capacity::capacity_after;
 use crate::rows::{put_prelude, put_row};
 use std::alloc::Global;
 use wc_model::{ByteOut, MOST_ROWS, put_bytes};
@@ -21,8 +21,8 @@ pub(crate) struct Cutter {
     time: u64,
     prelude: Option<Prelude>,
     text: Vec<u8>,
-    /// How many rows more would be too many for a log.
-    pub(crate) room: u64,
+    /// The first number of further rows that are too many for a log.
+    pub(crate) capacity: u64,
 }
 
 impl Cutter {
@@ -38,7 +38,7 @@ impl Cutter {
             time: 0,
             prelude: None,
             text: Vec::new(alloc),
-            room: u64::from(MOST_ROWS),
+            capacity: u64::from(MOST_ROWS),
         }
     }
 
@@ -48,13 +48,13 @@ impl Cutter {
             ≡ heading_text ++ lines_of self.old.time (kept_rows self.old.prelude)) }
         ensures count { self.new.count ≡ self.old.count }
         ensures left { self.new.left ≡ self.old.left }
-        ensures room { OnOk result
-            (self.new.room ≡ most_rows - length (kept_rows self.old.prelude)) }
+        ensures capacity { OnOk result
+            (self.new.capacity ≡ most_rows - length (kept_rows self.old.prelude)) }
         ensures memory { IsOkUnless result RunFault.Memory }
     {
         self.text.clear();
         put_bytes(&mut self.text, b"ms,kind,data\n")?;
-        self.room = room_after(&self.prelude);
+        self.capacity = capacity_after(&self.prelude);
         match &self.prelude {
             Some(prelude) => put_prelude(&mut self.text, self.time, prelude),
             None => Ok(()),
@@ -113,7 +113,7 @@ impl<W: ByteOut> Observer<SlotStore, W> for Cutter {
             self.opened = true;
         }
         put_row(&mut self.text, seen.row.ms, seen.row.kind, seen.bytes)?;
-        self.room = self.room.saturating_sub(1);
+        self.capacity = self.capacity.saturating_sub(1);
         write_text(&self.text, writer)
     }
 

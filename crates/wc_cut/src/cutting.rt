@@ -5,13 +5,13 @@ ghost use Rattle.wc_cut.specs.CutAgain.{IsCutAgain};
 ghost use Rattle.wc_cut.specs.Cuts.{cut_observed};
 ghost use Rattle.wc_cut.specs.ReadBack.{IsReadBack};
 ghost use Rattle.wc_cut.specs.ReadLogs.{IsLogAgain};
-ghost use Rattle.wc_cut.specs.TooMany.{TellsTooMany, ending_told};
+ghost use Rattle.wc_cut.specs.TooMany.{ReportsTooMany, ending_reported};
 ghost use Rattle.wc_model.specs.Instrument.Plates.{IsPlate, PlateData};
 ghost use Rattle.wc_model.specs.Run.Rows.{LogRow};
 ghost use Rattle.wc_record.specs.Reported.{fields_reported};
 
 use crate::cutter::Cutter;
-use crate::too_many::{TooManyRows, told};
+use crate::too_many::{TooManyRows, ending_or_too_many};
 use std::alloc::Global;
 use wc_controller::{Ending, RefusedRow, RunInputs, run_files};
 use wc_model::{ByteIn, ByteOut};
@@ -25,8 +25,8 @@ use wc_model::{ByteIn, ByteOut};
 /// line of its refusal is all that is written. A write fault and out of memory end the run, as they
 /// end that of a report.
 ///
-/// A prelude can have more rows than it replaces. If so what is written has more rows than a log may have,
-/// `TooManyRows` says it, once all is written.
+/// A prelude can have more rows than it replaces. If what is written has more rows than a log may
+/// have, the error is `TooManyRows`, once all is written.
 pub fn cut_files<P: ByteIn, T: ByteIn, N: ByteIn, L: ByteIn, W: ByteOut>(
     alloc: Global,
     count: u64,
@@ -35,7 +35,7 @@ pub fn cut_files<P: ByteIn, T: ByteIn, N: ByteIn, L: ByteIn, W: ByteOut>(
     reported: &mut RefusedRow,
 ) -> Result<Ending, TooManyRows>
     ensures runs { RunsAs (cut_observed count) inputs.old inputs.new
-        (fields_reported reported.new) (ending_told result)
+        (fields_reported reported.new) (ending_reported result)
         (writer_of W.bytes_taken W.failure_count writer.old)
         (writer_of W.bytes_taken W.failure_count writer.new) }
     // A log that is cut and cut again is, byte for byte, the log that is cut once.
@@ -44,13 +44,13 @@ pub fn cut_files<P: ByteIn, T: ByteIn, N: ByteIn, L: ByteIn, W: ByteOut>(
     // `csv` reads of what is written the fields of its rows.
     ensures read { (plate : PlateData) → 0 < plate.window → (first : ℕ) (rows : List LogRow)
         → IsReadBack plate first rows }
-    // If they are too many it is told, and only then.
-    ensures too_many { TellsTooMany count inputs.old (W.bytes_taken writer.old) result }
+    // If they are too many it is reported, and only then.
+    ensures too_many { ReportsTooMany count inputs.old (W.bytes_taken writer.old) result }
     // So what is written is a log of these rows, unless they are too many.
     ensures log { (plate : PlateData) → IsPlate plate → (first : ℕ) (rows : List LogRow)
         → IsLogAgain plate first rows }
 {
     let mut cutter = Cutter::new(alloc, count);
     let ending = run_files(alloc, &mut cutter, inputs, writer, reported);
-    told(ending, cutter.room)
+    ending_or_too_many(ending, cutter.capacity)
 }

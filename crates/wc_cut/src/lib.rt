@@ -2,10 +2,10 @@
 //! bring a new scale to the state that they left.
 #![tactic(auto)]
 
+mod capacity;
 mod cutter;
 mod cutting;
 mod laws;
-mod room;
 mod rows;
 mod too_many;
 

@@ -1,4 +1,4 @@
-ghost use Rattle.wc_cut.specs.TooMany.{TellsRoom};
+ghost use Rattle.wc_cut.specs.TooMany.{IsReported};
 
 use wc_controller::Ending;
 
@@ -6,11 +6,11 @@ use wc_controller::Ending;
 #[derive(Clone, Copy)]
 pub struct TooManyRows;
 
-/// How a cut ended that did all, or did not, if so many rows more would have been too many.
-pub(crate) fn told(ending: Ending, room: u64) -> Result<Ending, TooManyRows>
-    ensures { TellsRoom ending room result }
+/// The ending of a cut; the error if it is done, and no capacity is left.
+pub(crate) fn ending_or_too_many(ending: Ending, capacity: u64) -> Result<Ending, TooManyRows>
+    ensures { IsReported ending capacity result }
 {
-    if room == 0 && ending == Ending::Done {
+    if capacity == 0 && ending == Ending::Done {
         return Err(TooManyRows);
     }
     Ok(ending)

@@ -38,4 +38,4 @@ returns-then-self-clause-ended g c start plate logic past seen written none =
 pub returns-clause-ended : goal.returns-clause-ended
 returns-clause-ended g c = always c.write_text.result (λ start plate logic past seen written none.
     let old : Cutter = c.args.self.now in
-    counted_before old c.put_opening.new.self.room plate past old.opened c.if-self.false seen c.in_ok-put_opening.ensures.room)
+    counted_before old c.put_opening.new.self.capacity plate past old.opened c.if-self.false seen c.in_ok-put_opening.ensures.capacity)
