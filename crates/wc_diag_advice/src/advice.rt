@@ -8,7 +8,7 @@ use std::alloc::AllocError;
 use wc_built_in::variable_at;
 use wc_diag_mistakes::{Refused, Said, follows_leaving, words};
 use wc_diag_stops::{Brought, first_word, following, is_near, word_of};
-use wc_diag_texts::{Case, empty_path_advice, hint_of};
+use wc_diag_texts::{Case, Mistake, empty_path_advice};
 use wc_model::{Kind, is_word};
 
 /// The likely operator for one whose letters are exchanged.
@@ -27,8 +27,7 @@ fn setting_advice(refused: &Refused<'_, '_>) -> Said {
 }
 
 /// What to write for lines of STL: around them a unit too, if none starts above.
-fn frame_advice(refused: &Refused<'_, '_>, mistake: Case) -> Said {
-    let hint = hint_of(refused.number, mistake)?;
+fn frame_advice(refused: &Refused<'_, '_>, hint: &'static str) -> Said {
     if refused.unit_kind().is_some() {
         return None;
     }
@@ -174,12 +173,12 @@ fn duration_advice(refused: &Refused<'_, '_>) -> Said {
 }
 
 /// What to write instead, with the available values; nothing beyond the hint, if nothing is found.
-pub fn advice_at(refused: &Refused<'_, '_>, mistake: Case) -> Said {
-    match (refused.number, mistake) {
+pub fn advice_at(refused: &Refused<'_, '_>, mistake: Mistake) -> Said {
+    match (refused.number, mistake.case) {
         (101, Case::QuotedName) => unquoted_advice(refused),
         (101, Case::StatementAssign | Case::StatementComparison)
         | (105, Case::StatementAddress)
-        | (201, Case::StatementList) => frame_advice(refused, mistake),
+        | (201, Case::StatementList) => frame_advice(refused, mistake.hint),
         (201, Case::NoOperator) => operator_advice(refused),
         (201, Case::LabelWithoutColon) => colon_advice(refused),
         (201, Case::NoUnit) => {

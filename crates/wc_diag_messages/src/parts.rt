@@ -8,7 +8,7 @@ use crate::snippets::{WIDEST, bytes_at};
 use std::alloc::{AllocError, Global};
 use wc_diag_shown::Message;
 use wc_diag_spans::{Diagnostic, Refusal, find};
-use wc_diag_texts::{Case, entry_of, hint_of, sentence_of, words_of};
+use wc_diag_texts::{entry_of, words_of};
 
 /// Whether something is refused, or accepted and suspicious.
 #[derive(Clone, Copy)]
@@ -42,7 +42,7 @@ pub(crate) struct Parts {
 
 /// What is said of what is quoted.
 fn sentence(number: u16, diagnostic: &Diagnostic) -> &'static str {
-    match (sentence_of(number, diagnostic.case), entry_of(number)) {
+    match (diagnostic.sentence, entry_of(number)) {
         (Some(sentence), _) => sentence,
         (None, Some(entry)) => entry.sentence,
         (None, None) => "a rule is broken",
@@ -54,10 +54,9 @@ fn hint<'a>(number: u16, diagnostic: &'a Diagnostic) -> &'a str {
     if !diagnostic.advice.is_empty() {
         return &diagnostic.advice;
     }
-    match (hint_of(number, diagnostic.hint), entry_of(number)) {
-        (Some(hint), _) => hint,
-        (None, Some(entry)) => entry.hint,
-        (None, None) => "",
+    match entry_of(number) {
+        Some(entry) if diagnostic.hint.is_empty() => entry.hint,
+        _ => diagnostic.hint,
     }
 }
 
@@ -112,10 +111,11 @@ pub(crate) fn said_as(alloc: Global, words: &str) -> Result<Message, AllocError>
 fn statement_of(alloc: Global, number: u16, diagnostic: &Diagnostic) -> Result<Message, AllocError>
     ensures { IfOk result (λ message. IsShown message.bytes.items) }
 {
-    if matches!(diagnostic.case, Case::Detailed) {
+    let sentence = sentence(number, diagnostic);
+    if sentence.is_empty() {
         return said_as(alloc, &diagnostic.detail);
     }
-    let mut message = said_as(alloc, sentence(number, diagnostic))?;
+    let mut message = said_as(alloc, sentence)?;
     write_detail(&mut message, &diagnostic.detail)?;
     Ok(message)
 }

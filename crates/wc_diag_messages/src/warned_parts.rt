@@ -9,7 +9,7 @@ use crate::warning_entries::warning_of;
 use std::alloc::{AllocError, Global};
 use wc_diag_shown::Message;
 use wc_diag_spans::{Diagnostic, Span, column_at, line_at};
-use wc_diag_texts::{Case, Expected};
+use wc_diag_texts::Expected;
 use wc_diag_warnings::Warning;
 use wc_lexer::Token;
 
@@ -135,10 +135,10 @@ fn diagnostic_of(
         span,
         shown: shown.to_vec(alloc)?,
         subject: Vec::new(alloc),
-        case: Case::Unknown,
+        sentence: None,
         detail: String::new(alloc),
         expected: Expected::Nothing,
-        hint: Case::Unknown,
+        hint: "",
         advice: String::new(alloc),
     })
 }

@@ -1,68 +1,65 @@
 use wc_built_in::{Keyword, elementary_type, keyword_named, standard_block};
 use wc_diag_stops::is_among;
-use wc_diag_texts::Case;
+use wc_diag_texts::{Case, Mistake};
 
 /// Words with spaces between, and the mistake that each of them is.
-type Row = (&'static [u8], Case);
+type Row = (&'static [u8], Mistake);
 
 /// Rows of words, each with its mistake.
 macro_rules! rows {
-    ($($words:expr => $case:ident;)*) => {
-        [$(($words, Case::$case)),*]
+    ($($words:expr => $case:ident $(says $sentence:literal,)? $hint:literal;)*) => {
+        [$(($words, Mistake { case: Case::$case, sentence: concat!($($sentence)?), hint: $hint })),*]
     };
 }
 
 /// Standard functions.
 const FUNCTIONS: [Row; 7] = rows! {
-    b"limit" => Limit;
-    b"max" => Greatest;
-    b"min" => Least;
-    b"neg" => Negative;
-    b"sel mux" => Select;
-    b"move" => Move;
-    b"abs sqrt expt exp ln log sin cos tan asin acos atan shl shr rol ror len left right mid concat insert find trunc" => StandardFunction;
+    b"limit" => Function "for LIMIT(lo, x, hi) write LD x, ST y, GT hi, JMPCN low; LD hi, ST y; `low:` LD y, LT lo, JMPCN done; LD lo, ST y; `done:` LD y";
+    b"max" => Function "for MAX(a, b) write LD a, ST y, LT b, JMPCN done; LD b, ST y; `done:` LD y";
+    b"min" => Function "for MIN(a, b) write LD a, ST y, GT b, JMPCN done; LD b, ST y; `done:` LD y";
+    b"neg" => Function "the negative of a number is LD 0, and on the next line SUB and the number";
+    b"sel mux" => Function "for SEL(g, a, b) write LD a, ST y; LD g, JMPCN done; LD b, ST y; `done:` LD y";
+    b"move" => Function "leave MOVE out: LD loads the value, ST on the next line names where it goes";
+    b"abs sqrt expt exp ln log sin cos tan asin acos atan shl shr rol ror len left right mid concat insert find trunc"
+        => Function "compute it with ADD, SUB, MUL, DIV, MOD and comparisons, or in a FUNCTION_BLOCK";
 };
 
 /// Words of the standard that this language leaves out.
 const LEFT_OUT: [Row; 7] = rows! {
-    b"at" => AtAddress;
-    b"var_global var_external" => GlobalVariable;
-    b"var_in_out" => SharedVariable;
-    b"var_temp" => OpenVariable;
-    b"constant" => Constant;
-    b"retain" => Retain;
-    b"persistent" => Persistent;
+    b"at" => Worded "leave out AT and use the address itself (LD %IX0.0, ST %QX0.0); or copy inputs to variables on the first lines, and variables to outputs on the last";
+    b"var_global var_external" => Worded "declare the variable in VAR of the PROGRAM, and pass it to blocks as an input or output";
+    b"var_in_out" => Worded "declare a VAR_INPUT and a VAR_OUTPUT, and name the variable at both in the CAL; an input cannot be written: copy it to the output first";
+    b"var_temp" => Worded "declare the variable in VAR, and store to it before you load it";
+    b"constant" => Lasting says "the word `CONSTANT` before this name is not supported", "write only VAR, or write the number at each place that uses it";
+    b"retain" => Lasting says "the word `RETAIN` before this name is not supported", "write only VAR: a variable keeps its value from scan to scan, and none keeps it over a power failure";
+    b"persistent" => Lasting says "the word `PERSISTENT` before this name is not supported", "write only VAR: a variable keeps its value from scan to scan, and none keeps it over a power failure";
 };
 
-/// Words in which a program is bound to a controller.
-const CONFIGURATION: &[u8] = b"configuration end_configuration resource end_resource task with";
-
-/// Operators of STL (AWL) that are written otherwise here.
-const STATEMENT_LIST: &[u8] = b"a an o on u un x xn l t spa spb spbn ju jc network";
+/// Words in which a program is bound to a controller, and operators of STL (AWL) that are written otherwise here.
+const FRAMES: [Row; 2] = rows! {
+    b"configuration end_configuration resource end_resource task with" => Configuration "";
+    b"a an o on u un x xn l t spa spb spbn ju jc network" => StatementList "";
+};
 
 /// Words with which other tools begin a unit.
-const UNITS: [Row; 4] = rows! {
-    CONFIGURATION => Configuration;
-    b"type end_type struct end_struct" => OwnType;
-    b"organization_block function_block_end data_block begin" => StatementList;
-    STATEMENT_LIST => StatementList;
+const UNITS: [Row; 2] = rows! {
+    b"type end_type struct end_struct" => Worded says "is not supported", "delete TYPE .. END_TYPE: values are BOOL, DINT or TIME; for an enumeration use a DINT with 0, 1, 2, for a structure one variable for each part";
+    b"organization_block function_block_end data_block begin" => StatementList "";
 };
 
 /// Words in the place of an operator; the inputs of standard blocks the standard also writes as operators.
-const OPERATORS: [Row; 4] = rows! {
-    b"cd" => DownCounter;
-    b"cu pv in pt clk s1 r1" => InputOperator;
-    STATEMENT_LIST => StatementList;
-    CONFIGURATION => Configuration;
+const OPERATORS: [Row; 2] = rows! {
+    b"cd" => DownCounter "";
+    b"cu pv in pt clk s1 r1" => InputOperator "set an input in CAL, such as CAL c(CU := a): a store alone does not call the block";
 };
 
 /// Types that this language does not have, and words that begin one.
 const TYPES: [Row; 5] = rows! {
-    b"int sint uint usint udint lint ulint byte word dword lword" => SmallInteger;
-    b"real lreal" => RealNumber;
-    b"string wstring char date tod time_of_day dt date_and_time array struct pointer" => TextType;
-    b"f_trig" => FallingEdge;
-    b"ctd ctud" => DownCounter;
+    b"int sint uint usint udint lint ulint byte word dword lword" => Worded "use DINT, the only integer type (32 bits, signed); single bits are BOOLs";
+    b"real lreal" => Worded "numbers are integers: use DINT, and count in a smaller unit";
+    b"string wstring char date tod time_of_day dt date_and_time array struct pointer" => Worded "the types are BOOL, DINT and TIME: there are no strings, dates, arrays and structures";
+    b"f_trig" => Worded "for a falling edge call R_TRIG with the negated input: LDN a, then ST b, then CAL e(CLK := b)";
+    b"ctd ctud" => DownCounter "";
 };
 
 /// Fields of standard blocks, by the block that has them.
@@ -75,9 +72,9 @@ const FIELDS: [(&str, &str); 5] = [
 ];
 
 /// The mistake that a word is by one of these rows.
-fn row_of(rows: &[Row], word: &[u8]) -> Option<Case> {
-    let (_, case) = rows.iter().find(|(words, _)| is_among(words, word))?;
-    Some(*case)
+fn row_of(rows: &[Row], word: &[u8]) -> Option<Mistake> {
+    let (_, mistake) = rows.iter().find(|(words, _)| is_among(words, word))?;
+    Some(*mistake)
 }
 
 /// Whether a word has a part, in letters of either case.
@@ -87,33 +84,36 @@ fn has_part(word: &[u8], part: &[u8]) -> bool {
 }
 
 /// A word of a type, `_TO_` and a type, if it is one; between numbers nothing is to convert.
-fn mistaken_conversion(word: &[u8]) -> Option<Case> {
+fn mistaken_conversion(word: &[u8]) -> Option<Mistake> {
     let mut others = "time bool date ring char bcd_ _bcd".split(' ');
     if !has_part(word, b"_to_") {
         None
     } else if others.any(|other| has_part(word, other.as_bytes())) {
-        Some(Case::Conversion)
+        Some(Mistake::of(Case::Conversion))
     } else {
-        Some(Case::NumberConversion)
+        Some(Mistake {
+            hint: "leave this line out: every number is a DINT, so there are no conversions",
+            ..Mistake::of(Case::Function)
+        })
     }
 }
 
 /// A standard function, or a conversion; nothing if a word is neither.
-pub(crate) fn mistaken_function(word: &[u8]) -> Option<Case> {
+pub(crate) fn mistaken_function(word: &[u8]) -> Option<Mistake> {
     row_of(&FUNCTIONS, word).or(mistaken_conversion(word))
 }
 
 /// A word of the standard that this language leaves out.
-pub(crate) fn left_out(word: &[u8]) -> Case {
-    row_of(&LEFT_OUT, word).unwrap_or(Case::LeftOut)
+pub(crate) fn left_out(word: &[u8]) -> Mistake {
+    row_of(&LEFT_OUT, word).unwrap_or(Mistake::of(Case::LeftOut))
 }
 
 /// A word with which no unit begins.
-pub(crate) fn mistaken_unit(word: &[u8]) -> Case {
-    match row_of(&UNITS, word) {
+pub(crate) fn mistaken_unit(word: &[u8]) -> Mistake {
+    match row_of(&UNITS, word).or(row_of(&FRAMES, word)) {
         Some(mistake) => mistake,
         None if matches!(keyword_named(word), Some(Keyword::Kept)) => left_out(word),
-        None => Case::NoUnit,
+        None => Mistake::of(Case::NoUnit),
     }
 }
 
@@ -123,17 +123,17 @@ pub(crate) fn is_type(word: &[u8]) -> bool {
 }
 
 /// A word in the place of an operator that is no function.
-pub(crate) fn mistaken_name(word: &[u8]) -> Case {
-    match row_of(&OPERATORS, word) {
+pub(crate) fn mistaken_name(word: &[u8]) -> Mistake {
+    match row_of(&OPERATORS, word).or(row_of(&FRAMES, word)) {
         Some(mistake) => mistake,
-        None if is_type(word) => Case::InstanceCall,
-        None => Case::NoOperator,
+        None if is_type(word) => Mistake::of(Case::InstanceCall),
+        None => Mistake::of(Case::NoOperator),
     }
 }
 
 /// A type that this language does not have.
-pub(crate) fn mistaken_type(word: &[u8]) -> Case {
-    row_of(&TYPES, word).unwrap_or(Case::Plain)
+pub(crate) fn mistaken_type(word: &[u8]) -> Option<Mistake> {
+    row_of(&TYPES, word)
 }
 
 /// The standard block that has a field of that name; nothing if none has, or if that is not sure.

@@ -2,43 +2,55 @@ use crate::foreign::{
     is_type, left_out, mistaken_function, mistaken_name, mistaken_type, mistaken_unit,
 };
 use crate::refused::Refused;
-use crate::types::{is_conditional, type_hint};
+use crate::types::{is_conditional, mistaken_kind};
 use crate::unreached::{block_line, is_unreached};
 use wc_built_in::{Keyword, elementary_type, keyword_named};
 use wc_diag_stops::{
     following, follows_digit, is_among, is_digit, is_line_end, is_near, is_operator, is_shape,
     mistaken_byte, mistaken_duration, mistaken_number, mistaken_statement, operator_on, text_of,
 };
-use wc_diag_texts::{Case, Expected};
+use wc_diag_texts::{Case, Expected, Mistake, mistake_among};
 use wc_lexer::{Shape, Token};
 use wc_model::{Kind, UnitKind, is_word};
 
 /// What a word in the place of an operator is, by the token after it.
-fn mistaken_word(word: &[u8], next: Option<&Token<'_>>) -> Case {
+fn mistaken_word(word: &[u8], next: Option<&Token<'_>>) -> Mistake {
     match mistaken_statement(word).or(mistaken_function(word)) {
         Some(mistake) => mistake,
-        None if is_shape(next, Shape::Opening) => Case::InstanceCall,
+        None if is_shape(next, Shape::Opening) => Mistake::of(Case::InstanceCall),
         None => mistaken_name(word),
     }
 }
 
-/// A word in the place of an operator, which only a colon could follow.
-fn mistaken_operator(refused: &Refused<'_, '_>) -> Case {
-    let (word, next) = (refused.token(), refused.next());
-    match (keyword_named(word), next.map(|token| token.shape)) {
-        (Some(Keyword::SectionStart(_) | Keyword::SectionEnd), _) => Case::SectionWord,
-        (Some(Keyword::UnitStart(_)), _) if refused.is_in_program() => Case::OpenProgram,
-        (Some(Keyword::UnitStart(_)), _) => Case::OpenBlock,
-        (Some(Keyword::UnitEnd(_)), _) => Case::UnitEnd,
-        (Some(Keyword::Kept), _) => left_out(word),
-        (_, Some(Shape::Colon | Shape::Assign)) => Case::Assignment,
-        (_, Some(Shape::Point)) => Case::FieldAssignment,
-        _ if is_among(b"jmpnc calnc retnc", word) => Case::ConditionSpelling,
-        _ => match mistaken_word(word, next) {
-            Case::NoOperator if is_label(refused) => Case::LabelWithoutColon,
-            mistake => mistake,
-        },
+/// A word in the place of an operator that is known, or by the token after it.
+fn mistaken_start(refused: &Refused<'_, '_>) -> Option<Mistake> {
+    let word = refused.token();
+    mistake_among! {
+        (keyword_named(word), refused.next().map(|token| token.shape));
+        (Some(Keyword::SectionStart(_) | Keyword::SectionEnd), _) => SectionWord "";
+        (Some(Keyword::UnitStart(_)), _) if refused.is_in_program() => Worded says "begins a unit, and the one above is still open", "close the unit above with END_PROGRAM";
+        (Some(Keyword::UnitStart(_)), _) => Worded says "begins a unit, and the one above is still open", "close the unit above with END_FUNCTION_BLOCK";
+        (Some(Keyword::UnitEnd(_)), _) => UnitEnd "";
+        (_, Some(Shape::Colon | Shape::Assign)) => Assignment "";
+        (_, Some(Shape::Point)) => Worded "set an input of a block in its call, such as CAL t(IN := a), or by LD a, ST t.IN and then CAL t";
+        _ if is_among(b"jmpnc calnc retnc", word) => ConditionSpelling "C comes before N: JMPCN, CALCN, RETCN";
     }
+}
+
+/// A word in the place of an operator, which only a colon could follow.
+fn mistaken_operator(refused: &Refused<'_, '_>) -> Mistake {
+    let word = refused.token();
+    if matches!(keyword_named(word), Some(Keyword::Kept)) {
+        return left_out(word);
+    }
+    let mistake = match mistaken_start(refused) {
+        Some(mistake) => mistake,
+        None => mistaken_word(word, refused.next()),
+    };
+    if matches!(mistake.case, Case::NoOperator) && is_label(refused) {
+        return Mistake::of(Case::LabelWithoutColon);
+    }
+    mistake
 }
 
 /// Whether a word may be a label: a jump above leads to it, and nothing is after it on its line, or an operator.
@@ -62,81 +74,75 @@ fn has_jump(tokens: &[Token<'_>], label: &[u8]) -> bool {
 }
 
 /// A mistake that the word before an unexpected token shows.
-fn mistaken_before(before: &[u8], expected: Expected) -> Option<Case> {
+fn mistaken_before(before: &[u8], expected: Expected) -> Option<Mistake> {
     match (keyword_named(before), expected) {
-        (Some(Keyword::Not), Expected::LineEnd | Expected::PointOrLineEnd) => Some(
-            Case::NegatedOperand,
-        ),
+        (Some(Keyword::Not), Expected::LineEnd | Expected::PointOrLineEnd) => {
+            Some(Mistake::of(Case::NegatedOperand))
+        }
         (Some(Keyword::Kept), Expected::CommaOrColon) => Some(left_out(before)),
-        (Some(_), Expected::CommaOrColon) => Some(Case::OpenSection),
-        (None, Expected::CommaOrColon) if is_word(b"persistent", before) => Some(Case::Persistent),
-        (None, Expected::CommaOrColon)
-            if is_among(b"end var_end", before) || is_near(b"END_VAR", before) => Some(
-            Case::OpenSection,
-        ),
+        (None, Expected::CommaOrColon) if is_word(b"persistent", before) => Some(left_out(before)),
+        (word, Expected::CommaOrColon)
+            if word.is_some() || is_among(b"end var_end", before) || is_near(b"END_VAR", before) =>
+            { Some(Mistake::of(Case::OpenSection)) }
         _ => None,
     }
 }
 
 /// A mistake that an unexpected token inside a unit shows, by the token after it: in an operand or the list of a call, then as a `;`
-/// where none can be, then on the line of an instruction, then in a declaration.
-fn mistaken_in_unit(token: &[u8], next: Option<&Token<'_>>, expected: Expected) -> Case {
-    match (expected, token.first(), keyword_named(token)) {
-        (Expected::Field, Some(b'0'..=b'9'), _) => Case::NoAddress,
-        (Expected::UnitName, _, _) => Case::UnnamedUnit,
-        (Expected::Operand, Some(b'('), _) => Case::LoadParenthesis,
-        (
-            Expected::LineEnd | Expected::PointOrLineEnd | Expected::OperandOrLineEnd,
-            Some(b')'),
-            _,
-        ) => Case::Closing,
-        (Expected::Formal, Some(b')'), _) => Case::LastComma,
-        (Expected::FormalOrClosing | Expected::Formal | Expected::AssignOrArrow, _, _) =>
-            Case::UnnamedInput,
-        (Expected::OpeningOrLineEnd, Some(b'A'..=b'Z' | b'a'..=b'z' | b'%'), _) => Case::BareInputs,
+/// where none can be, then on the line of an instruction.
+fn mistaken_in_unit(token: &[u8], next: Option<&Token<'_>>, expected: Expected) -> Option<Mistake> {
+    mistake_among! {
+        (expected, token.first(), keyword_named(token));
+        (Expected::Field, Some(b'0'..=b'9'), _) => NoAddress "an address begins with `%`, such as %IX0.0; a DINT has no bits: compare the number, such as LT 0 for its sign";
+        (Expected::UnitName, _, _) => Worded "write a name after the word, such as PROGRAM Main";
+        (Expected::Operand, Some(b'('), _) => Worded "only AND, OR, XOR, ADD, SUB, MUL and comparisons take a parenthesis: begin with LD and its operand";
+        (Expected::LineEnd | Expected::PointOrLineEnd | Expected::OperandOrLineEnd, Some(b')'), _) => Worded "the `)` needs a line of its own";
+        (Expected::Formal, Some(b')'), _) => Worded "delete the comma before this `)`: a comma is only between two inputs or outputs";
+        (Expected::FormalOrClosing | Expected::Formal | Expected::AssignOrArrow, _, _) => Worded "name each input of the block, such as CAL e(CLK := a) of an R_TRIG, CAL t(IN := a, PT := T#1s) of a TON";
+        (Expected::OpeningOrLineEnd, Some(b'A'..=b'Z' | b'a'..=b'z' | b'%'), _) => BareInputs "put the inputs of the call in parentheses, each with its name, such as CAL t(IN := a, PT := T#1s) of a TON";
         (Expected::CommaPointOrClosing | Expected::CommaOrClosing, Some(_), _)
-            if is_shape(next, Shape::Assign) || is_shape(next, Shape::Arrow) => Case::MissingComma,
-        (Expected::CommaPointOrClosing | Expected::CommaOrClosing, Some(_), _) => Case::NoVariable,
-        (Expected::CommaOrColon, Some(b';'), _) => Case::MissingType,
-        (Expected::Name | Expected::TypeName | Expected::Literal, Some(b';'), _) =>
-            Case::Declaration,
-        (_, Some(b';'), _) => Case::Semicolon,
-        (Expected::InstructionOrLineEnd, _, _) if is_type(token) => Case::OutsideSection,
-        (Expected::LineEnd | Expected::PointOrLineEnd, Some(b','), _) => Case::InstructionComma,
-        (Expected::LineEnd | Expected::PointOrLineEnd, _, Some(Keyword::Apply(_))) =>
-            Case::SecondOperator,
-        (Expected::Instruction | Expected::InstructionOrLineEnd, Some(b'%'), _) => Case::Assignment,
-        (Expected::Instruction | Expected::InstructionOrLineEnd, Some(b'('), _) => Case::ListBelow,
-        (_, _, Some(Keyword::Kept)) => left_out(token),
-        _ if is_in_section(expected) => Case::Declaration,
+            if is_shape(next, Shape::Assign) || is_shape(next, Shape::Arrow) => Worded "separate the parameters with commas, such as CAL t(IN := a, PT := T#1s)";
+        (Expected::CommaPointOrClosing | Expected::CommaOrClosing, Some(_), _) => Worded "an input takes a variable, an address, a field or a literal: compute and store the value before the call";
+        (Expected::CommaOrColon, Some(b';'), _) => Worded "a declaration names a type, such as d, e : DINT;";
+        (Expected::Name | Expected::TypeName | Expected::Literal, Some(b';'), _) => Declaration "";
+        (_, Some(b';'), _) => Worded "an instruction ends with its line, without a semicolon";
+        (Expected::InstructionOrLineEnd, _, _) if is_type(token) => Worded "declarations go between VAR and END_VAR, before the first instruction";
+        (Expected::LineEnd | Expected::PointOrLineEnd, Some(b','), _) => Worded "write each instruction on a line of its own, without commas; an operator has one operand";
+        (Expected::LineEnd | Expected::PointOrLineEnd, _, Some(Keyword::Apply(_))) => Worded "each operator has a line of its own: AND( a, then OR b, then `)`";
+        (Expected::Instruction | Expected::InstructionOrLineEnd, Some(b'%'), _) => Assignment "";
+        (Expected::Instruction | Expected::InstructionOrLineEnd, Some(b'('), _) => Worded "write the `(` on the line of its CAL, such as CAL t(IN := TRUE)";
+    }
+}
+
+/// The case of an unexpected token that is in a section of declarations, or not.
+fn case_of_section(expected: Expected) -> Case {
+    match expected {
+        Expected::NameOrEndVar
+        | Expected::CommaOrColon
+        | Expected::Name
+        | Expected::TypeName
+        | Expected::AssignOrSemicolon
+        | Expected::Literal
+        | Expected::Semicolon => Case::Declaration,
         _ => Case::Unknown,
     }
 }
 
-/// Whether that could be in a section of declarations.
-fn is_in_section(expected: Expected) -> bool {
-    matches!(
-        expected,
-        Expected::NameOrEndVar
-            | Expected::CommaOrColon
-            | Expected::Name
-            | Expected::TypeName
-            | Expected::AssignOrSemicolon
-            | Expected::Literal
-            | Expected::Semicolon
-    )
-}
-
 /// A mistake that an unexpected token shows, by the token after it.
-fn mistaken_token(refused: &Refused<'_, '_>) -> Case {
-    let token = refused.token();
-    match refused.span.expected {
-        Expected::Nothing => match mistaken_unit(token) {
-            Case::Configuration => Case::Configuration,
-            _ => Case::AfterProgram,
-        },
-        Expected::UnitWord => mistaken_unit(token),
-        expected => mistaken_in_unit(token, refused.next(), expected),
+fn mistaken_token(refused: &Refused<'_, '_>) -> Mistake {
+    let (token, expected) = (refused.token(), refused.span.expected);
+    if matches!(expected, Expected::Nothing | Expected::UnitWord) {
+        return match (expected, mistaken_unit(token)) {
+            (Expected::Nothing, mistake) if !matches!(mistake.case, Case::Configuration) => {
+                Mistake::of(Case::AfterProgram)
+            }
+            (_, mistake) => mistake,
+        };
+    }
+    match mistaken_in_unit(token, refused.next(), expected) {
+        Some(mistake) => mistake,
+        None if matches!(keyword_named(token), Some(Keyword::Kept)) => left_out(token),
+        None => Mistake::of(case_of_section(expected)),
     }
 }
 
@@ -153,19 +159,16 @@ fn is_decimal_comma(refused: &Refused<'_, '_>) -> bool {
 }
 
 /// A mistake in an instruction by what is before a token on its line.
-fn mistaken_after(before: &[Token<'_>], token: &[u8], expected: Expected) -> Option<Case> {
-    match (expected, keyword_named(operator_on(before)), token.first()) {
-        (Expected::Label, _, None | Some(b'\n')) => Some(Case::JumpAlone),
-        (Expected::LineEnd, Some(Keyword::Jump(_)), Some(b':')) => Some(Case::JumpColon),
-        (Expected::LineEnd, Some(Keyword::Return(_)), Some(b'A'..=b'Z' | b'a'..=b'z' | b'_')) => {
-            Some(Case::ReturnOperand)
-        }
-        (Expected::OpeningOrLineEnd, _, Some(b'.')) => Some(Case::CalledField),
-        (Expected::Operand, _, Some(b',' | b')'))
-            if is_shape(before.last(), Shape::Arrow) || is_shape(before.last(), Shape::Assign) => {
-            Some(Case::EmptyArgument)
-        }
-        _ => None,
+fn mistaken_after(before: &[Token<'_>], token: &[u8], expected: Expected) -> Option<Mistake> {
+    let last = before.last();
+    let is_unnamed = is_shape(last, Shape::Arrow) || is_shape(last, Shape::Assign);
+    mistake_among! {
+        (expected, keyword_named(operator_on(before)), token.first());
+        (Expected::Label, _, None | Some(b'\n')) => Worded "a jump names a label, such as JMPC done, and `done:` begins a line below";
+        (Expected::LineEnd, Some(Keyword::Jump(_)), Some(b':')) => Worded "write the label here without its colon, such as JMPC done; the line to which it leads begins with `done:`";
+        (Expected::LineEnd, Some(Keyword::Return(_)), Some(b'A'..=b'Z' | b'a'..=b'z' | b'_')) => Worded "RET has no operand: for a condition write LD and the operand on the line above, and RETC alone";
+        (Expected::OpeningOrLineEnd, _, Some(b'.')) => Worded "CAL names the instance alone, and its inputs are in the list, such as CAL t(IN := a)";
+        (Expected::Operand, _, Some(b',' | b')')) if is_unnamed => Worded "leave out an input or output that is not used, such as CAL t(IN := a)";
     }
 }
 
@@ -179,141 +182,144 @@ fn is_type_first(refused: &Refused<'_, '_>) -> bool {
 }
 
 /// What a token shows on its line, before what the word before it shows.
-fn mistaken_first(refused: &Refused<'_, '_>) -> Option<Case> {
-    match (refused.span.expected, left_out(refused.token())) {
-        (Expected::CommaOrColon, _) if is_type_first(refused) => Some(Case::TypeFirst),
-        (Expected::CommaOrColon, mistake @ (Case::Constant | Case::Retain | Case::Persistent)) => {
-            Some(mistake)
-        }
+fn mistaken_first(refused: &Refused<'_, '_>) -> Option<Mistake> {
+    let (expected, mistake) = (refused.span.expected, left_out(refused.token()));
+    match (expected, mistake.case) {
+        (Expected::CommaOrColon, _) if is_type_first(refused) => Some(Mistake::of(Case::TypeFirst)),
+        (Expected::CommaOrColon, Case::Lasting) => Some(mistake),
         (Expected::CommaOrColon, _) => None,
-        (expected, _) => mistaken_after(refused.line_before(), refused.token(), expected),
+        _ => mistaken_after(refused.line_before(), refused.token(), expected),
+    }
+}
+
+/// A mistake that an unexpected token shows by its line.
+fn mistaken_on_line(refused: &Refused<'_, '_>) -> Option<Mistake> {
+    let (line, before) = (refused.line_before(), text_of(refused.previous()));
+    let begins_unit = matches!(
+        keyword_named(text_of(line.first())),
+        Some(Keyword::UnitStart(_))
+    );
+    let is_address = before.starts_with(b"%") && !before.contains(&b'.');
+    mistake_among! {
+        (refused.span.expected, refused.token().first());
+        (Expected::AssignOrSemicolon | Expected::Semicolon, _) if refused.begins_line() => Worded "the declaration above has no `;` at its end";
+        (Expected::LineEnd | Expected::Semicolon, _) if is_decimal_comma(refused) && is_address => Worded "an address has a point, such as %IX0.0";
+        (Expected::LineEnd | Expected::Semicolon, _) if is_decimal_comma(refused) => Worded "numbers are integers, without a decimal comma: write 1,5 kg as 1500, if weights have 3 decimals";
+        (Expected::Instruction | Expected::InstructionOrLineEnd, Some(b'(')) if begins_unit => Worded "delete the parentheses: inputs and outputs of a FUNCTION_BLOCK are declared in VAR_INPUT and VAR_OUTPUT";
+        (Expected::LineEnd | Expected::PointOrLineEnd | Expected::OperandOrLineEnd, Some(b')'))
+            if line.iter().any(|token| is_shape(Some(token), Shape::Opening)) => Worded "the `)` needs a line of its own; for one operand write no parenthesis, such as AND a";
     }
 }
 
 /// A mistake that an unexpected token shows by where it is, and else by itself.
-fn mistaken_at(refused: &Refused<'_, '_>) -> Case {
-    let (line, expected) = (refused.line_before(), refused.span.expected);
-    if let Some(mistake) = mistaken_first(refused) {
-        return mistake;
+fn mistaken_at(refused: &Refused<'_, '_>) -> Mistake {
+    let before = mistaken_before(refused.word_before(), refused.span.expected);
+    match mistaken_first(refused)
+        .or(before)
+        .or(mistaken_on_line(refused))
+    {
+        Some(mistake) => mistake,
+        None => mistaken_token(refused),
     }
-    if let Some(mistake) = mistaken_before(refused.word_before(), expected) {
-        return mistake;
-    }
-    match expected {
-        Expected::AssignOrSemicolon | Expected::Semicolon if refused.begins_line() => {
-            Case::DeclarationAbove
-        }
-        Expected::LineEnd | Expected::Semicolon if is_decimal_comma(refused) => {
-            match text_of(refused.previous()) {
-                before @ [b'%', ..] if !before.contains(&b'.') => Case::AddressComma,
-                _ => Case::DecimalComma,
-            }
-        }
-        Expected::Instruction | Expected::InstructionOrLineEnd
-            if refused.token().starts_with(b"(")
-                && matches!(
-                    keyword_named(text_of(line.first())),
-                    Some(Keyword::UnitStart(_))
-                ) => { Case::UnitList }
-        _ => match mistaken_token(refused) {
-            // A `)` on the line of its opening, or on another.
-            Case::Closing
-                if line
-                    .iter()
-                    .any(|token| matches!(token.shape, Shape::Opening)) => { Case::ClosingOperand }
-            mistake => mistake,
-        },
+}
+
+/// A mistake of a unit that is not closed or not alone, or of a list that is not closed.
+fn mistaken_unit_end(refused: &Refused<'_, '_>) -> Option<Mistake> {
+    let word = keyword_named(refused.token());
+    let is_empty = refused.tokens.iter().all(is_line_end);
+    mistake_among! {
+        (refused.number, word);
+        (201, Some(_)) if refused.begins_line() => Worded "close the list of the call above with `)`";
+        (202, Some(Keyword::UnitStart(UnitKind::Program))) => Worded "close the unit with END_PROGRAM";
+        (202, _) => Worded "close the unit with END_FUNCTION_BLOCK";
+        (203, _) if is_empty => Worded says "the file is empty", "a file has function blocks, if any, and then one PROGRAM .. END_PROGRAM";
+        (203, Some(Keyword::UnitStart(UnitKind::Program))) => Worded says "there is a second PROGRAM", "make one of them a FUNCTION_BLOCK above the PROGRAM, and call an instance with CAL";
     }
 }
 
 /// An initial value of another type than that before it.
-fn mistaken_value(before: &[Token<'_>]) -> Case {
-    match before {
-        [.., named, assign] if matches!(assign.shape, Shape::Assign) => {
-            match elementary_type(named.text) {
-                Some(Kind::Bool) => Case::InitialBool,
-                Some(Kind::Dint) => Case::InitialNumber,
-                Some(Kind::Time) => Case::InitialTime,
-                None => Case::InitialInstance,
-            }
-        }
-        _ => Case::Plain,
-    }
-}
-
-/// A function block that is not declared above, if that is sure.
-fn mistaken_block(refused: &Refused<'_, '_>) -> Case {
-    match block_line(refused.tokens, refused.token()) {
-        Some(line) if line > refused.line() => Case::BlockBelow,
-        Some(_) => Case::BlockInItself,
-        None => Case::Plain,
+fn mistaken_value(before: &[Token<'_>]) -> Option<Mistake> {
+    let [.., named, assign] = before else {
+        return None;
+    };
+    mistake_among! {
+        (assign.shape, elementary_type(named.text));
+        (Shape::Assign, Some(Kind::Bool)) => Worded says "is not an initial value of a BOOL", "a BOOL takes TRUE, FALSE, 0 or 1";
+        (Shape::Assign, Some(Kind::Dint)) => Worded says "is not an initial value of a DINT", "a DINT takes an integer, such as 500; for TRUE and FALSE declare a BOOL";
+        (Shape::Assign, Some(Kind::Time)) => Worded says "is not an initial value of a TIME", "a TIME takes a duration, such as T#500ms";
+        (Shape::Assign, None) => Worded says "is an initial value, and an instance has none", "an instance takes no initial value: pass its inputs in CAL";
     }
 }
 
 /// An address that this machine does not have.
-fn mistaken_address(address: &[u8]) -> Case {
-    match (address.get(1), address.get(2)) {
-        (Some(b'm' | b'M'), _) => Case::Marker,
-        (_, Some(b'd' | b'D')) => Case::NoSuchNumber,
-        (_, Some(b'w' | b'W' | b'b' | b'B' | b'l' | b'L')) => Case::NoSuchWord,
-        _ => Case::NoSuchBit,
+fn mistaken_address(address: &[u8]) -> Option<Mistake> {
+    mistake_among! {
+        (address.get(1), address.get(2));
+        (Some(b'm' | b'M'), _) => Worded "there are no %M addresses: declare a variable in VAR";
+        (_, Some(b'd' | b'D')) => Worded "numbers are %ID0 (gross), %ID1 (net), %ID2 (tare) and %QD0 to %QD3";
+        (_, Some(b'w' | b'W' | b'b' | b'B' | b'l' | b'L')) => Worded "there are no 16-bit words: use %ID0 (gross), %ID1 (net), %ID2 (tare) or %QD0 to %QD3";
+        _ if address.starts_with(b"%") => NoSuchBit "bits are %IX0.0 to %IX0.15, %IX1.0 to %IX1.5 and %QX0.0 to %QX0.15: bit 0 of a second output byte is %QX0.8";
     }
 }
 
 /// What cannot be written.
-fn mistaken_target(refused: &Refused<'_, '_>) -> Case {
+fn mistaken_target(refused: &Refused<'_, '_>) -> Option<Mistake> {
     let target = refused.token();
-    match (target.first(), keyword_named(target)) {
-        (Some(b'%'), _) => Case::InputAddress,
-        (Some(b'0'..=b'9' | b'+' | b'-'), _) | (_, Some(Keyword::Truth(_))) => Case::LiteralTarget,
-        _ if target.contains(&b'#') => Case::LiteralTarget,
-        _ if !refused.names_one() => Case::OutputTarget,
-        _ if refused.is_in_program() => Case::ProgramInput,
-        _ => Case::Plain,
+    mistake_among! {
+        (target.first(), keyword_named(target));
+        (Some(b'%'), _) => Worded "inputs are only read: store to an output, such as %QX0.0, or to a variable";
+        (Some(b'0'..=b'9' | b'+' | b'-'), _) => LiteralTarget "";
+        (_, Some(Keyword::Truth(_))) => LiteralTarget "";
+        _ if target.contains(&b'#') => LiteralTarget "";
+        _ if !refused.names_one() => Worded "the block sets its own outputs: store to an input, or to a variable of your own";
+        _ if refused.is_in_program() => Worded "declare it in VAR: nothing calls a PROGRAM and sets its inputs";
     }
 }
 
-/// Which mistake a refusal of a later pass refers to.
-fn mistake_in_rules(refused: &Refused<'_, '_>, case: Case) -> Case {
+/// A function block that is not declared above, if that is sure.
+fn mistaken_block(refused: &Refused<'_, '_>) -> Option<Mistake> {
+    mistake_among! {
+        block_line(refused.tokens, refused.token());
+        Some(line) if line > refused.line() => BlockBelow "move the block above the unit that uses it";
+        Some(_) => Worded says "is this function block itself", "a block cannot contain itself: declare another block above, and use that";
+    }
+}
+
+/// A mistake in an instruction that breaks a rule on results, labels or divisors.
+fn mistaken_use(refused: &Refused<'_, '_>) -> Option<Mistake> {
     let (token, span) = (refused.token(), refused.span);
-    match refused.number {
-        302 => mistaken_type(token),
-        303 => mistaken_value(refused.before()),
-        308 => mistaken_block(refused),
-        304 => mistaken_address(token),
-        402 => type_hint(refused),
-        403 if is_conditional(token) => Case::NoCondition,
-        403 if is_shape(refused.previous(), Shape::Colon) => Case::AtLabel,
-        403 if is_unreached(refused.tokens, refused.line()) => Case::Unreached,
-        404 => mistaken_target(refused),
-        406 if span.first != 0 => Case::LabelAbove,
-        408
-            if matches!(token.first(), Some(b'A'..=b'Z' | b'a'..=b'z' | b'_' | b'%'))
-                && !matches!(span.case, Case::Deferred) => Case::VariableDivisor,
-        _ => case,
+    let is_variable = matches!(token.first(), Some(b'A'..=b'Z' | b'a'..=b'z' | b'_' | b'%'));
+    mistake_among! {
+        refused.number;
+        403 if is_conditional(token) => Worded says "needs a BOOL, and there is no current result", "load the condition with LD first, or use CAL, JMP or RET without the C";
+        403 if is_shape(refused.previous(), Shape::Colon) => AtLabel says "the current result is undefined: the paths to this label bring different types, or no value", "write an LD between the label and this instruction, or bring the same type on every path to the label (JMPC and JMPCN bring a BOOL); if this instruction is only for the value above the label, move it above the label";
+        403 if is_unreached(refused.tokens, refused.line()) => Unreached says "there is no current result, since this line is never reached", "make the JMP or RET above conditional (JMPC, JMPCN, RETC), give this line a label to which a line above jumps, or delete it";
+        406 if span.first != 0 => LabelAbove says "is the label of a line above this jump", "jumps only go forward; the whole program runs again in each scan, so to repeat it delete this jump; to repeat lines write them once for each pass, or do one pass in each scan: LD n, LT 10, JMPCN done; the lines; LD n, ADD 1, ST n (n keeps its value between scans: set it to 0 only to start again); `done:` goes on with an LD";
+        408 if is_variable && !matches!(span.case, Case::Deferred) => Worded "there is no division by a variable: divide by a literal other than 0, such as DIV 10; to compare a quotient, MUL the other side instead; for a quotient subtract once in each scan: LD rest, LT b, JMPC done; LD rest, SUB b, ST rest; LD q, ADD 1, ST q; `done:` goes on with an LD";
     }
 }
 
-/// Which mistake a refusal refers to that breaks a rule in that way: its hint.
-pub fn mistake_at(refused: &Refused<'_, '_>, case: Case) -> Case {
+/// Which mistake a refusal refers to that breaks a rule in that way, with its words.
+pub fn mistake_at(refused: &Refused<'_, '_>, case: Case) -> Mistake {
     let (token, before) = (refused.token(), refused.before());
     let rest = following(refused.lexeme, token.len());
-    let begins_program = matches!(
-        keyword_named(token),
-        Some(Keyword::UnitStart(UnitKind::Program))
-    );
-    match (refused.number, refused.span.expected) {
+    let found = match (refused.number, refused.span.expected) {
         (101, _) => mistaken_byte(before, refused.span.start, refused.lexeme, case),
         (105, _) => mistaken_number(text_of(refused.previous()), token, rest, case),
-        (106, _) => mistaken_duration(token, rest, case),
-        (201, Expected::LabelColon) => mistaken_operator(refused),
-        (201, Expected::CommaPointOrClosing | Expected::CommaOrClosing)
-            if keyword_named(token).is_some() && refused.begins_line() => { Case::OpenList }
-        (201, _) => mistaken_at(refused),
-        (202, _) if begins_program => Case::OpenProgram,
-        (202, _) => Case::OpenBlock,
-        (203, _) if refused.tokens.iter().all(is_line_end) => Case::EmptyText,
-        (203, _) if begins_program => Case::SecondProgram,
-        _ => mistake_in_rules(refused, case),
-    }
+        (106, _) => mistaken_duration(token, rest),
+        (201, Expected::LabelColon) => Some(mistaken_operator(refused)),
+        (201, Expected::CommaPointOrClosing | Expected::CommaOrClosing) => {
+            mistaken_unit_end(refused).or(Some(mistaken_at(refused)))
+        }
+        (201, _) => Some(mistaken_at(refused)),
+        (202 | 203, _) => mistaken_unit_end(refused),
+        (302, _) => mistaken_type(token),
+        (303, _) => mistaken_value(before),
+        (304, _) => mistaken_address(token),
+        (308, _) => mistaken_block(refused),
+        (402, _) => mistaken_kind(refused),
+        (404, _) => mistaken_target(refused),
+        _ => mistaken_use(refused),
+    };
+    found.unwrap_or(Mistake::of(case)).worded(refused.number)
 }

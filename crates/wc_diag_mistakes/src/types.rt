@@ -1,7 +1,7 @@
 use crate::refused::Refused;
 use wc_built_in::{Keyword, keyword_named};
 use wc_diag_stops::{last_line, without_line_ends};
-use wc_diag_texts::Case;
+use wc_diag_texts::{Case, Mistake, mistake_among};
 use wc_lexer::Token;
 use wc_model::{Condition, Kind, Operator, Storing, is_word};
 
@@ -77,59 +77,6 @@ pub(crate) fn taken_by(family: Family) -> Option<&'static str> {
     }
 }
 
-/// What to write for an operand of a type that its operator never takes.
-fn untaken_hint(family: Family, kind: Kind) -> Case {
-    match (family, kind) {
-        (Family::Negate, Kind::Time) => Case::NegatedTime,
-        (Family::Negate, _) => Case::NegatedNumber,
-        (Family::StoreNegated, _) => Case::StoredNegated,
-        (Family::Set, _) => Case::SetValue,
-        (Family::Order, _) => Case::OrderedBool,
-        (_, Kind::Bool) => Case::CountedBool,
-        (Family::Multiply | Family::Divide, _) => Case::MultipliedByTime,
-        (_, Kind::Dint) => Case::NumberBefore,
-        (_, Kind::Time) => Case::TimeBefore,
-    }
-}
-
-/// What to write for an operand, or a target, of a type after a result of another.
-fn unlike_hint(family: Family, kind: Kind, before: Kind) -> Case {
-    match (family, kind, before) {
-        (Family::Order, _, Kind::Bool) => Case::OrderedBool,
-        (Family::Equal, _, Kind::Bool) => Case::EqualBool,
-        (Family::Order | Family::Equal, _, Kind::Dint) => Case::NumberWithTime,
-        (Family::Order | Family::Equal, _, Kind::Time) => Case::TimeWithNumber,
-        (Family::Add | Family::Multiply | Family::Divide, _, Kind::Bool) => Case::CountedBool,
-        (Family::Add, _, Kind::Dint) => Case::AddedNumber,
-        (Family::Add, _, Kind::Time) => Case::AddedTime,
-        (Family::Multiply, _, Kind::Time) => Case::MultipliedTime,
-        (Family::Divide, _, Kind::Time) => Case::DividedTime,
-        (_, _, Kind::Bool) => Case::StoredBool,
-        (Family::Store | Family::StoreNegated | Family::Set, Kind::Bool, Kind::Dint) =>
-            Case::StoredNumberToBool,
-        (Family::Store | Family::StoreNegated | Family::Set, Kind::Bool, Kind::Time) =>
-            Case::StoredTimeToBool,
-        (Family::Store | Family::StoreNegated | Family::Set, _, Kind::Time) =>
-            Case::StoredTimeToNumber,
-        (Family::Store | Family::StoreNegated | Family::Set, _, Kind::Dint) =>
-            Case::StoredNumberToTime,
-        (_, _, Kind::Time) => Case::ComparedTime,
-        (_, _, Kind::Dint) => Case::ComparedNumber,
-    }
-}
-
-/// What to write if an operator does not take the result.
-fn result_hint(family: Family, before: Kind) -> Case {
-    match (family, before) {
-        (Family::Order, _) => Case::OrderedBool,
-        (_, Kind::Bool) => Case::CountedBool,
-        (Family::Multiply, _) => Case::MultipliedTime,
-        (Family::Divide, _) => Case::DividedTime,
-        (_, Kind::Dint) => Case::ComparedNumber,
-        (_, Kind::Time) => Case::ComparedTime,
-    }
-}
-
 /// Whether a word is a number that other tools also take for a BOOL.
 fn is_bit(word: &[u8]) -> bool {
     matches!(word, b"0" | b"1")
@@ -144,22 +91,74 @@ fn follows_bit(before: &[Token<'_>]) -> bool {
     }
 }
 
-/// What to write if types do not match: by the operator, the type of the operand and that of the result.
-pub(crate) fn type_hint(refused: &Refused<'_, '_>) -> Case {
-    let (span, family) = (refused.span, family_of(refused.operator()));
-    let before = span.result.map(|made| made.kind);
-    match (span.case, before, span.outer.map(|made| made.kind)) {
-        (Case::Unpassed(_, kind), _, _) if !span.is_passed => Case::ReadOutput(kind),
-        (Case::Instance, _, _) if refused.sets() => Case::InstanceTarget,
-        (Case::Untaken(Kind::Dint), _, _) if is_bit(refused.token()) => Case::TruthLiteral,
-        (Case::Unlike(Kind::Bool) | Case::Result, _, _) if follows_bit(refused.before()) => {
-            Case::TruthLiteral
-        }
-        (Case::Untaken(kind), _, _) => untaken_hint(family, kind),
-        (Case::Unlike(kind), Some(before), _) => unlike_hint(family, kind, before),
-        (Case::Result, Some(before), _) => result_hint(family_of(refused.token()), before),
-        (Case::Closing, Some(Kind::Dint), Some(Kind::Bool)) => Case::NumberInParenthesis,
-        (Case::Closing, Some(Kind::Time), Some(Kind::Bool)) => Case::TimeInParenthesis,
-        (case, _, _) => case,
+/// What to write for an operand, or a target, by the family of its operator, its type and that of the result before it.
+fn mistaken_operand(case: Case, family: Family, before: Option<Kind>) -> Option<Mistake> {
+    mistake_among! {
+        (case, family, before);
+        (Case::Untaken(Kind::Time), Family::Negate, _) => Worded "load the time with LD; its negative is LD T#0s, then SUB and the time";
+        (Case::Untaken(_), Family::Negate, _) => Worded "load the number with LD; its negative is LD 0, then SUB and the number";
+        (Case::Untaken(_), Family::StoreNegated, _) => Worded "STN stores a negated BOOL to a BOOL, such as STN %QX0.0; for the negative of a number LD 0, SUB the number, and ST";
+        (Case::Untaken(_), Family::Set, _) => Worded "declare it as BOOL; or to store a number on a condition write LD a, JMPCN skip; LD 5, ST n; `skip:` goes on with an LD";
+        (Case::Untaken(_), Family::Order, _) => OrderedBool "";
+        (Case::Untaken(Kind::Bool), _, _) => CountedBool "";
+        (Case::Untaken(_), Family::Multiply | Family::Divide, _) => Worded "a TIME cannot be multiplied: load the product, such as LD T#5s, and store it to a TIME variable; for milliseconds as a number use DINTs only, such as MUL 1000";
+        (Case::Untaken(Kind::Dint), _, _) => Worded "compare the number before: LD n, GE 500, and then AND with the BOOL";
+        (Case::Untaken(Kind::Time), _, _) => Worded "compare the time before: LD t.ET, GE T#1s, and then AND with the BOOL";
+        (Case::Unlike(_), Family::Order, Some(Kind::Bool)) => OrderedBool "";
+        (Case::Unlike(_), Family::Equal, Some(Kind::Bool)) => Worded "compare a BOOL with TRUE or FALSE; to compare a number or a time, load it first";
+        (Case::Unlike(_), Family::Order | Family::Equal, Some(Kind::Dint)) => Worded "compare a DINT with a number, such as GE 500";
+        (Case::Unlike(_), Family::Order | Family::Equal, Some(Kind::Time)) => Worded "compare a TIME with a duration, such as GE T#500ms";
+        (Case::Unlike(_), Family::Add | Family::Multiply | Family::Divide, Some(Kind::Bool)) => CountedBool "";
+        (Case::Unlike(_), Family::Add, Some(Kind::Dint)) => Worded "add a number to a DINT, such as ADD 5; a TIME cannot be converted to a number";
+        (Case::Unlike(_), Family::Add, Some(Kind::Time)) => Worded "add a duration to a TIME, such as ADD T#500ms";
+        (Case::Unlike(_), Family::Multiply, Some(Kind::Time)) => MultipliedTime "";
+        (Case::Unlike(_), Family::Divide, Some(Kind::Time)) => DividedTime "";
+        (Case::Unlike(_), _, Some(Kind::Bool)) => Worded "store a BOOL to a BOOL variable or to an output bit, such as ST %QX0.0";
+        (Case::Unlike(Kind::Bool), Family::Store | Family::StoreNegated | Family::Set, Some(Kind::Dint)) => Worded "store it to a DINT, such as %QD0, or compare it first, such as GE 500, to get a BOOL";
+        (Case::Unlike(Kind::Bool), Family::Store | Family::StoreNegated | Family::Set, Some(Kind::Time)) => Worded "store it to a TIME, or compare it first, such as GE T#500ms, to get a BOOL";
+        (Case::Unlike(_), Family::Store | Family::StoreNegated | Family::Set, Some(Kind::Time)) => StoredTimeToNumber "";
+        (Case::Unlike(_), Family::Store | Family::StoreNegated | Family::Set, Some(Kind::Dint)) => Worded "a number cannot be converted to a TIME: load a duration, such as LD T#500ms, or store to a DINT";
+        (Case::Unlike(_), _, Some(Kind::Time)) => ComparedTime "";
+        (Case::Unlike(_), _, Some(Kind::Dint)) => ComparedNumber "";
     }
+}
+
+/// What to write if an operator does not take the result.
+fn mistaken_result(family: Family, before: Option<Kind>) -> Option<Mistake> {
+    mistake_among! {
+        (family, before);
+        (Family::Order, Some(_)) => OrderedBool "";
+        (_, Some(Kind::Bool)) => CountedBool "";
+        (Family::Multiply, Some(_)) => MultipliedTime "";
+        (Family::Divide, Some(_)) => DividedTime "";
+        (_, Some(Kind::Dint)) => ComparedNumber "";
+        (_, Some(Kind::Time)) => ComparedTime "";
+    }
+}
+
+/// What to write if types do not match, if that needs no operator.
+fn mistaken_value(refused: &Refused<'_, '_>, before: Option<Kind>) -> Option<Mistake> {
+    let (span, is_passed) = (refused.span, refused.span.is_passed);
+    mistake_among! {
+        (span.case, before, span.outer.map(|made| made.kind));
+        (Case::Unpassed(_, Kind::Bool), _, _) if !is_passed => Worded "read it to a BOOL variable or to an output bit, such as Q => %QX0.0";
+        (Case::Unpassed(_, Kind::Dint), _, _) if !is_passed => Worded "read it to a DINT variable or to a number, such as CV => %QD0";
+        (Case::Unpassed(_, Kind::Time), _, _) if !is_passed => Worded "read it to a TIME variable, such as ET => elapsed; a TIME cannot be converted to a number";
+        (Case::Instance, _, _) if refused.sets() => InstanceTarget "name one of its inputs, such as t.IN";
+        (Case::Untaken(Kind::Dint), _, _) if is_bit(refused.token()) => TruthLiteral "";
+        (Case::Unlike(Kind::Bool) | Case::Result, _, _) if follows_bit(refused.before()) => TruthLiteral "";
+        (Case::Closing, Some(Kind::Dint), Some(Kind::Bool)) => Worded "compare the number before the `)`, such as GE 500: a comparison gives a BOOL";
+        (Case::Closing, Some(Kind::Time), Some(Kind::Bool)) => Worded "compare the time before the `)`, such as GE T#500ms: a comparison gives a BOOL";
+    }
+}
+
+/// What to write if types do not match: by the operator, the type of the operand and that of the result.
+pub(crate) fn mistaken_kind(refused: &Refused<'_, '_>) -> Option<Mistake> {
+    let span = refused.span;
+    let before = span.result.map(|made| made.kind);
+    let found = match span.case {
+        Case::Result => mistaken_result(family_of(refused.token()), before),
+        case => mistaken_operand(case, family_of(refused.operator()), before),
+    };
+    mistaken_value(refused, before).or(found)
 }

@@ -1,7 +1,7 @@
 ghost use Rattle.std.specs.Prelude.{◌≡◌, None, OnOk, Some, []};
 
 use std::alloc::{AllocError, Global};
-use wc_diag_texts::{Case, Expected};
+use wc_diag_texts::Expected;
 
 /// The offending bytes of a line.
 #[derive(Clone, Copy, PartialEq, Eq)]
@@ -23,14 +23,14 @@ pub struct Diagnostic {
     pub span: Option<Span>,
     /// The slice of the text with which the headline begins; empty: none.
     pub subject: Vec<u8>,
-    /// What is said of it, by the number: the headline.
-    pub case: Case,
+    /// What is said of it, the headline; empty: all is in what follows, none: what the number says.
+    pub sentence: Option<&'static str>,
     /// What follows the headline; empty: nothing.
     pub detail: String,
     /// What could be at the span.
     pub expected: Expected,
-    /// What to write instead, by the number.
-    pub hint: Case,
+    /// What to write instead; empty: what the number says.
+    pub hint: &'static str,
     /// What to write instead, with the available values; empty: nothing beyond the hint.
     pub advice: String,
 }
@@ -46,10 +46,10 @@ impl Diagnostic {
             shown: Vec::new(alloc),
             span: None,
             subject: Vec::new(alloc),
-            case: Case::Unknown,
+            sentence: None,
             detail: String::new(alloc),
             expected: Expected::Nothing,
-            hint: Case::Unknown,
+            hint: "",
             advice: String::new(alloc),
         }
     }
@@ -64,15 +64,18 @@ impl Diagnostic {
         self.span = Some(Span { start, length });
     }
 
-    /// Says of a slice of the text what is said in that case.
-    pub(crate) fn report(&mut self, subject: &[u8], case: Case) -> Result<(), AllocError>
+    /// Says that of a slice of the text.
+    pub(crate) fn report(
+        &mut self,
+        subject: &[u8],
+        sentence: Option<&'static str>,
+    ) -> Result<(), AllocError>
         ensures span { self.new.span ≡ self.old.span }
         ensures line { self.new.line ≡ self.old.line }
         ensures subject { OnOk result (self.new.subject.items ≡ subject.now) }
     {
         self.subject.clear();
-        self.case = case;
-        self.hint = case;
+        self.sentence = sentence;
         self.subject.extend_from_slice(subject)?;
         Ok(())
     }

@@ -6,7 +6,6 @@ use std::fmt::Write;
 use toml::de::Error;
 use wc_diag_mistakes::{Said, said_text};
 use wc_diag_stops::{bytes_at, following};
-use wc_diag_texts::Case;
 use wc_plate::{BrokenRule, allows_interval, plate_of};
 
 /// The scale intervals that some plate may have.
@@ -122,15 +121,20 @@ fn interval_advice(alloc: Global, unit: [u8; 3], decimals: u32) -> Result<String
 }
 
 /// The key whose value a rule on values refers to, and what is said of it if the rule's number does not say it.
-fn key_of(rule: BrokenRule<'_>) -> (&'static str, Case) {
+fn key_of(rule: BrokenRule<'_>) -> (&'static str, Option<&'static str>) {
     match rule {
-        BrokenRule::Unit => ("unit", Case::Unknown),
-        BrokenRule::Decimals => ("decimals", Case::Unknown),
-        BrokenRule::Interval { .. } => ("e", Case::Unknown),
-        BrokenRule::Load { .. } => ("max", Case::Unknown),
-        BrokenRule::ZeroCounts => ("zero_counts", Case::ZeroCounts),
-        BrokenRule::SpanCounts { .. } => ("span_counts", Case::SpanCounts),
-        _ => ("window", Case::Unknown),
+        BrokenRule::Unit => ("unit", None),
+        BrokenRule::Decimals => ("decimals", None),
+        BrokenRule::Interval { .. } => ("e", None),
+        BrokenRule::Load { .. } => ("max", None),
+        BrokenRule::ZeroCounts => {
+            (
+                "zero_counts",
+                Some("zero_counts must be -8388608 to 8388607"),
+            )
+        }
+        BrokenRule::SpanCounts { .. } => ("span_counts", Some("span_counts is out of range")),
+        _ => ("window", None),
     }
 }
 
@@ -174,21 +178,21 @@ fn report_rule(
                 let likely = likely_key(text, key, missing);
                 diagnostic.advice = format!(in alloc; "{likely} is missing")?;
             }
-            diagnostic.report(key.as_bytes(), Case::UnknownKey)
+            diagnostic.report(key.as_bytes(), Some("is not a key of a plate"))
         }
-        BrokenRule::MissingKey { key } => diagnostic.report(key.as_bytes(), Case::MissingKey),
+        BrokenRule::MissingKey { key } => diagnostic.report(key.as_bytes(), Some("is missing")),
         BrokenRule::WrongKind { key } => {
             point_to(diagnostic, text, key, false);
-            let case = match key {
-                "unit" => Case::NoText,
-                _ => Case::NoWholeNumber,
+            let sentence = match key {
+                "unit" => "must be a text",
+                _ => "must be a whole number",
             };
-            diagnostic.report(key.as_bytes(), case)
+            diagnostic.report(key.as_bytes(), Some(sentence))
         }
         rule => {
-            let (key, case) = key_of(rule);
+            let (key, sentence) = key_of(rule);
             point_to(diagnostic, text, key, false);
-            diagnostic.case = case;
+            diagnostic.sentence = sentence;
             diagnostic.advice = said_text(alloc, advice_of(alloc, rule))?;
             Ok(())
         }

@@ -19,7 +19,7 @@ use wc_diag_stops::{
     BYTE_ORDER_MARK, Brought, LabelPaths, PathToLabel, RefusalSpan, bytes_at, case_of_lexeme,
     following, prefix, stop_of,
 };
-use wc_diag_texts::{Case, Expected, Paths, own_sentence_of, paths_text, sentence_of};
+use wc_diag_texts::{Case, Expected, Mistake, Paths, paths_text, sentence_of};
 use wc_lexer::{Shape, Token};
 use wc_model::{Fault, Kind, Unit, is_word};
 
@@ -64,20 +64,27 @@ fn case_at(refused: &Refused<'_, '_>) -> Case {
     }
 }
 
-/// The case of which the sentence speaks: that of the mistake, if it has a sentence of its own.
-fn case_said(number: u16, case: Case, mistake: Case) -> Case {
-    match mistake {
-        Case::LeftOut | Case::Utf16 => case,
-        Case::Constant | Case::Persistent | Case::Retain if matches!(case, Case::LeftOut) => case,
-        _ if own_sentence_of(number, mistake).is_some() => mistake,
-        _ => case,
+/// The mistake of which the sentence speaks: the one that is shown, if it has a sentence of its own, else the case.
+fn mistake_said(number: u16, case: Case, mistake: Mistake) -> Mistake {
+    match (mistake.case, case) {
+        (Case::LeftOut, _) | (Case::Lasting, Case::LeftOut) => Mistake::of(case).worded(number),
+        _ if mistake.sentence.is_empty() => Mistake::of(case).worded(number),
+        _ => mistake,
     }
+}
+
+/// What is said of a mistake; nothing if the number's own sentence says all.
+fn said_of_mistake(number: u16, mistake: Mistake) -> Option<&'static str> {
+    if mistake.sentence.is_empty() {
+        return sentence_of(number, mistake.case);
+    }
+    Some(mistake.sentence)
 }
 
 /// What could be at a slice, if that is what is wrong: not after a word that is left out, nor a point after a NOT.
 fn expected_at(expected: Expected, mistake: Case) -> Expected {
     match mistake {
-        Case::Constant | Case::Persistent | Case::Retain => Expected::Nothing,
+        Case::Lasting => Expected::Nothing,
         Case::NegatedOperand => Expected::LineEnd,
         _ => expected,
     }
@@ -94,16 +101,15 @@ fn character_length(text: &[u8]) -> usize {
 }
 
 /// The number of bytes of a slice that are quoted: none if its sentence is given alone.
-fn quoted_length(refused: &Refused<'_, '_>, case: Case) -> usize {
+fn quoted_length(refused: &Refused<'_, '_>, mistake: Mistake) -> usize {
     let span = refused.span;
-    match (refused.number, case) {
+    match (refused.number, mistake.case) {
         (101, Case::ByteOrderMark) => BYTE_ORDER_MARK.len(),
         (101, Case::NoBreakSpace) => 0,
         (101, Case::Byte(128..)) => character_length(refused.lexeme),
-        (201, Case::LineEnd | Case::Constant | Case::Persistent | Case::Retain) | (202..=208, _) =>
-            0,
+        (201, Case::LineEnd | Case::Lasting) | (202..=208, _) => 0,
         (403, Case::AtLabel | Case::Unreached | Case::Plain) => 0,
-        (number, _) if span.below.is_some() || sentence_of(number, case).is_none() => 0,
+        (number, _) if span.below.is_some() || said_of_mistake(number, mistake).is_none() => 0,
         (402, _) if names_operator(refused) => 0,
         _ => span.length,
     }
@@ -229,38 +235,37 @@ fn said_below(refused: &Refused<'_, '_>, line: u32, sentence: &str) -> Said {
 }
 
 /// What is said in place of the sentence, also of an offending slice on a line below.
-fn said_of(refused: &Refused<'_, '_>, case: Case, mistake: Case) -> Said {
-    let said = said_there(refused, case, mistake);
+fn said_of(refused: &Refused<'_, '_>, said: Said, sentence: Option<&'static str>) -> Said {
     let Some(below) = refused.span.below else {
         return said;
     };
     match said {
         Some(Ok(said)) => said_below(refused, below.line, &said),
         Some(Err(error)) => Some(Err(error)),
-        None => said_below(refused, below.line, sentence_of(refused.number, case)?),
+        None => said_below(refused, below.line, sentence?),
     }
 }
 
-/// Says what is wrong with a slice of a text: what is found is the number of bytes to quote, and the mistake.
-fn say_of_span(
-    diagnostic: &mut Diagnostic,
-    refused: &Refused<'_, '_>,
-) -> Result<(usize, Case), AllocError>
+/// Says what is wrong with a slice of a text: what is found is the number of bytes to quote.
+fn say_of_span(diagnostic: &mut Diagnostic, refused: &Refused<'_, '_>) -> Result<usize, AllocError>
     ensures span { diagnostic.new.span ≡ diagnostic.old.span }
     ensures line { diagnostic.new.line ≡ diagnostic.old.line }
 {
     let case = case_at(refused);
     let mistake = mistake_at(refused, case);
-    diagnostic.expected = expected_at(refused.span.expected, mistake);
-    let case = case_said(refused.number, case, mistake);
-    let (reported, detail) = match said_of(refused, case, mistake) {
-        Some(said) => (Case::Detailed, said?),
-        None => (case, said_text(refused.alloc, detail_of(refused))?),
+    let spoken = mistake_said(refused.number, case, mistake);
+    let sentence = said_of_mistake(refused.number, spoken);
+    let there = said_there(refused, spoken.case, mistake.case);
+    let (sentence, detail) = match said_of(refused, there, sentence) {
+        Some(said) => (Some(""), said?),
+        None => (sentence, said_text(refused.alloc, detail_of(refused))?),
     };
-    diagnostic.case = reported;
+    diagnostic.expected = expected_at(refused.span.expected, mistake.case);
+    diagnostic.sentence = sentence;
     diagnostic.detail = detail;
+    diagnostic.hint = mistake.hint;
     diagnostic.advice = said_text(refused.alloc, advice_at(refused, mistake))?;
-    Ok((quoted_length(refused, case), mistake))
+    Ok(quoted_length(refused, spoken))
 }
 
 /// Points to the slice at which a pass refuses a text, and says what is wrong with it.
@@ -280,11 +285,9 @@ fn point_to_span(
 {
     let span = refused.span;
     diagnostic.point(column_at(text, span.start), span.length);
-    let (length, mistake) = say_of_span(diagnostic, refused)?;
-    let case = diagnostic.case;
-    diagnostic.report(bytes_at(text, span.start, length), case)?;
-    diagnostic.hint = mistake;
-    Ok(())
+    let length = say_of_span(diagnostic, refused)?;
+    let sentence = diagnostic.sentence;
+    diagnostic.report(bytes_at(text, span.start, length), sentence)
 }
 
 /// What was found, if it is the fault of that number on that line.

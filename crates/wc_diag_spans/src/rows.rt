@@ -6,7 +6,7 @@ ghost use Rattle.wc_record.specs.Reported.{fields_reported};
 use crate::diagnostic::Diagnostic;
 use std::alloc::{AllocError, Global};
 use wc_diag_stops::{bytes_at, prefix};
-use wc_diag_texts::Case;
+use wc_diag_texts::{Case, sentence_of};
 use wc_record::RefusedRow;
 
 /// The number of bytes of a field that are shown at most.
@@ -68,28 +68,24 @@ fn has_semicolons(row: &RefusedRow) -> bool {
 
 /// Says the number of fields of a row, or what is wrong with the first row.
 fn report_fields(diagnostic: &mut Diagnostic, row: &RefusedRow, place: u32) {
-    diagnostic.case = match (place, row.len()) {
-        (1, 0) => Case::EmptyLog,
-        (1, _) if has_semicolons(row) => Case::SemicolonHeading,
-        (1, _) => Case::Heading,
+    diagnostic.sentence = match (place, row.len()) {
+        (1, 0) => Some("the log is empty: its first row ms,kind,data is missing"),
+        (1, _) if has_semicolons(row) => Some(
+            "the first row is not ms,kind,data: fields end with a comma, not with a semicolon",
+        ),
+        (1, _) => Some("the first row is not ms,kind,data"),
         (_, 4..) => {
             diagnostic.point(field_start(row, 2) + shown_field(row, 2).len(), 1);
-            Case::MoreFields
+            Some("the row has more than three fields")
         }
-        _ if has_semicolons(row) => Case::Semicolons,
-        _ => Case::Plain,
+        _ if has_semicolons(row) => Some("the row has semicolons in place of commas"),
+        _ => sentence_of(601, Case::Plain),
     };
 }
 
-/// What is wrong with a number of at most that number of digits.
-fn case_of_number(digits: &[u8], most: usize) -> Case {
-    if digits.is_empty() || digits.iter().any(|byte| !byte.is_ascii_digit()) {
-        Case::NoNumber
-    } else if digits.len() > most {
-        Case::TooLong
-    } else {
-        Case::Plain
-    }
+/// Whether some bytes are digits.
+fn are_digits(bytes: &[u8]) -> bool {
+    !bytes.is_empty() && bytes.iter().all(|byte| byte.is_ascii_digit())
 }
 
 /// The number of leading hexadecimal digits.
@@ -113,27 +109,41 @@ fn report_hexadecimal(diagnostic: &mut Diagnostic, row: &RefusedRow) -> Result<(
     let digits = hexadecimal_length(data);
     if digits < data.len() {
         diagnostic.point(start + digits, 1);
-        return diagnostic.report(bytes_at(data, digits, 1), Case::NoDigit);
+        return diagnostic.report(
+            bytes_at(data, digits, 1),
+            Some("is not a hexadecimal digit"),
+        );
     }
     diagnostic.point(start, digits.max(1));
-    diagnostic.case = match shown_field(row, 1) {
-        [b'I', ..] => Case::Inputs,
-        _ if digits % 2 == 1 => Case::OddDigits,
-        _ => Case::Plain,
+    diagnostic.sentence = match shown_field(row, 1) {
+        [b'I', ..] => Some("the inputs are not four hexadecimal digits"),
+        _ if digits % 2 == 1 => Some("the number of hexadecimal digits is odd"),
+        _ => sentence_of(606, Case::Plain),
     };
     Ok(())
 }
 
-/// What is wrong with the offending field, which is not empty.
-fn case_of_field(number: u16, row: &RefusedRow) -> Case {
-    let (kind, data) = (shown_field(row, 1), shown_field(row, 2));
-    match (number, kind) {
-        (602, _) => case_of_number(shown_field(row, 0), 13),
-        (604, [b'c' | b'l' | b'i' | b's' | b'p']) => Case::SmallLetter,
-        (605, _) => case_of_number(data.strip_prefix(b"-").unwrap_or(data), 10),
-        (608, [b'P']) => Case::Change,
-        _ => Case::Plain,
-    }
+/// What is said of the offending field.
+fn said_of_field(number: u16, row: &RefusedRow) -> Option<&'static str> {
+    let (time, kind, data) = (
+        shown_field(row, 0),
+        shown_field(row, 1),
+        shown_field(row, 2),
+    );
+    let counts = data.strip_prefix(b"-").unwrap_or(data);
+    Some(match (number, kind) {
+        (602 | 603, _) if time.is_empty() => "the time is missing",
+        (602, _) if !are_digits(time) => "is not a whole number of milliseconds",
+        (602, _) if time.len() > 13 => "has more than 13 digits",
+        (604, []) => "the kind is missing",
+        (604, [b'c' | b'l' | b'i' | b's' | b'p']) => "is not a kind: kinds are capital letters",
+        (605, _) if data.is_empty() => "the counts are missing",
+        (605, _) if !are_digits(counts) => "is not a whole number",
+        (605, _) if counts.len() > 10 => "has more than 10 digits",
+        (608, [b'P']) => "follows a change, which takes no data",
+        (608, _) => "follows a scan, which takes no data",
+        _ => return sentence_of(number, Case::Plain),
+    })
 }
 
 /// Says what is wrong with a field, and points to it.
@@ -147,11 +157,7 @@ fn report_field(
 {
     let field = shown_field(row, place);
     diagnostic.point(field_start(row, place), field.len().max(1));
-    if field.is_empty() {
-        diagnostic.case = Case::Missing;
-        return Ok(());
-    }
-    diagnostic.report(field, case_of_field(number, row))
+    diagnostic.report(field, said_of_field(number, row))
 }
 
 /// Says which rule of its number a row breaks, and points to the offending field.

@@ -15,7 +15,6 @@ use wc_diag_advice::watched_advice;
 use wc_diag_mistakes::{Said, said_text};
 use wc_diag_places::{SpannedSource, read_by_places};
 use wc_diag_stops::{bytes_at, first_word};
-use wc_diag_texts::Case;
 use wc_model::Fault;
 use wc_record::RefusedRow;
 
@@ -166,10 +165,11 @@ fn find_name(
     let mut diagnostic = Diagnostic::new(alloc, 1);
     let name = bytes_at(list, start, length);
     if !name.is_empty() {
-        diagnostic.report(name, Case::Watched)?;
+        diagnostic.report(name, Some("is not a variable of the program"))?;
     }
     diagnostic.advice = said_text(alloc, name_advice(alloc, program, name))?;
-    diagnostic.hint = Case::Watched;
+    diagnostic.hint =
+        "name a variable, or a field after its instance, such as `t.ET`, with commas and no spaces between";
     diagnostic.point(start, length);
     diagnostic.line = 1;
     diagnostic.shown.clear();

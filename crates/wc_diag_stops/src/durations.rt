@@ -1,5 +1,5 @@
 use crate::slices::{following, prefix};
-use wc_diag_texts::Case;
+use std::cmp::Ordering;
 use wc_model::is_word;
 
 /// The units of time, in milliseconds.
@@ -31,31 +31,22 @@ fn length_until(text: &[u8], letter: bool) -> usize {
         .count()
 }
 
-/// A number of a duration with its unit.
-#[derive(Clone, Copy)]
-struct Part<'t> {
-    /// The number, without a fraction.
-    number: u64,
-    /// The unit in milliseconds; 0 if it is none of the language.
-    unit: u64,
-    /// What comes after them.
-    after: &'t [u8],
-}
-
-/// The first number of a duration with its unit.
-fn first_part(text: &[u8]) -> Part<'_> {
+/// The first number of a duration, without a fraction, its unit in milliseconds, which is 0 if it is none of the language, and what comes
+/// after them.
+fn first_part(text: &[u8]) -> (u64, u64, &[u8]) {
     let number = prefix(text, length_until(text, true));
     let letters = following(text, number.len());
     let unit = prefix(letters, length_until(letters, false));
     let whole = number.split(|byte| *byte == b'.').next().unwrap_or(b"");
-    Part {
-        number: number_of(whole),
-        unit: UNITS
-            .iter()
-            .find(|(word, _)| is_word(word, unit))
-            .map_or(0, |(_, milliseconds)| *milliseconds),
-        after: following(letters, unit.len()),
-    }
+    let milliseconds = UNITS
+        .iter()
+        .find(|(word, _)| is_word(word, unit))
+        .map_or(0, |(_, milliseconds)| *milliseconds);
+    (
+        number_of(whole),
+        milliseconds,
+        following(letters, unit.len()),
+    )
 }
 
 /// What follows the `#` of a literal.
@@ -66,40 +57,31 @@ fn after_prefix(token: &[u8]) -> &[u8] {
     }
 }
 
-/// Whether the numbers of a duration with their units are more than a TIME holds.
-pub(crate) fn is_long_duration(token: &[u8]) -> bool {
+/// Whether the numbers of a duration with their units are more than a TIME holds, and how the first unit that is not smaller than that
+/// before it compares to that, if all are of the language.
+pub(crate) fn read_units(token: &[u8]) -> (bool, Option<Ordering>) {
     let mut rest = after_prefix(token);
     let most = if rest.starts_with(b"-") {
         2_147_483_648
     } else {
         2_147_483_647
     };
-    let mut total = 0_u64;
-    for _ in 0..token.len() {
-        let part = first_part(rest);
-        total = total.saturating_add(part.number.saturating_mul(part.unit));
-        rest = part.after;
-    }
-    total > most
-}
-
-/// The mistake in the units of a duration, if all are of the language and one is not smaller than that before it.
-pub(crate) fn mistaken_units(token: &[u8]) -> Option<Case> {
-    let mut rest = after_prefix(token);
-    let (mut before, mut mistake) = (u64::MAX, None);
+    let (mut total, mut before, mut order) = (0_u64, u64::MAX, None);
+    let mut is_known = true;
     for _ in 0..token.len() {
         if rest.is_empty() {
-            return mistake;
+            break;
         }
-        let part = first_part(rest);
-        mistake = match mistake {
-            _ if part.unit == 0 => return None,
-            None if part.unit == before => Some(Case::UnitTwice),
-            None if part.unit > before => Some(Case::UnitOrder),
+        let (number, unit, after) = first_part(rest);
+        total = total.saturating_add(number.saturating_mul(unit));
+        is_known = is_known && unit != 0;
+        order = match order {
+            None if unit == before => Some(Ordering::Equal),
+            None if unit > before => Some(Ordering::Greater),
             found => found,
         };
-        before = part.unit;
-        rest = part.after;
+        before = unit;
+        rest = after;
     }
-    mistake
+    (total > most, if is_known { order } else { None })
 }

@@ -30,7 +30,7 @@ fn is_decimal(text: &[u8]) -> bool {
 }
 
 /// Digits and a unit of time.
-fn is_bare_duration(text: &[u8]) -> bool {
+pub(crate) fn is_bare_duration(text: &[u8]) -> bool {
     let digits = text
         .iter()
         .take_while(|byte| matches!(byte, b'0'..=b'9' | b'.' | b'_'))
@@ -43,7 +43,7 @@ fn case_of_number(text: &[u8]) -> Case {
     if text.len() == 1 {
         Case::SignAlone
     } else if is_bare_duration(text) {
-        Case::NoDuration
+        Case::NoNumber
     } else if text.contains(&b'#') {
         Case::WithBase
     } else if text.contains(&b'.') {

@@ -1,11 +1,12 @@
 use crate::around::{last_line, operator_on, text_of};
-use crate::durations::{is_long_duration, mistaken_units};
+use crate::durations::read_units;
+use crate::lexemes::is_bare_duration;
 use crate::slices::following;
 use crate::words::{first_word, is_among};
+use std::cmp::Ordering;
 use wc_built_in::{Keyword, keyword_named};
-use wc_diag_texts::Case;
+use wc_diag_texts::{Case, Mistake, mistake_among};
 use wc_lexer::{Shape, Token};
-use wc_model::is_word;
 
 /// Whether a byte is a digit.
 pub fn is_digit(byte: Option<&u8>) -> bool {
@@ -14,39 +15,19 @@ pub fn is_digit(byte: Option<&u8>) -> bool {
 
 /// Whether a digit is right before a place, at the end of the last of these tokens.
 pub fn follows_digit(before: &[Token<'_>], start: usize) -> bool {
-    match before.last() {
-        Some(token) => {
-            let end = token.text.len().saturating_add(token.start as usize);
-            end == start && is_digit(token.text.last())
-        }
-        None => false,
-    }
+    before.last().is_some_and(|token| {
+        let end = token.text.len().saturating_add(token.start as usize);
+        end == start && is_digit(token.text.last())
+    })
 }
 
 /// The statement of Structured Text that a word begins or ends, if it is one.
-pub fn mistaken_statement(word: &[u8]) -> Option<Case> {
-    if is_among(b"if elsif else end_if", word) {
-        Some(Case::IfStatement)
-    } else if is_among(b"for end_for while end_while repeat until", word) {
-        Some(Case::Loop)
-    } else if is_among(b"case end_case", word) {
-        Some(Case::CaseStatement)
-    } else {
-        None
-    }
-}
-
-/// A `=` in place of something else, by what is before it on its line.
-fn mistaken_equals(before: &[Token<'_>]) -> Case {
-    let has = |shape: Shape| before.iter().any(|token| token.shape == shape);
-    if before.is_empty() {
-        Case::StatementAssign
-    } else if has(Shape::Opening) {
-        Case::EqualInput
-    } else if has(Shape::Colon) || has(Shape::Assign) {
-        Case::EqualInitial
-    } else {
-        Case::Byte(b'=')
+pub fn mistaken_statement(word: &[u8]) -> Option<Mistake> {
+    mistake_among! {
+        word;
+        _ if is_among(b"if elsif else end_if", word) => Worded "this looks like Structured Text: for IF a write LD a, JMPCN skip; `skip:` is the END_IF";
+        _ if is_among(b"for end_for while end_while repeat until", word) => Loop "this looks like Structured Text: there are no loops; write the lines once for each pass, or do one pass in each scan: LD n, LT 10, JMPCN done; the lines; LD n, ADD 1, ST n; `done:` goes on with an LD";
+        _ if is_among(b"case end_case", word) => Worded "this looks like Structured Text: for each value write LD mode, EQ 1, JMPCN next1, its lines, JMP done; `next1:` begins the next value or ELSE; `done:` replaces END_CASE";
     }
 }
 
@@ -61,62 +42,81 @@ fn is_statement_comparison(text: &[u8]) -> bool {
     }
 }
 
-/// A quotation mark at a place, by the tokens before it and what begins with it.
-fn mistaken_quote(before: &[Token<'_>], start: usize, rest: &[u8]) -> Case {
-    let name = first_word(following(rest, 1));
-    let is_closed = following(rest, name.len().saturating_add(1)).starts_with(b"\"");
-    if rest.starts_with(b"'") && follows_digit(before, start) && is_digit(rest.get(1)) {
-        Case::DigitGroups
-    } else if rest.starts_with(b"\"") && is_closed && is_operator(operator_on(last_line(before))) {
-        Case::QuotedName
-    } else {
-        Case::Quote
+/// A `=`, `<` or `>` in place of something else, by what is before it on its line and what begins with it.
+fn mistaken_sign(before: &[Token<'_>], byte: u8, rest: &[u8]) -> Option<Mistake> {
+    let has = |shape: Shape| before.iter().any(|token| token.shape == shape);
+    mistake_among! {
+        (mistaken_statement(text_of(before.first())), byte);
+        _ if before.is_empty() && is_statement_comparison(rest) => StatementComparison says "is not an operator", "this looks like Siemens STL (AWL): ==I and ==D are EQ, <>I is NE, >I GT, <I LT, >=I GE and <=I LE, each with its operand, such as EQ 5";
+        (Some(Mistake { case: Case::Loop, .. }), _) => Worded "this looks like Structured Text: there are no loops; do one pass of the loop in each scan: LD n, LT 10, JMPCN done; its lines; LD n, ADD 1, ST n; `done:` goes on with an LD";
+        (Some(_), b'=') => Worded "this looks like Structured Text: for IF a = 5 write LD a, EQ 5, JMPCN skip; `skip:` is the END_IF";
+        (Some(_), _) => Worded "this looks like Structured Text: for IF w >= 1000 write LD w, GE 1000, JMPCN skip; `skip:` is the END_IF";
+        (None, b'=') if before.is_empty() => StatementAssign says "is not an operator", "this looks like Siemens STL (AWL): `=` is ST; U or O is LD at the start and after each `=`, S or R, else AND or OR";
+        (None, b'=') if has(Shape::Opening) => Worded "an input is passed with `:=`, such as IN := a";
+        (None, b'=') if has(Shape::Colon) || has(Shape::Assign) => Worded "an initial value is written with `:=`, such as a : DINT := 5;";
+        (None, b'=') => Worded "to store write ST, to compare EQ, NE, GT, GE, LT or LE; a call and a declaration have `:=`";
+        (None, b'>') => Worded "to compare write GT or GE";
+        (None, b'<') => Worded "to compare write LT, LE or NE";
     }
 }
 
-/// A comparison as Structured Text writes it, by what is before it on its line; nothing if no condition begins the line.
-fn mistaken_comparison(before: &[Token<'_>], byte: u8) -> Option<Case> {
-    match mistaken_statement(text_of(before.first()))? {
-        Case::Loop => Some(Case::Loop),
-        _ if byte == b'=' => Some(Case::IfEqual),
-        _ => Some(Case::IfStatement),
+/// A quotation mark at a place, by the tokens before it and what begins with it.
+fn mistaken_quote(before: &[Token<'_>], start: usize, rest: &[u8]) -> Option<Mistake> {
+    let name = first_word(following(rest, 1));
+    let is_closed = following(rest, name.len().saturating_add(1)).starts_with(b"\"");
+    let is_operand = is_operator(operator_on(last_line(before)));
+    mistake_among! {
+        rest.first();
+        Some(b'\'') if follows_digit(before, start) && is_digit(rest.get(1)) => Worded "write the digits together, or with underscores, such as 1_000";
+        Some(b'"') if is_closed && is_operand => QuotedName "write a name without quotation marks, such as LD start";
+        Some(_) => Worded "this language has no strings: use a DINT with a number for each text, such as 1";
+    }
+}
+
+/// A byte of which this language has none, by the byte after it.
+fn foreign_byte(byte: u8, next: Option<&u8>) -> Option<Mistake> {
+    mistake_among! {
+        (byte, next);
+        (b'[' | b']', _) => Worded "this language has no arrays: declare one variable for each element, such as a0, a1";
+        (b'{' | b'}', _) => Worded "delete it: this language has no pragmas; a comment is (* .. *)";
+        (b'/', Some(b'/')) => Worded "a comment is (* .. *)";
+        (b'/', _) => Worded "to divide write DIV; a comment is (* .. *)";
+        (b'*', _) => Worded "to multiply write MUL; a comment is (* .. *)";
+        (b'#', _) => Worded "a # belongs to a literal, such as 16#FF or T#5s";
+        (b'\r', _) => Worded "save the file with line ends of Windows (CR LF) or Unix (LF)";
+        (0, _) => Worded "save the text as ASCII, or as UTF-8 without a byte order mark";
+        (0xc2, Some(0xa0)) => NoBreakSpace says "a no-break space (U+00A0) is not allowed here", "write a space in its place";
+        (128.., _) => Worded "names have the letters A to Z and a to z, digits and underscores; comments may have any";
     }
 }
 
 /// A mistake of a byte that is not allowed at a place: these tokens are before it, and `rest` begins with it.
-pub fn mistaken_byte(before: &[Token<'_>], start: usize, rest: &[u8], case: Case) -> Case {
-    let line = last_line(before);
+pub fn mistaken_byte(
+    before: &[Token<'_>],
+    start: usize,
+    rest: &[u8],
+    case: Case,
+) -> Option<Mistake> {
     match case {
-        Case::Byte(b'=' | b'<' | b'>') if line.is_empty() && is_statement_comparison(rest) => {
-            Case::StatementComparison
-        }
-        Case::Byte(byte @ (b'=' | b'<' | b'>')) => match mistaken_comparison(line, byte) {
-            Some(mistake) => mistake,
-            None if byte == b'=' => mistaken_equals(line),
-            None => case,
-        },
-        Case::Byte(b'[' | b']') => Case::Bracket,
+        Case::Byte(byte @ (b'=' | b'<' | b'>')) => mistaken_sign(last_line(before), byte, rest),
         Case::Byte(b'\'' | b'"') => mistaken_quote(before, start, rest),
-        Case::Byte(b'{' | b'}') => Case::Brace,
-        Case::Byte(b'/') if rest.starts_with(b"//") => Case::LineComment,
-        Case::Byte(0) => Case::Utf16,
-        Case::Byte(0xc2) if rest.starts_with(b"\xc2\xa0") => Case::NoBreakSpace,
-        Case::Byte(128..) => Case::NotAscii,
-        _ => case,
+        Case::Byte(byte) => foreign_byte(byte, rest.get(1)),
+        _ => None,
     }
 }
 
 /// A mistake in a duration; `rest` begins after it.
-pub fn mistaken_duration(token: &[u8], rest: &[u8], case: Case) -> Case {
-    if rest.first() == Some(&b',') && is_digit(rest.get(1)) {
-        return Case::DecimalComma;
-    }
-    match token.last() {
-        Some(b'0'..=b'9' | b'.' | b'_') => Case::MissingUnit,
-        Some(b'#') => Case::SpacedDuration,
-        _ if is_long_duration(token) && token.contains(&b'-') => Case::NegativeDuration,
-        _ if is_long_duration(token) => Case::LongDuration,
-        _ => mistaken_units(token).unwrap_or(case),
+pub fn mistaken_duration(token: &[u8], rest: &[u8]) -> Option<Mistake> {
+    let (is_long, order) = read_units(token);
+    mistake_among! {
+        (token.last(), order);
+        _ if rest.starts_with(b",") && is_digit(rest.get(1)) => Worded says "has a comma in place of a decimal point", "write a decimal point instead of the comma, such as T#1.5s";
+        (Some(b'0'..=b'9' | b'.' | b'_'), _) => Worded says "is a duration without a unit", "a duration has a unit right after its number, without a space, such as T#1s or T#500ms";
+        (Some(b'#'), _) => Worded says "is a duration without a number", "write the number right after T#, without a space, such as T#5s";
+        _ if is_long && token.contains(&b'-') => Worded says "is a duration out of range", "durations are T#-24d20h31m23s648ms to T#24d20h31m23s647ms";
+        _ if is_long => Worded says "is a duration out of range", "durations are T#-24d20h31m23s648ms to T#24d20h31m23s647ms; for longer ones count days, with start, run, stop : BOOL and day : TON and days : CTU: LD start, ANDN day.Q, ST run; CAL day(IN := run, PT := T#1d); LDN start, ST stop; CAL days(CU := day.Q, R := stop, PV := 30); days.Q is TRUE after 30 days";
+        (_, Some(Ordering::Equal)) => Worded says "has a unit twice", "write each unit once, the larger first, such as T#1m10s";
+        (_, Some(Ordering::Greater)) => Worded says "has its units in a wrong order", "each unit is smaller than that before it: write days, hours, minutes, seconds, milliseconds in this order, such as T#3h5s";
     }
 }
 
@@ -126,19 +126,16 @@ fn is_foreign_address(before: &[u8], token: &[u8]) -> bool {
 }
 
 /// A mistake in a number after a token; `rest` begins after it.
-pub fn mistaken_number(before: &[u8], token: &[u8], rest: &[u8], case: Case) -> Case {
-    match case {
-        Case::SignAlone if token.starts_with(b"-") && rest.starts_with(b">") => Case::ThinArrow,
-        Case::WithPoint if is_foreign_address(before, token) => Case::StatementAddress,
-        Case::WithPoint if is_among(b"%ix %qx", before) => Case::AddressSpace,
-        Case::WithBase if is_among(b"s5t s5time ltime lt", first_word(token)) => Case::NoDuration,
-        Case::WithBase if token.starts_with(b"BOOL") || token.starts_with(b"bool") => {
-            Case::TypedTruth
-        }
-        Case::WithBase if token.first().is_some_and(|byte| byte.is_ascii_alphabetic()) => {
-            Case::TypedNumber
-        }
-        _ => case,
+pub fn mistaken_number(before: &[u8], token: &[u8], rest: &[u8], case: Case) -> Option<Mistake> {
+    let is_foreign_duration = is_among(b"s5t s5time ltime lt", first_word(token));
+    mistake_among! {
+        case;
+        Case::SignAlone if token.starts_with(b"-") && rest.starts_with(b">") => Worded "an output is read with =>, such as Q => a";
+        Case::WithPoint if is_foreign_address(before, token) => StatementAddress "this looks like Siemens STL (AWL): E 0.0 is %IX0.0, A 4.0 an output such as %QX0.0; U is LD at the start and after each `=`, S or R, else AND (UN: LDN, ANDN); `=` is ST";
+        Case::WithPoint if is_among(b"%ix %qx", before) => Worded "write an address without a space, such as %IX0.0";
+        Case::NoNumber | Case::WithBase if is_foreign_duration || is_bare_duration(token) => Worded "a duration begins with T#, such as T#500ms";
+        Case::WithBase if token.starts_with(b"BOOL") || token.starts_with(b"bool") => Worded says "is not a literal of this language", "a BOOL is TRUE, FALSE, BOOL#0 or BOOL#1";
+        Case::WithBase if token.first().is_some_and(|byte| byte.is_ascii_alphabetic()) => Worded says "is not a literal of this language", "write the number without its type, such as 5";
     }
 }
 

@@ -6,6 +6,7 @@ mod case;
 mod catalogue;
 mod expected;
 mod format;
+mod mistake;
 mod mistakes;
 mod paths;
 
@@ -13,5 +14,6 @@ pub use case::Case;
 pub use catalogue::{Entry, entry_of};
 pub use expected::{Expected, words_of};
 pub use format::Format;
-pub use mistakes::{hint_of, own_sentence_of, sentence_of};
+pub use mistake::Mistake;
+pub use mistakes::{hint_of, sentence_of};
 pub use paths::{Paths, empty_path_advice, paths_text};
