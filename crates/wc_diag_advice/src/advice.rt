@@ -1,4 +1,4 @@
-use crate::fields::{input_advice, number_advice, point_advice};
+use crate::fields::{number_advice, point_advice};
 use crate::members::{declares_own, first_input, member_advice};
 use crate::near::{
     Wanted, instance_advice, label_advice, likely, near_name, near_word, operator_advice,
@@ -7,23 +7,40 @@ use crate::near::{
 use std::alloc::AllocError;
 use wc_built_in::variable_at;
 use wc_diag_mistakes::{Refused, Said, follows_leaving, words};
-use wc_diag_stops::{Brought, first_word, following, is_near, word_of};
+use wc_diag_stops::{Brought, first_word, following, is_near, is_shape, word_of};
 use wc_diag_texts::{Case, Mistake, empty_path_advice};
+use wc_lexer::Shape;
 use wc_model::{Kind, is_word};
 
-/// The likely operator for one whose letters are exchanged.
-fn exchanged_advice(refused: &Refused<'_, '_>) -> Said {
-    let likely = near_word("JMPCN CALCN RETCN", refused.token())?;
-    Some(format!(in refused.alloc; "did you mean `{likely}`? The C comes before the N"))
-}
-
-/// How to set an input that is used as an operator: the instance is the word after it.
-fn setting_advice(refused: &Refused<'_, '_>) -> Said {
-    let input = words(refused.token())?;
-    let instance = words(word_of(refused.next()))?;
-    Some(format!(in refused.alloc;
-        "write CAL {instance}({input} := a), or ST {instance}.{input} and then CAL {instance}: a store does not call the block"
-    ))
+/// What to write with a word and those around it: for an operator whose letters are exchanged, a label without its colon, a type before
+/// its name, an input that is used as an operator, and inputs without parentheses.
+fn order_advice(refused: &Refused<'_, '_>, mistake: Case) -> Said {
+    let (alloc, word) = (refused.alloc, words(refused.token())?);
+    let before = words(refused.word_before()).unwrap_or("");
+    Some(match mistake {
+        Case::ConditionSpelling => {
+            let likely = near_word("JMPCN CALCN RETCN", word.as_bytes())?;
+            format!(in alloc; "did you mean `{likely}`? The C comes before the N")
+        }
+        Case::LabelWithoutColon => {
+            format!(in alloc; "a label ends with a colon: write `{word}:`")
+        }
+        Case::TypeFirst => {
+            format!(in alloc; "the name comes before its type: write `{word} : {before};`")
+        }
+        Case::InputOperator => {
+            let instance = words(word_of(refused.next()))?;
+            format!(in alloc;
+                "write CAL {instance}({word} := a), or ST {instance}.{word} and then CAL {instance}: a store does not call the block"
+            )
+        }
+        Case::BareInputs if is_shape(refused.next(), Shape::Assign) => {
+            format!(in alloc;
+                "put the inputs of the call in parentheses: CAL {before}({word} := a)"
+            )
+        }
+        _ => return None,
+    })
 }
 
 /// What to write for lines of STL: around them a unit too, if none starts above.
@@ -36,8 +53,14 @@ fn frame_advice(refused: &Refused<'_, '_>, hint: &'static str) -> Said {
     ))
 }
 
-/// What to write at the label before the slice, if surely nothing leads to it.
-fn unreached_label_advice(refused: &Refused<'_, '_>) -> Said {
+/// What to write if no path leads to the label before the slice, or one alone, which brings nothing.
+fn path_advice(refused: &Refused<'_, '_>) -> Said {
+    if let Some(paths) = refused.span.paths {
+        return match (paths.other, paths.first.brought) {
+            (None, Brought::Nothing) => Some(empty_path_advice(refused.alloc, paths.first.line)),
+            _ => None,
+        };
+    }
     let token = refused.label_before()?;
     let label = words(token.text)?;
     if !follows_leaving(refused.tokens, token.line) {
@@ -46,23 +69,6 @@ fn unreached_label_advice(refused: &Refused<'_, '_>) -> Said {
     Some(format!(in refused.alloc;
         "make the JMP or RET above conditional (JMPC, JMPCN, RETC), jump to `{label}` from a line above, or delete this line"
     ))
-}
-
-/// What to write if no path is known to a label, or one alone, which brings nothing.
-fn path_advice(refused: &Refused<'_, '_>) -> Said {
-    match refused.span.paths {
-        None => unreached_label_advice(refused),
-        Some(paths) if paths.other.is_none() && matches!(paths.first.brought, Brought::Nothing) => {
-            Some(empty_path_advice(refused.alloc, paths.first.line))
-        }
-        _ => None,
-    }
-}
-
-/// What to write for a word to which a jump leads: it is a label without its colon.
-fn colon_advice(refused: &Refused<'_, '_>) -> Said {
-    let label = words(refused.token())?;
-    Some(format!(in refused.alloc; "a label ends with a colon: write `{label}:`"))
 }
 
 /// The likely END_VAR for a word almost like it, if the word before is one.
@@ -149,13 +155,6 @@ fn undeclared_advice(refused: &Refused<'_, '_>) -> Said {
     likely(refused, near_name(refused, refused.offending(), wanted))
 }
 
-/// What to write for a declaration with its type before its name.
-fn declaration_advice(refused: &Refused<'_, '_>) -> Said {
-    let name = words(refused.token()).unwrap_or("");
-    let kind = words(refused.word_before()).unwrap_or("");
-    Some(format!(in refused.alloc; "the name comes before its type: write `{name} : {kind};`"))
-}
-
 /// What to write for a name between quotation marks.
 fn unquoted_advice(refused: &Refused<'_, '_>) -> Said {
     let name = words(first_word(following(refused.lexeme, 1))).unwrap_or("");
@@ -180,19 +179,15 @@ pub fn advice_at(refused: &Refused<'_, '_>, mistake: Mistake) -> Said {
         | (105, Case::StatementAddress)
         | (201, Case::StatementList) => frame_advice(refused, mistake.hint),
         (201, Case::NoOperator) => operator_advice(refused),
-        (201, Case::LabelWithoutColon) => colon_advice(refused),
         (201, Case::NoUnit) => {
             likely(
                 refused,
                 near_word("PROGRAM FUNCTION_BLOCK", refused.token()),
             )
         }
-        (201, Case::ConditionSpelling) => exchanged_advice(refused),
-        (201, Case::InputOperator) => setting_advice(refused),
         (201, Case::OpenSection) => section_advice(refused),
-        (201, Case::TypeFirst) => declaration_advice(refused),
-        (201, Case::BareInputs) => input_advice(refused),
         (201, Case::NoAddress) => number_advice(refused),
+        (201, mistake) => order_advice(refused, mistake),
         (302, Case::Plain) => type_advice(refused),
         (304, Case::NoSuchBit) => bit_advice(refused),
         (401, Case::Plain) => undeclared_advice(refused),
@@ -202,9 +197,9 @@ pub fn advice_at(refused: &Refused<'_, '_>, mistake: Mistake) -> Said {
         (403, Case::AtLabel) => path_advice(refused),
         (404 | 405, _) => unseen_advice(refused),
         (406, Case::Plain) => label_advice(refused),
-        (401, Case::Field) | (409, Case::NotOfBlock(_) | Case::NotOfOwnBlock) => name_advice(
-            refused,
-        ),
+        (401, Case::Field) | (409, Case::NotOfBlock(_) | Case::NotOfOwnBlock) => {
+            name_advice(refused)
+        }
         _ => None,
     }
 }

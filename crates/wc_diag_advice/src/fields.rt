@@ -2,8 +2,7 @@ use crate::near::{Wanted, likely, near_name};
 use std::alloc::AllocError;
 use wc_built_in::variable_at;
 use wc_diag_mistakes::{Refused, Said, block_with, words};
-use wc_diag_stops::{following, is_among, is_shape, prefix, without_line_ends};
-use wc_lexer::Shape;
+use wc_diag_stops::{following, is_among, prefix, without_line_ends};
 
 /// The greatest bit of a number that is not negative.
 const GREATEST_BIT: u32 = 30;
@@ -32,17 +31,6 @@ pub(crate) fn point_advice(refused: &Refused<'_, '_>) -> Said {
             "did you mean `{near}`? It has no fields: write it without `.{field}`; for an instance declare {name} : {block}; in VAR, and call it with CAL"
         )),
     }
-}
-
-/// What to write for the inputs of a call without parentheses.
-pub(crate) fn input_advice(refused: &Refused<'_, '_>) -> Said {
-    let (input, instance) = (words(refused.token())?, words(refused.word_before())?);
-    if !is_shape(refused.next(), Shape::Assign) {
-        return None;
-    }
-    Some(format!(in refused.alloc;
-        "put the inputs of the call in parentheses: CAL {instance}({input} := a)"
-    ))
 }
 
 /// The number of a bit, if some digits are one.

@@ -4,7 +4,6 @@
 
 mod advice;
 mod fields;
-mod foreign;
 mod members;
 mod near;
 

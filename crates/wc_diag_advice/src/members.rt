@@ -37,26 +37,19 @@ fn block_named<'a, 't>(refused: &Refused<'a, 't>, block: &str) -> Option<&'t Uni
     units.find(|unit| unit.name.text.eq_ignore_ascii_case(block.as_bytes()))
 }
 
-/// Adds the names of a declaration to a list, with commas between, as long as it is not too long.
-fn add_names(list: &mut String, declaration: &Decl<'_>) -> Result<(), AllocError> {
-    for name in &declaration.names {
-        if list.len() <= LONGEST_LIST {
-            let mark = if list.is_empty() { "" } else { ", " };
-            write!(list, "{mark}{}", words(name.text).unwrap_or(""))?;
-        }
-    }
-    Ok(())
-}
-
-/// The names that a block of the text declares in a kind of section, with commas between.
+/// The names that a block of the text declares in a kind of section, with commas between, as long as they are not too long.
 fn names_in(refused: &Refused<'_, '_>, block: &str, wanted: Section) -> Result<String, AllocError> {
     let mut list = String::new(refused.alloc);
     let Some(unit) = block_named(refused, block) else {
         return Ok(list);
     };
-    for declaration in &unit.declarations {
-        if declaration.section == wanted {
-            add_names(&mut list, declaration)?;
+    let declarations = unit.declarations.iter();
+    for declaration in declarations.filter(|declaration| declaration.section == wanted) {
+        for name in &declaration.names {
+            if list.len() <= LONGEST_LIST {
+                let mark = if list.is_empty() { "" } else { ", " };
+                write!(list, "{mark}{}", words(name.text).unwrap_or(""))?;
+            }
         }
     }
     Ok(list)

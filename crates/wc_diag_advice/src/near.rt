@@ -1,4 +1,3 @@
-use crate::foreign::foreign_advice;
 use std::alloc::Global;
 use wc_built_in::{Keyword, elementary_type, keyword_named};
 use wc_diag_mistakes::{Refused, Said, words};
@@ -25,13 +24,9 @@ pub(crate) fn likely(refused: &Refused<'_, '_>, near: Option<&str>) -> Said {
     Some(format!(in refused.alloc; "did you mean `{near}`?"))
 }
 
-/// What to write for a word that begins a line and is neither an operator nor a keyword: that of another tool, or one that it may be a
-/// misspelling of.
+/// What to write for a word that begins a line and is neither an operator nor a keyword: one that it may be a misspelling of.
 pub(crate) fn operator_advice(refused: &Refused<'_, '_>) -> Said {
     let word = refused.token();
-    if let Some(foreign) = foreign_advice(word) {
-        return Some(format!(in refused.alloc; "{foreign}"));
-    }
     let end = if refused.is_in_program() {
         "END_PROGRAM"
     } else {

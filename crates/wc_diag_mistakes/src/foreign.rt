@@ -53,6 +53,37 @@ const OPERATORS: [Row; 2] = rows! {
     b"cu pv in pt clk s1 r1" => InputOperator "set an input in CAL, such as CAL c(CU := a): a store alone does not call the block";
 };
 
+/// Operators of other tools and languages, with what to write for each. Without these a name that is spelled almost as one of them, and does
+/// something else, would be suggested.
+const OTHERS: [Row; 26] = rows! {
+    b"ldi ldnot" => OtherOperator "did you mean `LDN`?";
+    b"ani andi" => OtherOperator "did you mean `ANDN`?";
+    b"ori" => OtherOperator "did you mean `ORN`?";
+    b"nand" => OtherOperator "write AND and its operand, and NOT on the next line";
+    b"nor" => OtherOperator "write OR and its operand, and NOT on the next line";
+    b"xnor" => OtherOperator "write XOR and its operand, and NOT on the next line";
+    b"jmpn jcn" => OtherOperator "did you mean `JMPCN`?";
+    b"retn" => OtherOperator "did you mean `RETCN`?";
+    b"caln" => OtherOperator "did you mean `CALCN`?";
+    b"uc" => OtherOperator "did you mean `CAL`?";
+    b"cc" => OtherOperator "did you mean `CALC`?";
+    b"set" => OtherOperator "did you mean `S`? It needs an operand; for SET alone write LD TRUE";
+    b"rst" => OtherOperator "did you mean `R`?";
+    b"clr" => OtherOperator "write LD FALSE";
+    b"sn rn" => OtherOperator "S and R have no N: negate the result with NOT on the line before";
+    b"out" => OtherOperator "did you mean `ST`?";
+    b"mov" => OtherOperator "LD loads the value, ST on the next line names where it goes";
+    b"gtn gen eqn nen ltn" => OtherOperator "comparisons have no N: write the comparison without it, and NOT on the next line";
+    b"gte" => OtherOperator "did you mean `GE`?";
+    b"lte" => OtherOperator "did you mean `LE`?";
+    b"neq" => OtherOperator "did you mean `NE`?";
+    b"inc" => OtherOperator "write LD n, on the next line ADD 1, on the next ST n";
+    b"dec" => OtherOperator "write LD n, on the next line SUB 1, on the next ST n";
+    b"bea beu" => OtherOperator "did you mean `RET`?";
+    b"beb bec" => OtherOperator "did you mean `RETC`?";
+    b"se sd si sp sa sf sv ss tim" => OtherOperator "a timer is a block: declare t : TON; in VAR for an on-delay (SD, German SE), t : TOF; for an off-delay (SF, German SA) or t : TP; for a pulse that runs on when a falls (SE, German SV), and write CAL t(IN := a, PT := T#1s); t.Q is its output; for a pulse that ends when a falls (SP, German SI) take a TON, and LD a, ANDN t.Q is the output";
+};
+
 /// Types that this language does not have, and words that begin one.
 const TYPES: [Row; 5] = rows! {
     b"int sint uint usint udint lint ulint byte word dword lword" => Worded "use DINT, the only integer type (32 bits, signed); single bits are BOOLs";
@@ -127,7 +158,7 @@ pub(crate) fn mistaken_name(word: &[u8]) -> Mistake {
     match row_of(&OPERATORS, word).or(row_of(&FRAMES, word)) {
         Some(mistake) => mistake,
         None if is_type(word) => Mistake::of(Case::InstanceCall),
-        None => Mistake::of(Case::NoOperator),
+        None => row_of(&OTHERS, word).unwrap_or(Mistake::of(Case::NoOperator)),
     }
 }
 

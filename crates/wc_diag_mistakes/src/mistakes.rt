@@ -47,7 +47,7 @@ fn mistaken_operator(refused: &Refused<'_, '_>) -> Mistake {
         Some(mistake) => mistake,
         None => mistaken_word(word, refused.next()),
     };
-    if matches!(mistake.case, Case::NoOperator) && is_label(refused) {
+    if matches!(mistake.case, Case::NoOperator | Case::OtherOperator) && is_label(refused) {
         return Mistake::of(Case::LabelWithoutColon);
     }
     mistake

@@ -1,26 +1,10 @@
-use crate::results::{place_of, result_after, result_before};
+use crate::results::{always_leaves, place_of, result_after, result_before};
 use crate::spanned_source::SpannedSource;
 use wc_diag_operands::{line_at, tokens_at, tokens_from};
 use wc_diag_stops::{Brought, LabelPaths, PathToLabel, ResultKind, last_line, without_line_ends};
 use wc_lexer::Token;
-use wc_model::{Condition, Instr, Line, Word};
+use wc_model::{Instr, Line, Word};
 use wc_names::Tables;
-
-/// Whether a line leaves for a label, or the body, whatever the result is.
-fn always_leaves(line: &Line<'_>) -> bool {
-    matches!(
-        &line.instr,
-        Some(
-            Instr::Jump {
-                condition: Condition::Always,
-                ..
-            } | Instr::Return {
-                condition: Condition::Always,
-                ..
-            }
-        )
-    )
-}
 
 /// Where a line jumps to that label, if it does.
 fn jump_to(line: &Line<'_>, name: &[u8]) -> Option<u32> {
@@ -51,62 +35,38 @@ fn differ(a: PathToLabel, b: PathToLabel) -> bool {
 /// The paths to a label that were found.
 #[derive(Clone, Copy)]
 struct FoundPaths {
-    /// Those of which is sure what they bring.
-    sure: Option<LabelPaths>,
-    /// The first of which it is not.
+    /// The first of which is sure what it brings.
+    first: Option<PathToLabel>,
+    /// The first of these that brings something else.
+    other: Option<PathToLabel>,
+    /// The first of which it is not sure.
     unsure: Option<PathToLabel>,
     /// Whether that is the only one.
     is_only: bool,
 }
 
-/// The sure paths so far, with one more.
-fn with_path(paths: Option<LabelPaths>, path: PathToLabel) -> LabelPaths {
-    match paths {
-        None => LabelPaths {
-            first: path,
-            other: None,
-        },
-        Some(found) if found.other.is_none() && differ(found.first, path) => LabelPaths {
-            first: found.first,
-            other: Some(path),
-        },
-        Some(found) => found,
-    }
-}
-
-/// The paths so far, with one more.
-fn with_found(found: FoundPaths, path: PathToLabel) -> FoundPaths {
-    match (path.brought, found.unsure) {
-        (Brought::Unsure, None) => FoundPaths {
-            unsure: Some(path),
-            ..found
-        },
-        (Brought::Unsure, Some(_)) => FoundPaths {
-            is_only: false,
-            ..found
-        },
-        _ => FoundPaths {
-            sure: Some(with_path(found.sure, path)),
-            ..found
+/// Adds a path to those that were found.
+fn add_path(found: &mut FoundPaths, path: PathToLabel) {
+    match (path.brought, found.first) {
+        (Brought::Unsure, _) => {
+            found.is_only = found.unsure.is_none();
+            found.unsure = found.unsure.or(Some(path));
+        }
+        (_, None) => found.first = Some(path),
+        (_, Some(first)) => if found.other.is_none() && differ(first, path) {
+            found.other = Some(path);
         },
     }
 }
 
 /// The paths by which no single result is at a label: if all that are sure bring the same type, the only other one does not.
 fn paths_of(found: FoundPaths) -> Option<LabelPaths> {
-    let Some(sure) = found.sure else {
-        return Some(LabelPaths {
-            first: found.unsure?,
-            other: None,
-        });
+    let first = found.first.or(found.unsure)?;
+    let other = match first.brought {
+        Brought::Kind(_) if found.other.is_none() && found.is_only => found.unsure,
+        _ => found.other,
     };
-    match (sure.other, sure.first.brought) {
-        (None, Brought::Kind(_)) if found.is_only => Some(LabelPaths {
-            first: sure.first,
-            other: found.unsure,
-        }),
-        _ => Some(sure),
-    }
+    Some(LabelPaths { first, other })
 }
 
 /// The paths to a label from the lines above it: its jumps, and the last of the lines if it goes on. `tokens` are those of the text
@@ -119,7 +79,8 @@ fn paths_from(
     label: &[u8],
 ) -> Option<LabelPaths> {
     let mut found = FoundPaths {
-        sure: None,
+        first: None,
+        other: None,
         unsure: None,
         is_only: true,
     };
@@ -133,7 +94,7 @@ fn paths_from(
                 line: line_at(tokens_from(tokens, place).first()),
                 brought: brought(result, is_after_label),
             };
-            found = with_found(found, path);
+            add_path(&mut found, path);
         }
         result = result_after(tables, unit, line, result);
     }
@@ -144,7 +105,8 @@ fn paths_from(
         line: line_at(last_line(without_line_ends(tokens)).first()),
         brought: brought(result, is_after_label),
     };
-    paths_of(with_found(found, path))
+    add_path(&mut found, path);
+    paths_of(found)
 }
 
 /// The number of lines up to that of the label right before the instruction at a place, and that label, if there is one.

@@ -1,5 +1,5 @@
 use wc_diag_stops::ResultKind;
-use wc_model::{Condition, Instr, Line, MOST_DEPTH, Operand, Operator};
+use wc_model::{Condition, Instr, Line, MOST_DEPTH, Operand};
 use wc_names::Tables;
 use wc_text_kinds::kind_after_operator;
 
@@ -44,16 +44,13 @@ fn result_of(
     Some(ResultKind { kind, line: place })
 }
 
-/// The result after an operator at a place.
-fn result_after_operator(
-    operator: Operator,
-    place: u32,
-    before: Option<ResultKind>,
-) -> Option<ResultKind> {
-    match kind_after_operator(operator, None) {
-        Some(kind) => Some(ResultKind { kind, line: place }),
-        None => before,
-    }
+/// Whether a line leaves for a label, or the body, whatever the result is.
+pub(crate) fn always_leaves(line: &Line<'_>) -> bool {
+    matches!(
+        &line.instr,
+        Some(Instr::Jump { condition, .. } | Instr::Return { condition, .. })
+            if *condition == Condition::Always
+    )
 }
 
 /// The result before the instruction of a line, from that before the line: at a label it is not sure.
@@ -74,18 +71,12 @@ pub(crate) fn result_after(
     match &line.instr {
         Some(Instr::Load { operand, line, .. }) => result_of(tables, unit, operand, *line),
         Some(Instr::Apply { operator, line, .. } | Instr::Defer { operator, line, .. }) => {
-            result_after_operator(*operator, *line, before)
-        }
-        Some(
-            Instr::Jump {
-                condition: Condition::Always,
-                ..
+            match kind_after_operator(*operator, None) {
+                Some(kind) => Some(ResultKind { kind, line: *line }),
+                None => before,
             }
-            | Instr::Return {
-                condition: Condition::Always,
-                ..
-            },
-        ) => None,
+        }
+        _ if always_leaves(line) => None,
         _ => before,
     }
 }

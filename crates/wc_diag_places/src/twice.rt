@@ -4,7 +4,7 @@ ghost use Rattle.wc_diag_places.specs.LaterSpans.{unit_number};
 ghost use Rattle.wc_model.specs.Language.Views.{text_view};
 
 use wc_diag_texts::Case;
-use wc_model::{Line, MOST_VARIABLES, Source, Unit, Word};
+use wc_model::{MOST_VARIABLES, Source, Unit, Word};
 
 /// Where a word is, if it is this name and is before a place.
 fn place_before(word: &Word<'_>, name: &[u8], place: u32) -> Option<u32> {
@@ -28,16 +28,12 @@ pub(crate) fn unit_at(source: &Source<'_>, place: u32) -> usize
     units_until(&source.units, place).saturating_sub(1)
 }
 
-/// The number of these names up to a place.
-fn names_until(names: &[Word<'_>], place: u32) -> usize {
-    names.iter().filter(|word| word.line <= place).count()
-}
-
 /// The number of variables of a unit up to a place.
 fn variables_until(unit: &Unit<'_>, place: u32) -> usize {
     let mut count = 0_usize;
     for declaration in &unit.declarations {
-        count = count.saturating_add(names_until(&declaration.names, place));
+        let names = declaration.names.iter();
+        count = count.saturating_add(names.filter(|word| word.line <= place).count());
     }
     count
 }
@@ -50,18 +46,6 @@ pub(crate) fn case_of_capacity(source: &Source<'_>, place: u32) -> Case {
     }
 }
 
-/// Where the first of these names is that is this one, before a place.
-fn name_before(names: &[Word<'_>], name: &[u8], place: u32) -> Option<u32> {
-    names
-        .iter()
-        .find_map(|word| place_before(word, name, place))
-}
-
-/// Where the label of a line is, if it is this name and is before a place.
-fn label_before(line: &Line<'_>, name: &[u8], place: u32) -> Option<u32> {
-    place_before(line.label.as_ref()?, name, place)
-}
-
 /// Where the first of two is that have the name at a place: units or variables (301), labels (407), the label of a jump (406).
 pub(crate) fn first_of_two(
     source: &Source<'_>,
@@ -70,21 +54,17 @@ pub(crate) fn first_of_two(
     place: u32,
 ) -> Option<u32> {
     let unit = source.units.get(unit_at(source, place))?;
+    let (mut units, mut lines) = (source.units.iter(), unit.body.iter());
+    let mut declarations = unit.declarations.iter();
     match number {
         301 if unit.name.line == place => {
-            source
-                .units
-                .iter()
-                .find_map(|unit| place_before(&unit.name, name, place))
+            units.find_map(|unit| place_before(&unit.name, name, place))
         }
-        301 => unit
-            .declarations
-            .iter()
-            .find_map(|names| name_before(&names.names, name, place)),
-        406 | 407 => unit
-            .body
-            .iter()
-            .find_map(|line| label_before(line, name, place)),
+        301 => declarations.find_map(|declaration| {
+            let mut names = declaration.names.iter();
+            names.find_map(|word| place_before(word, name, place))
+        }),
+        406 | 407 => lines.find_map(|line| place_before(line.label.as_ref()?, name, place)),
         _ => None,
     }
 }

@@ -120,21 +120,16 @@ fn interval_advice(alloc: Global, unit: [u8; 3], decimals: u32) -> Result<String
     format!(in alloc; "with unit = \"{unit}\" and decimals = {decimals}, e is one of {allowed}")
 }
 
-/// The key whose value a rule on values refers to, and what is said of it if the rule's number does not say it.
-fn key_of(rule: BrokenRule<'_>) -> (&'static str, Option<&'static str>) {
+/// The key whose value a rule on values refers to.
+fn key_of(rule: BrokenRule<'_>) -> &'static str {
     match rule {
-        BrokenRule::Unit => ("unit", None),
-        BrokenRule::Decimals => ("decimals", None),
-        BrokenRule::Interval { .. } => ("e", None),
-        BrokenRule::Load { .. } => ("max", None),
-        BrokenRule::ZeroCounts => {
-            (
-                "zero_counts",
-                Some("zero_counts must be -8388608 to 8388607"),
-            )
-        }
-        BrokenRule::SpanCounts { .. } => ("span_counts", Some("span_counts is out of range")),
-        _ => ("window", None),
+        BrokenRule::Unit => "unit",
+        BrokenRule::Decimals => "decimals",
+        BrokenRule::Interval { .. } => "e",
+        BrokenRule::Load { .. } => "max",
+        BrokenRule::ZeroCounts => "zero_counts",
+        BrokenRule::SpanCounts { .. } => "span_counts",
+        _ => "window",
     }
 }
 
@@ -190,9 +185,12 @@ fn report_rule(
             diagnostic.report(key.as_bytes(), Some(sentence))
         }
         rule => {
-            let (key, sentence) = key_of(rule);
-            point_to(diagnostic, text, key, false);
-            diagnostic.sentence = sentence;
+            point_to(diagnostic, text, key_of(rule), false);
+            diagnostic.sentence = match rule {
+                BrokenRule::ZeroCounts => Some("zero_counts must be -8388608 to 8388607"),
+                BrokenRule::SpanCounts { .. } => Some("span_counts is out of range"),
+                _ => None,
+            };
             diagnostic.advice = said_text(alloc, advice_of(alloc, rule))?;
             Ok(())
         }

@@ -23,23 +23,15 @@ use wc_diag_texts::{Case, Expected, Mistake, Paths, paths_text, sentence_of};
 use wc_lexer::{Shape, Token};
 use wc_model::{Fault, Kind, Unit, is_word};
 
-/// In which way a word does not begin a line, if only a colon could follow it.
-fn case_of_word(word: &[u8]) -> Case {
-    match keyword_named(word) {
-        Some(Keyword::SectionStart(_)) | Some(Keyword::SectionEnd) => Case::SectionWord,
-        Some(Keyword::UnitEnd(_)) => Case::UnitEnd,
-        Some(Keyword::Kept) => Case::LeftOut,
-        _ => Case::NoOperator,
-    }
-}
-
 /// In which way a token can't be where it is.
-fn case_of_token(token: &[u8]) -> Case {
-    match (keyword_named(token), token.first()) {
-        (Some(Keyword::UnitStart(_)), _) => Case::UnitWord,
-        (Some(Keyword::Kept), _) => Case::LeftOut,
-        (_, Some(b')')) => Case::Closing,
-        (_, Some(b'\n')) => Case::LineEnd,
+fn case_of_token(token: &[u8], expected: Expected) -> Case {
+    match (keyword_named(token), token.first(), expected) {
+        (Some(Keyword::Kept), _, _) => Case::LeftOut,
+        (_, _, Expected::LabelColon) => Case::NoOperator,
+        (Some(Keyword::UnitStart(_)), _, _) => Case::UnitWord,
+        (_, Some(b')'), _) => Case::Closing,
+        (_, Some(b'\n'), _) => Case::LineEnd,
+        (_, _, Expected::CommaOrColon) if is_word(b"PERSISTENT", token) => Case::LeftOut,
         _ => Case::Plain,
     }
 }
@@ -54,12 +46,10 @@ fn names_block(refused: &Refused<'_, '_>) -> bool {
 /// In which way a rule is broken at the slice of a text.
 fn case_at(refused: &Refused<'_, '_>) -> Case {
     let (number, token, span) = (refused.number, refused.token(), refused.span);
-    match (number, span.expected) {
-        (101..=107, _) => case_of_lexeme(number, refused.lexeme, token),
-        (201, Expected::CommaOrColon) if is_word(b"PERSISTENT", token) => Case::LeftOut,
-        (201, Expected::LabelColon) => case_of_word(token),
-        (201..=208, _) => case_of_token(token),
-        (401, _) if refused.names_one() && names_block(refused) => Case::BlockType,
+    match number {
+        101..=107 => case_of_lexeme(number, refused.lexeme, token),
+        201..=208 => case_of_token(token, span.expected),
+        401 if refused.names_one() && names_block(refused) => Case::BlockType,
         _ => span.case,
     }
 }

@@ -40,6 +40,8 @@ pub enum Case {
     AfterProgram,
     Configuration,
     NoOperator,
+    /// An operator of another tool or language.
+    OtherOperator,
     LineEnd,
     NoAddress,
     Closing,
