@@ -116,10 +116,7 @@ pub fn page(alloc: Global, number: u16) -> Result<Option<Message>, AllocError>
         (λ page. IfSome page (λ message. ReportsPage number message.bytes.items)) }
 {
     match entry_of(number) {
-        Some(entry) => match page_message(alloc, entry) {
-            Ok(message) => Ok(Some(message)),
-            Err(error) => Err(error),
-        },
+        Some(entry) => Ok(Some(page_message(alloc, entry)?)),
         None => Ok(None),
     }
 }
@@ -140,10 +137,7 @@ pub fn warning_page(alloc: Global, number: u8) -> Result<Option<Message>, AllocE
     ensures { IfOk result (λ page. is_some page ≡ is_from 1 9 number) }
 {
     match warning_of(number) {
-        Some(entry) => match warned_message(alloc, entry) {
-            Ok(message) => Ok(Some(message)),
-            Err(error) => Err(error),
-        },
+        Some(entry) => Ok(Some(warned_message(alloc, entry)?)),
         None => Ok(None),
     }
 }

@@ -137,7 +137,7 @@ fn mistaken_result(family: Family, before: Option<Kind>) -> Option<Mistake> {
 }
 
 /// What to write if types do not match, if that needs no operator.
-fn mistaken_value(refused: &Refused<'_, '_>, before: Option<Kind>) -> Option<Mistake> {
+fn mistaken_without_operator(refused: &Refused<'_, '_>, before: Option<Kind>) -> Option<Mistake> {
     let (span, is_passed) = (refused.span, refused.span.is_passed);
     mistake_among! {
         (span.case, before, span.outer.map(|made| made.kind));
@@ -160,5 +160,5 @@ pub(crate) fn mistaken_kind(refused: &Refused<'_, '_>) -> Option<Mistake> {
         Case::Result => mistaken_result(family_of(refused.token()), before),
         case => mistaken_operand(case, family_of(refused.operator()), before),
     };
-    mistaken_value(refused, before).or(found)
+    mistaken_without_operator(refused, before).or(found)
 }

@@ -24,34 +24,32 @@ fn keyword_of(token: &Token<'_>) -> Option<Keyword>
 fn is_leaving(word: Option<Keyword>) -> bool
     ensures { result ≡ is_leaving word }
 {
-    match word {
-        Some(Keyword::Jump(Condition::Always)) => true,
-        Some(Keyword::Return(Condition::Always)) => true,
-        _ => false,
-    }
+    matches!(
+        word,
+        Some(Keyword::Jump(Condition::Always) | Keyword::Return(Condition::Always))
+    )
 }
 
 /// Whether this word begins or ends a unit or a section.
 fn is_frame(word: Option<Keyword>) -> bool
     ensures { result ≡ is_frame word }
 {
-    match word {
-        Some(Keyword::UnitStart(_)) => true,
-        Some(Keyword::UnitEnd(_)) => true,
-        Some(Keyword::SectionStart(_)) => true,
-        Some(Keyword::SectionEnd) => true,
-        _ => false,
-    }
+    matches!(
+        word,
+        Some(
+            Keyword::UnitStart(_)
+                | Keyword::UnitEnd(_)
+                | Keyword::SectionStart(_)
+                | Keyword::SectionEnd
+        )
+    )
 }
 
 /// Whether a token is a colon.
 fn is_colon(token: &Token<'_>) -> bool
     ensures { result ≡ is_colon_shape token.now.shape }
 {
-    match token.shape {
-        Shape::Colon => true,
-        _ => false,
-    }
+    matches!(token.shape, Shape::Colon)
 }
 
 /// Whether a token is the colon of a label, or begins or ends a unit or a section.
@@ -113,10 +111,10 @@ pub fn is_unreached(tokens: &[Token<'_>], line: u32) -> bool
 fn begins_block(token: &Token<'_>) -> bool
     ensures { result ≡ begins_block token.now }
 {
-    match keyword_of(token) {
-        Some(Keyword::UnitStart(UnitKind::FunctionBlock)) => true,
-        _ => false,
-    }
+    matches!(
+        keyword_of(token),
+        Some(Keyword::UnitStart(UnitKind::FunctionBlock))
+    )
 }
 
 /// Whether the token at an index declares a function block of that name.

@@ -21,10 +21,7 @@ pub(crate) struct Item {
 fn is_mark(token: &Token<'_>) -> bool
     ensures { result ≡ is_mark_shape token.now.shape }
 {
-    match token.shape {
-        Shape::LineEnd => false,
-        _ => true,
-    }
+    !matches!(token.shape, Shape::LineEnd)
 }
 
 /// The number of tokens that end a line before one that does not.

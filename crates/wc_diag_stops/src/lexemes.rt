@@ -9,12 +9,10 @@ fn has_double_underscore(text: &[u8]) -> bool {
 
 /// What is wrong with an identifier.
 fn case_of_word(text: &[u8]) -> Case {
-    if has_double_underscore(text) {
-        Case::DoubleUnderscore
-    } else if text.last() == Some(&b'_') {
-        Case::LastUnderscore
-    } else {
-        Case::TooLong
+    match text {
+        _ if has_double_underscore(text) => Case::DoubleUnderscore,
+        [.., b'_'] => Case::LastUnderscore,
+        _ => Case::TooLong,
     }
 }
 
@@ -40,18 +38,13 @@ pub(crate) fn is_bare_duration(text: &[u8]) -> bool {
 
 /// What is wrong with a number or a typed literal.
 fn case_of_number(text: &[u8]) -> Case {
-    if text.len() == 1 {
-        Case::SignAlone
-    } else if is_bare_duration(text) {
-        Case::NoNumber
-    } else if text.contains(&b'#') {
-        Case::WithBase
-    } else if text.contains(&b'.') {
-        Case::WithPoint
-    } else if is_decimal(text) {
-        Case::OutOfRange
-    } else {
-        Case::NoNumber
+    match text {
+        [_] => Case::SignAlone,
+        _ if is_bare_duration(text) => Case::NoNumber,
+        _ if text.contains(&b'#') => Case::WithBase,
+        _ if text.contains(&b'.') => Case::WithPoint,
+        _ if is_decimal(text) => Case::OutOfRange,
+        _ => Case::NoNumber,
     }
 }
 

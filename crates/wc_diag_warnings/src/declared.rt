@@ -44,10 +44,10 @@ fn variable_number(
 fn is_timer(block: Option<StandardBlock>) -> bool
     ensures { result ≡ is_timer block }
 {
-    match block {
-        Some(StandardBlock::Tp | StandardBlock::Ton | StandardBlock::Tof) => true,
-        _ => false,
-    }
+    matches!(
+        block,
+        Some(StandardBlock::Tp | StandardBlock::Ton | StandardBlock::Tof)
+    )
 }
 
 /// The warning of an instance.
