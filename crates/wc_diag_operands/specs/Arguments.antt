@@ -2,6 +2,7 @@
 use Rattle.std.specs.Prelude.{◌≡◌, ◌<◌, ◌==◌, ◌||◌, ℕ, Bool, true, List, ◌∷◌, Option, Some, None, slice_get, if◌then◌else◌}
 use Rattle.wc_diag_operands.specs.OperandTokens.{tokens_at}
 use Rattle.wc_diag_operands.specs.Lists.{AreListed, IsListedAs, item_at, text_at}
+use Rattle.wc_diag_operands.specs.declared.arguments.Broken.{Broken}
 use Rattle.wc_diag_operands.specs.declared.lists.Item.{Item}
 use Rattle.wc_lexer.specs.declared.shape.Token.{Token}
 use Rattle.wc_model.specs.Language.BodyRules.{argument_checks, is_instance}
@@ -40,6 +41,14 @@ pub record IsFirstBrokenOf (scope : Scope) (line : ℕ) (members : List Member) 
   pub none_before : (j : ℕ) (earlier : Position Assignment) → j < k → slice_get (positions_of arguments) j ≡ Some earlier
       → broken_at scope line members earlier ≡ None
 
+-- what is found in the list of a call of an instance of that type is the one that breaks a rule first, and its rule
+abbrev pub FindsBroken : Tables → ℕ → DeclaredType → List Token → Option Broken → Type 0
+FindsBroken tables unit declared tokens found =
+    (scope : Scope) (type : VariableType) (line k number : ℕ) (arguments : List Assignment)
+    → IsScope tables unit scope → numbered_type scope.before type ≡ Some declared → AreListed tokens arguments
+    → IsFirstBrokenOf scope line (members_of scope.before type) arguments number k
+    → found ≡ Some (record { item = item_at tokens k; number = number })
+
 -- 409 and 410 refer to the name, the others to the value
 abbrev pub means_name : ℕ → Bool
 means_name number = (number == 409) || (number == 410)
@@ -49,6 +58,14 @@ argument_from number item = if means_name number then item.name else item.value
 
 abbrev pub argument_count : ℕ → Item → ℕ
 argument_count number item = if means_name number then 1 else item.count
+
+-- these tokens from an index on are those to which a refusal of that number refers in the list of a call of an instance of that type
+abbrev pub PointsToBroken : ℕ → Tables → ℕ → DeclaredType → List Token → (from count : ℕ) → Type 0
+PointsToBroken number tables unit declared tokens from count =
+    (scope : Scope) (type : VariableType) (line k : ℕ) (arguments : List Assignment)
+    → IsScope tables unit scope → numbered_type scope.before type ≡ Some declared → AreListed tokens arguments
+    → IsFirstBrokenOf scope line (members_of scope.before type) arguments number k
+    → (from ≡ argument_from number (item_at tokens k)) × (count ≡ argument_count number (item_at tokens k))
 
 -- some tokens from an index on are those to which a refusal of that number refers: of the first that breaks a rule in the list of a
 -- call of an instance in this scope

@@ -1,12 +1,6 @@
-ghost use Rattle.std.specs.Prelude.{◌≡◌, ℕ, [], List, IfOk, None, Some};
-ghost use Rattle.wc_diag_operands.specs.Arguments.{IsFirstBrokenOf, KeepsNames, RuleIs};
+ghost use Rattle.std.specs.Prelude.{◌≡◌, [], IfOk, None};
+ghost use Rattle.wc_diag_operands.specs.Arguments.{FindsBroken, KeepsNames, RuleIs};
 ghost use Rattle.wc_diag_operands.specs.OperandTokens.{list_end};
-ghost use Rattle.wc_diag_operands.specs.Lists.{AreListed, item_at};
-ghost use Rattle.wc_model.specs.Language.Declarations.{VariableType, members_of};
-ghost use Rattle.wc_model.specs.Language.Scopes.{Scope};
-ghost use Rattle.wc_model.specs.Language.Tree.{Assignment};
-ghost use Rattle.wc_names.specs.Numbered.{numbered_type};
-ghost use Rattle.wc_verify.specs.Seeing.{IsScope};
 
 use crate::kinds::operand_in;
 use crate::lists::{Item, item_after, text_at};
@@ -65,14 +59,7 @@ fn first_broken_among<'a>(
 ) -> Result<Option<Broken>, Fault>
     requires none { names.old ≡ [] }
     requires end { end ≡ list_end tokens.now }
-    ensures { IfOk result
-        (λ found. (scope : Scope) (type : VariableType) (line k number : ℕ)
-        (arguments : List Assignment)
-        → IsScope tables.now unit scope
-        → numbered_type scope.before type ≡ Some declared
-        → AreListed tokens.now arguments
-        → IsFirstBrokenOf scope line (members_of scope.before type) arguments number k
-        → found ≡ Some (record { item = item_at tokens.now k; number = number })) }
+    ensures { IfOk result (λ found. FindsBroken tables.now unit declared tokens.now found) }
 {
     let mut item = item_after(tokens, 2);
     for _number in 0..end {
@@ -96,14 +83,7 @@ pub(crate) fn first_broken_argument<'a>(
     declared: DeclaredType,
     tokens: &[Token<'a>],
 ) -> Result<Option<Broken>, Fault>
-    ensures { IfOk result
-        (λ found. (scope : Scope) (type : VariableType) (line k number : ℕ)
-        (arguments : List Assignment)
-        → IsScope tables.now unit scope
-        → numbered_type scope.before type ≡ Some declared
-        → AreListed tokens.now arguments
-        → IsFirstBrokenOf scope line (members_of scope.before type) arguments number k
-        → found ≡ Some (record { item = item_at tokens.now k; number = number })) }
+    ensures { IfOk result (λ found. FindsBroken tables.now unit declared tokens.now found) }
 {
     let mut names = Names::new(alloc);
     first_broken_among(&mut names, tables, unit, declared, tokens, list_end(tokens))

@@ -1,11 +1,7 @@
-ghost use Rattle.std.specs.Prelude.{◌≡◌, ◌⊎◌, ◌≤◌, ◌+◌, ℕ, true, List, IfOk, Some};
-ghost use Rattle.wc_diag_operands.specs.Arguments.{IsArgumentAt, IsFirstBrokenOf, argument_count, argument_from};
+ghost use Rattle.std.specs.Prelude.{◌≡◌, ◌⊎◌, ◌≤◌, ◌+◌, true, IfOk};
+ghost use Rattle.wc_diag_operands.specs.Arguments.{IsArgumentAt, PointsToBroken, argument_count, argument_from};
 ghost use Rattle.wc_diag_operands.specs.OperandTokens.{IsOfCall, begins_item, list_end, operator_of, tokens_at};
-ghost use Rattle.wc_diag_operands.specs.Lists.{AreListed, item_at};
-ghost use Rattle.wc_model.specs.Language.Declarations.{VariableType, members_of};
 ghost use Rattle.wc_model.specs.Language.Scopes.{Scope};
-ghost use Rattle.wc_model.specs.Language.Tree.{Assignment};
-ghost use Rattle.wc_names.specs.Numbered.{numbered_type};
 ghost use Rattle.wc_verify.specs.Seeing.{IsScope};
 
 use crate::arguments::{Broken, first_broken_argument};
@@ -171,14 +167,8 @@ fn offending_in_list<'a>(
     tokens: &[Token<'a>],
     number: u16,
 ) -> Result<InCall, Fault>
-    ensures { IfOk result (λ call. (scope : Scope) (type : VariableType) (line k : ℕ)
-        (arguments : List Assignment)
-        → IsScope tables.now unit scope
-        → numbered_type scope.before type ≡ Some declared
-        → AreListed tokens.now arguments
-        → IsFirstBrokenOf scope line (members_of scope.before type) arguments number k
-        → (call.from ≡ argument_from number (item_at tokens.now k))
-        × (call.count ≡ argument_count number (item_at tokens.now k))) }
+    ensures { IfOk result (λ call. PointsToBroken number tables.now unit declared tokens.now
+        call.from call.count) }
 {
     let Some(broken) = first_broken_argument(alloc, tables, unit, declared, tokens)? else {
         return Ok(no_argument(number));
