@@ -1,10 +1,15 @@
 -- Where a refusal is, as a message says it next to the line that is named. The profile's own.
-use Rattle.std.specs.Prelude.{ℕ, ◌==◌, Bool, List, [], ◌∷◌, ◌++◌, Option, Some, None, length, replicate, codes, if◌then◌else◌}
+use Rattle.std.specs.Prelude.{◌≡◌, ℕ, ◌==◌, Bool, List, [], ◌∷◌, ◌++◌, Option, Some, None, length, replicate, codes, if◌then◌else◌}
 use Rattle.std.specs.Fmt.{decimal}
 use Rattle.wc_diag_spans.specs.declared.diagnostic.Span.{Span}
 use Rattle.wc_diag_spans.specs.declared.refusal.Part.{Part}
 use Rattle.wc_diag_spans.specs.declared.refusal.Part.TheVariants.{Job, Plate, Program, Next, Log}
 use Rattle.wc_diag_shown.specs.Plain.{column_of, shown_text}
+use Rattle.wc_diag_shown.specs.declared.message.Message.{Message}
+
+-- these bytes are written after those of a message
+abbrev pub Writes : (old new : Message) → List ℕ → Type 0
+Writes old new text = new.bytes.items ≡ old.bytes.items ++ text
 
 -- a number as it is written
 abbrev pub number_text : ℕ → List ℕ

@@ -1,4 +1,5 @@
-ghost use Rattle.std.specs.Prelude.{◌≡◌, ◌++◌, IfOk, OnOk};
+ghost use Rattle.std.specs.Prelude.{◌≡◌, IfOk, OnOk};
+ghost use Rattle.wc_diag_messages.specs.Locations.{Writes};
 ghost use Rattle.wc_diag_messages.specs.Explanations.{headline, help_line, long_text, numbered, opening, page_opening, page_text};
 ghost use Rattle.wc_diag_spans.specs.Finds.{IsWithin};
 
@@ -24,8 +25,7 @@ pub(crate) fn write_number(
     severity: Severity,
     number: u16,
 ) -> Result<(), AllocError>
-    ensures { OnOk result (message.new.bytes.items
-        ≡ message.old.bytes.items ++ numbered severity number) }
+    ensures { OnOk result (Writes message.old message.new (numbered severity number)) }
 {
     message.say(opening(severity))?;
     message.count(number as usize)?;
@@ -34,8 +34,7 @@ pub(crate) fn write_number(
 
 /// Writes the number and what is wrong.
 fn write_headline(message: &mut Message, parts: &Parts) -> Result<(), AllocError>
-    ensures { OnOk result (message.new.bytes.items
-        ≡ message.old.bytes.items ++ headline parts.now) }
+    ensures { OnOk result (Writes message.old message.new (headline parts.now)) }
 {
     write_number(message, parts.severity, parts.number)?;
     message.append(&parts.reported)?;
@@ -54,8 +53,7 @@ fn page_opening(severity: Severity) -> &'static str
 
 /// Writes which page says more.
 fn write_page(message: &mut Message, severity: Severity, number: u16) -> Result<(), AllocError>
-    ensures { OnOk result (message.new.bytes.items
-        ≡ message.old.bytes.items ++ page_text severity number) }
+    ensures { OnOk result (Writes message.old message.new (page_text severity number)) }
 {
     message.say(page_opening(severity))?;
     message.count(number as usize)?;
@@ -65,8 +63,7 @@ fn write_page(message: &mut Message, severity: Severity, number: u16) -> Result<
 
 /// Writes what to write instead, and the page that says more.
 fn write_help(message: &mut Message, parts: &Parts) -> Result<(), AllocError>
-    ensures { OnOk result (message.new.bytes.items
-        ≡ message.old.bytes.items ++ help_line parts.now) }
+    ensures { OnOk result (Writes message.old message.new (help_line parts.now)) }
 {
     message.say("help: ")?;
     message.append(&parts.advice)?;

@@ -1,4 +1,5 @@
-ghost use Rattle.std.specs.Prelude.{◌≡◌, ◌++◌, IfOk, IfSome, OnOk, is_some};
+ghost use Rattle.std.specs.Prelude.{◌≡◌, IfOk, IfSome, OnOk, is_some};
+ghost use Rattle.wc_diag_messages.specs.Locations.{Writes};
 ghost use Rattle.wc_diag_messages.specs.Paged.{ReportsPage, answer_line, help_lines, number_line, page_line, page_lines, plate_line, raised_at, raised_lines, shown_line};
 ghost use Rattle.wc_diag_texts.specs.Numbers.{is_from, is_refusal};
 
@@ -14,8 +15,7 @@ fn plate_a() -> &'static str {
 
 /// Writes a line of a page: what it says, and its words.
 fn write_line(message: &mut Message, name: &str, words: &str) -> Result<(), AllocError>
-    ensures { OnOk result (message.new.bytes.items
-        ≡ message.old.bytes.items ++ page_line name.now words.now) }
+    ensures { OnOk result (Writes message.old message.new (page_line name.now words.now)) }
 {
     message.say(name)?;
     message.say(": ")?;
@@ -25,8 +25,7 @@ fn write_line(message: &mut Message, name: &str, words: &str) -> Result<(), Allo
 
 /// Writes a line of words alone.
 fn write_words(message: &mut Message, words: &str) -> Result<(), AllocError>
-    ensures { OnOk result (message.new.bytes.items
-        ≡ message.old.bytes.items ++ shown_line words.now) }
+    ensures { OnOk result (Writes message.old message.new (shown_line words.now)) }
 {
     message.say(words)?;
     message.end_line()
@@ -34,8 +33,7 @@ fn write_words(message: &mut Message, words: &str) -> Result<(), AllocError>
 
 /// Writes lines of words alone.
 fn write_lines(message: &mut Message, lines: &[&str]) -> Result<(), AllocError>
-    ensures { OnOk result (message.new.bytes.items
-        ≡ message.old.bytes.items ++ page_lines (λ line. line.now) lines.now) }
+    ensures { OnOk result (Writes message.old message.new (page_lines (λ line. line.now) lines.now)) }
 {
     for line in lines {
         write_words(message, line)?;
@@ -45,8 +43,7 @@ fn write_lines(message: &mut Message, lines: &[&str]) -> Result<(), AllocError>
 
 /// Writes what to write instead, and a usual text with the text mended.
 fn write_help(message: &mut Message, hint: &str, usual: &[&str]) -> Result<(), AllocError>
-    ensures { OnOk result (message.new.bytes.items
-        ≡ message.old.bytes.items ++ help_lines hint.now (λ line. line.now) usual.now) }
+    ensures { OnOk result (Writes message.old message.new (help_lines hint.now (λ line. line.now) usual.now)) }
 {
     write_line(message, "help", hint)?;
     write_lines(message, usual)
@@ -54,8 +51,7 @@ fn write_help(message: &mut Message, hint: &str, usual: &[&str]) -> Result<(), A
 
 /// Writes the number, and what it means.
 fn write_number(message: &mut Message, number: u16, reported: &str) -> Result<(), AllocError>
-    ensures { OnOk result (message.new.bytes.items
-        ≡ message.old.bytes.items ++ number_line number reported.now) }
+    ensures { OnOk result (Writes message.old message.new (number_line number reported.now)) }
 {
     message.count(number as usize)?;
     write_line(message, "", reported)
@@ -63,8 +59,7 @@ fn write_number(message: &mut Message, number: u16, reported: &str) -> Result<()
 
 /// Writes where it is raised, its place, and a smallest input.
 fn write_raised(message: &mut Message, entry: &Entry) -> Result<(), AllocError>
-    ensures { OnOk result (message.new.bytes.items
-        ≡ message.old.bytes.items ++ raised_lines (raised_at entry.now)) }
+    ensures { OnOk result (Writes message.old message.new (raised_lines (raised_at entry.now))) }
 {
     write_line(message, "pass", entry.pass)?;
     write_line(message, "place", entry.place)?;
@@ -73,8 +68,7 @@ fn write_raised(message: &mut Message, entry: &Entry) -> Result<(), AllocError>
 
 /// Writes the plate of which the pages of its refusals speak.
 fn write_plate(message: &mut Message, number: u16, plate: &str) -> Result<(), AllocError>
-    ensures { OnOk result (message.new.bytes.items
-        ≡ message.old.bytes.items ++ plate_line number plate.now) }
+    ensures { OnOk result (Writes message.old message.new (plate_line number plate.now)) }
 {
     if number >= 503 && number <= 508 {
         return write_line(message, "plate A", plate);
@@ -84,8 +78,7 @@ fn write_plate(message: &mut Message, number: u16, plate: &str) -> Result<(), Al
 
 /// Writes how the smallest input is answered.
 fn write_answer(message: &mut Message, number: u16, place: u32) -> Result<(), AllocError>
-    ensures { OnOk result (message.new.bytes.items
-        ≡ message.old.bytes.items ++ answer_line number place) }
+    ensures { OnOk result (Writes message.old message.new (answer_line number place)) }
 {
     message.say("its answer: refused ")?;
     message.count(number as usize)?;

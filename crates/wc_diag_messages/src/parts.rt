@@ -1,4 +1,5 @@
-ghost use Rattle.std.specs.Prelude.{◌≡◌, ◌++◌, IfOk, OnOk};
+ghost use Rattle.std.specs.Prelude.{◌≡◌, IfOk, OnOk};
+ghost use Rattle.wc_diag_messages.specs.Locations.{Writes};
 ghost use Rattle.wc_diag_messages.specs.Explanations.{QuotesAndSays, left_out_text, quoted_text};
 ghost use Rattle.wc_diag_messages.specs.Known.{IsKnown};
 ghost use Rattle.wc_diag_shown.specs.Plain.{IsShown, shown_text};
@@ -62,8 +63,7 @@ fn hint<'a>(number: u16, diagnostic: &'a Diagnostic) -> &'a str {
 
 /// Writes the number of bytes of a slice of that length left out of a quotation, if any are.
 fn write_left_out(message: &mut Message, length: usize) -> Result<(), AllocError>
-    ensures { OnOk result (message.new.bytes.items
-        ≡ message.old.bytes.items ++ left_out_text length) }
+    ensures { OnOk result (Writes message.old message.new (left_out_text length)) }
 {
     if length <= WIDEST {
         return Ok(());
@@ -75,8 +75,7 @@ fn write_left_out(message: &mut Message, length: usize) -> Result<(), AllocError
 
 /// Writes the slice of the text with which a headline begins, if there is one.
 fn write_subject(message: &mut Message, subject: &[u8]) -> Result<(), AllocError>
-    ensures { OnOk result (message.new.bytes.items
-        ≡ message.old.bytes.items ++ quoted_text subject.now) }
+    ensures { OnOk result (Writes message.old message.new (quoted_text subject.now)) }
 {
     if subject.is_empty() {
         return Ok(());

@@ -1,7 +1,7 @@
-ghost use Rattle.std.specs.Prelude.{◌≡◌, ◌++◌, IfOk, OnOk};
+ghost use Rattle.std.specs.Prelude.{◌≡◌, IfOk, OnOk};
 ghost use Rattle.wc_diag_spans.specs.Finds.{IsWithin};
 ghost use Rattle.wc_diag_messages.specs.Explanations.{is_program, line_text, line_under, named_line, place_line};
-ghost use Rattle.wc_diag_messages.specs.Locations.{alongside_text, column_text, counted_name, counted_text, heading, in_brackets, margin_text, place_text, row_text, section_text};
+ghost use Rattle.wc_diag_messages.specs.Locations.{Writes, alongside_text, column_text, counted_name, counted_text, heading, in_brackets, margin_text, place_text, row_text, section_text};
 
 use crate::parts::Parts;
 use std::alloc::{AllocError, Global};
@@ -48,8 +48,7 @@ pub(crate) fn margin(alloc: Global, line: u32) -> Result<Message, AllocError>
 
 /// Writes a line after the name of what it is in, if it is known.
 pub(crate) fn write_line(message: &mut Message, line: u32) -> Result<(), AllocError>
-    ensures { OnOk result (message.new.bytes.items
-        ≡ message.old.bytes.items ++ line_text line) }
+    ensures { OnOk result (Writes message.old message.new (line_text line)) }
 {
     if line == 0 {
         return Ok(());
@@ -61,9 +60,7 @@ pub(crate) fn write_line(message: &mut Message, line: u32) -> Result<(), AllocEr
 /// Writes the column of the offending slice.
 pub(crate) fn write_column(message: &mut Message, diagnostic: &Diagnostic) -> Result<(), AllocError>
     requires { IsWithin diagnostic.now }
-    ensures { OnOk result (message.new.bytes.items
-        ≡ message.old.bytes.items
-        ++ column_text diagnostic.now.shown.items diagnostic.now.span) }
+    ensures { OnOk result (Writes message.old message.new (column_text diagnostic.now.shown.items diagnostic.now.span)) }
 {
     match diagnostic.span {
         Some(span) => {
@@ -99,8 +96,7 @@ fn counted_name(part: Part) -> &'static str
 
 /// Writes a line or a row by its number.
 fn write_counted(message: &mut Message, part: Part, place: u32) -> Result<(), AllocError>
-    ensures { OnOk result (message.new.bytes.items
-        ≡ message.old.bytes.items ++ counted_text part place) }
+    ensures { OnOk result (Writes message.old message.new (counted_text part place)) }
 {
     message.say(counted_name(part))?;
     message.count(place as usize)
@@ -108,8 +104,7 @@ fn write_counted(message: &mut Message, part: Part, place: u32) -> Result<(), Al
 
 /// Writes a place in a section of a job.
 fn write_in_section(message: &mut Message, part: Part, place: u32) -> Result<(), AllocError>
-    ensures { OnOk result (message.new.bytes.items
-        ≡ message.old.bytes.items ++ section_text part place) }
+    ensures { OnOk result (Writes message.old message.new (section_text part place)) }
 {
     if place == 0 {
         return message.say(heading(part));
@@ -121,8 +116,7 @@ fn write_in_section(message: &mut Message, part: Part, place: u32) -> Result<(),
 
 /// Writes the row of a log.
 fn write_row(message: &mut Message, part: Part, place: u32) -> Result<(), AllocError>
-    ensures { OnOk result (message.new.bytes.items
-        ≡ message.old.bytes.items ++ row_text part place) }
+    ensures { OnOk result (Writes message.old message.new (row_text part place)) }
 {
     match part {
         Part::Log => {
@@ -151,8 +145,7 @@ pub(crate) fn place_words(alloc: Global, refusal: &Refusal<'_>) -> Result<Messag
 
 /// Writes words between brackets, if there are any.
 fn write_in_brackets(message: &mut Message, words: &Message) -> Result<(), AllocError>
-    ensures { OnOk result (message.new.bytes.items
-        ≡ message.old.bytes.items ++ in_brackets words.now.bytes.items) }
+    ensures { OnOk result (Writes message.old message.new (in_brackets words.now.bytes.items)) }
 {
     if words.is_empty() {
         return Ok(());
@@ -170,11 +163,7 @@ pub(crate) fn write_place_line(
     parts: &Parts,
 ) -> Result<(), AllocError>
     requires { IsWithin parts.now.diagnostic }
-    ensures { OnOk result (message.new.bytes.items
-        ≡ message.old.bytes.items
-        ++ place_line margin.now.bytes.items name.now parts.now.line
-        (alongside_text parts.now.diagnostic.shown.items parts.now.diagnostic.span
-        parts.now.place.bytes.items)) }
+    ensures { OnOk result (Writes message.old message.new (place_line margin.now.bytes.items name.now parts.now.line (alongside_text parts.now.diagnostic.shown.items parts.now.diagnostic.span parts.now.place.bytes.items))) }
 {
     message.append(margin)?;
     message.say("--> ")?;

@@ -1,4 +1,5 @@
-ghost use Rattle.std.specs.Prelude.{◌≡◌, ◌++◌, IfOk, OnOk};
+ghost use Rattle.std.specs.Prelude.{IfOk, OnOk};
+ghost use Rattle.wc_diag_messages.specs.Locations.{Writes};
 ghost use Rattle.wc_diag_messages.specs.Formats.{IsShortLine, helped_text, position_text};
 ghost use Rattle.wc_diag_messages.specs.Known.{IsPrintable};
 ghost use Rattle.wc_diag_spans.specs.Finds.{IsWithin};
@@ -12,8 +13,7 @@ use wc_diag_shown::Message;
 /// Writes the line and the column, if the line is known, else the place by which a refusal is counted.
 fn write_position(message: &mut Message, parts: &Parts) -> Result<(), AllocError>
     requires { IsWithin parts.now.diagnostic }
-    ensures { OnOk result (message.new.bytes.items
-        ≡ message.old.bytes.items ++ position_text parts.now) }
+    ensures { OnOk result (Writes message.old message.new (position_text parts.now)) }
 {
     if parts.line == 0 {
         return message.say_before(":", &parts.place);
@@ -24,8 +24,7 @@ fn write_position(message: &mut Message, parts: &Parts) -> Result<(), AllocError
 
 /// Writes what is wrong, and after it what to write instead, if that is known.
 fn write_helped(message: &mut Message, parts: &Parts) -> Result<(), AllocError>
-    ensures { OnOk result (message.new.bytes.items ≡ message.old.bytes.items
-        ++ helped_text parts.now.reported.bytes.items parts.now.advice.bytes.items) }
+    ensures { OnOk result (Writes message.old message.new (helped_text parts.now.reported.bytes.items parts.now.advice.bytes.items)) }
 {
     message.append(&parts.reported)?;
     message.say_before("; help: ", &parts.advice)

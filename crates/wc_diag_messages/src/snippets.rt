@@ -1,6 +1,6 @@
-ghost use Rattle.std.specs.Prelude.{◌≡◌, ◌-◌, ◌++◌, IfOk, OnOk, drop, take};
+ghost use Rattle.std.specs.Prelude.{◌≡◌, IfOk, OnOk, drop, take};
 ghost use Rattle.wc_diag_messages.specs.Snippets.{bar_line, columns, snippet_text, first_shown, marked_text, marks, quoted_line, shown_part, span_start};
-ghost use Rattle.wc_diag_messages.specs.Locations.{margin_text};
+ghost use Rattle.wc_diag_messages.specs.Locations.{Writes, margin_text};
 
 use crate::parts::Parts;
 use std::alloc::{AllocError, Global};
@@ -67,8 +67,7 @@ fn write_marks(
     start: usize,
     length: usize,
 ) -> Result<(), AllocError>
-    ensures { OnOk result (message.new.bytes.items
-        ≡ message.old.bytes.items ++ marks part.now start length) }
+    ensures { OnOk result (Writes message.old message.new (marks part.now start length)) }
 {
     let spaced = with_spaces(alloc, part)?;
     let is_text = passes(&spaced);
@@ -109,8 +108,7 @@ fn marks_under(
 
 /// Writes a line that has no number.
 fn write_bar(message: &mut Message, margin: &Message, text: &Message) -> Result<(), AllocError>
-    ensures { OnOk result (message.new.bytes.items
-        ≡ message.old.bytes.items ++ bar_line margin.now.bytes.items text.now.bytes.items) }
+    ensures { OnOk result (Writes message.old message.new (bar_line margin.now.bytes.items text.now.bytes.items)) }
 {
     message.append(margin)?;
     message.say(" |")?;
@@ -120,8 +118,7 @@ fn write_bar(message: &mut Message, margin: &Message, text: &Message) -> Result<
 
 /// Writes a line after its number.
 fn write_quoted(message: &mut Message, number: u32, part: &[u8]) -> Result<(), AllocError>
-    ensures { OnOk result (message.new.bytes.items
-        ≡ message.old.bytes.items ++ quoted_line number part.now) }
+    ensures { OnOk result (Writes message.old message.new (quoted_line number part.now)) }
 {
     message.count(number as usize)?;
     message.say(" | ")?;
@@ -137,10 +134,7 @@ pub(crate) fn write_snippet(
     parts: &Parts,
 ) -> Result<(), AllocError>
     requires { margin.now.bytes.items ≡ margin_text parts.now.line }
-    ensures { OnOk result (message.new.bytes.items
-        ≡ message.old.bytes.items
-        ++ snippet_text parts.now.line parts.now.diagnostic.shown.items
-        parts.now.diagnostic.span parts.now.expected.bytes.items) }
+    ensures { OnOk result (Writes message.old message.new (snippet_text parts.now.line parts.now.diagnostic.shown.items parts.now.diagnostic.span parts.now.expected.bytes.items)) }
 {
     let line = &parts.diagnostic.shown;
     if line.is_empty() {
