@@ -2,22 +2,15 @@ use wc_diag_operands::{is_listed, line_at, span_of};
 use wc_diag_stops::Slice;
 use wc_diag_texts::Case;
 use wc_lexer::Token;
-use wc_model::{Decl, Source, Word};
-
-/// Whether a declaration has a name.
-fn declares(declaration: &Decl<'_>, name: &[u8]) -> bool {
-    declaration
-        .names
-        .iter()
-        .any(|word| word.text.eq_ignore_ascii_case(name))
-}
+use wc_model::{Source, Word};
 
 /// The type with which a unit of that number declares a name; each line of the tree is a place.
 fn type_of<'a>(source: &Source<'a>, unit: usize, name: &[u8]) -> Option<Word<'a>> {
-    let declarations = &source.units.get(unit)?.declarations;
-    let declaration = declarations
-        .iter()
-        .find(|declaration| declares(declaration, name))?;
+    let mut declarations = source.units.get(unit)?.declarations.iter();
+    let declaration = declarations.find(|declaration| {
+        let mut names = declaration.names.iter();
+        names.any(|word| word.text.eq_ignore_ascii_case(name))
+    })?;
     Some(declaration.type_name)
 }
 

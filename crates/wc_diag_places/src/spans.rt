@@ -6,7 +6,7 @@ ghost use Rattle.wc_diag_places.specs.LaterSpans.{IsAccepted, OfRead, RefusesLat
 ghost use Rattle.wc_model.specs.Language.Scopes.{Scope};
 ghost use Rattle.wc_model.specs.Language.Views.{text_view};
 ghost use Rattle.wc_verify.specs.Seeing.{IsScope};
-ghost use Rattle.wc_diag_operands.specs.OperandTokens.{IsOperatorOrOperand, IsOperandOf, IsPlainOperand, is_listed, on_line, operator_of, operand_by_number, tokens_from};
+ghost use Rattle.wc_diag_operands.specs.OperandTokens.{IsOperatorOrOperand, IsOperandOf, is_listed, on_line, operator_of, operand_by_number, tokens_from};
 ghost use Rattle.wc_diag_places.specs.Spotting.{IsInBody, IsNamed, PointsTo, PointsToOffending};
 
 use crate::instances::{block_in, slice_of};
@@ -136,21 +136,6 @@ fn found_by_number<'a, 't>(tokens: &'t [Token<'a>], number: u16) -> Found<'a, 't
     }
 }
 
-/// The offending slice in an instruction without a list.
-fn found_plain<'a, 't>(
-    tables: &Tables<'a>,
-    unit: usize,
-    tokens: &'t [Token<'a>],
-    number: u16,
-) -> Found<'a, 't>
-    ensures { IsPlainOperand number tokens.now result.operand_tokens.now }
-{
-    if number == 402 {
-        return found_unfit(tables, unit, tokens);
-    }
-    found_by_number(tokens, number)
-}
-
 /// The offending slice in an instruction.
 fn found_in<'a, 't>(
     alloc: Global,
@@ -164,7 +149,10 @@ fn found_in<'a, 't>(
         → is_listed tokens.now ≡ true → IsArgument scope number tokens.now found.operand_tokens.now) }
 {
     if !is_listed(tokens) {
-        return Ok(found_plain(tables, unit, tokens, number));
+        return Ok(match number {
+            402 => found_unfit(tables, unit, tokens),
+            _ => found_by_number(tokens, number),
+        });
     }
     let call = offending_in_call(alloc, tables, unit, tokens, number)?;
     Ok(Found {
@@ -203,13 +191,10 @@ fn results_before(
         return (None, None);
     };
     let results = results_at(tables, unit, &source.body, place);
-    let (before, outer) = (
-        on_its_line(spanned_source, results.before),
-        on_its_line(spanned_source, results.outer),
-    );
+    let before = on_its_line(spanned_source, results.before);
     match case {
         Case::Unlike(_) | Case::Result => (before, None),
-        Case::Closing => (before, outer),
+        Case::Closing => (before, on_its_line(spanned_source, results.outer)),
         _ => (None, None),
     }
 }
