@@ -80,19 +80,11 @@ fn marked(name: &[u8], start: usize, line: &[u8]) -> Span
     Span { start, length }
 }
 
-/// The sentence of a warning.
-fn sentence(number: u8) -> &'static str {
+/// The sentence of a warning, and what to write instead.
+fn words_of(number: u8) -> (&'static str, &'static str) {
     match warning_of(number) {
-        Some(entry) => entry.quoted,
-        None => "is suspicious",
-    }
-}
-
-/// What to write instead.
-fn hint(number: u8) -> &'static str {
-    match warning_of(number) {
-        Some(entry) => entry.hint,
-        None => "",
+        Some(entry) => (entry.quoted, entry.hint),
+        None => ("is suspicious", ""),
     }
 }
 
@@ -153,14 +145,15 @@ pub(crate) fn warning_parts(
     ensures { IfOk result (λ parts. KnowsWarning text.now tokens.now warning.now parts) }
 {
     let diagnostic = diagnostic_of(alloc, text, tokens, warning)?;
+    let (sentence, hint) = words_of(warning.number);
     Ok(Parts {
         severity: Severity::Warning,
         number: u16::from(warning.number),
         line: diagnostic.line,
         place: Message::new(alloc),
-        reported: reported(alloc, warning.name, sentence(warning.number))?,
+        reported: reported(alloc, warning.name, sentence)?,
         expected: Message::new(alloc),
-        advice: said_as(alloc, hint(warning.number))?,
+        advice: said_as(alloc, hint)?,
         diagnostic,
     })
 }

@@ -1,5 +1,5 @@
 -- What the code's values represent. (No rule of the language.)
-use Rattle.std.specs.Prelude.{ℕ, Bool, true, false, List, [], ◌∷◌, map, Option, Some, None, codes}
+use Rattle.std.specs.Prelude.{◌≡◌, ℕ, Bool, true, false, List, [], ◌∷◌, ◌++◌, map, Option, Some, None, codes}
 use Rattle.std.specs.Option.{option_map}
 use Rattle.wc_model.specs.Language.Declarations.{Variable}
 use Rattle.wc_model.specs.declared.operand.Word.{Word as Spelled}
@@ -50,6 +50,10 @@ event_view event = record { line = event.line; doing = deed_view event.deed }
 abbrev pub events_view : List Event → List Happening
 events_view events = map event_view events
 
+-- these are added to the events
+abbrev pub Adds : (old new : List Event) → List Happening → Type 0
+Adds old new added = events_view new ≡ events_view old ++ added
+
 abbrev pub known_view : Known → Passed
 known_view known = record { event = event_view known.event; on = known.on }
 
@@ -58,6 +62,10 @@ warning_view warning = record { number = warning.number; line = warning.line; na
 
 abbrev pub warnings_view : List Warning → List Caution
 warnings_view warnings = map warning_view warnings
+
+-- these are added to the warnings
+abbrev pub Warns : (old new : List Warning) → List Caution → Type 0
+Warns old new added = warnings_view new ≡ warnings_view old ++ added
 
 -- the event uses the name so
 abbrev pub does : Use → Doing → Name → Bool

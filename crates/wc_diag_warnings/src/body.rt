@@ -1,7 +1,7 @@
 ghost use Rattle.std.specs.Prelude.{◌≡◌, ℕ, not, ◌&&◌, ◌||◌, if◌then◌else◌, ◌++◌, List, IfOk, OnOk, IsOkUnless, map};
 ghost use Rattle.wc_model.specs.Language.Names.{name_of};
 ghost use Rattle.wc_diag_warnings.specs.Places.{AreEdges, row_view, edges_from};
-ghost use Rattle.wc_diag_warnings.specs.Seen.{event_view, events_view, known_view, warnings_view};
+ghost use Rattle.wc_diag_warnings.specs.Seen.{event_view, events_view, known_view, warnings_view, Warns};
 ghost use Rattle.wc_diag_warnings.specs.Warnings.{address_of, all_event_cautions, body_cautions, caution, doing_begins, event_number, outputs_in};
 
 use crate::addresses::{is_asked, reads_weight};
@@ -87,9 +87,7 @@ fn warn_event<'a>(
     event: &Event<'a>,
     number: Option<u8>,
 ) -> Result<(), Fault>
-    ensures added { OnOk result (warnings_view warnings.new.items
-        ≡ warnings_view warnings.old.items
-        ++ caution number event.now.line (address_of (event_view event.now).doing)) }
+    ensures added { OnOk result (Warns warnings.old.items warnings.new.items (caution number event.now.line (address_of (event_view event.now).doing))) }
     ensures memory { IsOkUnless result Fault.Memory }
 {
     match number {
@@ -150,9 +148,7 @@ pub(crate) fn warn_body<'a>(
     kind: UnitKind,
     events: &[Event<'a>],
 ) -> Result<(), Fault>
-    ensures added { OnOk result (warnings_view warnings.new.items
-        ≡ warnings_view warnings.old.items
-        ++ body_cautions kind (events_view events.now)) }
+    ensures added { OnOk result (Warns warnings.old.items warnings.new.items (body_cautions kind (events_view events.now))) }
     ensures memory { IsOkUnless result Fault.Memory }
 {
     let started = edges(alloc, Asked::StartedLine, events)?;

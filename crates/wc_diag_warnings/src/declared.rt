@@ -1,8 +1,8 @@
-ghost use Rattle.std.specs.Prelude.{◌≡◌, ◌++◌, OnOk, IsOkUnless};
+ghost use Rattle.std.specs.Prelude.{◌≡◌, OnOk, IsOkUnless};
 ghost use Rattle.wc_model.specs.Language.Declarations.{declared_by, variables_of};
 ghost use Rattle.wc_model.specs.Language.Names.{name_of};
 ghost use Rattle.wc_model.specs.Language.Views.{declaration_view, unit_view};
-ghost use Rattle.wc_diag_warnings.specs.Seen.{uses_view, variable_view, warnings_view};
+ghost use Rattle.wc_diag_warnings.specs.Seen.{uses_view, variable_view, Warns};
 ghost use Rattle.wc_diag_warnings.specs.Warnings.{caution, declared_cautions, instance_number, is_timer, number_by, use_number, variable_cautions, variable_number};
 
 use crate::used::Uses;
@@ -93,9 +93,7 @@ pub(crate) fn warn<'a>(
     line: u32,
     name: &'a [u8],
 ) -> Result<(), Fault>
-    ensures added { OnOk result (warnings_view warnings.new.items
-        ≡ warnings_view warnings.old.items
-        ++ caution (Some number) line (name_of name.now)) }
+    ensures added { OnOk result (Warns warnings.old.items warnings.new.items (caution (Some number) line (name_of name.now))) }
     ensures memory { IsOkUnless result Fault.Memory }
 {
     match warnings.push(Warning { number, line, name }) {
@@ -112,10 +110,7 @@ fn warn_name<'a>(
     word: Word<'a>,
     uses: &Uses<'_>,
 ) -> Result<(), Fault>
-    ensures added { OnOk result (warnings_view warnings.new.items
-        ≡ warnings_view warnings.old.items
-        ++ variable_cautions kind (uses_view uses.now)
-        (variable_view declaration.now word.entry)) }
+    ensures added { OnOk result (Warns warnings.old.items warnings.new.items (variable_cautions kind (uses_view uses.now) (variable_view declaration.now word.entry))) }
     ensures memory { IsOkUnless result Fault.Memory }
 {
     match number_of(kind, declaration, word, uses) {
@@ -131,10 +126,7 @@ fn warn_declaration<'a>(
     declaration: &Decl<'a>,
     uses: &Uses<'_>,
 ) -> Result<(), Fault>
-    ensures added { OnOk result (warnings_view warnings.new.items
-        ≡ warnings_view warnings.old.items
-        ++ declared_cautions kind (uses_view uses.now)
-        (declared_by (declaration_view declaration.now))) }
+    ensures added { OnOk result (Warns warnings.old.items warnings.new.items (declared_cautions kind (uses_view uses.now) (declared_by (declaration_view declaration.now)))) }
     ensures memory { IsOkUnless result Fault.Memory }
 {
     for word in &declaration.names {
@@ -149,10 +141,7 @@ pub(crate) fn warn_declared<'a>(
     unit: &Unit<'a>,
     uses: &Uses<'_>,
 ) -> Result<(), Fault>
-    ensures added { OnOk result (warnings_view warnings.new.items
-        ≡ warnings_view warnings.old.items
-        ++ declared_cautions unit.now.kind (uses_view uses.now)
-        (variables_of (unit_view unit.now))) }
+    ensures added { OnOk result (Warns warnings.old.items warnings.new.items (declared_cautions unit.now.kind (uses_view uses.now) (variables_of (unit_view unit.now)))) }
     ensures memory { IsOkUnless result Fault.Memory }
 {
     for declaration in &unit.declarations {

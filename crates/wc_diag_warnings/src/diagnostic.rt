@@ -1,7 +1,7 @@
-ghost use Rattle.std.specs.Prelude.{◌≡◌, ◌++◌, IfOk, OnOk, IsOkUnless};
+ghost use Rattle.std.specs.Prelude.{◌≡◌, IfOk, OnOk, IsOkUnless};
 ghost use Rattle.wc_model.specs.Language.Declarations.{variables_of};
 ghost use Rattle.wc_model.specs.Language.Views.{text_view, unit_view};
-ghost use Rattle.wc_diag_warnings.specs.Seen.{events_view, warnings_view};
+ghost use Rattle.wc_diag_warnings.specs.Seen.{events_view, warnings_view, Warns};
 ghost use Rattle.wc_diag_warnings.specs.Uses.{used_in};
 ghost use Rattle.wc_diag_warnings.specs.Warnings.{declared_cautions, unit_cautions, warnings};
 
@@ -21,10 +21,7 @@ fn warn_names<'a>(
     unit: &Unit<'a>,
     events: &[Event<'a>],
 ) -> Result<(), Fault>
-    ensures added { OnOk result (warnings_view warnings.new.items
-        ≡ warnings_view warnings.old.items
-        ++ declared_cautions unit.now.kind (used_in (events_view events.now))
-        (variables_of (unit_view unit.now))) }
+    ensures added { OnOk result (Warns warnings.old.items warnings.new.items (declared_cautions unit.now.kind (used_in (events_view events.now)) (variables_of (unit_view unit.now)))) }
     ensures memory { IsOkUnless result Fault.Memory }
 {
     let mut uses = unused(alloc);
@@ -38,9 +35,7 @@ fn warn_unit<'a>(
     warnings: &mut Vec<Warning<'a>>,
     unit: &Unit<'a>,
 ) -> Result<(), Fault>
-    ensures added { OnOk result (warnings_view warnings.new.items
-        ≡ warnings_view warnings.old.items
-        ++ unit_cautions (unit_view unit.now)) }
+    ensures added { OnOk result (Warns warnings.old.items warnings.new.items (unit_cautions (unit_view unit.now))) }
     ensures memory { IsOkUnless result Fault.Memory }
 {
     let events = events_of(alloc, &unit.body)?;

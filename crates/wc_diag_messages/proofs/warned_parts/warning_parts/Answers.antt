@@ -11,13 +11,13 @@ returns c =
       own = f.own;
       within = f.within;
       represents = f.represents;
-      said = c.sentence.result.now;
+      said = c.words_of.result.0.now;
       reported_is = c.in_ok-reported.ensures;
       severity_is = refl;
       number_is = c.from.ensures;
       line_is = refl;
       place_is = c.new.ensures.nothing;
       expected_are = c.new-2.ensures.nothing;
-      advice = c.hint.result.now;
+      advice = c.words_of.result.1.now;
       advice_is = c.in_ok-said_as.ensures.all;
     }
