@@ -152,19 +152,16 @@ fn paths_found<'a>(
     tokens: &[Token<'_>],
     label: &'a str,
     line: u32,
-    paths: LabelPaths,
+    LabelPaths { first, other }: LabelPaths,
 ) -> Paths<'a> {
-    let (first, brought) = (paths.first.line, words_brought(tokens, paths.first));
-    match paths.other {
-        Some(other) => Paths::Two(
-            label,
-            first,
-            brought,
-            other.line,
-            words_brought(tokens, other),
-        ),
-        None if matches!(paths.first.brought, Brought::Nothing) => Paths::Empty(label, first),
-        None => Paths::Unsure(label, line),
+    let brought = words_brought(tokens, first);
+    match (other, first.brought) {
+        (Some(other), _) => {
+            let different = words_brought(tokens, other);
+            Paths::Two(label, first.line, brought, other.line, different)
+        }
+        (None, Brought::Nothing) => Paths::Empty(label, first.line),
+        (None, _) => Paths::Unsure(label, line),
     }
 }
 
@@ -172,14 +169,12 @@ fn paths_found<'a>(
 fn label_said(refused: &Refused<'_, '_>) -> Said {
     let (tokens, found) = (refused.tokens, refused.label_before()?);
     let (label, line) = (words(found.text).unwrap_or(""), found.line);
-    match refused.span.paths {
-        Some(paths) => Some(paths_text(refused.alloc, paths_found(tokens, label, line, paths))),
-        None if follows_leaving(tokens, line) => Some(paths_text(
-            refused.alloc,
-            Paths::None(label),
-        )),
-        None => None,
-    }
+    let paths = match refused.span.paths {
+        Some(paths) => paths_found(tokens, label, line, paths),
+        None if follows_leaving(tokens, line) => Paths::None(label),
+        None => return None,
+    };
+    Some(paths_text(refused.alloc, paths))
 }
 
 /// What is said in place of the sentence, with the available values.
