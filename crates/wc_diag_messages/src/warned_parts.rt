@@ -9,7 +9,6 @@ use crate::warning_entries::warning_of;
 use std::alloc::{AllocError, Global};
 use wc_diag_shown::Message;
 use wc_diag_spans::{Diagnostic, Span, column_at, line_at};
-use wc_diag_texts::Expected;
 use wc_diag_warnings::Warning;
 use wc_lexer::Token;
 
@@ -122,17 +121,10 @@ fn diagnostic_of(
         Some(token) => Some(marked(warning.name, start_on(text, token, shown), shown)),
         None => None,
     };
-    Ok(Diagnostic {
-        line,
-        span,
-        shown: shown.to_vec(alloc)?,
-        subject: Vec::new(alloc),
-        sentence: None,
-        detail: String::new(alloc),
-        expected: Expected::Nothing,
-        hint: "",
-        advice: String::new(alloc),
-    })
+    let mut diagnostic = Diagnostic::new(alloc, line);
+    diagnostic.span = span;
+    diagnostic.shown = shown.to_vec(alloc)?;
+    Ok(diagnostic)
 }
 
 /// What is said of a warning of a text.

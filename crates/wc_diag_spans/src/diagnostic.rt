@@ -37,7 +37,7 @@ pub struct Diagnostic {
 
 impl Diagnostic {
     /// Nothing beyond what the number says, on that line.
-    pub(crate) fn new(alloc: Global, line: u32) -> Diagnostic
+    pub fn new(alloc: Global, line: u32) -> Diagnostic
         ensures nothing { (result.span ≡ None) × (result.shown.items ≡ []) }
         ensures line { result.line ≡ line }
     {
