@@ -1,5 +1,5 @@
-use crate::fields::{number_advice, point_advice};
-use crate::members::{declares_own, first_input, member_advice};
+use crate::fields::{foreign_advice, number_advice, point_advice};
+use crate::members::{declares_own, first_member, member_advice};
 use crate::near::{
     Wanted, instance_advice, label_advice, likely, near_name, near_word, operator_advice,
     type_advice,
@@ -10,7 +10,7 @@ use wc_diag_mistakes::{Refused, Said, follows_leaving, words};
 use wc_diag_stops::{Brought, first_word, following, is_near, is_shape, word_of};
 use wc_diag_texts::{Case, Mistake, empty_path_advice};
 use wc_lexer::Shape;
-use wc_model::{Kind, is_word};
+use wc_model::{Kind, Section, is_word};
 
 /// What to write with a word and those around it: for an operator whose letters are exchanged, a label without its colon, a type before
 /// its name, an input that is used as an operator, and inputs without parentheses.
@@ -135,12 +135,20 @@ fn unseen_advice(refused: &Refused<'_, '_>) -> Said {
 fn target_advice(refused: &Refused<'_, '_>) -> Said {
     let block = refused.word_at(refused.span.block)?;
     let instance = words(refused.offending())?;
-    match first_input(refused, block) {
+    match first_member(refused, block, Section::Input) {
         Some(input) => Some(format!(in refused.alloc;
             "name one of its inputs, such as {instance}.{input}"
         )),
         None => Some(member_advice(refused, block, true, (&[], &[]))),
     }
+}
+
+/// What to write for an instance that is loaded or passed: one of its outputs.
+fn value_advice(refused: &Refused<'_, '_>) -> Said {
+    let block = refused.word_at(refused.span.block)?;
+    let instance = words(refused.offending())?;
+    let output = first_member(refused, block, Section::Output)?;
+    Some(format!(in refused.alloc; "name one of its outputs, such as {instance}.{output}"))
 }
 
 /// What to write for a name that is not declared, by what it is used for.
@@ -152,7 +160,10 @@ fn undeclared_advice(refused: &Refused<'_, '_>) -> Said {
     } else {
         Wanted::Value
     };
-    likely(refused, near_name(refused, refused.offending(), wanted))
+    match near_name(refused, refused.offending(), wanted) {
+        None => foreign_advice(refused),
+        near => likely(refused, near),
+    }
 }
 
 /// What to write for a name between quotation marks.
@@ -193,6 +204,7 @@ pub fn advice_at(refused: &Refused<'_, '_>, mistake: Mistake) -> Said {
         (401, Case::Plain) => undeclared_advice(refused),
         (401, Case::BlockType) => instance_advice(refused),
         (402, Case::InstanceTarget) => target_advice(refused),
+        (402, Case::Instance) => value_advice(refused),
         (402, Case::Unpassed(Kind::Dint, Kind::Time)) => duration_advice(refused),
         (403, Case::AtLabel) => path_advice(refused),
         (404 | 405, _) => unseen_advice(refused),

@@ -1,8 +1,8 @@
 use crate::near::{Wanted, likely, near_name};
 use std::alloc::AllocError;
-use wc_built_in::variable_at;
+use wc_built_in::{standard_block, variable_at};
 use wc_diag_mistakes::{Refused, Said, block_with, words};
-use wc_diag_stops::{following, is_among, prefix, without_line_ends};
+use wc_diag_stops::{following, is_among, is_bare_duration, prefix, without_line_ends};
 
 /// The greatest bit of a number that is not negative.
 const GREATEST_BIT: u32 = 30;
@@ -15,8 +15,14 @@ pub(crate) fn point_advice(refused: &Refused<'_, '_>) -> Said {
             "`{name}` is a {kind}, and has no fields: only an instance has, such as t.Q of t : TON;"
         ));
     }
-    if let Some(near) = near_name(refused, name.as_bytes(), Wanted::Instance) {
+    let instance = near_name(refused, name.as_bytes(), Wanted::InstanceOf);
+    if let Some(near) = instance.or(near_name(refused, name.as_bytes(), Wanted::Instance)) {
         return Some(format!(in refused.alloc; "did you mean `{near}.{field}`?"));
+    }
+    if standard_block(name.as_bytes()).is_some() {
+        return Some(format!(in refused.alloc;
+            "{name} is a type: declare an instance in VAR, such as v : {name}; and write v.{field}"
+        ));
     }
     let Some(block) = block_with(field.as_bytes()) else {
         return Some(format!(in refused.alloc;
@@ -42,6 +48,35 @@ fn bit_of(digits: &[u8]) -> Option<u32> {
 /// Whether a name is an area of another tool with a number, such as E0 or M10.
 fn is_foreign_area(name: &[u8]) -> bool {
     is_among(b"a e i m q x y", prefix(name, 1)) && bit_of(following(name, 1)).is_some()
+}
+
+/// What to write for a name that is not declared and that other tools have: an area with a number, a number or a duration with a letter,
+/// or a timer or counter, as is what is called.
+pub(crate) fn foreign_advice(refused: &Refused<'_, '_>) -> Said {
+    let (alloc, name) = (refused.alloc, words(refused.offending())?);
+    let letter = prefix(name.as_bytes(), 1);
+    let rest = words(following(name.as_bytes(), 1)).unwrap_or("");
+    let is_number = !rest.is_empty() && rest.as_bytes().iter().all(|byte| byte.is_ascii_digit());
+    if refused.span.formal.is_none() && refused.is_called() {
+        return Some(format!(in alloc; "declare the instance in VAR, such as {name} : TON;"));
+    }
+    Some(match is_number {
+        true if is_among(b"k", letter) => format!(in alloc; "write the number alone: {rest}"),
+        true if is_among(b"t c", letter) => {
+            format!(in alloc;
+                "a timer or counter is an instance: declare {name} : TON; or {name} : CTU; in VAR, and load {name}.Q"
+            )
+        }
+        true if is_foreign_area(name.as_bytes()) => {
+            format!(in alloc;
+                "inputs are %IX0.0 to %IX0.15, outputs %QX0.0 to %QX0.15; variables are declared in VAR, VAR_INPUT and VAR_OUTPUT of this unit"
+            )
+        }
+        false if is_among(b"t", letter) && is_bare_duration(rest.as_bytes()) => {
+            format!(in alloc; "a duration begins with T#: write T#{rest}")
+        }
+        _ => return None,
+    })
 }
 
 /// What to write for a number after a point: an address, with or without its `%`, or a bit of a number.

@@ -98,14 +98,20 @@ pub(crate) fn member_advice(
     }
 }
 
-/// The first input of a block, if it has one.
-pub(crate) fn first_input<'a>(refused: &Refused<'a, '_>, block: &str) -> Option<&'a str> {
+/// The first input of a block, or its first output, if it has one.
+pub(crate) fn first_member<'a>(
+    refused: &Refused<'a, '_>,
+    block: &str,
+    wanted: Section,
+) -> Option<&'a str> {
     if let Some(standard) = standard_block(block.as_bytes()) {
-        return members_of(standard, true).first().copied();
+        return members_of(standard, wanted == Section::Input)
+            .first()
+            .copied();
     }
     let mut declarations = block_named(refused, block)?.declarations.iter();
-    let inputs = declarations.find(|declaration| declaration.section == Section::Input)?;
-    words(inputs.names.first()?.text)
+    let members = declarations.find(|declaration| declaration.section == wanted)?;
+    words(members.names.first()?.text)
 }
 
 /// Whether a block of the text has a variable in VAR.

@@ -142,6 +142,12 @@ fn near_label<'a>(units: &[Unit<'a>], name: &[u8], place: usize) -> Option<&'a s
 pub(crate) fn label_advice(refused: &Refused<'_, '_>) -> Said {
     let name = refused.offending();
     match near_label(refused.units, name, refused.span.start) {
+        None if keyword_named(name).is_some() => {
+            let label = words(name).unwrap_or("");
+            Some(format!(in refused.alloc;
+                "`{label}` is a reserved word: to leave the unit write RET, RETC or RETCN in place of the jump; a label has another name"
+            ))
+        }
         None => {
             let label = words(name).unwrap_or("label");
             Some(format!(in refused.alloc;

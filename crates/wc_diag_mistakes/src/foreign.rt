@@ -1,6 +1,6 @@
 use wc_built_in::{Keyword, elementary_type, keyword_named, standard_block};
 use wc_diag_stops::is_among;
-use wc_diag_texts::{Case, Mistake};
+use wc_diag_texts::{Case, Mistake, mistake_among};
 
 /// Words with spaces between, and the mistake that each of them is.
 type Row = (&'static [u8], Mistake);
@@ -38,56 +38,69 @@ const LEFT_OUT: [Row; 7] = rows! {
 /// Words in which a program is bound to a controller, and operators of STL (AWL) that are written otherwise here.
 const FRAMES: [Row; 2] = rows! {
     b"configuration end_configuration resource end_resource task with" => Configuration "";
-    b"a an o on u un x xn l t spa spb spbn ju jc network" => StatementList "";
+    b"a an o on u un x xn l t" => StatementList "";
 };
 
 /// Words with which other tools begin a unit.
 const UNITS: [Row; 2] = rows! {
     b"type end_type struct end_struct" => Worded says "is not supported", "delete TYPE .. END_TYPE: values are BOOL, DINT or TIME; for an enumeration use a DINT with 0, 1, 2, for a structure one variable for each part";
-    b"organization_block function_block_end data_block begin" => StatementList "";
+    b"organization_block function_block_end data_block begin network" => StatementList "";
 };
 
 /// Words in the place of an operator; the inputs of standard blocks the standard also writes as operators.
-const OPERATORS: [Row; 2] = rows! {
+const OPERATORS: [Row; 3] = rows! {
     b"cd" => DownCounter "";
+    b"network title begin nop bld" => Worded "delete this line, or make it a comment, such as (* NETWORK 1 *)";
     b"cu pv in pt clk s1 r1" => InputOperator "set an input in CAL, such as CAL c(CU := a): a store alone does not call the block";
 };
 
 /// Operators of other tools and languages, with what to write for each. Without these a name that is spelled almost as one of them, and does
 /// something else, would be suggested.
-const OTHERS: [Row; 26] = rows! {
+const OTHERS: [Row; 36] = rows! {
     b"ldi ldnot" => OtherOperator "did you mean `LDN`?";
     b"ani andi" => OtherOperator "did you mean `ANDN`?";
     b"ori" => OtherOperator "did you mean `ORN`?";
     b"nand" => OtherOperator "write AND and its operand, and NOT on the next line";
     b"nor" => OtherOperator "write OR and its operand, and NOT on the next line";
     b"xnor" => OtherOperator "write XOR and its operand, and NOT on the next line";
-    b"jmpn jcn" => OtherOperator "did you mean `JMPCN`?";
+    b"jmpn jcn spbn" => OtherOperator "did you mean `JMPCN`?";
+    b"jc spb" => OtherOperator "did you mean `JMPC`?";
+    b"ju spa goto" => OtherOperator "did you mean `JMP`?";
     b"retn" => OtherOperator "did you mean `RETCN`?";
     b"caln" => OtherOperator "did you mean `CALCN`?";
     b"uc" => OtherOperator "did you mean `CAL`?";
     b"cc" => OtherOperator "did you mean `CALC`?";
     b"set" => OtherOperator "did you mean `S`? It needs an operand; for SET alone write LD TRUE";
-    b"rst" => OtherOperator "did you mean `R`?";
+    b"rst res" => OtherOperator "did you mean `R`?";
     b"clr" => OtherOperator "write LD FALSE";
     b"sn rn" => OtherOperator "S and R have no N: negate the result with NOT on the line before";
     b"out" => OtherOperator "did you mean `ST`?";
     b"mov" => OtherOperator "LD loads the value, ST on the next line names where it goes";
     b"gtn gen eqn nen ltn" => OtherOperator "comparisons have no N: write the comparison without it, and NOT on the next line";
-    b"gte" => OtherOperator "did you mean `GE`?";
-    b"lte" => OtherOperator "did you mean `LE`?";
-    b"neq" => OtherOperator "did you mean `NE`?";
+    b"gte geq" => OtherOperator "did you mean `GE`?";
+    b"lte leq" => OtherOperator "did you mean `LE`?";
+    b"neq nq" => OtherOperator "did you mean `NE`?";
     b"inc" => OtherOperator "write LD n, on the next line ADD 1, on the next ST n";
     b"dec" => OtherOperator "write LD n, on the next line SUB 1, on the next ST n";
-    b"bea beu" => OtherOperator "did you mean `RET`?";
+    b"bea beu return" => OtherOperator "did you mean `RET`?";
     b"beb bec" => OtherOperator "did you mean `RETC`?";
+    b"cpl inv" => OtherOperator "did you mean `NOT`?";
+    b"mps mrd mpp" => OtherOperator "ST the result to a BOOL, and load it again with LD";
+    b"anb" => OtherOperator "write AND( and the operand in place of the LD that begins the block, and `)` in place of this line";
+    b"orb" => OtherOperator "write OR( and the operand in place of the LD that begins the block, and `)` in place of this line";
+    b"ldp andp orp fp pls" => OtherOperator "an edge is found by a block: declare e : R_TRIG; in VAR, and write CAL e(CLK := a); e.Q is TRUE for one scan";
+    b"ldf andf orf fn plf" => OtherOperator "for a falling edge call R_TRIG with the negated input: LDN a, then ST b, then CAL e(CLK := b); e.Q is TRUE for one scan";
+    b"stc stcn ldc ldcn sc scn rc rcn" => OtherOperator "only JMP, CAL and RET have a C: for others write JMPCN skip on the line above, and `skip:` with an LD below; S and R act only on TRUE";
+    b"zv zr fr" => OtherOperator "a counter is a block: declare c : CTU; in VAR, and write CAL c(CU := a, R := b, PV := 10); c.Q is its output; a CTU only counts up";
     b"se sd si sp sa sf sv ss tim" => OtherOperator "a timer is a block: declare t : TON; in VAR for an on-delay (SD, German SE), t : TOF; for an off-delay (SF, German SA) or t : TP; for a pulse that runs on when a falls (SE, German SV), and write CAL t(IN := a, PT := T#1s); t.Q is its output; for a pulse that ends when a falls (SP, German SI) take a TON, and LD a, ANDN t.Q is the output";
 };
 
 /// Types that this language does not have, and words that begin one.
-const TYPES: [Row; 5] = rows! {
+const TYPES: [Row; 7] = rows! {
     b"int sint uint usint udint lint ulint byte word dword lword" => Worded "use DINT, the only integer type (32 bits, signed); single bits are BOOLs";
     b"real lreal" => Worded "numbers are integers: use DINT, and count in a smaller unit";
+    b"timer tonr" => Worded "timers are TON, TOF and TP; none keeps its time while IN is FALSE";
+    b"counter" => Worded "a counter is a CTU, which counts up";
     b"string wstring char date tod time_of_day dt date_and_time array struct pointer" => Worded "the types are BOOL, DINT and TIME: there are no strings, dates, arrays and structures";
     b"f_trig" => Worded "for a falling edge call R_TRIG with the negated input: LDN a, then ST b, then CAL e(CLK := b)";
     b"ctd ctud" => DownCounter "";
@@ -110,22 +123,23 @@ fn row_of(rows: &[Row], word: &[u8]) -> Option<Mistake> {
 
 /// Whether a word has a part, in letters of either case.
 fn has_part(word: &[u8], part: &[u8]) -> bool {
-    word.windows(4)
+    word.windows(part.len().max(1))
         .any(|bytes| bytes.eq_ignore_ascii_case(part))
 }
 
 /// A word of a type, `_TO_` and a type, if it is one; between numbers nothing is to convert.
 fn mistaken_conversion(word: &[u8]) -> Option<Mistake> {
-    let mut others = "time bool date ring char bcd_ _bcd".split(' ');
     if !has_part(word, b"_to_") {
-        None
-    } else if others.any(|other| has_part(word, other.as_bytes())) {
-        Some(Mistake::of(Case::Conversion))
-    } else {
-        Some(Mistake {
-            hint: "leave this line out: every number is a DINT, so there are no conversions",
-            ..Mistake::of(Case::Function)
-        })
+        return None;
+    }
+    let mut others = "date ring char bcd_ _bcd".split(' ');
+    mistake_among! {
+        word;
+        _ if has_part(word, b"bool") => Function "with n : DINT write LD 0, ST n; LD a, JMPCN skip; LD 1, ST n; `skip:` LD n is 1 while a is TRUE, otherwise 0; a number gives a BOOL by a comparison, such as NE 0";
+        _ if has_part(word, b"_to_time") => Function "a number cannot be converted to a TIME: write a duration, such as LD T#500ms";
+        _ if has_part(word, b"time") => Conversion "";
+        _ if others.any(|other| has_part(word, other.as_bytes())) => Function "the types are BOOL, DINT and TIME: there are no strings, dates and BCD numbers to convert";
+        _ if !word.is_empty() => Function "leave this line out: every number is a DINT, so there are no conversions";
     }
 }
 
@@ -163,7 +177,7 @@ pub(crate) fn mistaken_name(word: &[u8]) -> Mistake {
 }
 
 /// A type that this language does not have.
-pub(crate) fn mistaken_type(word: &[u8]) -> Option<Mistake> {
+pub(crate) fn foreign_type(word: &[u8]) -> Option<Mistake> {
     row_of(&TYPES, word)
 }
 

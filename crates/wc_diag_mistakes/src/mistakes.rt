@@ -1,10 +1,10 @@
 use crate::foreign::{
-    is_type, left_out, mistaken_function, mistaken_name, mistaken_type, mistaken_unit,
+    foreign_type, is_type, left_out, mistaken_function, mistaken_name, mistaken_unit,
 };
 use crate::refused::Refused;
 use crate::types::{is_conditional, mistaken_kind};
 use crate::unreached::{block_line, is_unreached};
-use wc_built_in::{Keyword, elementary_type, keyword_named};
+use wc_built_in::{Keyword, elementary_type, keyword_named, standard_block};
 use wc_diag_stops::{
     following, follows_digit, is_among, is_digit, is_line_end, is_near, is_operator, is_shape,
     mistaken_byte, mistaken_duration, mistaken_number, mistaken_statement, operator_on, text_of,
@@ -32,6 +32,8 @@ fn mistaken_start(refused: &Refused<'_, '_>) -> Option<Mistake> {
         (Some(Keyword::UnitStart(_)), _) => Worded says "begins a unit, and the one above is still open", "close the unit above with END_FUNCTION_BLOCK";
         (Some(Keyword::UnitEnd(_)), _) => UnitEnd "";
         (_, Some(Shape::Colon | Shape::Assign)) => Assignment "";
+        (_, Some(Shape::Opening)) if is_among(b"a an o on u un x xn", word) => Worded "this looks like Siemens STL (AWL): U( or A( is AND(, O( is OR(, X( is XOR(, UN( is ANDN(, ON( is ORN(, each with its first operand; at the start begin with LD and that operand, without a parenthesis";
+        _ if block_line(refused.tokens, word).is_some() => InstanceCall "";
         (_, Some(Shape::Point)) => Worded "set an input of a block in its call, such as CAL t(IN := a), or by LD a, ST t.IN and then CAL t";
         _ if is_among(b"jmpnc calnc retnc", word) => ConditionSpelling "C comes before N: JMPCN, CALCN, RETCN";
     }
@@ -101,13 +103,14 @@ fn mistaken_in_unit(token: &[u8], next: Option<&Token<'_>>, expected: Expected) 
         (Expected::FormalOrClosing | Expected::Formal | Expected::AssignOrArrow, _, _) => Worded "name each input of the block, such as CAL e(CLK := a) of an R_TRIG, CAL t(IN := a, PT := T#1s) of a TON";
         (Expected::OpeningOrLineEnd, Some(b'A'..=b'Z' | b'a'..=b'z' | b'%'), _) => BareInputs "put the inputs of the call in parentheses, each with its name, such as CAL t(IN := a, PT := T#1s) of a TON";
         (Expected::CommaPointOrClosing | Expected::CommaOrClosing, Some(_), _)
-            if is_shape(next, Shape::Assign) || is_shape(next, Shape::Arrow) => Worded "separate the parameters with commas, such as CAL t(IN := a, PT := T#1s)";
+            if is_shape(next, Shape::Assign) || is_shape(next, Shape::Arrow) || token.starts_with(b";") => Worded "separate the parameters with commas, such as CAL t(IN := a, PT := T#1s)";
         (Expected::CommaPointOrClosing | Expected::CommaOrClosing, Some(_), _) => Worded "an input takes a variable, an address, a field or a literal: compute and store the value before the call";
         (Expected::CommaOrColon, Some(b';'), _) => Worded "a declaration names a type, such as d, e : DINT;";
         (Expected::Name | Expected::TypeName | Expected::Literal, Some(b';'), _) => Declaration "";
         (_, Some(b';'), _) => Worded "an instruction ends with its line, without a semicolon";
         (Expected::InstructionOrLineEnd, _, _) if is_type(token) => Worded "declarations go between VAR and END_VAR, before the first instruction";
         (Expected::LineEnd | Expected::PointOrLineEnd, Some(b','), _) => Worded "write each instruction on a line of its own, without commas; an operator has one operand";
+        (Expected::LineEnd | Expected::PointOrLineEnd, _, Some(Keyword::Load(_) | Keyword::Store(_) | Keyword::Jump(_) | Keyword::Call(_) | Keyword::Return(_))) => Worded "write each instruction on a line of its own";
         (Expected::LineEnd | Expected::PointOrLineEnd, _, Some(Keyword::Apply(_))) => Worded "each operator has a line of its own: AND( a, then OR b, then `)`";
         (Expected::Instruction | Expected::InstructionOrLineEnd, Some(b'%'), _) => Assignment "";
         (Expected::Instruction | Expected::InstructionOrLineEnd, Some(b'('), _) => Worded "write the `(` on the line of its CAL, such as CAL t(IN := TRUE)";
@@ -200,8 +203,10 @@ fn mistaken_on_line(refused: &Refused<'_, '_>) -> Option<Mistake> {
         Some(Keyword::UnitStart(_))
     );
     let is_address = before.starts_with(b"%") && !before.contains(&b'.');
+    let is_duration = before.starts_with(b"T#") || before.starts_with(b"t#");
     mistake_among! {
         (refused.span.expected, refused.token().first());
+        _ if is_duration && is_among(b"d h m s ms", refused.token()) => Worded "write the units of a duration without spaces, such as T#1m30s";
         (Expected::AssignOrSemicolon | Expected::Semicolon, _) if refused.begins_line() => Worded "the declaration above has no `;` at its end";
         (Expected::LineEnd | Expected::Semicolon, _) if is_decimal_comma(refused) && is_address => Worded "an address has a point, such as %IX0.0";
         (Expected::LineEnd | Expected::Semicolon, _) if is_decimal_comma(refused) => Worded "numbers are integers, without a decimal comma: write 1,5 kg as 1500, if weights have 3 decimals";
@@ -276,6 +281,19 @@ fn mistaken_target(refused: &Refused<'_, '_>) -> Option<Mistake> {
     }
 }
 
+/// A type that this language does not have, or a function block where no instance is declared.
+fn mistaken_type(refused: &Refused<'_, '_>) -> Option<Mistake> {
+    let word = refused.token();
+    if standard_block(word).is_none() && block_line(refused.tokens, word).is_none() {
+        return foreign_type(word);
+    }
+    Some(Mistake {
+        case: Case::Worded,
+        sentence: "is a function block, and only VAR declares instances",
+        hint: "declare the instance in VAR, and pass what is needed of it, such as t.Q to an input of type BOOL",
+    })
+}
+
 /// A function block that is not declared above, if that is sure.
 fn mistaken_block(refused: &Refused<'_, '_>) -> Option<Mistake> {
     mistake_among! {
@@ -299,12 +317,27 @@ fn mistaken_use(refused: &Refused<'_, '_>) -> Option<Mistake> {
     }
 }
 
+/// A sign in a name.
+const JOINED_NAME: Mistake = Mistake {
+    case: Case::SignAlone,
+    sentence: "",
+    hint: "a name has letters, digits and underscores alone, such as start_button; a sign is right before its digits",
+};
+
+/// Whether it is right after a word that is not reserved.
+fn follows_name(refused: &Refused<'_, '_>) -> bool {
+    let name = refused.word_before();
+    let end = refused.previous().map(|token| token.text.len().saturating_add(token.start as usize));
+    !name.is_empty() && keyword_named(name).is_none() && end == Some(refused.span.start)
+}
+
 /// Which mistake a refusal refers to that breaks a rule in that way, with its words.
 pub fn mistake_at(refused: &Refused<'_, '_>, case: Case) -> Mistake {
     let (token, before) = (refused.token(), refused.before());
     let rest = following(refused.lexeme, token.len());
     let found = match (refused.number, refused.span.expected) {
         (101, _) => mistaken_byte(before, refused.span.start, refused.lexeme, case),
+        (105, _) if follows_name(refused) => Some(JOINED_NAME),
         (105, _) => mistaken_number(text_of(refused.previous()), token, rest, case),
         (106, _) => mistaken_duration(token, rest),
         (201, Expected::LabelColon) => Some(mistaken_operator(refused)),
@@ -313,7 +346,7 @@ pub fn mistake_at(refused: &Refused<'_, '_>, case: Case) -> Mistake {
         }
         (201, _) => Some(mistaken_at(refused)),
         (202 | 203, _) => mistaken_unit_end(refused),
-        (302, _) => mistaken_type(token),
+        (302, _) => mistaken_type(refused),
         (303, _) => mistaken_value(before),
         (304, _) => mistaken_address(token),
         (308, _) => mistaken_block(refused),

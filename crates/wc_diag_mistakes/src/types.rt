@@ -99,7 +99,7 @@ fn mistaken_operand(case: Case, family: Family, before: Option<Kind>) -> Option<
         (Case::Untaken(_), Family::Negate, _) => Worded "load the number with LD; its negative is LD 0, then SUB and the number";
         (Case::Untaken(_), Family::StoreNegated, _) => Worded "STN stores a negated BOOL to a BOOL, such as STN %QX0.0; for the negative of a number LD 0, SUB the number, and ST";
         (Case::Untaken(_), Family::Set, _) => Worded "declare it as BOOL; or to store a number on a condition write LD a, JMPCN skip; LD 5, ST n; `skip:` goes on with an LD";
-        (Case::Untaken(_), Family::Order, _) => OrderedBool "";
+        (Case::Untaken(_), Family::Order, _) => Worded "compare with a number or a duration, such as GE 500, and AND the BOOL on the next line";
         (Case::Untaken(Kind::Bool), _, _) => CountedBool "";
         (Case::Untaken(_), Family::Multiply | Family::Divide, _) => Worded "a TIME cannot be multiplied: load the product, such as LD T#5s, and store it to a TIME variable; for milliseconds as a number use DINTs only, such as MUL 1000";
         (Case::Untaken(Kind::Dint), _, _) => Worded "compare the number before: LD n, GE 500, and then AND with the BOOL";

@@ -3,6 +3,7 @@ use crate::lines::{column_at, line_length, line_of};
 use memchr::{memchr, memmem};
 use std::alloc::{AllocError, Global};
 use std::fmt::Write;
+use toml::Value;
 use toml::de::Error;
 use wc_diag_mistakes::{Said, said_text};
 use wc_diag_stops::{bytes_at, following};
@@ -197,6 +198,16 @@ fn report_rule(
     }
 }
 
+/// Says that a section is not part of a plate.
+fn report_section(
+    alloc: Global,
+    diagnostic: &mut Diagnostic,
+    key: &str,
+) -> Result<(), AllocError> {
+    diagnostic.advice = format!(in alloc; "delete the line [{key}]: a plate has no sections")?;
+    diagnostic.report(key.as_bytes(), Some("is not a key of a plate"))
+}
+
 /// Says where a text stops being TOML, and why.
 fn report_syntax(
     alloc: Global,
@@ -224,6 +235,11 @@ pub(crate) fn find_plate_fault(
 ) -> Result<(), AllocError> {
     match toml::table_from_slice(alloc, text) {
         Ok(table) => match plate_of(&table) {
+            Err(BrokenRule::UnknownKey { key, .. })
+                if number == 502 && matches!(table.get(key), Some(Value::Table(_))) =>
+            {
+                report_section(alloc, diagnostic, key)
+            }
             Err(rule) if rule.number() == number => report_rule(alloc, diagnostic, text, rule),
             _ => Ok(()),
         },

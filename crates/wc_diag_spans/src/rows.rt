@@ -79,6 +79,7 @@ fn report_fields(diagnostic: &mut Diagnostic, row: &RefusedRow, place: u32) {
             Some("the row has more than three fields")
         }
         _ if has_semicolons(row) => Some("the row has semicolons in place of commas"),
+        _ if shown_field(row, 0).starts_with(b"#") => Some("a log has no comments: delete the row"),
         _ => sentence_of(601, Case::Plain),
     };
 }
@@ -136,6 +137,7 @@ fn said_of_field(number: u16, row: &RefusedRow) -> Option<&'static str> {
         (602, _) if !are_digits(time) => "is not a whole number of milliseconds",
         (602, _) if time.len() > 13 => "has more than 13 digits",
         (604, []) => "the kind is missing",
+        (604, [b' ' | b'\t', ..]) => "begins with a blank, and a row has none around its commas",
         (604, [b'c' | b'l' | b'i' | b's' | b'p']) => "is not a kind: kinds are capital letters",
         (605, _) if data.is_empty() => "the counts are missing",
         (605, _) if !are_digits(counts) => "is not a whole number",

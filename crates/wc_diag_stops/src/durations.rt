@@ -57,8 +57,8 @@ fn after_prefix(token: &[u8]) -> &[u8] {
     }
 }
 
-/// Whether the numbers of a duration with their units are more than a TIME holds, and how the first unit that is not smaller than that
-/// before it compares to that, if all are of the language.
+/// Whether the numbers of a duration with their units are more than a TIME holds, and how its units compare to those before them, if all
+/// are of the language: less, or as the first that is not smaller does.
 pub(crate) fn read_units(token: &[u8]) -> (bool, Option<Ordering>) {
     let mut rest = after_prefix(token);
     let most = if rest.starts_with(b"-") {
@@ -83,5 +83,12 @@ pub(crate) fn read_units(token: &[u8]) -> (bool, Option<Ordering>) {
         before = unit;
         rest = after;
     }
-    (total > most, if is_known { order } else { None })
+    (
+        total > most,
+        if is_known {
+            Some(order.unwrap_or(Ordering::Less))
+        } else {
+            None
+        },
+    )
 }

@@ -1,6 +1,6 @@
-use crate::around::{last_line, operator_on, text_of};
+use crate::around::{is_shape, last_line, operator_on, text_of, without_line_ends};
 use crate::durations::read_units;
-use crate::lexemes::is_bare_duration;
+use crate::lexemes::{has_foreign_digit, is_bare_duration};
 use crate::slices::following;
 use crate::words::{first_word, is_among};
 use std::cmp::Ordering;
@@ -42,18 +42,28 @@ fn is_statement_comparison(text: &[u8]) -> bool {
     }
 }
 
-/// A `=`, `<` or `>` in place of something else, by what is before it on its line and what begins with it.
-fn mistaken_sign(before: &[Token<'_>], byte: u8, rest: &[u8]) -> Option<Mistake> {
+/// Whether the last of these tokens is in the place of a name that is declared.
+fn begins_declaration(tokens: &[Token<'_>]) -> bool {
+    let (above, _) = tokens.split_at(tokens.len().saturating_sub(1));
+    let start = without_line_ends(above).last();
+    let word = keyword_named(text_of(start));
+    is_shape(start, Shape::Semicolon) || matches!(word, Some(Keyword::SectionStart(_)))
+}
+
+/// A `=`, `<` or `>` in place of something else, by the tokens before it and what begins with it.
+fn mistaken_sign(tokens: &[Token<'_>], byte: u8, rest: &[u8]) -> Option<Mistake> {
+    let before = last_line(tokens);
     let has = |shape: Shape| before.iter().any(|token| token.shape == shape);
     mistake_among! {
         (mistaken_statement(text_of(before.first())), byte);
-        _ if before.is_empty() && is_statement_comparison(rest) => StatementComparison says "is not an operator", "this looks like Siemens STL (AWL): ==I and ==D are EQ, <>I is NE, >I GT, <I LT, >=I GE and <=I LE, each with its operand, such as EQ 5";
+        _ if before.is_empty() && is_statement_comparison(rest) => StatementComparison says "is not an operator", "this looks like Siemens STL (AWL): ==I and ==D are EQ, <>I is NE, >I GT, <I LT, >=I GE and <=I LE, each with its operand in place of the L before it: L 5 and ==I together are EQ 5";
         (Some(Mistake { case: Case::Loop, .. }), _) => Worded "this looks like Structured Text: there are no loops; do one pass of the loop in each scan: LD n, LT 10, JMPCN done; its lines; LD n, ADD 1, ST n; `done:` goes on with an LD";
         (Some(_), b'=') => Worded "this looks like Structured Text: for IF a = 5 write LD a, EQ 5, JMPCN skip; `skip:` is the END_IF";
         (Some(_), _) => Worded "this looks like Structured Text: for IF w >= 1000 write LD w, GE 1000, JMPCN skip; `skip:` is the END_IF";
         (None, b'=') if before.is_empty() => StatementAssign says "is not an operator", "this looks like Siemens STL (AWL): `=` is ST; U or O is LD at the start and after each `=`, S or R, else AND or OR";
         (None, b'=') if has(Shape::Opening) => Worded "an input is passed with `:=`, such as IN := a";
         (None, b'=') if has(Shape::Colon) || has(Shape::Assign) => Worded "an initial value is written with `:=`, such as a : DINT := 5;";
+        (None, b'=') if begins_declaration(tokens) => Worded "a declaration is `name : TYPE;`, such as a : BOOL;";
         (None, b'=') => Worded "to store write ST, to compare EQ, NE, GT, GE, LT or LE; a call and a declaration have `:=`";
         (None, b'>') => Worded "to compare write GT or GE";
         (None, b'<') => Worded "to compare write LT, LE or NE";
@@ -82,6 +92,7 @@ fn foreign_byte(byte: u8, next: Option<&u8>) -> Option<Mistake> {
         (b'/', Some(b'/')) => Worded "a comment is (* .. *)";
         (b'/', _) => Worded "to divide write DIV; a comment is (* .. *)";
         (b'*', _) => Worded "to multiply write MUL; a comment is (* .. *)";
+        (b'#', Some(b'A'..=b'Z' | b'a'..=b'z' | b'_')) => Worded "write the name without the #; a # belongs to a literal, such as 16#FF or T#5s";
         (b'#', _) => Worded "a # belongs to a literal, such as 16#FF or T#5s";
         (b'\r', _) => Worded "save the file with line ends of Windows (CR LF) or Unix (LF)";
         (0, _) => Worded "save the text as ASCII, or as UTF-8 without a byte order mark";
@@ -98,7 +109,7 @@ pub fn mistaken_byte(
     case: Case,
 ) -> Option<Mistake> {
     match case {
-        Case::Byte(byte @ (b'=' | b'<' | b'>')) => mistaken_sign(last_line(before), byte, rest),
+        Case::Byte(byte @ (b'=' | b'<' | b'>')) => mistaken_sign(before, byte, rest),
         Case::Byte(b'\'' | b'"') => mistaken_quote(before, start, rest),
         Case::Byte(byte) => foreign_byte(byte, rest.get(1)),
         _ => None,
@@ -117,6 +128,7 @@ pub fn mistaken_duration(token: &[u8], rest: &[u8]) -> Option<Mistake> {
         _ if is_long => Worded says "is a duration out of range", "durations are T#-24d20h31m23s648ms to T#24d20h31m23s647ms; for longer ones count days, with start, run, stop : BOOL and day : TON and days : CTU: LD start, ANDN day.Q, ST run; CAL day(IN := run, PT := T#1d); LDN start, ST stop; CAL days(CU := day.Q, R := stop, PV := 30); days.Q is TRUE after 30 days";
         (_, Some(Ordering::Equal)) => Worded says "has a unit twice", "write each unit once, the larger first, such as T#1m10s";
         (_, Some(Ordering::Greater)) => Worded says "has its units in a wrong order", "each unit is smaller than that before it: write days, hours, minutes, seconds, milliseconds in this order, such as T#3h5s";
+        (_, Some(Ordering::Less)) if !token.contains(&b'.') => Worded "after the first unit hours are below 24, minutes and seconds below 60, milliseconds below 1000: T#1m90s is T#2m30s or T#150s";
     }
 }
 
@@ -131,10 +143,15 @@ pub fn mistaken_number(before: &[u8], token: &[u8], rest: &[u8], case: Case) -> 
     mistake_among! {
         case;
         Case::SignAlone if token.starts_with(b"-") && rest.starts_with(b">") => Worded "an output is read with =>, such as Q => a";
+        Case::WithPoint if token.windows(2).any(|pair| pair.starts_with(b"..")) => Worded says "is a range, and there are no ranges", "leave the range out: a DINT is -2147483648 to 2147483647";
+        Case::WithPoint if is_among(b"mul div mod", before) => Worded "write a factor with whole numbers: for MUL 0.5 write MUL 1, and DIV 2 on the next line";
         Case::WithPoint if is_foreign_address(before, token) => StatementAddress "this looks like Siemens STL (AWL): E 0.0 is %IX0.0, A 4.0 an output such as %QX0.0; U is LD at the start and after each `=`, S or R, else AND (UN: LDN, ANDN); `=` is ST";
         Case::WithPoint if is_among(b"%ix %qx", before) => Worded "write an address without a space, such as %IX0.0";
+        Case::NoNumber if is_bare_duration(token) && (before.starts_with(b"T#") || before.starts_with(b"t#")) => Worded "write the units of a duration without spaces, such as T#1m30s";
         Case::NoNumber | Case::WithBase if is_foreign_duration || is_bare_duration(token) => Worded "a duration begins with T#, such as T#500ms";
+        Case::WithBase if has_foreign_digit(token) => Worded says "is not a valid literal", "the digits of 2# are 0 and 1, of 8# 0 to 7, of 16# 0 to 9 and A to F, with single underscores between";
         Case::WithBase if token.starts_with(b"BOOL") || token.starts_with(b"bool") => Worded says "is not a literal of this language", "a BOOL is TRUE, FALSE, BOOL#0 or BOOL#1";
+        Case::NoNumber if token.iter().any(|byte| byte.is_ascii_alphabetic()) => Worded "a name begins with a letter, such as a1; a number has digits alone, in the smallest unit: 10 kg is 10000 with 3 decimals";
         Case::WithBase if token.first().is_some_and(|byte| byte.is_ascii_alphabetic()) => Worded says "is not a literal of this language", "write the number without its type, such as 5";
     }
 }

@@ -17,7 +17,7 @@ mod words;
 pub use around::{
     is_line_end, is_shape, last_line, operator_on, text_of, without_line_ends, word_of,
 };
-pub use lexemes::{BYTE_ORDER_MARK, case_of_lexeme};
+pub use lexemes::{BYTE_ORDER_MARK, case_of_lexeme, is_bare_duration};
 pub use lexical::{
     follows_digit, is_digit, is_operator, mistaken_byte, mistaken_duration, mistaken_number,
     mistaken_statement,

@@ -134,7 +134,7 @@ fn declared_words(number: u16, case: Case) -> Words {
         401, Case::Field => "is not an input or output of a declared instance", "before the dot comes an instance that VAR declares, after it an output, such as t.Q; there are no global variables";
         401, Case::BlockType => "is the name of a type, not of an instance", "declare an instance in VAR, `t : TON;`, and call that: CAL t(..)";
         403, Case::Plain => "there is no current result", "begin with LD: no line that leads here has loaded a value";
-        404, Case::LiteralTarget => "", "ST takes a variable or an output: LD loads the value, ST names where it goes";
+        404, Case::LiteralTarget => "", "the target is a variable or an output, such as ST a, or Q => a in a call; LD loads the value";
         404, _ => "", "an input is set by the caller: copy it to a variable in VAR, and change the copy";
         405, _ => "", "store the value in a variable of your own, pass that to the input, and read the variable";
         408, Case::Deferred => "takes no parenthesis", "DIV and MOD take an integer literal, such as DIV 10; DIV( and MOD( do not exist";
@@ -154,7 +154,7 @@ fn kind_words(number: u16, case: Case) -> Words {
         402, Case::ComparedNumber => "", "compare the number first, such as NE 0 or GE 500: a comparison gives a BOOL; to use the number below, ST it before the comparison and LD it again";
         402, Case::ComparedTime => "", "compare the time first, such as GE T#500ms: a comparison gives a BOOL; to use the time below, ST it before the comparison and LD it again";
         402, Case::CountedBool => "", "a BOOL cannot be converted to a number: with n : DINT write LD 0, ST n; LD a, JMPCN skip; LD 1, ST n; `skip:` LD n is 1 while a is TRUE, otherwise 0; to count pulses write CAL c(CU := a), with c : CTU, and LD c.CV";
-        402, Case::OrderedBool => "", "BOOLs have no GT, GE, LE or LT: load a number first, or combine BOOLs with AND, OR or XOR";
+        402, Case::OrderedBool => "", "BOOLs have no GT, GE, LE or LT: for a second comparison of n write AND( n, then LE 900, then `)`; for another one begin with LD and its number";
         402, Case::MultipliedTime => "", "a TIME cannot be multiplied: write the product as a duration, such as T#15s, or ADD the time several times";
         402, Case::DividedTime => "", counting_seconds!("a TIME cannot be divided: compare it, such as GE T#15s");
         402, Case::Closing => "closes with another type than that of the result before its parenthesis", "end the lines in the parenthesis with the type of the result before it";
