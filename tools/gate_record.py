@@ -3,8 +3,11 @@ import json
 import re
 import subprocess
 import sys
+from pathlib import Path
 
 from harness import TOP, closure, crates
+
+MISSING = "missing: the record has no such line"
 
 
 def git(*words):
@@ -60,7 +63,7 @@ class Record:
 def record_in(folder):
     numbers = sorted(file.stem for file in folder.glob("*.command"))
     if not numbers:
-        sys.exit(f"dossier: no record in {folder}: .ci/run keeps one in .gate")
+        sys.exit(f"{Path(sys.argv[0]).name}: no record in {folder}: .ci/run keeps one in .gate")
     part = lambda file: file.read_text(errors="replace").rstrip("\n") if file.is_file() else None
     commands = [{it: part(folder / f"{number}.{it}") for it in ("command", "output", "start", "end", "status")} for number in numbers]
     for it in commands:
@@ -72,3 +75,46 @@ def record_in(folder):
 def record_of_log(file):
     output = file.read_text(errors="replace").rstrip("\n")
     return Record([{"command": "rt ci", "output": output, "start": None, "end": None, "status": None}], "the output of rt ci alone")
+
+
+def last_logic(lines):
+    """The last verdict line of the prover among these; empty if there is none."""
+    return next((line for line in reversed(lines) if line.startswith("logic=")), "")
+
+
+def counted(key, line):
+    """The value of a key in a verdict line; None if it has none."""
+    found = re.search(rf"\b{key}=(\S+)", line)
+    return found and found[1]
+
+
+def verdicts(record):
+    """For each crate of crates.txt: what the record says of its proof, word for word."""
+    blocks, found = record.blocks(), []
+    before = record.earlier.blocks() if record.earlier else {}
+    for crate in crates():
+        said = [line for line in record.ci if re.match(rf"rt: {crate} (proved|is kept\b.*|NOT PROVED.*)$", line)]
+        line = last_logic(blocks.get((crate, "")) or (before.get((crate, ""), []) if crate in record.same else []))
+        origin = "this gate" if (crate, "") in blocks else record.earlier.output("git rev-parse HEAD")[0] if line else None
+        found.append({
+            "crate": crate, "verdict": said[-1].removeprefix("rt: ") if said else MISSING,
+            "functions": counted("functions", line), "sum": counted("sum", line), "line": line or None, "line of": origin if line else None,
+        })
+    return found
+
+
+def axioms_in(record):
+    """For each program and its tests: how many functions of C its verdict rests on, and what the record says of them by library."""
+    for (crate, kind), lines in record.blocks().items():
+        count = next(filter(None, (counted("axioms", line) for line in lines if line.startswith("logic="))), None)
+        if count:
+            yield {"crate": crate, "what": kind or "itself", "axioms": count, "lines": [line.removeprefix("axioms ") for line in lines if line.startswith("axioms ")]}
+
+
+def tests_in(record):
+    """For each crate with tests: how many, and whether they passed."""
+    blocks = record.blocks()
+    names = {crate for crate, kind in blocks if kind == "its tests"} | set(re.findall(r"(?m)^rt: (\w+): its tests\b", "\n".join(record.ci)))
+    for crate in sorted(names):
+        said = [line.removeprefix("rt: ") for line in record.ci if line.startswith(f"rt: {crate}: its tests")]
+        yield {"crate": crate, "tests": counted("tests", last_logic(blocks.get((crate, "its tests"), []))), "lines": said}

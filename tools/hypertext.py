@@ -1,4 +1,4 @@
-"""HTML of texts: Markdown, code with links to where its names are defined, and templates."""
+"""HTML of texts: Markdown, code with links to where its names are defined, templates, and the contents of a page."""
 import html
 import re
 
@@ -200,3 +200,30 @@ class Template:
             return "".join(self.filled(inside, {**known, "first": at == 0, **(one if isinstance(one, dict) else {"it": one})}) for at, one in enumerate(items))
 
         return self.TAG.sub(shown, template)
+
+
+# --- sections and contents
+
+# of each section: its head, with its name, its group if it begins one, and its title; what follows
+SECTION = re.compile(r'(?s)(<section class="[^"]*" id="([^"]+)"(?: data-group="([^"]+)")?><h2>(.*?)</h2>)(.*?</section>)')
+
+
+def with_places(sections):
+    """The sections, each heading of the third level with a place to which the contents lead."""
+    def placed(it):
+        first, *others = it[5].split("<h3>")
+        return it[1] + first + "".join(f'<h3 id="{it[2]}.part{count}">{other}' for count, other in enumerate(others, 1))
+
+    return SECTION.sub(placed, sections)
+
+
+def contents_of(sections):
+    """The contents: the sections by their groups, each with its headings, and with the files of definitions below them."""
+    found = []
+    for start, (_, key, group, title, body) in enumerate(SECTION.findall(sections), 1):
+        if group:
+            found.append({"group": group, "start": start, "listed": []})
+        headings = re.findall(r'<(h[34]) id="([^"]+)">(.*?)</h[34]>', body)
+        below = [{"level": level, "place": place, "heading": it.removeprefix("crates/").removesuffix(".antt")} for level, place, it in headings]
+        found[-1]["listed"].append({"key": key, "title": title, "below": below})
+    return found

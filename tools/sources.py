@@ -254,3 +254,19 @@ def tables_of(text):
 
 def in_ticks(cell):
     return re.findall(r"`([^`]+)`", cell)
+
+
+def traceability():
+    """The index of clauses (docs/CLAUSES.md): for each of its sections the heading, the words before the table, its head, its rows."""
+    first, *parts = re.split(r"(?m)^## (.+)\n", (TOP / "docs" / "CLAUSES.md").read_text())
+    yield {"heading": "", "part": LEGAL, "words": first.partition("\n")[2].strip(), "head": [], "rows": []}
+    for heading, body in zip(parts[::2], parts[1::2]):
+        words = "\n".join(line for line in body.split("\n") if not line.startswith("|")).strip()
+        head, _, *rows = rows_of(body)
+        yield {"heading": heading, "part": LEGAL if heading.startswith("R 76-1") else CUSTOMER, "words": words, "head": head, "rows": rows}
+
+
+def line_of(page, pattern):
+    """What a line of a page has in the place of the pattern's group; a fault if there is no such line."""
+    found = re.search(f"(?m){pattern}", (TOP / page).read_text())
+    return found[1] if found else f"missing: {page} has no line {pattern}"
