@@ -9,7 +9,7 @@ from harness import CRATES, TOP, crates, script
 
 try_edits = script("tools/try_edits")
 legal_digest = script("tools/legal_digest")
-LEGAL, PATH, CUSTOMER = SOFTWARE = ("legal part", "data path", "customer's part")
+LEGAL, PATH, CUSTOMER = ("legal part", "data path", "customer's part")
 MODEL = "wc_model/specs"
 # the public functions of these are shown whether a page names them or not
 INTERFACE = ("wc_indicator", "wc_sma", "wc_open_scale", "wc_scale", "narbeddo")
