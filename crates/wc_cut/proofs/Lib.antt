@@ -7,3 +7,4 @@ pub mod ReadBack
 pub mod ReadLogs
 pub mod PreludeRanges
 pub mod LogAgain
+pub mod TooMany

@@ -97,7 +97,7 @@ opening_length count plate past few =
     (λ i. length (prelude_rows plate (past_after [] (take_all count rows all i)) ++ drop_all count rows all i))
     ∙ ap length (append-nil (prelude_rows plate (past_after [] rows)))
     ∙ ap (λ before. length (prelude_rows plate before)) (again past [])
-    ∙ length-map (row_at_time (time_of past)) (prelude_of plate.window (scale_state plate past))
+    ∙ length-map (prelude_of plate.window (scale_state plate past)) (row_at_time (time_of past))
 
 -- the capacity that is left after the opening
 pub capacity_opened : (old : Cutter) (capacity : ℕ) (plate : PlateData) (past : Past) → IsBefore old plate past → capacity ≡ most_rows - length (kept_rows old.prelude) →

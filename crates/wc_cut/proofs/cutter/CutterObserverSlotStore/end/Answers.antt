@@ -1,7 +1,7 @@
 use Rattle.std.proofs.Common.{◌≡◌, ◌∙◌, [], ap, subst, sym}
 use Rattle.std.proofs.KnownBytes.{Appends-nil}
 use Rattle.std.specs.Io.KnownBytes.{Appends}
-use Rattle.wc_cut.proofs.Observed.{counted_after, counted_before, ends_after, ends_before, ends_refused, none_refused, some_refused}
+use Rattle.wc_cut.proofs.Observed.{always, counted_after, counted_before, ends_after, ends_before, ends_refused, none_refused, some_refused}
 use Rattle.wc_cut.proofs.cutter.CutterObserverSlotStore.end.Goals as goal
 use Rattle.wc_cut.proofs.cutter.CutterObserverSlotStore.end.Goals.{then-self-via-then-self, then-self-via-else-self+then-is_some}
 use Rattle.wc_cut.specs.Cuts.{end_written}

@@ -48,12 +48,12 @@ pub returns-clause-seen : goal.returns-clause-seen
 returns-clause-seen g c = always c.write_text.result (λ plate logic past shown represents seen.
     let row : LogRow = row_of c.args.seen.now in
     let old : Cutter = c.args.self.now in
-    let new : Cutter = record c.if-self.self { text = c.put_row.new.text; capacity = c.if-self.self.capacity - 1 } in
+    let new : Cutter = record c.if-self.self { text = c.put_row.new.text; capacity = c.saturating_sub-self.result } in
     let none : old.left ≡ 0 = omega (arith, c.if-self-gt0.false) in
     elim c.if-self.branch [
       | then-self w ↦ subst (λ b. HasSeenBy b new plate (row ∷ past)) (sym (ap (λ s. s.opened) w.self-is ∙ w.if-self.true))
-          (has_gone_on old new plate past row old.opened w.if-self.true seen none (ap (λ s. s.left) w.self-is) (ap (λ s. s.count) w.self-is) (ap (λ s. s.capacity - 1) w.self-is))
+          (has_gone_on old new plate past row old.opened w.if-self.true seen none (ap (λ s. s.left) w.self-is) (ap (λ s. s.count) w.self-is) (c.saturating_sub-self.ensures ∙ ap (λ s. s.capacity - 1) w.self-is))
       | else-self+in_ok-put_opening w ↦ subst (λ b. HasSeenBy b new plate (row ∷ past)) (sym (ap (λ s. s.opened) w.self-is))
           (has_opened old new c.if-self.self.capacity plate past row old.opened w.if-self.false seen none (ap (λ s. s.left) w.self-is ∙ w.put_opening.ensures.left)
-          (ap (λ s. s.count) w.self-is ∙ w.put_opening.ensures.count) (ap (λ s. s.capacity) w.self-is ∙ w.in_ok-put_opening.ensures.capacity) refl)
+          (ap (λ s. s.count) w.self-is ∙ w.put_opening.ensures.count) (ap (λ s. s.capacity) w.self-is ∙ w.in_ok-put_opening.ensures.capacity) c.saturating_sub-self.ensures)
     ])
