@@ -8,7 +8,7 @@ ghost use Rattle.wc_view_changes.specs.ChangeReport.{found_type, initial_of};
 ghost use Rattle.wc_view_changes.specs.Sides.{IsSide, line_numbered, numbered_side, side_found, side_initial, unit_numbered};
 
 use crate::shape::{block_text, kind_text};
-use wc_model::{Decl, Unit, Value, Word};
+use wc_model::{Decl, Unit, Value, is_word};
 use wc_names::DeclaredType;
 use wc_verify::Checked;
 
@@ -21,37 +21,23 @@ pub(crate) fn other_type(
     ensures { (side : Option Scope) → IsSide (text_view other.now.source) unit side
         → result ≡ numbered_side side (name_of name.now) }
 {
-    let Some(unit) = unit else {
-        return None;
-    };
-    match other.tables().variable(unit, name) {
-        Some(located) => Some(located.declared),
-        None => None,
-    }
+    let located = other.tables().variable(unit?, name)?;
+    Some(located.declared)
 }
 
-/// Whether a word is a name, in whichever letter case.
-fn is_named(word: &Word<'_>, name: &[u8]) -> bool
-    ensures { result ≡ same_name (name_of word.now.text.now) (name_of name.now) }
-{
-    word.text.eq_ignore_ascii_case(name)
-}
-
-/// Whether a declaration has a name.
+/// Whether a declaration has a name, in whichever letter case.
 fn declares(declaration: &Decl<'_>, name: &[u8]) -> bool
     ensures { result ≡ list_any (λ word. same_name (name_of word.text.now) (name_of name.now))
         declaration.now.names.items }
 {
-    for word in &declaration.names {
-        if is_named(word, name) {
-            return true;
-        }
-    }
-    false
+    declaration
+        .names
+        .iter()
+        .any(|word| is_word(word.text, name))
 }
 
 /// The literal after `:=` in a declaration.
-fn literal_of(declaration: &Decl<'_>) -> Option<Value>
+pub(crate) fn literal_of(declaration: &Decl<'_>) -> Option<Value>
     ensures { result ≡ option_map (λ i. i.value) declaration.now.initial }
 {
     match declaration.initial {
@@ -78,13 +64,7 @@ pub(crate) fn other_literal(other: &Checked<'_>, unit: Option<usize>, name: &[u8
     ensures { (side : Option Scope) → IsSide (text_view other.now.source) unit side
         → result ≡ option_map (λ i. i.value) (side_initial side (name_of name.now)) }
 {
-    let Some(number) = unit else {
-        return None;
-    };
-    match other.source().units.get(number) {
-        Some(unit) => literal_in(unit, name),
-        None => None,
-    }
+    literal_in(other.source().units.get(unit?)?, name)
 }
 
 /// A type of the other text, as a text spells it.
@@ -98,10 +78,7 @@ fn declared_text<'o>(other: &Checked<'o>, declared: DeclaredType) -> Option<&'o 
     match declared {
         DeclaredType::Elementary(kind) => Some(kind_text(kind)),
         DeclaredType::Standard(block) => Some(block_text(block)),
-        DeclaredType::Block(number) => match other.source().units.get(number) {
-            Some(unit) => Some(unit.name.text),
-            None => None,
-        },
+        DeclaredType::Block(number) => Some(other.source().units.get(number)?.name.text),
     }
 }
 
@@ -113,10 +90,7 @@ pub(crate) fn type_text<'o>(other: &Checked<'o>, declared: Option<DeclaredType>)
         → option_map (λ spelled. spelled.now) result
         ≡ option_map found_type (side_found side (name ∷ [])) }
 {
-    match declared {
-        Some(declared) => declared_text(other, declared),
-        None => None,
-    }
+    declared_text(other, declared?)
 }
 
 /// The unit of a block of the text, if the type is one.

@@ -34,9 +34,5 @@ pub(crate) fn refusal_entry(alloc: Global, line: &[u8]) -> Result<Option<ReportE
 {
     let row = refusal_in(line);
     let text = refused_line(alloc, row.number, row.place)?;
-    if is_same(&text, line) {
-        Ok(Some(ReportEntry::Refusal(row)))
-    } else {
-        Ok(None)
-    }
+    Ok(is_same(&text, line).then_some(ReportEntry::Refusal(row)))
 }

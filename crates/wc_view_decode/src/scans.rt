@@ -60,9 +60,5 @@ pub(crate) fn scan_entry(alloc: Global, line: &[u8]) -> Result<Option<ReportEntr
     let row = scan_in(line);
     let mut text = Vec::new(alloc);
     put_scan_line(&mut text, row.ms, row.steps, &row.outputs)?;
-    if is_same(&text, line) {
-        Ok(Some(ReportEntry::Scan(row)))
-    } else {
-        Ok(None)
-    }
+    Ok(is_same(&text, line).then_some(ReportEntry::Scan(row)))
 }

@@ -86,15 +86,10 @@ fn note_item(
     ensures { Adds notes.old notes.new result
         (item_named direction (name_of instance.now) (assignment_view argument.now)) }
 {
-    match direction {
-        Direction::Into => match argument.direction {
-            Direction::Into => notes.add(line, None, instance, argument.name),
-            Direction::OutOf => Ok(()),
-        },
-        Direction::OutOf => match argument.direction {
-            Direction::Into => Ok(()),
-            Direction::OutOf => note_operand(notes, line, &argument.value),
-        },
+    match (direction, argument.direction) {
+        (Direction::Into, Direction::Into) => notes.add(line, None, instance, argument.name),
+        (Direction::OutOf, Direction::OutOf) => note_operand(notes, line, &argument.value),
+        _ => Ok(()),
     }
 }
 
@@ -132,18 +127,6 @@ fn note_call(
     note_items(notes, line, instance, Direction::OutOf, arguments)
 }
 
-/// Notes the operand of a line that opens a parenthesis, if it has one.
-fn note_opening(notes: &mut Notes, line: u32, operand: &Option<Operand<'_>>) -> Result<(), Fault>
-    requires { IsWhole notes.old }
-    ensures { Adds notes.old notes.new result
-        (opening_named (option_map term_view operand.now)) }
-{
-    match operand {
-        Some(operand) => note_operand(notes, line, operand),
-        None => Ok(()),
-    }
-}
-
 /// Notes an instruction, and those in its parenthesis.
 #[cycle(noting)]
 fn note_instruction(notes: &mut Notes, instr: &Instr<'_>) -> Result<(), Fault>
@@ -154,25 +137,25 @@ fn note_instruction(notes: &mut Notes, instr: &Instr<'_>) -> Result<(), Fault>
     match instr {
         Instr::Load { operand, line, .. } => note_operand(notes, *line, operand),
         Instr::Store { target, line, .. } => note_operand(notes, *line, target),
-        Instr::Apply { .. } => Ok(()),
         Instr::Defer {
             operand,
             inside,
             line,
             ..
         } => {
-            note_opening(notes, *line, operand)?;
+            if let Some(operand) = operand {
+                note_operand(notes, *line, operand)?;
+            }
             note_lines(notes, inside)
         }
-        Instr::Not { .. } => Ok(()),
-        Instr::Jump { .. } => Ok(()),
         Instr::Call {
             instance,
             arguments,
             line,
             ..
         } => note_call(notes, *line, instance, arguments),
-        Instr::Return { .. } => Ok(()),
+        Instr::Apply { .. } | Instr::Not { .. } => Ok(()),
+        Instr::Jump { .. } | Instr::Return { .. } => Ok(()),
     }
 }
 
