@@ -1,13 +1,13 @@
-ghost use Rattle.std.specs.Prelude.{◌≡◌, ◌++◌, ◌∷◌, [], ℕ, List, Option, OnOk, IsOkUnless, option_map};
+ghost use Rattle.std.specs.Prelude.{◌≡◌, ◌++◌, ◌∷◌, [], List, Option, OnOk, IsOkUnless, option_map};
 ghost use Rattle.wc_model.specs.Language.Names.{name_of};
 ghost use Rattle.wc_model.specs.Language.Scopes.{Scope};
 ghost use Rattle.wc_model.specs.Language.Views.{text_view};
 ghost use Rattle.wc_model.specs.declared.source.Initial.{Initial};
 ghost use Rattle.wc_model.specs.declared.source.Unit.{Unit as CodeUnit};
-ghost use Rattle.wc_view_changes.specs.ChangeReport.{found_first, found_type, line_text, lost_text, note_on};
+ghost use Rattle.wc_view_changes.specs.ChangeReport.{found_first, note_on};
 ghost use Rattle.wc_view_changes.specs.Shapes.{shape_view, has_shape};
 ghost use Rattle.wc_view_changes.specs.Shown.{declared_of};
-ghost use Rattle.wc_view_changes.specs.Sides.{IsAt, IsSide, declaration_lines, line_numbered, lines_between, numbered_side, pass_text, side_found, variable_lines};
+ghost use Rattle.wc_view_changes.specs.Sides.{IsAt, IsSide, declaration_lines, lines_between, numbered_side, pass_text, side_found, variable_lines};
 ghost use Rattle.wc_view_changes.specs.Puts.{Puts};
 
 use crate::lines::{put_first, put_kept, put_lost, put_note};

@@ -114,8 +114,14 @@ pub fn draw(
         Some(all) => lanes_of(alloc, all)?,
         None => Vec::new(alloc),
     };
-    let mut out = Sheet::new(alloc);
+    let mut out = Sheet {
+        string: String::new(alloc),
+        is_full: false,
+    };
     put_all(&mut out, view, rows, refusal, &lanes);
     put!(out, "</svg>\n");
-    out.finish()
+    if out.is_full {
+        return Err(AllocError);
+    }
+    Ok(out.string)
 }

@@ -100,7 +100,8 @@ fn put_numbers(out: &mut Sheet, view: &View<'_>, all: &Column, curve: Curve, top
 
 /// Where n steps are in the lane of the scans, which is as high as the greatest bound.
 fn steps_y(view: &View<'_>, top: Tenths, steps: u32) -> Tenths {
-    let above = part(NUMBERS, u64::from(steps), u64::from(view.bound()));
+    let bound = view.next.unwrap_or(view.first).bound.max(view.first.bound);
+    let above = part(NUMBERS, u64::from(steps), u64::from(bound));
     top.plus(NUMBERS.saturating_sub(above))
 }
 

@@ -52,15 +52,6 @@ fn put_title(out: &mut Sheet, view: &View<'_>, events: &Events) {
     }
 }
 
-/// Puts the letters of what was done.
-fn put_letters(out: &mut Sheet, events: &Events) {
-    for (count, letter, _words) in marks_of(events) {
-        if count != 0 {
-            put!(out, "{letter}");
-        }
-    }
-}
-
 /// Puts the mark of a column over the height of the curves, with its letters at a height above.
 fn put_mark(out: &mut Sheet, view: &View<'_>, index: usize, events: &Events, y: Option<Tenths>) {
     let x = view.x(index);
@@ -73,7 +64,11 @@ fn put_mark(out: &mut Sheet, view: &View<'_>, index: usize, events: &Events, y: 
     put!(out, "</title><path d=\"M{x} {BASE}V{TOP}\"/>");
     if let Some(y) = y {
         put!(out, "<text x=\"{x}\" y=\"{y}\">");
-        put_letters(out, events);
+        for (count, letter, _words) in marks_of(events) {
+            if count != 0 {
+                put!(out, "{letter}");
+            }
+        }
         put!(out, "</text>");
     }
     put!(out, "</g>\n");

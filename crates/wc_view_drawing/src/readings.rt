@@ -76,11 +76,8 @@ pub(crate) fn put_readings(out: &mut Sheet, view: &View<'_>, bottom: Tenths) {
     let mut first = 0_usize;
     for (index, column) in view.columns.iter().enumerate() {
         let next = index.saturating_add(1);
-        let goes_on = match view.columns.get(next) {
-            Some(later) => later.state == column.state,
-            None => false,
-        };
-        if !goes_on {
+        let later = view.columns.get(next);
+        if !later.is_some_and(|later| later.state == column.state) {
             put_reading(out, view, first, next, bottom, &column.state);
             first = next;
         }

@@ -1,10 +1,9 @@
-use std::alloc::{AllocError, Global};
-
 /// The text of a picture so far. If memory for it is refused once, it keeps that until the end, so that what puts a part
 /// of it has no way out of its own.
 #[derive(Drop)]
 pub(crate) struct Sheet {
     pub(crate) string: String,
+    /// Whether memory was refused.
     pub(crate) is_full: bool,
 }
 
@@ -17,21 +16,3 @@ macro_rules! put {
 }
 
 pub(crate) use put;
-
-impl Sheet {
-    /// No text yet.
-    pub(crate) fn new(alloc: Global) -> Sheet {
-        Sheet {
-            string: String::new(alloc),
-            is_full: false,
-        }
-    }
-
-    /// The text, if memory was granted for all of it.
-    pub(crate) fn finish(self) -> Result<String, AllocError> {
-        if self.is_full {
-            return Err(AllocError);
-        }
-        Ok(self.string)
-    }
-}

@@ -17,7 +17,7 @@ impl fmt::Display for Tenths {
     }
 }
 
-/// A weight in units of its last decimal, with so many decimals.
+/// A weight in units of its last decimal, and the number of its decimals.
 #[derive(Clone, Copy)]
 pub(crate) struct Weight(pub(crate) i64, pub(crate) u32);
 
@@ -34,7 +34,7 @@ impl fmt::Display for Weight {
     }
 }
 
-/// A moment in milliseconds, in the unit of steps that have so many.
+/// A moment in milliseconds, and the number of milliseconds of the steps in whose unit it is.
 #[derive(Clone, Copy)]
 pub(crate) struct Moment(pub(crate) u64, pub(crate) u64);
 

@@ -49,11 +49,8 @@ pub(crate) fn part(length: u64, some: u64, whole: u64) -> u64 {
 
 impl Range {
     /// The height of the curves, with space for all weights and zero, for Max if it is not far above, and a little more.
-    fn of_weights(all: &Option<Column>, max: i64) -> Range {
-        let weights = match all {
-            Some(all) => join(all.state.gross, all.state.net),
-            None => None,
-        };
+    fn of_weights(all: Option<Column>, max: i64) -> Range {
+        let weights = all.and_then(|all| join(all.state.gross, all.state.net));
         let (least, greatest) = match weights {
             Some(span) => (span.least, span.greatest),
             None => (0, 0),
@@ -113,10 +110,7 @@ fn scale_of(plate: Option<Plate>) -> (i64, u32, &'static str) {
     let Some(plate) = plate else {
         return (1, 0, "");
     };
-    let unit = match MassUnit::of_letters(&plate.unit()) {
-        Some(unit) => unit_text(unit),
-        None => "",
-    };
+    let unit = MassUnit::of_letters(&plate.unit()).map_or("", |unit| unit_text(unit));
     let decimals = plate.decimals().unsigned_abs();
     (i64::from(plate.max()), decimals, unit)
 }
@@ -144,7 +138,7 @@ impl<'p> View<'p> {
             decimals,
             unit,
             names: str::from_utf8(names).unwrap_or(""),
-            weights: Range::of_weights(&all, max),
+            weights: Range::of_weights(all, max),
             first: before.or(running).unwrap_or(none),
             next: if before.is_some() { running } else { None },
         }
@@ -176,14 +170,6 @@ impl<'p> View<'p> {
     /// A weight in units of its last decimal.
     pub(crate) fn weight(&self, units: i64) -> Weight {
         Weight(units, self.decimals)
-    }
-
-    /// The greater of the bounds.
-    pub(crate) fn bound(&self) -> u32 {
-        match self.next {
-            Some(next) => self.first.bound.max(next.bound),
-            None => self.first.bound,
-        }
     }
 
     /// The name of the variable of that number, counted from 0.

@@ -8,8 +8,6 @@ use Rattle.wc_model.specs.Say.ProgramReport.{Logic}
 use Rattle.wc_run.specs.Logics.{logic_after}
 use Rattle.wc_run.specs.Observing.{IsShown, row_of}
 use Rattle.wc_run.specs.Representation.{Represents}
-use Rattle.wc_run.specs.declared.fault.RunFault.{RunFault}
-use Rattle.wc_run.specs.declared.fault.RunFault.TheVariants.{Refused}
 use Rattle.wc_run.specs.declared.row_seen.RowSeen.{RowSeen}
 use Rattle.wc_run.specs.declared.scale.Scale.{Scale}
 use Rattle.wc_text_variables.specs.Numbered.{variable_named}
@@ -81,11 +79,6 @@ pub record WatchesAs (old new : Watcher) : Type 0 where
   pub list : new.list ≡ old.list
   pub number : new.number ≡ old.number
   pub changes : new.changes ≡ old.changes
-
--- it refuses to begin with 401, and has found an unknown name
-abbrev pub RefusesFor : WatchedNames → RunFault → Type 0
-RefusesFor names (Refused number place) = (number ≡ 401) × (place ≡ 0) × ((name : UnknownName) × (names.unknown ≡ Some name))
-RefusesFor names fault = ⊥
 
 -- a name of the list was found that is unknown, and is the first one
 abbrev pub HasRefused : List ℕ → WatchedNames → Option Logic → Type 0

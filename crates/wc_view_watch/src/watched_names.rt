@@ -12,7 +12,7 @@ ghost use Rattle.wc_text_variables.specs.Numbered.{variable_named};
 ghost use Rattle.wc_view_watch.specs.Unknown.{IsUnknown, begins_with};
 ghost use Rattle.wc_view_watch.specs.Plans.{numbers_of};
 ghost use Rattle.wc_view_watch.specs.Values.{numbers_in, value_text, values_in, values_line};
-ghost use Rattle.wc_view_watch.specs.Watching.{AreLookedUp, FitLogic, HasRefused, RefusesFor, RunsLogic, text_after};
+ghost use Rattle.wc_view_watch.specs.Watching.{AreLookedUp, FitLogic, HasRefused, RunsLogic, text_after};
 
 use crate::names::{UnknownName, all_watched, names_of};
 use std::alloc::Global;

@@ -1,4 +1,4 @@
-use Rattle.std.proofs.Common.{◌≡◌, ◌++◌, ◌∷◌, [], Some, ap, sym, subst, ◌∙◌, map, option_map, arith}
+use Rattle.std.proofs.Common.{◌≡◌, ◌++◌, ◌∷◌, [], Some, ap, sym, subst, ◌∙◌, map, arith}
 use Rattle.std.proofs.lemmas.Grind.{common_steps}
 use Rattle.std.specs.List.{flat_map}
 use Rattle.std.specs.Prelude.{slice_get}
@@ -7,7 +7,6 @@ use Rattle.wc_model.specs.Language.Scopes.{type_of}
 use Rattle.wc_model.specs.Language.Store as store
 use Rattle.wc_model.specs.Language.Views.{text_view, unit_view}
 use Rattle.wc_model.specs.declared.operand.Word.{Word}
-use Rattle.wc_model.specs.declared.source.Initial.{Initial}
 use Rattle.wc_model.specs.declared.source.Unit.{Unit as CodeUnit}
 use Rattle.wc_names.proofs.Lists.{got_some}
 use Rattle.wc_names.specs.RepresentsText.{AreTables}
