@@ -64,7 +64,13 @@ pub(crate) fn other_literal(other: &Checked<'_>, unit: Option<usize>, name: &[u8
     ensures { (side : Option Scope) → IsSide (text_view other.now.source) unit side
         → result ≡ option_map (λ i. i.value) (side_initial side (name_of name.now)) }
 {
-    literal_in(other.source().units.get(unit?)?, name)
+    let Some(number) = unit else {
+        return None;
+    };
+    match other.source().units.get(number) {
+        Some(unit) => literal_in(unit, name),
+        None => None,
+    }
 }
 
 /// A type of the other text, as a text spells it.
@@ -78,7 +84,10 @@ fn declared_text<'o>(other: &Checked<'o>, declared: DeclaredType) -> Option<&'o 
     match declared {
         DeclaredType::Elementary(kind) => Some(kind_text(kind)),
         DeclaredType::Standard(block) => Some(block_text(block)),
-        DeclaredType::Block(number) => Some(other.source().units.get(number)?.name.text),
+        DeclaredType::Block(number) => match other.source().units.get(number) {
+            Some(unit) => Some(unit.name.text),
+            None => None,
+        },
     }
 }
 
@@ -90,7 +99,10 @@ pub(crate) fn type_text<'o>(other: &Checked<'o>, declared: Option<DeclaredType>)
         → option_map (λ spelled. spelled.now) result
         ≡ option_map found_type (side_found side (name ∷ [])) }
 {
-    declared_text(other, declared?)
+    match declared {
+        Some(declared) => declared_text(other, declared),
+        None => None,
+    }
 }
 
 /// The unit of a block of the text, if the type is one.

@@ -49,7 +49,9 @@ fn weight_in(frame: &[u8]) -> Option<Answer>
     let status = Status::of_letter(frame[1])?;
     let kind = WeightKind::of_letter(frame[3])?;
     let is_stable = stable_of_letter(frame[4])?;
-    let unit = MassUnit::of_letters(&frame[16..19])?;
+    let Some(unit) = MassUnit::of_letters(&frame[16..19]) else {
+        return None;
+    };
     let mut weight = [0; 10];
     weight.copy_from_slice(&frame[6..16]);
     Some(Answer::Weight(Reading {

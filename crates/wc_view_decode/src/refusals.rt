@@ -3,8 +3,7 @@ ghost use Rattle.wc_view_decode.specs.Entries.{entry_content, refusal_content};
 ghost use Rattle.wc_view_decode.specs.Lines.{InRange, IsContentOf, RefusalContent, content_text};
 
 use crate::entry::{RefusalRow, ReportEntry};
-use crate::fields::{cut_field, refusal_number, small_number};
-use crate::same::is_same;
+use crate::fields::{cut_field, is_same, refusal_number, small_number};
 use std::alloc::Global;
 use wc_model::Fault;
 use wc_report::refused_line;

@@ -5,8 +5,7 @@ ghost use Rattle.wc_view_decode.specs.Lines.{AreWords, InRange, IsContentOf, Sca
 ghost use Rattle.wc_model.specs.declared.image.Outputs.{Outputs};
 
 use crate::entry::{ReportEntry, ScanRow};
-use crate::fields::{bits, cut_field, moment, signed_number, small_number};
-use crate::same::is_same;
+use crate::fields::{bits, cut_field, is_same, moment, signed_number, small_number};
 use std::alloc::Global;
 use wc_model::{Fault, Outputs, Steps};
 use wc_report::put_scan_line;
