@@ -1,9 +1,10 @@
 ghost use Rattle.std.specs.Prelude.{◌≡◌, ◌++◌, ◌∷◌, [], None, map, IsOkUnless, OnOk};
+ghost use Rattle.std.specs.Option.{option_map};
 ghost use Rattle.wc_model.specs.Language.Names.{name_of};
 ghost use Rattle.wc_model.specs.Language.Tree.{Lines};
 ghost use Rattle.wc_model.specs.Language.Views.{assignment_view, line_view, lines_view, term_view, text_view};
 ghost use Rattle.wc_verify.specs.Instructions.{instr_line};
-ghost use Rattle.wc_view_trace_rows.specs.Named.{Adds, IsWhole, call_named, constant_kind, dotted, item_named, items_named, line_named, lines_named, named_as, notes_named, operand_named, text_named};
+ghost use Rattle.wc_view_trace_rows.specs.Named.{Adds, IsWhole, call_named, constant_kind, dotted, item_named, items_named, line_named, lines_named, named_as, notes_named, opening_named, operand_named, text_named};
 ghost use Rattle.wc_view_trace_rows.specs.Puts.{Puts};
 
 use crate::notes::{Note, Notes};
@@ -126,6 +127,18 @@ fn note_call(
     note_items(notes, line, instance, Direction::OutOf, arguments)
 }
 
+/// Notes the operand of a line that opens a parenthesis, if it has one.
+fn note_opening(notes: &mut Notes, line: u32, operand: &Option<Operand<'_>>) -> Result<(), Fault>
+    requires { IsWhole notes.old }
+    ensures { Adds notes.old notes.new result
+        (opening_named (option_map term_view operand.now)) }
+{
+    match operand {
+        Some(operand) => note_operand(notes, line, operand),
+        None => Ok(()),
+    }
+}
+
 /// Notes an instruction, and those in its parenthesis.
 #[cycle(noting)]
 fn note_instruction(notes: &mut Notes, instr: &Instr<'_>) -> Result<(), Fault>
@@ -142,9 +155,7 @@ fn note_instruction(notes: &mut Notes, instr: &Instr<'_>) -> Result<(), Fault>
             line,
             ..
         } => {
-            if let Some(operand) = operand {
-                note_operand(notes, *line, operand)?;
-            }
+            note_opening(notes, *line, operand)?;
             note_lines(notes, inside)
         }
         Instr::Call {

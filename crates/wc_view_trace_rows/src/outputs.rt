@@ -49,6 +49,11 @@ pub fn outputs_of(block: StandardBlock) -> (BlockOutput, Option<BlockOutput>)
 pub fn number_in(machine: &Machine<'_, SlotStore>, place: usize) -> Option<i32>
     ensures { IsNumberAt machine.now place result }
 {
-    let place = u16::try_from(place).ok()?;
-    i32::try_from(machine.number(Place(place))?).ok()
+    let Ok(place) = u16::try_from(place) else {
+        return None;
+    };
+    match machine.number(Place(place)) {
+        Some(number) => i32::try_from(number).ok(),
+        None => None,
+    }
 }
