@@ -24,16 +24,11 @@ fn height(lane: Lane) -> u64 {
     }
 }
 
-/// Where the next lane begins.
-fn following(top: Tenths, lane: Lane) -> Tenths {
-    top.plus(height(lane)).plus(GAP)
-}
-
 /// Where the lanes end.
 pub(crate) fn bottom_of(lanes: &[Lane]) -> Tenths {
     let mut bottom = FIRST;
     for lane in lanes {
-        bottom = following(bottom, *lane);
+        bottom = bottom.plus(height(*lane)).plus(GAP);
     }
     bottom
 }
@@ -64,17 +59,6 @@ pub(crate) fn put_levels(
     }
     let end = view.x(view.columns.len());
     put!(out, "H{end}V{base}Z\"/>\n");
-}
-
-/// The look of what is filled in a lane.
-fn look(lane: Lane) -> &'static str {
-    match lane {
-        Lane::Motion => "dots",
-        Lane::Over => "rising",
-        Lane::Under => "falling",
-        Lane::Invalid => "crossed",
-        _ => "full",
-    }
 }
 
 /// Puts the lane of an output word or of a variable, between its least and its greatest number, which are at its right.
@@ -156,18 +140,19 @@ fn put_scans(out: &mut Sheet, view: &View<'_>, top: Tenths) {
 
 /// Puts a lane's name.
 fn put_name(out: &mut Sheet, view: &View<'_>, lane: Lane) {
-    match lane {
-        Lane::Motion => put!(out, "in motion"),
-        Lane::Over => put!(out, "over"),
-        Lane::Under => put!(out, "under"),
-        Lane::Invalid => put!(out, "not valid"),
-        Lane::Requests => put!(out, "requests"),
-        Lane::Input(number) => put!(out, "%IX0.{number}"),
-        Lane::Output(number) => put!(out, "%QX0.{number}"),
-        Lane::Word(number) => put!(out, "%QD{number}"),
-        Lane::Variable(number) => put!(out, "{}", view.variable(number)),
-        Lane::Scans => put!(out, "steps"),
-    }
+    let name = match lane {
+        Lane::Motion => "in motion",
+        Lane::Over => "over",
+        Lane::Under => "under",
+        Lane::Invalid => "not valid",
+        Lane::Requests => "requests",
+        Lane::Input(number) => return put!(out, "%IX0.{number}"),
+        Lane::Output(number) => return put!(out, "%QX0.{number}"),
+        Lane::Word(number) => return put!(out, "%QD{number}"),
+        Lane::Variable(number) => view.variable(number),
+        Lane::Scans => "steps",
+    };
+    put!(out, "{name}");
 }
 
 /// Puts a lane, with its name and the line on which it is.
@@ -187,7 +172,11 @@ fn put_lane(out: &mut Sheet, view: &View<'_>, all: &Column, lane: Lane, top: Ten
         Lane::Word(number) => put_numbers(out, view, all, Curve::Word(number), top),
         Lane::Variable(number) => put_numbers(out, view, all, Curve::Variable(number), top),
         Lane::Scans => put_scans(out, view, top),
-        _ => put_levels(out, view, lane, look(lane), top, height),
+        Lane::Motion => put_levels(out, view, lane, "dots", top, height),
+        Lane::Over => put_levels(out, view, lane, "rising", top, height),
+        Lane::Under => put_levels(out, view, lane, "falling", top, height),
+        Lane::Invalid => put_levels(out, view, lane, "crossed", top, height),
+        _ => put_levels(out, view, lane, "full", top, height),
     }
     put!(out, "</g>\n");
 }
@@ -197,6 +186,6 @@ pub(crate) fn put_lanes(out: &mut Sheet, view: &View<'_>, all: &Column, lanes: &
     let mut top = FIRST;
     for lane in lanes {
         put_lane(out, view, all, *lane, top);
-        top = following(top, *lane);
+        top = top.plus(height(*lane)).plus(GAP);
     }
 }

@@ -97,14 +97,6 @@ pub struct View<'p> {
     pub(crate) next: Option<ScanSteps>,
 }
 
-/// The columns of a time line, its first moment, and the number of milliseconds of a column.
-fn columns_of(line: Option<&TimeLine>) -> (&[Column], u64, u64) {
-    match line {
-        Some(line) => (line.columns(), line.start(), line.width()),
-        None => (&[], 0, 1),
-    }
-}
-
 /// The greatest weight of a plate, the number of its decimals, and the symbol of its unit.
 fn scale_of(plate: Option<Plate>) -> (i64, u32, &'static str) {
     let Some(plate) = plate else {
@@ -125,7 +117,10 @@ impl<'p> View<'p> {
         running: Option<ScanSteps>,
         names: &'p [u8],
     ) -> View<'p> {
-        let (columns, start, width) = columns_of(line);
+        let (columns, start, width) = match line {
+            Some(line) => (line.columns(), line.start(), line.width()),
+            None => (&[] as &[Column], 0, 1),
+        };
         let (max, decimals, unit) = scale_of(plate);
         let all = whole(columns);
         let none = ScanSteps { most: 0, bound: 0 };
