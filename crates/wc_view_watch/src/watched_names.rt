@@ -269,8 +269,13 @@ impl<'n> WatchedNames<'n> {
             → AreLookedUp self.now list text next → RepresentsText machine.now text store
             → result ≡ get_or (numbers_in list text store) index None }
     {
-        let watched = (*self.watched.get(index)?)?;
-        machine.number(watched.place)
+        match self.watched.get(index) {
+            Some(watched) => match watched {
+                Some(watched) => machine.number(watched.place),
+                None => None,
+            },
+            None => None,
+        }
     }
 
     /// The numbers that the first four names hold: 0 and 1 of FALSE and TRUE, milliseconds of a TIME. With no machine, which has
