@@ -1,4 +1,4 @@
-use Rattle.std.proofs.Common.{◌≡◌, ◌++◌, [], ◌∷◌, None, append-nil, false, option_map, true, ap, sym, ◌∙◌}
+use Rattle.std.proofs.Common.{◌++◌, [], ◌∷◌, None, append-nil, false, option_map, true, ap, sym, ◌∙◌}
 use Rattle.wc_model.specs.Language.Names.{name_of}
 use Rattle.wc_view_changes.specs.ChangeReport.{found_type, line_text, lost_text}
 use Rattle.wc_view_changes.specs.Shapes.{shape_view, has_shape}
