@@ -1,6 +1,6 @@
 -- The first value that is written after a name: that of the first declaration that has it.
-use Rattle.std.proofs.Common.{◌≡◌, ℕ, zero, suc, ◌+◌, ◌<◌, Bool, true, false, ◌||◌, List, [], ◌∷◌, map, length, take, get_or, Option, Some, None, refl, sym, ap, ◌∙◌, arith, cond}
-use Rattle.std.proofs.lemmas.List.Folds.{find-append, list_any_more}
+use Rattle.std.proofs.Common.{◌≡◌, ℕ, zero, suc, ◌<◌, Bool, true, false, ◌||◌, List, [], ◌∷◌, map, length, take, get_or, Option, Some, None, refl, sym, ap, ◌∙◌, arith, cond}
+use Rattle.std.proofs.lemmas.List.Folds.{find-append}
 use Rattle.std.specs.List.{find, flat_map, list_any}
 use Rattle.std.specs.Option.{option_or}
 use Rattle.std.specs.Prelude.{option_and_then}
@@ -46,10 +46,6 @@ found_first {X} p (x ∷ xs) (suc i) d below none here = by (p x) refl none (λ 
     by : (t : Bool) → p x ≡ t → (t || list_any p (take i xs)) ≡ false → (list_any p (take i xs) ≡ false → find p xs ≡ Some (get_or xs i d)) → find p (x ∷ xs) ≡ Some (get_or xs i d)
     by true s e next = cc
     by false s e next = rw s (next e)
-
--- one element more that does not pass
-pub none_more : {X : Type 0} (p : X → Bool) (xs : List X) (i : ℕ) (d : X) → i < length xs → list_any p (take i xs) ≡ false → p (get_or xs i d) ≡ false → list_any p (take (i + 1) xs) ≡ false
-none_more p xs i d below none here = list_any_more p xs i d below ∙ ap (λ b. b || p (get_or xs i d)) none ∙ here
 
 in_none : (name : Name) (d : Decl) (ws : List Word) → list_any (λ (w : Word). same_name (name_of w.text.now) name) ws ≡ false → find (named name) (variables d ws) ≡ None
 in_none name d [] e = refl

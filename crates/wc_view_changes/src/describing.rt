@@ -1,19 +1,18 @@
-ghost use Rattle.std.specs.Prelude.{◌≡◌, ◌++◌, ◌∷◌, [], ℕ, List, Option, OnOk, IsOkUnless, option_map};
+ghost use Rattle.std.specs.Prelude.{◌≡◌, ◌++◌, ◌∷◌, [], List, Option, OnOk, IsOkUnless, option_map};
 ghost use Rattle.wc_model.specs.Language.Names.{name_of};
 ghost use Rattle.wc_model.specs.Language.Scopes.{Scope};
 ghost use Rattle.wc_model.specs.Language.Views.{text_view};
 ghost use Rattle.wc_model.specs.declared.source.Initial.{Initial};
 ghost use Rattle.wc_model.specs.declared.source.Unit.{Unit as CodeUnit};
-ghost use Rattle.wc_view_changes.specs.ChangeReport.{found_first, found_type, line_text, lost_text, note_on};
+ghost use Rattle.wc_view_changes.specs.ChangeReport.{found_first, note_on};
 ghost use Rattle.wc_view_changes.specs.Shapes.{shape_view, has_shape};
 ghost use Rattle.wc_view_changes.specs.Shown.{declared_of};
-ghost use Rattle.wc_view_changes.specs.Sides.{IsAt, IsSide, declaration_lines, line_numbered, lines_between, numbered_side, pass_text, side_found, variable_lines};
+ghost use Rattle.wc_view_changes.specs.Sides.{IsAt, IsSide, declaration_lines, lines_between, numbered_side, pass_text, side_found, variable_lines};
 ghost use Rattle.wc_view_changes.specs.Puts.{Puts};
 
 use crate::lines::{put_first, put_kept, put_lost, put_note};
-use crate::other::{is_line, other_literal, other_type, type_text, unit_of};
+use crate::other::{is_line, literal_of, other_literal, other_type, type_text, unit_of};
 use crate::shape::{Shape, first_value, is_kept};
-use std::alloc::Global;
 use wc_model::{Decl, Fault, Value, put_bytes};
 use wc_names::DeclaredType;
 use wc_verify::Checked;
@@ -32,8 +31,6 @@ pub(crate) enum Pass {
 /// Two texts that are gone through side by side.
 #[derive(Clone, Copy)]
 pub(crate) struct Texts<'a, 'b, 'c, 'd> {
-    /// Where the lines take their memory.
-    pub alloc: Global,
     pub pass: Pass,
     /// The text whose variables are listed.
     pub own: &'a Checked<'b>,
@@ -67,53 +64,6 @@ fn go_into(names: &mut Vec<u8>, name: &[u8]) -> Result<(), Fault>
     put_bytes(names, b".")
 }
 
-/// Puts the line of a variable of the new text: that it keeps its value, or begins with its first one and why.
-fn describe_new(
-    out: &mut Vec<u8>,
-    texts: Texts<'_, '_, '_, '_>,
-    prefix: &[u8],
-    name: &[u8],
-    shape: Shape,
-    was: Option<DeclaredType>,
-) -> Result<(), Fault>
-    ensures line { OnOk result ((unit : Option ℕ) (side : Option Scope)
-        → IsSide (text_view texts.entry.other.now.source) unit side
-        → was ≡ numbered_side side (name_of name.now)
-        → out.new.items ≡ out.old.items
-        ++ line_text (has_shape was (shape_view shape)) (prefix.now ++ name.now) (shape_view shape)
-        (option_map found_type (side_found side (name_of name.now ∷ [])))) }
-    ensures memory { IsOkUnless result Fault.Memory }
-{
-    if is_kept(shape, was) {
-        return put_kept(out, prefix, name);
-    }
-    put_first(
-        texts.alloc,
-        out,
-        prefix,
-        name,
-        shape,
-        type_text(texts.other, was),
-    )
-}
-
-/// Puts the line of a variable of the old text, if it is lost.
-fn describe_old(
-    out: &mut Vec<u8>,
-    prefix: &[u8],
-    name: &[u8],
-    shape: Shape,
-    becomes: Option<DeclaredType>,
-) -> Result<(), Fault>
-    ensures { Puts out.old out.new result
-        (lost_text (line_numbered becomes) (prefix.now ++ name.now) (shape_view shape)) }
-{
-    if is_line(becomes) {
-        return Ok(());
-    }
-    put_lost(out, prefix, name, shape)
-}
-
 /// Puts the note on a variable that keeps its value, if its first one is another than before.
 fn describe_first(
     out: &mut Vec<u8>,
@@ -139,10 +89,11 @@ fn describe_first(
         return Ok(());
     };
     let before = first_value(kind, other_literal(texts.other, there.unit, path.1));
-    put_note(texts.alloc, out, as_objects, path, value, before)
+    put_note(out, as_objects, path, value, before)
 }
 
-/// Puts the line of a variable of one place, or of a standard block's instance.
+/// Puts the line of a variable of one place, or of a standard block's instance: of the new text, that it keeps its value, or begins
+/// with its first one and why; of the old text, if it is lost; or the note on it.
 fn describe_shape(
     out: &mut Vec<u8>,
     texts: Texts<'_, '_, '_, '_>,
@@ -161,8 +112,13 @@ fn describe_shape(
     ensures memory { IsOkUnless result Fault.Memory }
 {
     match texts.pass {
-        Pass::New => describe_new(out, texts, prefix, name, shape, there.declared),
-        Pass::Old => describe_old(out, prefix, name, shape, there.declared),
+        Pass::New if is_kept(shape, there.declared) => put_kept(out, prefix, name),
+        Pass::New => {
+            let was = type_text(texts.other, there.declared);
+            put_first(out, prefix, name, shape, was)
+        }
+        Pass::Old if is_line(there.declared) => Ok(()),
+        Pass::Old => put_lost(out, prefix, name, shape),
         Pass::Notes(as_objects) => {
             describe_first(out, texts, as_objects, (prefix, name), shape, there)
         }
@@ -242,10 +198,7 @@ fn describe_declaration(
     ensures names { OnOk result (names.new.items ≡ names.old.items) }
     ensures memory { IsOkUnless result Fault.Memory }
 {
-    let literal = match declaration.initial {
-        Some(initial) => Some(initial.value),
-        None => None,
-    };
+    let literal = literal_of(declaration);
     for word in &declaration.names {
         describe_variable(out, texts, names, units, word.text, literal)?;
     }

@@ -8,5 +8,5 @@ mod other;
 mod report;
 mod shape;
 
-pub use lines::put_value;
+pub use lines::{put_literal, put_value};
 pub use report::{changes, notes};

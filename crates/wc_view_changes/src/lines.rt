@@ -1,33 +1,48 @@
-ghost use Rattle.std.specs.Prelude.{◌≡◌, ◌++◌, ◌∷◌, [], ℕ, List, Option, Some, OnOk, IsOkUnless, true, false, option_map};
+ghost use Rattle.std.specs.Prelude.{◌≡◌, ◌++◌, ◌∷◌, [], ℕ, List, Option, Some, OnOk, IsOkUnless, true, false, codes, option_map};
 ghost use Rattle.std.specs.Fmt.{signed_decimal};
 ghost use Rattle.wc_model.specs.Language.Store.{Plain};
 ghost use Rattle.wc_view_changes.specs.ChangeReport.{content_text, line_text, lost_text, note_on, note_text, reason_text, same_content};
 ghost use Rattle.wc_view_changes.specs.ChangeReport as texts;
+ghost use Rattle.wc_model.specs.Language.Frames.{content_number};
+ghost use Rattle.wc_model.specs.Language.Scopes.{kind_of};
 ghost use Rattle.wc_model.specs.declared.kind.Kind.{Kind};
+ghost use Rattle.wc_model.specs.declared.value.Value.{Value};
 ghost use Rattle.wc_view_changes.specs.Shown as shown;
 ghost use Rattle.wc_view_changes.specs.Shapes.{shape_view};
 ghost use Rattle.wc_view_changes.specs.Puts.{Puts};
 
 use crate::shape::{Shape, block_text, kind_text, shape_type};
-use std::alloc::Global;
-use wc_model::{Fault, Value, or_memory, put_bytes};
+use wc_model::{Fault, Kind, Value, put_bytes};
+use wc_report::put_signed;
 
-/// Puts a number in decimal digits, with bytes before it and after it.
-fn put_number(
-    alloc: Global,
-    out: &mut Vec<u8>,
-    before: &str,
-    number: i32,
-    following: &str,
-) -> Result<(), Fault>
-    ensures { Puts out.old out.new result (before.now ++ (signed_decimal number ++ following.now)) }
+/// Puts a number of milliseconds as a literal.
+fn put_time(out: &mut Vec<u8>, number: i64) -> Result<(), Fault>
+    ensures { Puts out.old out.new result
+        (codes "T#" ++ (signed_decimal number ++ codes "ms")) }
 {
-    let text = or_memory(format!(in alloc; "{before}{number}{following}"))?;
-    put_bytes(out, text.as_bytes())
+    put_bytes(out, b"T#")?;
+    put_signed(out, number)?;
+    put_bytes(out, b"ms")
+}
+
+/// Puts a value of a kind, whose number as a store keeps it is this one, as a literal of the language. `Memory` is the only
+/// fault.
+pub fn put_literal(out: &mut Vec<u8>, kind: Kind, number: i64) -> Result<(), Fault>
+    ensures value { (value : Value) → kind_of value ≡ kind
+        → number ≡ content_number (Plain value)
+        → OnOk result (out.new.items ≡ out.old.items ++ content_text (Plain value)) }
+    ensures memory { IsOkUnless result Fault.Memory }
+{
+    match kind {
+        Kind::Bool if number == 0 => put_bytes(out, b"FALSE"),
+        Kind::Bool => put_bytes(out, b"TRUE"),
+        Kind::Dint => put_signed(out, number),
+        Kind::Time => put_time(out, number),
+    }
 }
 
 /// Puts a value as a literal of the language. `Memory` is the only fault.
-pub fn put_value(alloc: Global, out: &mut Vec<u8>, value: Value) -> Result<(), Fault>
+pub fn put_value(out: &mut Vec<u8>, value: Value) -> Result<(), Fault>
     ensures value { OnOk result
         (out.new.items ≡ out.old.items ++ content_text (Plain value)) }
     ensures memory { IsOkUnless result Fault.Memory }
@@ -35,13 +50,13 @@ pub fn put_value(alloc: Global, out: &mut Vec<u8>, value: Value) -> Result<(), F
     match value {
         Value::Bool(false) => put_bytes(out, b"FALSE"),
         Value::Bool(true) => put_bytes(out, b"TRUE"),
-        Value::Dint(number) => put_number(alloc, out, "", number, ""),
-        Value::Time(time) => put_number(alloc, out, "T#", time, "ms"),
+        Value::Dint(number) => put_signed(out, i64::from(number)),
+        Value::Time(time) => put_time(out, i64::from(time)),
     }
 }
 
 /// Puts a type, and the first value of what has one of its own.
-fn put_shape(alloc: Global, out: &mut Vec<u8>, shape: Shape) -> Result<(), Fault>
+fn put_shape(out: &mut Vec<u8>, shape: Shape) -> Result<(), Fault>
     ensures { Puts out.old out.new result (texts.shape_text (shape_view shape)) }
 {
     match shape {
@@ -49,7 +64,7 @@ fn put_shape(alloc: Global, out: &mut Vec<u8>, shape: Shape) -> Result<(), Fault
         Shape::Plain(kind, value) => {
             put_bytes(out, kind_text(kind))?;
             put_bytes(out, b" ")?;
-            put_value(alloc, out, value)
+            put_value(out, value)
         }
     }
 }
@@ -88,7 +103,6 @@ pub(crate) fn put_kept(out: &mut Vec<u8>, prefix: &[u8], name: &[u8]) -> Result<
 
 /// Puts the line of a variable that begins with its first value.
 pub(crate) fn put_first(
-    alloc: Global,
     out: &mut Vec<u8>,
     prefix: &[u8],
     name: &[u8],
@@ -101,7 +115,7 @@ pub(crate) fn put_first(
 {
     put_names(out, b"first ", prefix, name)?;
     put_bytes(out, b" ")?;
-    put_shape(alloc, out, shape)?;
+    put_shape(out, shape)?;
     put_bytes(out, b" ")?;
     put_reason(out, old_type)
 }
@@ -135,16 +149,15 @@ fn is_same(first: Value, before: Value) -> bool
 }
 
 /// Puts bytes, and a value as a literal after them.
-fn put_before(alloc: Global, out: &mut Vec<u8>, words: &[u8], value: Value) -> Result<(), Fault>
+fn put_before(out: &mut Vec<u8>, words: &[u8], value: Value) -> Result<(), Fault>
     ensures { Puts out.old out.new result (words.now ++ content_text (Plain value)) }
 {
     put_bytes(out, words)?;
-    put_value(alloc, out, value)
+    put_value(out, value)
 }
 
 /// Puts a note in words.
 fn put_sentence(
-    alloc: Global,
     out: &mut Vec<u8>,
     path: (&[u8], &[u8]),
     first: Value,
@@ -154,14 +167,13 @@ fn put_sentence(
         (note_text false (path.entry.0.now ++ path.entry.1.now) (Plain first) (Plain before)) }
 {
     put_names(out, b"note: a change keeps the value of `", path.0, path.1)?;
-    put_before(alloc, out, b"`; its first value, ", first)?;
-    put_before(alloc, out, b", is not taken (it was ", before)?;
+    put_before(out, b"`; its first value, ", first)?;
+    put_before(out, b", is not taken (it was ", before)?;
     put_bytes(out, b")\n")
 }
 
 /// Puts a note as an object (JSON).
 fn put_object(
-    alloc: Global,
     out: &mut Vec<u8>,
     path: (&[u8], &[u8]),
     first: Value,
@@ -176,14 +188,13 @@ fn put_object(
         path.0,
         path.1,
     )?;
-    put_before(alloc, out, b"\",\"first\":\"", first)?;
-    put_before(alloc, out, b"\",\"before\":\"", before)?;
+    put_before(out, b"\",\"first\":\"", first)?;
+    put_before(out, b"\",\"before\":\"", before)?;
     put_bytes(out, b"\"}\n")
 }
 
 /// Puts the note on a variable that keeps its value, if its first value is another than before.
 pub(crate) fn put_note(
-    alloc: Global,
     out: &mut Vec<u8>,
     as_objects: bool,
     path: (&[u8], &[u8]),
@@ -199,7 +210,7 @@ pub(crate) fn put_note(
         return Ok(());
     }
     if as_objects {
-        return put_object(alloc, out, path, first, before);
+        return put_object(out, path, first, before);
     }
-    put_sentence(alloc, out, path, first, before)
+    put_sentence(out, path, first, before)
 }

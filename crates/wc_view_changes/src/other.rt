@@ -8,7 +8,7 @@ ghost use Rattle.wc_view_changes.specs.ChangeReport.{found_type, initial_of};
 ghost use Rattle.wc_view_changes.specs.Sides.{IsSide, line_numbered, numbered_side, side_found, side_initial, unit_numbered};
 
 use crate::shape::{block_text, kind_text};
-use wc_model::{Decl, Unit, Value, Word};
+use wc_model::{Decl, Unit, Value, is_word};
 use wc_names::DeclaredType;
 use wc_verify::Checked;
 
@@ -21,37 +21,23 @@ pub(crate) fn other_type(
     ensures { (side : Option Scope) → IsSide (text_view other.now.source) unit side
         → result ≡ numbered_side side (name_of name.now) }
 {
-    let Some(unit) = unit else {
-        return None;
-    };
-    match other.tables().variable(unit, name) {
-        Some(located) => Some(located.declared),
-        None => None,
-    }
+    let located = other.tables().variable(unit?, name)?;
+    Some(located.declared)
 }
 
-/// Whether a word is a name, in whichever letter case.
-fn is_named(word: &Word<'_>, name: &[u8]) -> bool
-    ensures { result ≡ same_name (name_of word.now.text.now) (name_of name.now) }
-{
-    word.text.eq_ignore_ascii_case(name)
-}
-
-/// Whether a declaration has a name.
+/// Whether a declaration has a name, in whichever letter case.
 fn declares(declaration: &Decl<'_>, name: &[u8]) -> bool
     ensures { result ≡ list_any (λ word. same_name (name_of word.text.now) (name_of name.now))
         declaration.now.names.items }
 {
-    for word in &declaration.names {
-        if is_named(word, name) {
-            return true;
-        }
-    }
-    false
+    declaration
+        .names
+        .iter()
+        .any(|word| is_word(word.text, name))
 }
 
 /// The literal after `:=` in a declaration.
-fn literal_of(declaration: &Decl<'_>) -> Option<Value>
+pub(crate) fn literal_of(declaration: &Decl<'_>) -> Option<Value>
     ensures { result ≡ option_map (λ i. i.value) declaration.now.initial }
 {
     match declaration.initial {

@@ -7,20 +7,26 @@ use crate::describing::{Pass, Texts, UnitPair, describe_unit};
 use std::alloc::Global;
 use wc_cost::Loaded;
 use wc_model::Fault;
+use wc_verify::Checked;
 
 /// Puts the lines of the variables of a text's program, next to the program of the other text.
-fn describe_program(out: &mut Vec<u8>, texts: Texts<'_, '_, '_, '_>) -> Result<(), Fault>
-    ensures lines { OnOk result
-        (out.new.items ≡ out.old.items
-        ++ lines_alongside texts.entry.pass (text_view texts.entry.other.now.source)
-        texts.entry.own.now.source) }
+fn describe_program(
+    alloc: Global,
+    out: &mut Vec<u8>,
+    pass: Pass,
+    own: &Checked<'_>,
+    other: &Checked<'_>,
+) -> Result<(), Fault>
+    ensures lines { OnOk result (out.new.items ≡ out.old.items
+        ++ lines_alongside pass (text_view other.now.source) own.now.source) }
     ensures memory { IsOkUnless result Fault.Memory }
 {
-    let Some(unit) = texts.own.source().units.len().checked_sub(1) else {
+    let texts = Texts { pass, own, other };
+    let Some(unit) = own.source().units.len().checked_sub(1) else {
         return Ok(());
     };
-    let other = texts.other.source().units.len().checked_sub(1);
-    let mut names = Vec::new(texts.alloc);
+    let other = other.source().units.len().checked_sub(1);
+    let mut names = Vec::new(alloc);
     describe_unit(out, texts, &mut names, UnitPair { unit, other })
 }
 
@@ -35,23 +41,9 @@ pub fn changes(alloc: Global, old: &Loaded<'_>, new: &Loaded<'_>) -> Result<Vec<
         (λ lines. lines.items ≡ change_report old.now.source new.now.source) }
     ensures memory { IsOkUnless result Fault.Memory }
 {
-    let old = old.checked();
-    let new = new.checked();
     let mut lines = Vec::new(alloc);
-    let kept = Texts {
-        alloc,
-        pass: Pass::New,
-        own: new,
-        other: old,
-    };
-    describe_program(&mut lines, kept)?;
-    let lost = Texts {
-        alloc,
-        pass: Pass::Old,
-        own: old,
-        other: new,
-    };
-    describe_program(&mut lines, lost)?;
+    describe_program(alloc, &mut lines, Pass::New, new.checked(), old.checked())?;
+    describe_program(alloc, &mut lines, Pass::Old, old.checked(), new.checked())?;
     Ok(lines)
 }
 
@@ -68,12 +60,7 @@ pub fn notes(
     ensures memory { IsOkUnless result Fault.Memory }
 {
     let mut lines = Vec::new(alloc);
-    let texts = Texts {
-        alloc,
-        pass: Pass::Notes(as_objects),
-        own: new.checked(),
-        other: old.checked(),
-    };
-    describe_program(&mut lines, texts)?;
+    let pass = Pass::Notes(as_objects);
+    describe_program(alloc, &mut lines, pass, new.checked(), old.checked())?;
     Ok(lines)
 }

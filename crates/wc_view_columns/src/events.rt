@@ -1,6 +1,5 @@
 ghost use Rattle.std.specs.Prelude.{◌≡◌, ◌+◌, [], ◌∷◌, ◌++◌, List, max};
-ghost use Rattle.std.specs.Option.{option_or};
-ghost use Rattle.wc_view_columns.specs.Followed.{AreCounted, IsMarked, is_refusal, is_refused, mark_of};
+ghost use Rattle.wc_view_columns.specs.Followed.{AreCounted, IsMarked, is_refusal, mark_of};
 ghost use Rattle.wc_view_columns.specs.Happened.{AreBoth, counted};
 ghost use Rattle.wc_view_columns.specs.Rows.{nothing};
 ghost use Rattle.wc_view_columns.specs.declared.events.Request.{Request};
@@ -18,22 +17,14 @@ pub struct Request {
     pub answer: Option<Answer>,
 }
 
-/// Whether a status says that the command of its answer was refused.
-fn is_refused(status: Status) -> bool
-    ensures { result ≡ is_refused status }
-{
-    match status {
-        Status::ZeroRefused | Status::TareRefused => true,
-        _ => false,
-    }
-}
-
 /// Whether an answer says that its command was refused.
 fn is_refusal(answer: Option<Answer>) -> bool
     ensures { result ≡ is_refusal answer }
 {
     match answer {
-        Some(Answer::Weight(reading)) => is_refused(reading.status),
+        Some(Answer::Weight(reading)) => {
+            matches!(reading.status, Status::ZeroRefused | Status::TareRefused)
+        }
         Some(Answer::NotUnderstood) => false,
         None => false,
     }
@@ -47,13 +38,6 @@ fn mark_of(request: &Request) -> Option<u64>
         Command::Zero | Command::TakeTare | Command::Clear => Some(request.ms),
         _ => None,
     }
-}
-
-/// The later request, if there is one, else the earlier.
-fn last_of(earlier: Option<Request>, later: Option<Request>) -> Option<Request>
-    ensures { result ≡ option_or later earlier }
-{
-    if later.is_some() { later } else { earlier }
 }
 
 /// What happened in some time.
@@ -114,7 +98,7 @@ impl Events {
             scans: self.scans.saturating_add(later.scans),
             steps: self.steps.max(later.steps),
             requests: self.requests.saturating_add(later.requests),
-            last: last_of(self.last, later.last),
+            last: later.last.or(self.last),
         }
     }
 

@@ -10,9 +10,8 @@ use crate::bits::Level;
 use crate::columns::Column;
 use Lane::{Input, Invalid, Motion, Output, Over, Requests, Scans, Under, Variable, Word};
 use std::alloc::{AllocError, Global};
-use std::fmt;
 
-/// What is shown of columns besides their weights, and its name.
+/// What is shown of columns besides their weights.
 #[derive(Clone, Copy)]
 pub enum Lane {
     Motion,
@@ -29,23 +28,6 @@ pub enum Lane {
     /// The variable of that number, counted from 0.
     Variable(usize),
     Scans,
-}
-
-impl fmt::Display for Lane {
-    fn fmt<W: fmt::Write>(&self, f: &mut fmt::Formatter<W>) -> fmt::Result {
-        match self {
-            Lane::Motion => write!(f, "in motion"),
-            Lane::Over => write!(f, "over"),
-            Lane::Under => write!(f, "under"),
-            Lane::Invalid => write!(f, "not valid"),
-            Lane::Requests => write!(f, "requests"),
-            Lane::Input(number) => write!(f, "%IX0.{number}"),
-            Lane::Output(number) => write!(f, "%QX0.{number}"),
-            Lane::Word(number) => write!(f, "%QD{number}"),
-            Lane::Variable(number) => write!(f, "variable {number}"),
-            Lane::Scans => write!(f, "steps"),
-        }
-    }
 }
 
 /// High if it is so, else low.
@@ -135,55 +117,22 @@ pub fn whole(columns: &[Column]) -> Option<Column>
     all
 }
 
+/// Lanes: some, those of each kind of which there are several, by their numbers, and others.
+macro_rules! lanes {
+    ([$($first:ident)*] $($kind:ident $($number:literal)*;)* [$($last:ident)*]) => {
+        [$($first,)* $($($kind($number),)*)* $($last,)*]
+    };
+}
+
 /// All lanes, from above.
-const LANES: [Lane; 46] = [
-    Motion,
-    Over,
-    Under,
-    Invalid,
-    Requests,
-    Input(0),
-    Input(1),
-    Input(2),
-    Input(3),
-    Input(4),
-    Input(5),
-    Input(6),
-    Input(7),
-    Input(8),
-    Input(9),
-    Input(10),
-    Input(11),
-    Input(12),
-    Input(13),
-    Input(14),
-    Input(15),
-    Output(0),
-    Output(1),
-    Output(2),
-    Output(3),
-    Output(4),
-    Output(5),
-    Output(6),
-    Output(7),
-    Output(8),
-    Output(9),
-    Output(10),
-    Output(11),
-    Output(12),
-    Output(13),
-    Output(14),
-    Output(15),
-    Word(0),
-    Word(1),
-    Word(2),
-    Word(3),
-    Variable(0),
-    Variable(1),
-    Variable(2),
-    Variable(3),
-    Scans,
-];
+const LANES: [Lane; 46] = lanes! {
+    [Motion Over Under Invalid Requests]
+    Input 0 1 2 3 4 5 6 7 8 9 10 11 12 13 14 15;
+    Output 0 1 2 3 4 5 6 7 8 9 10 11 12 13 14 15;
+    Word 0 1 2 3;
+    Variable 0 1 2 3;
+    [Scans]
+};
 
 /// All lanes.
 fn all_lanes() -> [Lane; 46]

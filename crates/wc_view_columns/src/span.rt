@@ -29,10 +29,7 @@ impl Span {
     pub(crate) fn of(number: Option<i64>) -> Option<Span>
         ensures { result ≡ span_of (option_to_list number) }
     {
-        match number {
-            Some(number) => Some(Span::at(number)),
-            None => None,
-        }
+        Some(Span::at(number?))
     }
 
     /// Of these numbers and then others.

@@ -1,4 +1,4 @@
-ghost use Rattle.std.specs.Prelude.{◌≡◌, ◌<◌, ◌||◌, ℕ, ℤ, pos, List, [], ◌∷◌, ◌++◌, Option, Some, None, get_or, if◌then◌else◌};
+ghost use Rattle.std.specs.Prelude.{◌≡◌, ◌<◌, ℕ, ℤ, pos, List, [], ◌∷◌, ◌++◌, Option, Some, None, get_or, if◌then◌else◌};
 ghost use Rattle.std.specs.Option.{option_to_list};
 ghost use Rattle.wc_view_columns.specs.Held.{Held, IsStateOf, held_at};
 ghost use Rattle.wc_view_columns.specs.Spans.{span_of};
@@ -87,10 +87,7 @@ fn joined_variables(earlier: [Option<Span>; 4], later: [Option<Span>; 4]) -> [Op
 fn widened(weight: Option<i32>) -> Option<i64>
     ensures { result ≡ weight }
 {
-    match weight {
-        Some(weight) => Some(i64::from(weight)),
-        None => None,
-    }
+    Some(i64::from(weight?))
 }
 
 /// The spans of some words and then of others.
@@ -107,13 +104,6 @@ fn joined_words(earlier: [Span; 4], later: [Span; 4]) -> [Span; 4]
         earlier[2].joined(later[2]),
         earlier[3].joined(later[3]),
     ]
-}
-
-/// Whether one of two holds.
-fn either(one: bool, other: bool) -> bool
-    ensures { result ≡ (one || other) }
-{
-    one || other
 }
 
 /// The net weight while a tare is active.
@@ -165,10 +155,10 @@ impl State {
         State {
             gross: join(self.gross, later.gross),
             net: join(self.net, later.net),
-            motion: either(self.motion, later.motion),
-            over: either(self.over, later.over),
-            under: either(self.under, later.under),
-            invalid: either(self.invalid, later.invalid),
+            motion: self.motion | later.motion,
+            over: self.over | later.over,
+            under: self.under | later.under,
+            invalid: self.invalid | later.invalid,
             inputs: self.inputs.joined(later.inputs),
             outputs: self.outputs.joined(later.outputs),
             words: joined_words(self.words, later.words),

@@ -3,6 +3,7 @@ use Rattle.std.proofs.Common.{◌≡◌, ℕ, List, [], ◌++◌, Option, Result
 use Rattle.std.proofs.KnownBytes.{Appends-nil, Appends-trans, Consumes-kept, Consumes-nil, Consumes-trans}
 use Rattle.std.proofs.lemmas.List.{append_assoc, append-nil}
 use Rattle.std.specs.Io.KnownBytes.{Appends, Consumes, IsAtEnd, Keeps}
+use Rattle.std.specs.Result.{IsErr, IsErrAnd}
 use Rattle.wc_view_decode.proofs.Standings.{end_prefix, prefix_written}
 use Rattle.wc_view_decode.specs.Decoding.{Decodes, DecodesAll, DecodesPrefix}
 use Rattle.wc_view_decode.specs.Formats.{heading}
@@ -149,3 +150,8 @@ heading_unwritten format input out0 out1 prefix rest cut taken = (
   taken,
   record { lines = []; left = []; lines_are = refl; shown = []; each = refl; rest = rest; text_is = append-nil (heading format) ∙ cut },
 )
+
+-- what holds of a fault holds of what `?` returns of it
+pub propagated : {X F : Type 0} (holds : Result X F → Type 0) (fault : F) (result : Result X F) → IsErr result × IsErrAnd result (λ e. e ≡ fault) → holds (Err fault) → holds result
+propagated holds fault (Err e) gives h = subst (λ x. holds (Err x)) (sym gives.1) h
+propagated holds fault (Ok x) gives h = absurd gives.1

@@ -6,9 +6,8 @@ ghost use Rattle.wc_model.specs.Run.Hex.{hex_of_bytes};
 ghost use Rattle.wc_model.specs.Say.Report.{AnswerLine, line_text};
 
 use crate::entry::{AnswerRow, ReportEntry};
-use crate::fields::{cut_field, moment};
+use crate::fields::{cut_field, is_same, moment};
 use crate::frames::answers_of;
-use crate::same::is_same;
 use hex::FromHexError;
 use std::alloc::Global;
 use wc_model::Fault;

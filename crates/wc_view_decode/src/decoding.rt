@@ -116,17 +116,12 @@ fn decode_rest<R: ByteIn, W: ByteOut>(
     let start = input.spent();
     let mut buffer = [0; CHUNK];
     'chunks: loop {
-        let count = match read_chunk(input, start, &mut buffer) {
-            Ok(count) => count,
-            Err(fault) => return Err(fault),
-        };
+        let count = read_chunk(input, start, &mut buffer)?;
         if count == 0 {
             return finish_report(alloc, decoder, output);
         }
         let chunk = first_bytes(&buffer, count);
-        if let Err(fault) = decode_chunk(alloc, decoder, chunk, output) {
-            return Err(fault);
-        }
+        decode_chunk(alloc, decoder, chunk, output)?;
     }
 }
 
@@ -167,8 +162,6 @@ pub fn decode<R: ByteIn, W: ByteOut>(
         → W.failure_count output.new ≡ W.failure_count output.old }
 {
     let mut decoder = new_decoder(alloc, format);
-    if let Err(fault) = write_text(output, heading(format)) {
-        return Err(fault);
-    }
+    write_text(output, heading(format))?;
     decode_rest(alloc, &mut decoder, input, output)
 }

@@ -24,26 +24,6 @@ fn put_scan_prefix(text: &mut Vec<u8>, row: &ScanRow) -> Result<(), Fault>
     put_bits(text, row.outputs.bits)
 }
 
-/// Appends an answer to a text, for people.
-fn put_answer_line(text: &mut Vec<u8>, ms: u64, answer: &Answer) -> Result<(), Fault>
-    ensures { Puts text.old text.new result (answer_line DecodeFormat.Text ms answer.now) }
-{
-    put_number_after(text, b"L ", ms)?;
-    put_bytes(text, b"  ")?;
-    put_answer(text, answer)?;
-    put_bytes(text, b"\n")
-}
-
-/// Appends an answer to a text, as a row of a table.
-fn put_answer_row(text: &mut Vec<u8>, ms: u64, answer: &Answer) -> Result<(), Fault>
-    ensures { Puts text.old text.new result (answer_line DecodeFormat.Table ms answer.now) }
-{
-    put_number(text, ms)?;
-    put_bytes(text, b",L,,,,,,,,,,,,,,,,,,,,,,\"")?;
-    put_answer(text, answer)?;
-    put_bytes(text, b"\"\n")
-}
-
 /// Appends an answer to a text.
 fn put_one_answer(
     text: &mut Vec<u8>,
@@ -54,8 +34,18 @@ fn put_one_answer(
     ensures { Puts text.old text.new result (answer_line format ms answer.now) }
 {
     match format {
-        DecodeFormat::Text => put_answer_line(text, ms, answer),
-        DecodeFormat::Table => put_answer_row(text, ms, answer),
+        DecodeFormat::Text => {
+            put_number_after(text, b"L ", ms)?;
+            put_bytes(text, b"  ")?;
+            put_answer(text, answer)?;
+            put_bytes(text, b"\n")
+        }
+        DecodeFormat::Table => {
+            put_number(text, ms)?;
+            put_bytes(text, b",L,,,,,,,,,,,,,,,,,,,,,,\"")?;
+            put_answer(text, answer)?;
+            put_bytes(text, b"\"\n")
+        }
     }
 }
 
@@ -93,36 +83,24 @@ fn put_refusal(text: &mut Vec<u8>, format: DecodeFormat, row: &RefusalRow) -> Re
     put_bytes(text, b"\n")
 }
 
-/// Appends a scan to a text, for people.
-fn put_scan_line(text: &mut Vec<u8>, row: &ScanRow) -> Result<(), Fault>
-    ensures { Puts text.old text.new result
-        (scan_line DecodeFormat.Text row.now.ms row.now.steps.0 row.now.outputs) }
-{
-    put_scan_prefix(text, row)?;
-    put_words(text, &row.outputs.words)?;
-    put_bytes(text, b"\n")
-}
-
-/// Appends a scan to a text, as a row of a table.
-fn put_scan_row(text: &mut Vec<u8>, row: &ScanRow) -> Result<(), Fault>
-    ensures { Puts text.old text.new result
-        (scan_line DecodeFormat.Table row.now.ms row.now.steps.0 row.now.outputs) }
-{
-    put_number(text, row.ms)?;
-    put_number_after(text, b",S,", u64::from(row.steps.0))?;
-    put_bit_columns(text, row.outputs.bits)?;
-    put_word_columns(text, &row.outputs.words)?;
-    put_bytes(text, b",\n")
-}
-
 /// Appends a scan to a text.
 fn put_scan(text: &mut Vec<u8>, format: DecodeFormat, row: &ScanRow) -> Result<(), Fault>
     ensures { Puts text.old text.new result
         (scan_line format row.now.ms row.now.steps.0 row.now.outputs) }
 {
     match format {
-        DecodeFormat::Text => put_scan_line(text, row),
-        DecodeFormat::Table => put_scan_row(text, row),
+        DecodeFormat::Text => {
+            put_scan_prefix(text, row)?;
+            put_words(text, &row.outputs.words)?;
+            put_bytes(text, b"\n")
+        }
+        DecodeFormat::Table => {
+            put_number(text, row.ms)?;
+            put_number_after(text, b",S,", u64::from(row.steps.0))?;
+            put_bit_columns(text, row.outputs.bits)?;
+            put_word_columns(text, &row.outputs.words)?;
+            put_bytes(text, b",\n")
+        }
     }
 }
 

@@ -1,5 +1,5 @@
 // The fields of a line. A field that is not a number is read as one all the same: what is read is written again and compared.
-ghost use Rattle.std.specs.Prelude.{◌≡◌, ◌<◌, ◌≤◌, ◌^◌, ◌∷◌, ℕ, ℤ, List, nat_lt, true, length, decimal, FitsSigned};
+ghost use Rattle.std.specs.Prelude.{◌≡◌, ◌<◌, ◌≤◌, ◌^◌, ◌∷◌, ◌↔◌, ℕ, ℤ, List, IsTrue, nat_lt, true, length, decimal, FitsSigned};
 ghost use Rattle.std.specs.Fmt.{signed_decimal};
 ghost use Rattle.std.specs.List.{prefix_len};
 ghost use Rattle.wc_diag_texts.specs.Numbers.{is_refusal};
@@ -107,4 +107,11 @@ pub(crate) fn bits(field: &[u8]) -> u16
         Ok(()) => u16::from_be_bytes(bytes),
         Err(_) => 0,
     }
+}
+
+/// Whether these are the same bytes.
+pub(crate) fn is_same(one: &[u8], other: &[u8]) -> bool
+    ensures { IsTrue result ↔ (one.now ≡ other.now) }
+{
+    one == other
 }

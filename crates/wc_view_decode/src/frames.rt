@@ -1,5 +1,5 @@
 // Answers in the bytes of a row.
-ghost use Rattle.std.specs.Prelude.{◌≡◌, ◌≤◌, ◌++◌, ◌∷◌, [], drop, length, option_map, IfOk, IsOkUnless, OnOk};
+ghost use Rattle.std.specs.Prelude.{◌≡◌, ◌≤◌, drop, length, option_map, IfOk, IsOkUnless};
 ghost use Rattle.std.specs.List.{list_all};
 ghost use Rattle.wc_view_decode.specs.AnswerBytes.{IsAnswer, answer_bytes, is_framed, is_weight_byte};
 ghost use Rattle.wc_view_decode.specs.Found.{AreAnswersOf, IsAnswerOf, IsFirstAnswer};
@@ -46,15 +46,9 @@ fn weight_in(frame: &[u8]) -> Option<Answer>
     if !is_framed(frame) {
         return None;
     }
-    let Some(status) = Status::of_letter(frame[1]) else {
-        return None;
-    };
-    let Some(kind) = WeightKind::of_letter(frame[3]) else {
-        return None;
-    };
-    let Some(is_stable) = stable_of_letter(frame[4]) else {
-        return None;
-    };
+    let status = Status::of_letter(frame[1])?;
+    let kind = WeightKind::of_letter(frame[3])?;
+    let is_stable = stable_of_letter(frame[4])?;
     let Some(unit) = MassUnit::of_letters(&frame[16..19]) else {
         return None;
     };
@@ -92,14 +86,6 @@ pub fn answer_length(answer: &Answer) -> usize
     }
 }
 
-/// Puts an answer after others. `Memory` is the only fault.
-fn push_answer(answers: &mut Vec<Answer>, answer: Answer) -> Result<(), Fault>
-    ensures answer { OnOk result (answers.new.items ≡ answers.old.items ++ answer ∷ []) }
-    ensures memory { IsOkUnless result Fault.Memory }
-{
-    answers.push(answer).map_err(|_| Fault::Memory)
-}
-
 /// What follows n bytes.
 fn following(bytes: &[u8], count: usize) -> &[u8]
     requires { count ≤ length bytes.now }
@@ -121,7 +107,9 @@ pub(crate) fn answers_of(alloc: Global, bytes: &[u8]) -> Result<Option<Vec<Answe
             None => return Ok(None),
             Some(answer) => answer,
         };
-        push_answer(&mut answers, answer)?;
+        let Ok(()) = answers.push(answer) else {
+            return Err(Fault::Memory);
+        };
         rest = following(rest, answer_length(&answer));
     }
     Ok(Some(answers))

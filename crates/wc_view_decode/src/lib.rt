@@ -14,7 +14,6 @@ mod frames;
 mod lines;
 mod refusals;
 mod row_formats;
-mod same;
 mod scans;
 mod unknown_lines;
 

@@ -3,8 +3,7 @@ ghost use Rattle.wc_view_decode.specs.Entries.{entry_content, refusal_content};
 ghost use Rattle.wc_view_decode.specs.Lines.{InRange, IsContentOf, RefusalContent, content_text};
 
 use crate::entry::{RefusalRow, ReportEntry};
-use crate::fields::{cut_field, refusal_number, small_number};
-use crate::same::is_same;
+use crate::fields::{cut_field, is_same, refusal_number, small_number};
 use std::alloc::Global;
 use wc_model::Fault;
 use wc_report::refused_line;
@@ -34,9 +33,5 @@ pub(crate) fn refusal_entry(alloc: Global, line: &[u8]) -> Result<Option<ReportE
 {
     let row = refusal_in(line);
     let text = refused_line(alloc, row.number, row.place)?;
-    if is_same(&text, line) {
-        Ok(Some(ReportEntry::Refusal(row)))
-    } else {
-        Ok(None)
-    }
+    Ok(is_same(&text, line).then_some(ReportEntry::Refusal(row)))
 }

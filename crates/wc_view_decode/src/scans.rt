@@ -5,8 +5,7 @@ ghost use Rattle.wc_view_decode.specs.Lines.{AreWords, InRange, IsContentOf, Sca
 ghost use Rattle.wc_model.specs.declared.image.Outputs.{Outputs};
 
 use crate::entry::{ReportEntry, ScanRow};
-use crate::fields::{bits, cut_field, moment, signed_number, small_number};
-use crate::same::is_same;
+use crate::fields::{bits, cut_field, is_same, moment, signed_number, small_number};
 use std::alloc::Global;
 use wc_model::{Fault, Outputs, Steps};
 use wc_report::put_scan_line;
@@ -60,9 +59,5 @@ pub(crate) fn scan_entry(alloc: Global, line: &[u8]) -> Result<Option<ReportEntr
     let row = scan_in(line);
     let mut text = Vec::new(alloc);
     put_scan_line(&mut text, row.ms, row.steps, &row.outputs)?;
-    if is_same(&text, line) {
-        Ok(Some(ReportEntry::Scan(row)))
-    } else {
-        Ok(None)
-    }
+    Ok(is_same(&text, line).then_some(ReportEntry::Scan(row)))
 }

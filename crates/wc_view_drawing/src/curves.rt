@@ -1,5 +1,7 @@
-use crate::sheet::Sheet;
+use crate::sheet::{Sheet, put};
+use crate::values::Tenths;
 use crate::view::{Range, View};
+use std::fmt::Write;
 use wc_view_columns::{Column, Span};
 
 /// A number that is drawn over time.
@@ -28,26 +30,26 @@ impl Curve {
 /// Puts a stroke up or down over all that a column has reached, to where it ends.
 fn put_span(out: &mut Sheet, range: &Range, span: Span) {
     if span.least < span.last {
-        out.upright(range.y(span.least));
+        put!(out, "V{}", range.y(span.least));
     }
     if span.last < span.greatest {
-        out.upright(range.y(span.greatest));
+        put!(out, "V{}", range.y(span.greatest));
     }
-    out.upright(range.y(span.last));
+    put!(out, "V{}", range.y(span.last));
 }
 
-/// Goes on with a curve at a column from the height where it is, or none.
-fn put_step(out: &mut Sheet, range: &Range, x: u64, at: Option<i64>, span: Option<Span>) {
-    match (at, span) {
-        (Some(at), Some(span)) => {
-            if span.varies() || span.last != at {
-                out.across(x);
+/// Goes on with a curve at a column, after what it had of the column before.
+fn put_step(out: &mut Sheet, range: &Range, x: Tenths, before: Option<Span>, span: Option<Span>) {
+    match (before, span) {
+        (Some(before), Some(span)) => {
+            if span.varies() || span.last != before.last {
+                put!(out, "H{x}");
                 put_span(out, range, span);
             }
         }
-        (Some(_), None) => out.across(x),
+        (Some(_), None) => put!(out, "H{x}"),
         (None, Some(span)) => {
-            out.go_to(x, range.y(span.least));
+            put!(out, "M{x} {}", range.y(span.least));
             put_span(out, range, span);
         }
         (None, None) => {}
@@ -56,14 +58,11 @@ fn put_step(out: &mut Sheet, range: &Range, x: u64, at: Option<i64>, span: Optio
 
 /// Puts the path of a curve: a stroke up or down where its number changes, else to the right.
 pub(crate) fn put_curve(out: &mut Sheet, view: &View<'_>, range: &Range, curve: Curve) {
-    let mut at = None;
+    let mut before = None;
     for (index, column) in view.columns.iter().enumerate() {
         let span = curve.span(column);
-        put_step(out, range, view.x(index), at, span);
-        at = match span {
-            Some(span) => Some(span.last),
-            None => None,
-        };
+        put_step(out, range, view.x(index), before, span);
+        before = span;
     }
-    put_step(out, range, view.x(view.columns.len()), at, None);
+    put_step(out, range, view.x(view.columns.len()), before, None);
 }

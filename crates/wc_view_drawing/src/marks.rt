@@ -1,7 +1,13 @@
 use crate::sheet::{Sheet, put};
-use crate::view::{HEIGHT, TOP, View};
+use crate::values::{Tenths, exactly};
+use crate::view::{BASE, TOP, View};
 use std::fmt::Write;
 use wc_view_columns::Events;
+
+/// Where the letters of marks are, and those of marks that are close to others.
+const LETTERS: Tenths = Tenths(670);
+
+const HIGHER_LETTERS: Tenths = Tenths(550);
 
 /// How often each was done to zero, tare and program in some time, with its letter and its words. A cross after a letter
 /// says that it was refused.
@@ -16,26 +22,6 @@ fn marks_of(events: &Events) -> [(u32, &'static str, &'static str); 6] {
     ]
 }
 
-/// Puts the letters of what was done.
-fn put_letters(out: &mut Sheet, events: &Events) {
-    for (count, letter, _words) in marks_of(events) {
-        if count != 0 {
-            out.put(letter);
-        }
-    }
-}
-
-/// Puts what was done in words, each after a comma.
-fn put_words(out: &mut Sheet, events: &Events) {
-    for (count, _letter, words) in marks_of(events) {
-        match count {
-            0 => {}
-            1 => put!(out, ", {words}"),
-            _ => put!(out, ", {words} {count} times"),
-        }
-    }
-}
-
 /// How often something was done.
 fn count_of(events: &Events) -> u32 {
     let mut count = 0_u32;
@@ -45,63 +31,62 @@ fn count_of(events: &Events) -> u32 {
     count
 }
 
-/// Puts the bound that holds after a change of the program.
-fn put_bound(out: &mut Sheet, view: &View<'_>, events: &Events) {
-    if events.changes == 0 {
-        return;
+/// Puts when something was done, of several the last, and what in words, each after a comma; and the bound that holds after a
+/// change of the program.
+fn put_title(out: &mut Sheet, view: &View<'_>, events: &Events) {
+    if let Some(ms) = events.marked {
+        let before = if count_of(events) > 1 { "up to " } else { "" };
+        put!(out, "{before}{}", exactly(ms));
     }
-    if let Some(next) = view.steps.next {
-        put!(out, ", bound {}", next.bound);
+    for (count, _letter, words) in marks_of(events) {
+        match count {
+            0 => {}
+            1 => put!(out, ", {words}"),
+            _ => put!(out, ", {words} {count} times"),
+        }
     }
-}
-
-/// Puts when something was done: of several the last.
-fn put_time(out: &mut Sheet, events: &Events) {
-    let Some(ms) = events.marked else {
-        return;
-    };
-    if count_of(events) > 1 {
-        out.put("up to ");
+    if let Some(next) = view.next {
+        if events.changes != 0 {
+            put!(out, ", bound {}", next.bound);
+        }
     }
-    out.moment(ms);
 }
 
 /// Puts the mark of a column over the height of the curves, with its letters at a height above.
-fn put_mark(out: &mut Sheet, view: &View<'_>, index: usize, events: &Events, y: Option<u64>) {
+fn put_mark(out: &mut Sheet, view: &View<'_>, index: usize, events: &Events, y: Option<Tenths>) {
     let x = view.x(index);
     let look = match (events.zeros, events.tares, events.clears, events.changes) {
         (0, 0, 0, 0) => "refused",
         _ => "mark",
     };
     put!(out, "<g class=\"{look}\"><title>");
-    put_time(out, events);
-    put_words(out, events);
-    put_bound(out, view, events);
-    out.put("</title><path d=\"");
-    out.go_to(x, TOP + HEIGHT);
-    out.upright(TOP);
-    out.put("\"/>");
+    put_title(out, view, events);
+    put!(out, "</title><path d=\"M{x} {BASE}V{TOP}\"/>");
     if let Some(y) = y {
-        out.text("", x, y);
-        put_letters(out, events);
-        out.put("</text>");
+        put!(out, "<text x=\"{x}\" y=\"{y}\">");
+        for (count, letter, _words) in marks_of(events) {
+            if count != 0 {
+                put!(out, "{letter}");
+            }
+        }
+        put!(out, "</text>");
     }
-    out.put("</g>\n");
+    put!(out, "</g>\n");
 }
 
 /// Puts the marks of zero, tare and program; letters that are close go up by a line, or have no space.
 pub(crate) fn put_marks(out: &mut Sheet, view: &View<'_>) {
-    let (mut low, mut high) = (0_u64, 0_u64);
+    let (mut low, mut high) = (Tenths(0), Tenths(0));
     for (index, column) in view.columns.iter().enumerate() {
         if count_of(&column.events) != 0 {
             let x = view.x(index);
-            let next = x.saturating_add(200);
-            let y = if low <= x {
+            let next = x.plus(200);
+            let y = if low.0 <= x.0 {
                 low = next;
-                Some(TOP - 50)
-            } else if high <= x {
+                Some(LETTERS)
+            } else if high.0 <= x.0 {
                 high = next;
-                Some(TOP - 170)
+                Some(HIGHER_LETTERS)
             } else {
                 None
             };

@@ -1,20 +1,19 @@
-use crate::sheet::{Sheet, Tenths, put};
-use crate::view::{TOP, View, WeightScale};
+use crate::sheet::{Sheet, put};
+use crate::values::{Tenths, exactly};
+use crate::view::{TOP, View};
 use std::fmt::Write;
-use wc_view_columns::{Column, Span, State};
+use wc_view_columns::{Span, State};
 
 /// Puts a weight, or from which to which, with a name before it.
-fn put_weight(out: &mut Sheet, scale: &WeightScale, name: &str, span: Option<Span>) {
+fn put_weight(out: &mut Sheet, view: &View<'_>, name: &str, span: Option<Span>) {
     let Some(span) = span else {
         return;
     };
-    put!(out, "\n{name} ");
-    out.weight(span.least, scale.decimals);
+    put!(out, "\n{name} {}", view.weight(span.least));
     if span.varies() {
-        out.put(" to ");
-        out.weight(span.greatest, scale.decimals);
+        put!(out, " to {}", view.weight(span.greatest));
     }
-    put!(out, " {}", scale.unit);
+    put!(out, " {}", view.unit);
 }
 
 /// Puts what is said of the scale besides its weights.
@@ -27,13 +26,13 @@ fn put_status(out: &mut Sheet, state: &State) {
         (is_unsampled, "\nno sample yet"),
     ] {
         if is_so {
-            out.put(words);
+            put!(out, "{words}");
         }
     }
 }
 
-/// Puts the inputs and the outputs in hexadecimal digits, as they were last.
-fn put_ports(out: &mut Sheet, state: &State) {
+/// Puts the inputs and the outputs, in hexadecimal digits, and the numbers of the variables that are drawn, as they were last.
+fn put_ports(out: &mut Sheet, view: &View<'_>, state: &State) {
     let (inputs, outputs) = (state.inputs.last, state.outputs.last);
     put!(out, "\ninputs {inputs:04x}, outputs {outputs:04x}");
     for (number, word) in state.words.iter().enumerate() {
@@ -41,15 +40,9 @@ fn put_ports(out: &mut Sheet, state: &State) {
             put!(out, "\n%QD{number} {}", word.last);
         }
     }
-}
-
-/// Puts the numbers of the variables that are drawn, as they were last.
-fn put_variables(out: &mut Sheet, view: &View<'_>, state: &State) {
     for (number, variable) in state.variables.iter().enumerate() {
         if let Some(span) = variable {
-            out.put("\n");
-            out.bytes(view.variable(number));
-            put!(out, " {}", span.last);
+            put!(out, "\n{} {}", view.variable(number), span.last);
         }
     }
 }
@@ -60,39 +53,34 @@ fn put_reading(
     view: &View<'_>,
     first: usize,
     next: usize,
-    bottom: u64,
-    column: &Column,
+    bottom: Tenths,
+    state: &State,
 ) {
     let left = view.x(first);
-    let width = Tenths(view.x(next).saturating_sub(left));
-    let height = Tenths(bottom.saturating_sub(TOP));
-    put!(out, "<rect x=\"{}\" y=\"{}\" ", Tenths(left), Tenths(TOP));
+    let width = Tenths(view.x(next).0.saturating_sub(left.0));
+    let height = Tenths(bottom.0.saturating_sub(TOP.0));
+    put!(out, "<rect x=\"{left}\" y=\"{TOP}\" ");
     put!(out, "width=\"{width}\" height=\"{height}\"><title>");
-    out.moment(view.moment(first));
-    out.put(" to ");
-    out.moment(view.moment(next));
-    put_weight(out, &view.scale, "gross", column.state.gross);
-    put_weight(out, &view.scale, "net", column.state.net);
-    put_status(out, &column.state);
-    put_ports(out, &column.state);
-    put_variables(out, view, &column.state);
-    out.put("</title></rect>\n");
+    let (begin, end) = (exactly(view.moment(first)), exactly(view.moment(next)));
+    put!(out, "{begin} to {end}");
+    put_weight(out, view, "gross", state.gross);
+    put_weight(out, view, "net", state.net);
+    put_status(out, state);
+    put_ports(out, view, state);
+    put!(out, "</title></rect>\n");
 }
 
 /// Puts a reading for each stretch of columns in which the same holds.
-pub(crate) fn put_readings(out: &mut Sheet, view: &View<'_>, bottom: u64) {
-    out.put("<g id=\"readings\">\n");
+pub(crate) fn put_readings(out: &mut Sheet, view: &View<'_>, bottom: Tenths) {
+    put!(out, "<g id=\"readings\">\n");
     let mut first = 0_usize;
     for (index, column) in view.columns.iter().enumerate() {
         let next = index.saturating_add(1);
-        let goes_on = match view.columns.get(next) {
-            Some(later) => later.state == column.state,
-            None => false,
-        };
-        if !goes_on {
-            put_reading(out, view, first, next, bottom, column);
+        let later = view.columns.get(next);
+        if !later.is_some_and(|later| later.state == column.state) {
+            put_reading(out, view, first, next, bottom, &column.state);
             first = next;
         }
     }
-    out.put("</g>\n");
+    put!(out, "</g>\n");
 }

@@ -1,87 +1,45 @@
-use crate::steps::RunSteps;
+use crate::values::{Tenths, Weight};
+use std::str;
 use wc_plate::Plate;
 use wc_sma::MassUnit;
-use wc_view_columns::{Column, Span, join};
+use wc_view_columns::{Column, TimeLine, join, whole};
 use wc_view_decode::unit_text;
 
-/// Where the curves begin at the left, and how wide and high they are, in tenths.
-pub(crate) const LEFT: u64 = 1300;
+/// Where the curves begin and end: at the left, at the right, above and below.
+pub(crate) const LEFT: Tenths = Tenths(1300);
 
-pub(crate) const WIDTH: u64 = 7200;
+pub(crate) const RIGHT: Tenths = Tenths(8500);
 
-pub(crate) const TOP: u64 = 720;
+pub(crate) const TOP: Tenths = Tenths(720);
+
+pub(crate) const BASE: Tenths = Tenths(3120);
+
+/// How wide and high they are, in tenths.
+const WIDTH: u64 = 7200;
 
 pub(crate) const HEIGHT: u64 = 2400;
 
-/// What a plate says of weights; if no row came, nothing is known of it.
+/// The steps of a program's scans.
 #[derive(Clone, Copy)]
-pub(crate) struct WeightScale {
-    pub(crate) max: i64,
-    pub(crate) decimals: u32,
-    pub(crate) unit: &'static str,
-}
-
-impl WeightScale {
-    /// The scale of a plate.
-    pub(crate) fn of(plate: Option<Plate>) -> WeightScale {
-        let Some(plate) = plate else {
-            return WeightScale {
-                max: 1,
-                decimals: 0,
-                unit: "",
-            };
-        };
-        WeightScale {
-            max: i64::from(plate.max()),
-            decimals: plate.decimals().unsigned_abs(),
-            unit: match MassUnit::of_letters(&plate.unit()) {
-                Some(unit) => unit_text(unit),
-                None => "",
-            },
-        }
-    }
+pub struct ScanSteps {
+    /// Of the longest scan.
+    pub most: u32,
+    /// Of the longest path: no scan takes more.
+    pub bound: u32,
 }
 
 /// The height over which numbers are drawn, in tenths, and the numbers at its edges.
 #[derive(Clone, Copy)]
 pub(crate) struct Range {
-    pub(crate) top: u64,
+    pub(crate) top: Tenths,
     pub(crate) height: u64,
     pub(crate) low: i64,
     pub(crate) high: i64,
 }
 
-/// What is drawn, and where.
-#[derive(Clone, Copy)]
-pub struct View<'p> {
-    pub(crate) columns: &'p [Column],
-    /// The first moment in milliseconds, and the number of milliseconds of a column.
-    pub(crate) start: u64,
-    pub(crate) width: u64,
-    pub(crate) scale: WeightScale,
-    pub(crate) steps: RunSteps,
-    /// The names of the variables that are drawn, between commas.
-    names: &'p [u8],
-    /// The height of the curves of weights, with the weights at its edges.
-    pub(crate) weights: Range,
-}
-
-/// The upper edge for weights up to one: Max or more, and less if they are all below a third of it.
-fn upper_edge(greatest: i64, max: i64) -> i64 {
-    if greatest.saturating_mul(3) < max && max < greatest.saturating_mul(100) {
-        greatest
-    } else {
-        greatest.max(max)
-    }
-}
-
-/// The weights of some columns.
-fn weights(columns: &[Column]) -> Option<Span> {
-    let mut all = None;
-    for column in columns {
-        all = join(all, join(column.state.gross, column.state.net));
-    }
-    all
+/// How far above one number another is, 0 if it is not.
+fn above(high: i64, low: i64) -> u64 {
+    if low < high { high.abs_diff(low) } else { 0 }
 }
 
 /// The part of a length that so much of a whole is.
@@ -89,46 +47,102 @@ pub(crate) fn part(length: u64, some: u64, whole: u64) -> u64 {
     length.saturating_mul(some).checked_div(whole).unwrap_or(0)
 }
 
-impl<'p> View<'p> {
-    /// A view with space for all weights and zero, for Max if it is not far above, and a little more. The variables of the columns
-    /// have these names, between commas.
-    pub fn new(
-        columns: &'p [Column],
-        start: u64,
-        width: u64,
-        plate: Option<Plate>,
-        steps: RunSteps,
-        names: &'p [u8],
-    ) -> View<'p> {
-        let scale = WeightScale::of(plate);
-        let (least, greatest) = match weights(columns) {
+impl Range {
+    /// The height of the curves, with space for all weights and zero, for Max if it is not far above, and a little more.
+    fn of_weights(all: Option<Column>, max: i64) -> Range {
+        let weights = all.and_then(|all| join(all.state.gross, all.state.net));
+        let (least, greatest) = match weights {
             Some(span) => (span.least, span.greatest),
             None => (0, 0),
         };
+        let is_far = greatest.saturating_mul(3) < max && max < greatest.saturating_mul(100);
         let low = least.min(0);
-        let high = upper_edge(greatest, scale.max);
+        let high = if is_far { greatest } else { greatest.max(max) };
         let capacity = high.saturating_sub(low) / 20;
+        Range {
+            top: TOP,
+            height: HEIGHT,
+            low: low.saturating_sub(capacity),
+            high: high.saturating_add(capacity).saturating_add(1),
+        }
+    }
+
+    /// Where a number is.
+    pub(crate) fn y(&self, number: i64) -> Tenths {
+        let below = above(self.high, number.max(self.low));
+        let whole = above(self.high, self.low);
+        self.top.plus(part(self.height, below, whole))
+    }
+}
+
+/// What is drawn, and where.
+#[derive(Clone, Copy)]
+pub struct View<'p> {
+    pub(crate) columns: &'p [Column],
+    /// All columns as one, if there are any.
+    pub(crate) all: Option<Column>,
+    /// The first moment in milliseconds, and the number of milliseconds of a column.
+    pub(crate) start: u64,
+    pub(crate) width: u64,
+    /// What the plate says of weights; if no row came, nothing is known of it.
+    pub(crate) max: i64,
+    decimals: u32,
+    pub(crate) unit: &'static str,
+    /// The names of the variables that are drawn, between commas.
+    names: &'p str,
+    /// The height of the curves of weights, with the weights at its edges.
+    pub(crate) weights: Range,
+    /// The steps of the program with which a run begins, and where it was changed of the next one.
+    pub(crate) first: ScanSteps,
+    pub(crate) next: Option<ScanSteps>,
+}
+
+/// The greatest weight of a plate, the number of its decimals, and the symbol of its unit.
+fn scale_of(plate: Option<Plate>) -> (i64, u32, &'static str) {
+    let Some(plate) = plate else {
+        return (1, 0, "");
+    };
+    let unit = MassUnit::of_letters(&plate.unit()).map_or("", |unit| unit_text(unit));
+    let decimals = plate.decimals().unsigned_abs();
+    (i64::from(plate.max()), decimals, unit)
+}
+
+impl<'p> View<'p> {
+    /// A view of what is kept of the rows, of a program that runs and of the one that it replaced. The variables of the columns have
+    /// these names, between commas.
+    pub fn new(
+        line: Option<&'p TimeLine>,
+        plate: Option<Plate>,
+        before: Option<ScanSteps>,
+        running: Option<ScanSteps>,
+        names: &'p [u8],
+    ) -> View<'p> {
+        let (columns, start, width) = match line {
+            Some(line) => (line.columns(), line.start(), line.width()),
+            None => (&[] as &[Column], 0, 1),
+        };
+        let (max, decimals, unit) = scale_of(plate);
+        let all = whole(columns);
+        let none = ScanSteps { most: 0, bound: 0 };
         View {
             columns,
+            all,
             start,
             width,
-            scale,
-            steps,
-            names,
-            weights: Range {
-                top: TOP,
-                height: HEIGHT,
-                low: low.saturating_sub(capacity),
-                high: high.saturating_add(capacity).saturating_add(1),
-            },
+            max,
+            decimals,
+            unit,
+            names: str::from_utf8(names).unwrap_or(""),
+            weights: Range::of_weights(all, max),
+            first: before.or(running).unwrap_or(none),
+            next: if before.is_some() { running } else { None },
         }
     }
 
     /// The number of milliseconds drawn.
     pub(crate) fn time(&self) -> u64 {
-        (self.columns.len() as u64)
-            .max(1)
-            .saturating_mul(self.width)
+        let count = (self.columns.len() as u64).max(1);
+        count.saturating_mul(self.width)
     }
 
     /// The moment at which a column begins.
@@ -137,45 +151,24 @@ impl<'p> View<'p> {
         self.start.saturating_add(passed)
     }
 
-    /// Where a column begins, in tenths.
-    pub(crate) fn x(&self, index: usize) -> u64 {
-        let count = (self.columns.len() as u64).max(1);
-        part(WIDTH, index as u64, count).saturating_add(LEFT)
+    /// Where a column begins.
+    pub(crate) fn x(&self, index: usize) -> Tenths {
+        self.x_at(self.moment(index))
     }
 
-    /// Where a moment is, in tenths.
-    pub(crate) fn x_at(&self, ms: u64) -> u64 {
+    /// Where a moment is.
+    pub(crate) fn x_at(&self, ms: u64) -> Tenths {
         let passed = ms.saturating_sub(self.start);
-        part(WIDTH, passed, self.time()).saturating_add(LEFT)
+        LEFT.plus(part(WIDTH, passed, self.time()))
     }
 
-    /// The column in which the program was changed.
-    pub(crate) fn change(&self) -> Option<usize> {
-        self.columns
-            .iter()
-            .position(|column| column.events.changes != 0)
+    /// A weight in units of its last decimal.
+    pub(crate) fn weight(&self, units: i64) -> Weight {
+        Weight(units, self.decimals)
     }
 
     /// The name of the variable of that number, counted from 0.
-    pub(crate) fn variable(&self, number: usize) -> &'p [u8] {
-        for (index, name) in self.names.split(|byte| *byte == b',').enumerate() {
-            if index == number {
-                return name;
-            }
-        }
-        b""
-    }
-}
-
-/// How far above one number another is, 0 if it is not.
-fn above(high: i64, low: i64) -> u64 {
-    if low < high { high.abs_diff(low) } else { 0 }
-}
-
-impl Range {
-    /// Where a number is, in tenths.
-    pub(crate) fn y(&self, number: i64) -> u64 {
-        let below = above(self.high, number.max(self.low));
-        part(self.height, below, above(self.high, self.low)).saturating_add(self.top)
+    pub(crate) fn variable(&self, number: usize) -> &'p str {
+        self.names.split(',').nth(number).unwrap_or("")
     }
 }

@@ -1,5 +1,6 @@
 -- How a run ends of whose bytes nothing is said, if no line of a refusal is written.
-use Rattle.std.proofs.Common.{ℕ, Ok, Err, Some, None, Result, ap, arith, refl}
+use Rattle.std.proofs.Common.{◌≡◌, ℕ, List, Option, Ok, Err, Some, None, Result, ap, arith, refl, subst, sym}
+use Rattle.std.specs.Prelude.{IfSome}
 use Rattle.wc_controller.proofs.EndedRuns.{run_ended}
 use Rattle.wc_endings.specs.Endings.{EndsAfter, EndsAfterFault, ReportsFailures, ReportsWriteFaults, ending_of, fault_ending, raised, status_of}
 use Rattle.wc_controller.specs.Files.{Observed}
@@ -10,7 +11,12 @@ use Rattle.wc_endings.specs.declared.input.Stopped.{Stopped}
 use Rattle.wc_model.specs.Run.Log.{Record}
 use Rattle.wc_run.specs.declared.fault.RunFault.{RunFault}
 use Rattle.wc_run.specs.declared.fault.RunFault.TheVariants.{Refused, Read, Write, Memory}
-use Rattle.wc_view_picture.specs.Runs.{unsaid}
+use Rattle.wc_model.specs.Say.ProgramReport.{Logic}
+use Rattle.wc_view_picture.specs.Runs.{IsUnknownOf, unsaid}
+use Rattle.wc_view_picture.specs.Seen.{HasRefused}
+use Rattle.wc_view_picture.specs.declared.picture.Picture.{Picture}
+use Rattle.wc_view_watch.specs.Unknown.{IsFirstUnknown}
+use Rattle.wc_view_watch.specs.declared.names.UnknownName.{UnknownName}
 
 unwritten_fault : (at : Input) (why : RunFault) → EndsAfterFault at why (fault_ending at why) None None
 unwritten_fault at (Refused number place) = (refl, refl, refl, tt)
@@ -37,3 +43,11 @@ pub run_unrefused : (o : Observed) (before after : InputStates) (reported : Reco
     → RunsUpTo o before after reported answer (unsaid old) (unsaid new) → RunsAs o before after reported (ending_of answer) (unsaid old) (unsaid new)
 run_unrefused o before after reported answer old new h =
     run_ended o before after reported answer (ending_of answer) (unsaid old) (unsaid new) (unsaid new) h (unwritten answer) (write_reported answer old new h.failures)
+
+-- the name that is found is the first that is unknown
+pub unknown_is : (list : Option (List ℕ)) (picture : Picture) (logic : Option Logic) (held : UnknownName) → IfSome picture.names.unknown (λ name. held ≡ name) → HasRefused list picture logic
+    → IsUnknownOf list logic held
+unknown_is None picture logic held is refused = refused
+unknown_is (Some list) picture logic held is (name, there, first) =
+    let same : held ≡ name = subst (λ one. IfSome one (λ n. held ≡ n)) there is in
+    subst (IsFirstUnknown list logic) (sym same) first

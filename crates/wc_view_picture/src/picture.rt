@@ -8,8 +8,7 @@ ghost use Rattle.wc_run.specs.Logics.{logic_after};
 ghost use Rattle.wc_run.specs.Observing.{IsShown, lines_of_scan, row_of};
 ghost use Rattle.wc_run.specs.Representation.{Represents};
 ghost use Rattle.wc_sma.specs.Representation.{HasRead};
-ghost use Rattle.wc_view_picture.specs.Runs.{IsUnknownOf};
-ghost use Rattle.wc_view_picture.specs.Seen.{AreNamesOf, HasHappened, HasRefused, HasSeen, IsNew, list_of, most_at, most_of, most_with, numbers_after, replaced_at};
+ghost use Rattle.wc_view_picture.specs.Seen.{AreNamesOf, HasHappened, HasSeen, IsNew, list_of, most_at, most_of, most_with, numbers_after, replaced_at};
 
 use crate::rows::{change_of, inputs_after, keep, outputs_after, scan_of, steps_after};
 use std::alloc::{AllocError, Global};
@@ -20,8 +19,8 @@ use wc_record::HeadKind;
 use wc_run::{Observer, Program, RowSeen, RunFault, Scale, write_text};
 use wc_store::SlotStore;
 use wc_view_columns::{Column, Events, State, TimeLine, Tracker};
-use wc_view_drawing::{RunSteps, ScanSteps, View, draw};
-use wc_view_watch::{UnknownName, WatchedNames};
+use wc_view_drawing::{ScanSteps, View, draw};
+use wc_view_watch::WatchedNames;
 
 /// Observes a run, and after its rows writes a picture of it. What is kept of the rows is allocated at the first of
 /// them.
@@ -30,7 +29,7 @@ pub(crate) struct Picture<'n> {
     alloc: Global,
     /// The names of the variables that are drawn, if there are any, and what they mean.
     list: Option<&'n [u8]>,
-    names: WatchedNames<'n>,
+    pub(crate) names: WatchedNames<'n>,
     line: Option<TimeLine>,
     plate: Option<Plate>,
     inputs: u16,
@@ -77,14 +76,6 @@ impl<'n> Picture<'n> {
             tracker: Tracker::new(),
             rows: 0,
         }
-    }
-
-    /// The first name that no program has, if a run did not begin for that.
-    pub(crate) fn unknown(&self) -> UnknownName
-        ensures { (logic : Option Logic) (list : Option (List ℕ))
-            → HasRefused list self.now logic → IsUnknownOf list logic result }
-    {
-        self.names.unknown()
     }
 
     /// What happened at a row.
@@ -144,18 +135,6 @@ impl<'n> Picture<'n> {
         self.running = steps_after(&seen.scan, self.running);
     }
 
-    /// At a row that changes the program the names are those of the next one.
-    fn turn_names(&mut self, seen: &RowSeen<'_>)
-        ensures same { let names = self.new.names in
-            self.new ≡ record self.old { names = names } }
-        ensures names { (plate : PlateData) (logic : Option Logic) (past : Past)
-            → AreNamesOf (list_of self.old) self.old.names (logic_after plate logic past)
-            → AreNamesOf (list_of self.old) self.new.names
-            (logic_after plate logic (row_of seen.now ∷ past)) }
-    {
-        self.names.turn(seen);
-    }
-
     /// The numbers of the variables that are drawn.
     fn numbers(&self, scale: &Scale<'_, SlotStore>) -> [Option<i64>; 4]
         ensures { (plate : PlateData) (logic : Option Logic) (past : Past)
@@ -181,7 +160,7 @@ impl<'n> Picture<'n> {
         let indicator = scale.indicator();
         let events = self.events(seen);
         self.turn(seen);
-        self.turn_names(seen);
+        self.names.turn(seen);
         self.inputs = inputs_after(seen.row.kind, self.inputs);
         self.outputs = outputs_after(&seen.scan, self.outputs);
         self.rows = self.rows.saturating_add(1);
@@ -191,29 +170,11 @@ impl<'n> Picture<'n> {
         keep(self.alloc, &mut self.line, seen.row.ms, row)
     }
 
-    /// The steps of the programs that ran.
-    fn run_steps(&self) -> RunSteps {
-        let running = self.running.unwrap_or(ScanSteps { most: 0, bound: 0 });
-        match self.before {
-            Some(before) => RunSteps {
-                first: before,
-                next: Some(running),
-            },
-            None => RunSteps {
-                first: running,
-                next: None,
-            },
-        }
-    }
-
     /// The text of the picture, with the number and the row of a refusal.
     fn draw(&self, refusal: Option<(u16, u32)>) -> Result<String, AllocError> {
-        let (columns, start, width) = match &self.line {
-            Some(line) => (line.columns(), line.start(), line.width()),
-            None => (&[] as &[Column], 0, 1),
-        };
         let names = self.list.unwrap_or(b"");
-        let view = View::new(columns, start, width, self.plate, self.run_steps(), names);
+        let line = self.line.as_ref();
+        let view = View::new(line, self.plate, self.before, self.running, names);
         draw(self.alloc, &view, self.rows, refusal)
     }
 }

@@ -46,13 +46,11 @@ pub(crate) fn steps_after(scan: &Option<ScanSeen>, running: Option<ScanSteps>) -
     let Some(scan) = scan else {
         return running;
     };
-    match running {
-        Some(ScanSteps { most, bound }) => Some(ScanSteps {
-            most: most.max(scan.record.steps),
-            bound,
-        }),
-        None => None,
-    }
+    let ScanSteps { most, bound } = running?;
+    Some(ScanSteps {
+        most: most.max(scan.record.steps),
+        bound,
+    })
 }
 
 /// The scan of a row, if it has one.

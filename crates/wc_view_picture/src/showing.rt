@@ -44,7 +44,7 @@ pub fn show_files<P: ByteIn, T: ByteIn, N: ByteIn, L: ByteIn, W: ByteOut>(
     let answer = run_inputs(alloc, &mut picture, inputs, writer, reported);
     let ending = Ending::of(answer);
     if is_at_names(&ending) {
-        return Err(picture.unknown());
+        return Err(picture.names.unknown());
     }
     Ok(ending)
 }

@@ -120,10 +120,7 @@ fn preview_inputs<T: ByteIn, N: ByteIn, W: ByteOut>(
     ensures taken_next { TakesAtMost (longest_job + 1) (N.bytes_left next.old)
         (N.bytes_left next.new) }
 {
-    let text = match read_input(alloc, Input::Program, program) {
-        Ok(text) => text,
-        Err(stopped) => return Err(stopped),
-    };
+    let text = read_input(alloc, Input::Program, program)?;
     let loaded = match load(alloc, &text) {
         Ok(loaded) => loaded,
         Err(fault) => {
@@ -133,10 +130,8 @@ fn preview_inputs<T: ByteIn, N: ByteIn, W: ByteOut>(
             });
         }
     };
-    match read_input(alloc, Input::Next, next) {
-        Ok(other) => preview_next(alloc, paths, &loaded, &other, writer),
-        Err(stopped) => Err(stopped),
-    }
+    let other = read_input(alloc, Input::Next, next)?;
+    preview_next(alloc, paths, &loaded, &other, writer)
 }
 
 /// Looks at a change of the program before it is made: the old program is read and checked first, then the new one; then the

@@ -1,9 +1,8 @@
 -- The process image in the object of a scan. (RFC 8259; the members, and the places of the image, are the profile's own.)
 use Rattle.std.specs.Prelude.{◌≡◌, ℕ, zero, suc, ◌+◌, ◌*◌, List, [], ◌∷◌, ◌++◌, codes, Option, Some, None, ℤ, pos, if◌then◌else◌}
-use Rattle.json.specs.Token as json
 use Rattle.json.specs.Token.{Token}
 use Rattle.wc_machine.specs.Machines.{MachineState}
-use Rattle.wc_view_trace.specs.Members.{integer_token, number_member}
+use Rattle.wc_view_trace.specs.Members.{integers_member, number_member}
 use Rattle.wc_view_trace.specs.declared.image.Image.{Image}
 use Rattle.wc_view_trace_rows.specs.Items.{IsNumberAt}
 use Rattle.wc_view_trace_rows.specs.Rows.{is_true}
@@ -37,11 +36,6 @@ pub record IsImage (machine : MachineState) (image : Image) : Type 0 where
   pub net : IsWeight machine 23 image.net
   pub tare : IsWeight machine 24 image.tare
 
-abbrev pub weight_tokens : Image → List Token
-weight_tokens image = integer_token image.gross ∷ integer_token image.net ∷ integer_token image.tare ∷ []
-
-abbrev pub weights_tokens : Image → List Token
-weights_tokens image = json.key (codes "weights") ∷ json.begin_array ∷ (weight_tokens image ++ json.end_array ∷ [])
-
 abbrev pub image_tokens : Image → List Token
-image_tokens image = number_member (codes "inputs") image.inputs ++ (number_member (codes "status") image.status ++ weights_tokens image)
+image_tokens image =
+    number_member (codes "inputs") image.inputs ++ (number_member (codes "status") image.status ++ integers_member (codes "weights") (image.gross ∷ image.net ∷ image.tare ∷ []))

@@ -1,5 +1,5 @@
 -- Members of an object of a trace. (RFC 8259; the profile's own.)
-use Rattle.std.specs.Prelude.{ℕ, List, [], ◌∷◌, ◌++◌, codes, decimal, Option, Some, None, ℤ, if◌then◌else◌}
+use Rattle.std.specs.Prelude.{ℕ, List, [], ◌∷◌, ◌++◌, codes, decimal, map, Option, Some, None, ℤ, if◌then◌else◌}
 use Rattle.std.specs.Fmt.{signed_decimal}
 use Rattle.std.specs.Str.{is_utf8}
 use Rattle.json.specs.Token as json
@@ -15,6 +15,10 @@ number_member member number = json.key member ∷ json.number (decimal number) �
 -- a number with its sign
 abbrev pub integer_token : ℤ → Token
 integer_token number = json.number (signed_decimal number)
+
+-- an array of such numbers
+abbrev pub integers_member : List ℕ → List ℤ → List Token
+integers_member member numbers = json.key member ∷ json.begin_array ∷ (map integer_token numbers ++ json.end_array ∷ [])
 
 -- a name of a program; nothing of bytes that are not UTF-8
 abbrev pub name_text : List ℕ → List ℕ

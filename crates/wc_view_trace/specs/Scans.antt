@@ -1,5 +1,5 @@
 -- The object of a scan. (RFC 8259; its members are the profile's own.)
-use Rattle.std.specs.Prelude.{◌≡◌, ℕ, Bool, List, [], ◌∷◌, ◌++◌, codes, length, map, if◌then◌else◌}
+use Rattle.std.specs.Prelude.{◌≡◌, ℕ, Bool, List, [], ◌∷◌, ◌++◌, codes, length, if◌then◌else◌}
 use Rattle.std.specs.List.{flat_map}
 use Rattle.json.specs.Lex as lex
 use Rattle.json.specs.Print.{print}
@@ -11,7 +11,7 @@ use Rattle.wc_model.specs.Language.Paths.{IsProgramBound}
 use Rattle.wc_model.specs.declared.image.Outputs.{Outputs}
 use Rattle.wc_view_trace.specs.Images.{IsImage, image_tokens}
 use Rattle.wc_view_trace.specs.Items.{item_tokens}
-use Rattle.wc_view_trace.specs.Members.{integer_token, number_member}
+use Rattle.wc_view_trace.specs.Members.{integers_member, number_member}
 use Rattle.wc_view_trace.specs.declared.image.Image.{Image}
 use Rattle.wc_view_trace_rows.specs.Scans.{AreItems}
 use Rattle.wc_view_trace_rows.specs.declared.item.Item.{Item}
@@ -37,12 +37,9 @@ WritesItems legend machine lines old new = (items : List Item) × AreItems legen
 abbrev pub WritesArray : Legend → MachineState → List SeenLine → List Token → List Token → Type 0
 WritesArray legend machine lines old new = (items : List Item) × AreItems legend machine lines items × (new ≡ old ++ items_tokens legend items)
 
--- the words of the outputs that it left
-abbrev pub words_tokens : Outputs → List Token
-words_tokens outputs = json.key (codes "words") ∷ json.begin_array ∷ (map integer_token outputs.words ++ json.end_array ∷ [])
-
+-- the outputs that it left
 abbrev pub outputs_tokens : Outputs → List Token
-outputs_tokens outputs = number_member (codes "outputs") outputs.bits ++ words_tokens outputs
+outputs_tokens outputs = number_member (codes "outputs") outputs.bits ++ integers_member (codes "words") outputs.words
 
 -- the items that it executed and the most that one executes, and the outputs
 abbrev pub tail_tokens : ℕ → ℕ → Outputs → List Token

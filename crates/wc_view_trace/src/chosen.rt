@@ -1,5 +1,5 @@
 ghost use Rattle.std.specs.Prelude.{◌≡◌, true, false};
-ghost use Rattle.wc_view_trace.specs.Choosing.{IsBetween, IsChosen};
+ghost use Rattle.wc_view_trace.specs.Choosing.{IsChosen};
 
 /// Which scans of a run are shown: those that meet each condition that is given, and all if none is.
 #[derive(Clone, Copy)]
@@ -20,30 +20,10 @@ impl Chosen {
         ensures chosen { result ≡ true → IsChosen self.now number ms }
         ensures others { result ≡ false → ¬ IsChosen self.now number ms }
     {
-        let is_at = match self.at {
-            Some(at) => ms == at,
-            None => true,
-        };
-        let is_numbered = match self.scan {
-            Some(scan) => u64::from(number) == scan,
-            None => true,
-        };
-        is_at && is_numbered && is_between(self.from, self.to, ms)
+        let number = u64::from(number);
+        self.at.is_none_or(|at| ms == at)
+            && self.scan.is_none_or(|scan| number == scan)
+            && self.from.is_none_or(|from| from <= ms)
+            && self.to.is_none_or(|to| ms <= to)
     }
-}
-
-/// Whether a moment is between two, if they are given.
-fn is_between(from: Option<u64>, to: Option<u64>, ms: u64) -> bool
-    ensures chosen { result ≡ true → IsBetween from to ms }
-    ensures others { result ≡ false → ¬ IsBetween from to ms }
-{
-    let is_after = match from {
-        Some(from) => from <= ms,
-        None => true,
-    };
-    let is_before = match to {
-        Some(to) => ms <= to,
-        None => true,
-    };
-    is_after && is_before
 }

@@ -1,8 +1,8 @@
 ghost use Rattle.std.specs.Prelude.{◌≤◌};
 ghost use Rattle.wc_view_trace.specs.Adds.{Adds};
-ghost use Rattle.wc_view_trace.specs.Images.{HasBits, IsBit, IsImage, IsWeight, image_tokens, weight_tokens, weights_tokens};
+ghost use Rattle.wc_view_trace.specs.Images.{HasBits, IsBit, IsImage, IsWeight, image_tokens};
 
-use crate::members::{write_integer, write_number};
+use crate::members::{write_integers, write_number};
 use json::Writer;
 use std::alloc::AllocError;
 use wc_machine::Machine;
@@ -57,10 +57,7 @@ fn bits_at(machine: &Machine<'_, SlotStore>, first: usize, count: usize) -> u64
 fn weight_at(machine: &Machine<'_, SlotStore>, place: usize) -> i32
     ensures { IsWeight machine.now place result }
 {
-    match number_in(machine, place) {
-        Some(number) => number,
-        None => 0,
-    }
+    number_in(machine, place).unwrap_or(0)
 }
 
 /// The process image that the last scan has seen.
@@ -76,30 +73,12 @@ pub(crate) fn image_of(machine: &Machine<'_, SlotStore>) -> Image
     }
 }
 
-/// Writes the gross weight, the net weight and the tare of an image.
-fn write_each(writer: &mut Writer, image: &Image) -> Result<(), AllocError>
-    ensures { Adds writer.old writer.new result (weight_tokens image.now) }
-{
-    write_integer(writer, image.gross)?;
-    write_integer(writer, image.net)?;
-    write_integer(writer, image.tare)
-}
-
-/// Writes the weights of an image as an array.
-fn write_weights(writer: &mut Writer, image: &Image) -> Result<(), AllocError>
-    ensures { Adds writer.old writer.new result (weights_tokens image.now) }
-{
-    writer.key("weights")?;
-    writer.begin_array()?;
-    write_each(writer, image)?;
-    writer.end_array()
-}
-
 /// Writes an image: the inputs, the status and the weights.
 pub(crate) fn write_image(writer: &mut Writer, image: &Image) -> Result<(), AllocError>
     ensures { Adds writer.old writer.new result (image_tokens image.now) }
 {
     write_number(writer, "inputs", image.inputs)?;
     write_number(writer, "status", image.status)?;
-    write_weights(writer, image)
+    let weights = [image.gross, image.net, image.tare];
+    write_integers(writer, "weights", &weights)
 }

@@ -1,9 +1,8 @@
 ghost use Rattle.std.specs.Prelude.{◌≡◌, ◌∷◌, [], OnOk};
 ghost use Rattle.wc_view_trace.specs.Adds.{Adds};
-ghost use Rattle.wc_view_trace.specs.Items.{done_by, item_tokens, noted_member, output_members, outputs_if_last, outputs_object, result_member, written_members};
-ghost use Rattle.wc_view_trace.specs.Members.{value_if_any};
+ghost use Rattle.wc_view_trace.specs.Items.{done_by, item_tokens, noted_member, output_members, outputs_if_last, result_member, written_members};
 ghost use Rattle.wc_view_trace.specs.Scans.{WritesArray, WritesItems};
-ghost use Rattle.wc_view_trace_rows.specs.Rows.{output_view, outputs_of};
+ghost use Rattle.wc_view_trace_rows.specs.Rows.{outputs_of};
 
 use crate::members::{write_name, write_number, write_number_of_kind};
 use json::Writer;
@@ -11,7 +10,7 @@ use std::alloc::{AllocError, Global};
 use wc_machine::{Machine, SeenLine};
 use wc_model::{Code, StandardBlock};
 use wc_store::SlotStore;
-use wc_view_trace_rows::{BlockOutput, Item, Items, Legend, outputs_of};
+use wc_view_trace_rows::{Item, Items, Legend, outputs_of};
 
 /// Writes the name that is noted of an item, if there is one.
 fn write_noted(
@@ -42,33 +41,14 @@ fn write_written(
         return Ok(());
     };
     write_name(writer, "variable", legend.name(&note))?;
-    write_number_of_kind(alloc, writer, "value", item.said.written, number)
+    write_number_of_kind(alloc, writer, "value", item.said.written, Some(number))
 }
 
 /// Writes the result after a line of a body.
 fn write_result(alloc: Global, writer: &mut Writer, item: &Item) -> Result<(), AllocError>
     ensures { Adds writer.old writer.new result (result_member item.now) }
 {
-    match item.seen.result {
-        Some(number) => write_number_of_kind(alloc, writer, "result", item.said.result, number),
-        None => Ok(()),
-    }
-}
-
-/// Writes an output of a standard block as a member, if it has a number.
-fn write_output(
-    alloc: Global,
-    writer: &mut Writer,
-    output: &BlockOutput,
-    number: Option<i32>,
-) -> Result<(), AllocError>
-    ensures { Adds writer.old writer.new result
-        (value_if_any (output_view output.now).name (output_view output.now).kind number) }
-{
-    match number {
-        Some(number) => write_number_of_kind(alloc, writer, output.name, Some(output.kind), number),
-        None => Ok(()),
-    }
+    write_number_of_kind(alloc, writer, "result", item.said.result, item.seen.result)
 }
 
 /// Writes a member for each output of the standard block that an item has called.
@@ -82,29 +62,14 @@ fn write_outputs(
         (output_members (outputs_of block) (item.now.first ∷ item.now.second ∷ [])) }
 {
     let (first, second) = outputs_of(block);
-    write_output(alloc, writer, &first, item.first)?;
-    match second {
-        Some(second) => write_output(alloc, writer, &second, item.second),
-        None => Ok(()),
-    }
+    write_number_of_kind(alloc, writer, first.name, Some(first.kind), item.first)?;
+    let Some(second) = second else {
+        return Ok(());
+    };
+    write_number_of_kind(alloc, writer, second.name, Some(second.kind), item.second)
 }
 
-/// Writes the outputs of a standard block as an object.
-fn write_outputs_object(
-    alloc: Global,
-    writer: &mut Writer,
-    block: StandardBlock,
-    item: &Item,
-) -> Result<(), AllocError>
-    ensures { Adds writer.old writer.new result (outputs_object block item.now) }
-{
-    writer.key("outputs")?;
-    writer.begin_object()?;
-    write_outputs(alloc, writer, block, item)?;
-    writer.end_object()
-}
-
-/// Writes the outputs of a standard block if the scan does not call it again.
+/// Writes the outputs of a standard block as an object, if the scan does not call it again.
 fn write_last_outputs(
     alloc: Global,
     writer: &mut Writer,
@@ -114,11 +79,13 @@ fn write_last_outputs(
     ensures { Adds writer.old writer.new result
         (outputs_if_last block item.now item.now.is_last_call) }
 {
-    if item.is_last_call {
-        write_outputs_object(alloc, writer, block, item)
-    } else {
-        Ok(())
+    if !item.is_last_call {
+        return Ok(());
     }
+    writer.key("outputs")?;
+    writer.begin_object()?;
+    write_outputs(alloc, writer, block, item)?;
+    writer.end_object()
 }
 
 /// Writes what an item did: the body of a standard block, an item of a call's list, a call, or any other line.

@@ -1,6 +1,6 @@
-ghost use Rattle.std.specs.Prelude.{◌≡◌, ◌∷◌, []};
+ghost use Rattle.std.specs.Prelude.{◌≡◌, ◌∷◌, [], map};
 ghost use Rattle.wc_view_trace.specs.Adds.{Adds};
-ghost use Rattle.wc_view_trace.specs.Members.{integer_token, name_member, name_text, number_member, token_of_value, value_member};
+ghost use Rattle.wc_view_trace.specs.Members.{integer_token, integers_member, name_member, name_text, number_member, token_of_value, value_if_any};
 
 use json::Writer;
 use std::alloc::{AllocError, Global};
@@ -25,11 +25,28 @@ pub(crate) fn write_number(writer: &mut Writer, member: &str, number: u64) -> Re
     writer.u64(number)
 }
 
-/// Writes a number with its sign.
-pub(crate) fn write_integer(writer: &mut Writer, number: i32) -> Result<(), AllocError>
-    ensures { Adds writer.old writer.new result (integer_token number ∷ []) }
+/// Writes numbers with their signs, one after another.
+fn write_each(writer: &mut Writer, numbers: &[i32]) -> Result<(), AllocError>
+    ensures { Adds writer.old writer.new result (map integer_token numbers.now) }
 {
-    writer.i64(i64::from(number))
+    for number in numbers {
+        writer.i64(i64::from(*number))?;
+    }
+    Ok(())
+}
+
+/// Writes a member with an array of numbers with their signs.
+pub(crate) fn write_integers(
+    writer: &mut Writer,
+    member: &str,
+    numbers: &[i32],
+) -> Result<(), AllocError>
+    ensures { Adds writer.old writer.new result (integers_member member.now numbers.now) }
+{
+    writer.key(member)?;
+    writer.begin_array()?;
+    write_each(writer, numbers)?;
+    writer.end_array()
 }
 
 /// Writes a member with a name of the program.
@@ -55,17 +72,19 @@ fn write_value(alloc: Global, writer: &mut Writer, value: Value) -> Result<(), A
     }
 }
 
-/// Writes a member with the value of a kind that has that number.
+/// Writes a member with the value of a kind that has that number, if there is one.
 pub(crate) fn write_number_of_kind(
     alloc: Global,
     writer: &mut Writer,
     member: &str,
     kind: Option<Kind>,
-    number: i32,
+    number: Option<i32>,
 ) -> Result<(), AllocError>
-    ensures { Adds writer.old writer.new result (value_member member.now kind number) }
+    ensures { Adds writer.old writer.new result (value_if_any member.now kind number) }
 {
-    let value = value_of(kind, number);
+    let Some(number) = number else {
+        return Ok(());
+    };
     writer.key(member)?;
-    write_value(alloc, writer, value)
+    write_value(alloc, writer, value_of(kind, number))
 }

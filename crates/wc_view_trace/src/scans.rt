@@ -1,13 +1,12 @@
-ghost use Rattle.std.specs.Prelude.{◌≡◌, ◌++◌, ◌∷◌, [], IfOk, IsOkUnless, OnOk, map};
+ghost use Rattle.std.specs.Prelude.{◌≡◌, ◌++◌, ◌∷◌, [], IfOk, IsOkUnless, OnOk};
 ghost use Rattle.json.specs.Lex.{tokens};
 ghost use Rattle.json.specs.Print.{print};
 ghost use Rattle.wc_view_trace.specs.Adds.{Adds};
-ghost use Rattle.wc_view_trace.specs.Members.{integer_token};
-ghost use Rattle.wc_view_trace.specs.Scans.{IsEndObject, IsScanObject, PutsEnd, PutsScan, WritesScan, end_tokens, head_tokens, outputs_tokens, program_of, tail_tokens, words_tokens};
+ghost use Rattle.wc_view_trace.specs.Scans.{IsEndObject, IsScanObject, PutsEnd, PutsScan, WritesScan, end_tokens, head_tokens, outputs_tokens, program_of, tail_tokens};
 
 use crate::image::{image_of, write_image};
 use crate::items::write_items;
-use crate::members::{write_integer, write_number};
+use crate::members::{write_integers, write_number};
 use json::Writer;
 use std::alloc::{AllocError, Global};
 use wc_machine::Machine;
@@ -33,33 +32,12 @@ fn write_head(writer: &mut Writer, scan: &ShownScan<'_>) -> Result<(), AllocErro
     write_number(writer, "program", program_of(scan.is_changed))
 }
 
-/// Writes the words of the outputs, one after another.
-fn write_each(writer: &mut Writer, outputs: &Outputs) -> Result<(), AllocError>
-    ensures { Adds writer.old writer.new result (map integer_token outputs.now.words) }
-{
-    let [first, second, third, fourth] = &outputs.words;
-    write_integer(writer, *first)?;
-    write_integer(writer, *second)?;
-    write_integer(writer, *third)?;
-    write_integer(writer, *fourth)
-}
-
-/// Writes the words of the outputs as an array.
-fn write_words(writer: &mut Writer, outputs: &Outputs) -> Result<(), AllocError>
-    ensures { Adds writer.old writer.new result (words_tokens outputs.now) }
-{
-    writer.key("words")?;
-    writer.begin_array()?;
-    write_each(writer, outputs)?;
-    writer.end_array()
-}
-
 /// Writes the outputs that a scan left.
 fn write_outputs(writer: &mut Writer, outputs: &Outputs) -> Result<(), AllocError>
     ensures { Adds writer.old writer.new result (outputs_tokens outputs.now) }
 {
     write_number(writer, "outputs", u64::from(outputs.bits))?;
-    write_words(writer, outputs)
+    write_integers(writer, "words", &outputs.words)
 }
 
 /// Writes the items that a scan executed and the most that one executes, and the outputs that it left.

@@ -144,13 +144,9 @@ impl Tracer {
         ensures memory { IsOkUnless result RunFault.Memory }
     {
         self.text.clear();
+        let (scans, shown) = (self.scans, self.shown);
         match self.format {
-            TraceFormat::Json => put_end_object(
-                self.alloc,
-                &mut self.text,
-                self.scans,
-                self.shown,
-            )?,
+            TraceFormat::Json => put_end_object(self.alloc, &mut self.text, scans, shown)?,
             TraceFormat::Text if self.shown == 0 => put_none_chosen(&mut self.text, self.scans)?,
             TraceFormat::Text => {}
         }

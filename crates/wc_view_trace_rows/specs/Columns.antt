@@ -1,14 +1,15 @@
 -- The columns of a row. (The profile's own.)
-use Rattle.std.specs.Prelude.{ℕ, zero, suc, ◌+◌, ◌*◌, ◌-◌, max, min, nat_le, not, List, [], ◌∷◌, ◌++◌, length, replicate, Option, Some, None, codes, count_by, decimal, if◌then◌else◌}
+use Rattle.std.specs.Prelude.{ℕ, zero, suc, ◌+◌, ◌*◌, ◌-◌, max, min, nat_le, List, [], ◌∷◌, ◌++◌, length, replicate, Option, Some, None, codes, decimal, if◌then◌else◌}
 use Rattle.wc_diag_shown.specs.Acting.{continues}
+use Rattle.wc_diag_shown.specs.Plain.{characters}
 use Rattle.wc_view_trace_rows.specs.Shown.{between_words, shown}
 
 abbrev pub spaces : ℕ → List ℕ
 spaces n = replicate n 32
 
--- the number of columns that a text takes: one for each byte that begins a character
+-- the number of columns that a text takes: one for each character
 abbrev pub columns_of : List ℕ → ℕ
-columns_of bytes = count_by (λ byte. not (continues byte)) bytes
+columns_of bytes = characters bytes
 
 -- the prefix of a text that takes n columns, or all of it
 abbrev pub first_columns : ℕ → List ℕ → List ℕ

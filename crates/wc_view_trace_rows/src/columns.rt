@@ -2,7 +2,8 @@ ghost use Rattle.std.specs.Prelude.{◌≡◌, ◌-◌, drop, length, decimal};
 ghost use Rattle.wc_view_trace_rows.specs.Columns.{prefix, gap, six_columns, spaces};
 ghost use Rattle.wc_view_trace_rows.specs.Puts.{Puts};
 
-use crate::shown::{bytes_from, columns_of, put_line};
+use crate::shown::{bytes_from, put_line};
+use wc_diag_shown::characters;
 use wc_model::{Fault, put_bytes};
 use wc_report::put_number;
 
@@ -26,7 +27,7 @@ fn put_spaces(text: &mut Vec<u8>, count: usize) -> Result<(), Fault>
 pub(crate) fn put_gap(text: &mut Vec<u8>, start: usize, column: usize) -> Result<(), Fault>
     ensures { Puts text.old text.new result (gap column (drop start text.old.items)) }
 {
-    let there = columns_of(bytes_from(text, start));
+    let there = characters(bytes_from(text, start));
     put_spaces(text, column.saturating_sub(there).max(2))
 }
 

@@ -104,10 +104,7 @@ impl Legend {
     pub(crate) fn literal_kind(&self, line: u32) -> Option<Kind>
         ensures { result ≡ literal_kind self.now line }
     {
-        match self.note(line, 0) {
-            Some(note) => note.kind,
-            None => None,
-        }
+        self.note(line, 0)?.kind
     }
 
     /// The name that a note speaks of.

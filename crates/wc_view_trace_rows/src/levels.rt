@@ -38,17 +38,6 @@ pub struct Said {
 }
 
 impl BodyLevel {
-    /// A body of which no line is passed.
-    fn new(alloc: Global) -> BodyLevel
-        ensures { level_view result ≡ fresh }
-    {
-        BodyLevel {
-            kind: None,
-            put_by: Vec::new(alloc),
-            items: 0,
-        }
-    }
-
     /// Puts the kind of the result by, and takes this one.
     #[tactic(auto, using(crate::proofs::Bodies::one_put_by))]
     fn open(&mut self, kind: Option<Kind>) -> Result<(), Fault>
@@ -162,16 +151,19 @@ impl Levels {
         }
     }
 
-    /// Begins a body.
+    /// Begins a body, of which no line is passed.
     fn begin(&mut self, alloc: Global) -> Result<(), Fault>
         ensures begins { OnOk result (levels_view self.new ≡ levels_view self.old ++ fresh ∷ []) }
         ensures one { OnOk result
             (length self.new.levels.items ≡ length self.old.levels.items + 1) }
         ensures memory { IsOkUnless result Fault.Memory }
     {
-        self.levels
-            .push(BodyLevel::new(alloc))
-            .map_err(|_| Fault::Memory)
+        let level = BodyLevel {
+            kind: None,
+            put_by: Vec::new(alloc),
+            items: 0,
+        };
+        self.levels.push(level).map_err(|_| Fault::Memory)
     }
 
     /// Goes to the body at that depth of calls; one that is deeper is left, and one that is new begins.

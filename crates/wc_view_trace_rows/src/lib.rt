@@ -2,7 +2,6 @@
 //! has a line of the text, the result and what is written.
 #![tactic(auto)]
 
-mod block_calls;
 mod columns;
 mod item;
 mod items;

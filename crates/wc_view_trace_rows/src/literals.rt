@@ -2,7 +2,6 @@ ghost use Rattle.std.specs.Prelude.{◌≡◌};
 ghost use Rattle.wc_view_trace_rows.specs.Rows.{literal, value_held};
 ghost use Rattle.wc_view_trace_rows.specs.Puts.{Puts};
 
-use std::alloc::Global;
 use wc_model::{Fault, Kind, Value};
 use wc_view_changes::put_value;
 
@@ -18,13 +17,8 @@ pub fn value_of(kind: Option<Kind>, number: i32) -> Value
 }
 
 /// Puts a number as a literal of its kind, or in digits if the kind is not known.
-pub(crate) fn put_literal(
-    alloc: Global,
-    text: &mut Vec<u8>,
-    kind: Option<Kind>,
-    number: i32,
-) -> Result<(), Fault>
+pub(crate) fn put_literal(text: &mut Vec<u8>, kind: Option<Kind>, number: i32) -> Result<(), Fault>
     ensures { Puts text.old text.new result (literal kind number) }
 {
-    put_value(alloc, text, value_of(kind, number))
+    put_value(text, value_of(kind, number))
 }

@@ -86,15 +86,10 @@ fn note_item(
     ensures { Adds notes.old notes.new result
         (item_named direction (name_of instance.now) (assignment_view argument.now)) }
 {
-    match direction {
-        Direction::Into => match argument.direction {
-            Direction::Into => notes.add(line, None, instance, argument.name),
-            Direction::OutOf => Ok(()),
-        },
-        Direction::OutOf => match argument.direction {
-            Direction::Into => Ok(()),
-            Direction::OutOf => note_operand(notes, line, &argument.value),
-        },
+    match (direction, argument.direction) {
+        (Direction::Into, Direction::Into) => notes.add(line, None, instance, argument.name),
+        (Direction::OutOf, Direction::OutOf) => note_operand(notes, line, &argument.value),
+        _ => Ok(()),
     }
 }
 
@@ -154,7 +149,6 @@ fn note_instruction(notes: &mut Notes, instr: &Instr<'_>) -> Result<(), Fault>
     match instr {
         Instr::Load { operand, line, .. } => note_operand(notes, *line, operand),
         Instr::Store { target, line, .. } => note_operand(notes, *line, target),
-        Instr::Apply { .. } => Ok(()),
         Instr::Defer {
             operand,
             inside,
@@ -164,15 +158,14 @@ fn note_instruction(notes: &mut Notes, instr: &Instr<'_>) -> Result<(), Fault>
             note_opening(notes, *line, operand)?;
             note_lines(notes, inside)
         }
-        Instr::Not { .. } => Ok(()),
-        Instr::Jump { .. } => Ok(()),
         Instr::Call {
             instance,
             arguments,
             line,
             ..
         } => note_call(notes, *line, instance, arguments),
-        Instr::Return { .. } => Ok(()),
+        Instr::Apply { .. } | Instr::Not { .. } => Ok(()),
+        Instr::Jump { .. } | Instr::Return { .. } => Ok(()),
     }
 }
 

@@ -1,6 +1,6 @@
 ghost use Rattle.std.specs.Prelude.{◌≡◌, ◌≤◌, ◌++◌, ◌∷◌, [], IsOkUnless, OnOk, drop, length, take};
 ghost use Rattle.wc_view_trace_rows.specs.Columns.{result_column, with_cell, written_column};
-ghost use Rattle.wc_view_trace_rows.specs.Rows.{has_written, is_argument, is_part, noted_name, number_shown, output_text, output_view, outputs_of, outputs_shown, outputs_text, result_cell, row_of, written_cell, written_text};
+ghost use Rattle.wc_view_trace_rows.specs.Rows.{has_written, is_argument, is_part, noted_name, number_shown, output_text, output_view, outputs_shown, result_cell, row_of, written_cell, written_text};
 ghost use Rattle.wc_view_trace_rows.specs.Scans.{AreRows, PutsScan};
 ghost use Rattle.wc_view_trace_rows.specs.Puts.{Puts};
 
@@ -14,7 +14,7 @@ use crate::shown_scan::ShownScan;
 use crate::steps::{put_heading, put_steps};
 use std::alloc::Global;
 use wc_machine::{Machine, SeenLine};
-use wc_model::{Code, Fault, StandardBlock, put_bytes};
+use wc_model::{Code, Fault, put_bytes};
 use wc_store::SlotStore;
 
 /// The column at which what a row writes starts, counted from 0.
@@ -52,12 +52,7 @@ fn number_shown(seen: &SeenLine) -> Option<u32>
 }
 
 /// Puts an output of a standard block, if it has a number.
-fn put_output(
-    alloc: Global,
-    text: &mut Vec<u8>,
-    output: &BlockOutput,
-    number: Option<i32>,
-) -> Result<(), Fault>
+fn put_output(text: &mut Vec<u8>, output: &BlockOutput, number: Option<i32>) -> Result<(), Fault>
     ensures { Puts text.old text.new result (output_text (output_view output.now) number) }
 {
     let Some(number) = number else {
@@ -66,35 +61,22 @@ fn put_output(
     put_bytes(text, b" ")?;
     put_bytes(text, output.name.as_bytes())?;
     put_bytes(text, b"=")?;
-    put_literal(alloc, text, Some(output.kind), number)
-}
-
-/// Puts the outputs of a standard block.
-fn put_outputs(
-    alloc: Global,
-    text: &mut Vec<u8>,
-    block: StandardBlock,
-    item: &Item,
-) -> Result<(), Fault>
-    ensures { Puts text.old text.new result
-        (outputs_text (outputs_of block) (item.now.first ∷ item.now.second ∷ [])) }
-{
-    let (first, second) = outputs_of(block);
-    put_output(alloc, text, &first, item.first)?;
-    match second {
-        Some(second) => put_output(alloc, text, &second, item.second),
-        None => Ok(()),
-    }
+    put_literal(text, Some(output.kind), number)
 }
 
 /// Puts the outputs of the standard block that an item has called, after its last call.
-fn put_last_outputs(alloc: Global, text: &mut Vec<u8>, item: &Item) -> Result<(), Fault>
+fn put_last_outputs(text: &mut Vec<u8>, item: &Item) -> Result<(), Fault>
     ensures { Puts text.old text.new result
         (outputs_shown item.now.seen.line item.now.is_last_call (item.now.first ∷ item.now.second ∷ [])) }
 {
-    match item.seen.line {
-        Code::Standard { block, .. } if item.is_last_call => put_outputs(alloc, text, block, item),
-        _ => Ok(()),
+    let (first, second) = match item.seen.line {
+        Code::Standard { block, .. } if item.is_last_call => outputs_of(block),
+        _ => return Ok(()),
+    };
+    put_output(text, &first, item.first)?;
+    match second {
+        Some(second) => put_output(text, &second, item.second),
+        None => Ok(()),
     }
 }
 
@@ -110,17 +92,17 @@ fn put_name(text: &mut Vec<u8>, legend: &Legend, item: &Item) -> Result<(), Faul
 
 /// Puts what an item writes: a place and its value, or that a standard block is called, with the
 /// outputs after its last call in the scan.
-fn put_written(alloc: Global, text: &mut Vec<u8>, legend: &Legend, item: &Item) -> Result<(), Fault>
+fn put_written(text: &mut Vec<u8>, legend: &Legend, item: &Item) -> Result<(), Fault>
     ensures { Puts text.old text.new result
         (written_text legend.now item.now item.now.seen.written) }
 {
     put_name(text, legend, item)?;
     if let Some(number) = item.seen.written {
         put_bytes(text, b" := ")?;
-        return put_literal(alloc, text, item.said.written, number);
+        return put_literal(text, item.said.written, number);
     }
     put_bytes(text, b"()")?;
-    put_last_outputs(alloc, text, item)
+    put_last_outputs(text, item)
 }
 
 /// Whether a row says what its item writes.
@@ -131,7 +113,7 @@ fn has_written(seen: &SeenLine) -> bool
 }
 
 /// Puts the result of an item at its column of the row that starts there, if it is shown.
-fn put_result(alloc: Global, text: &mut Vec<u8>, start: usize, item: &Item) -> Result<(), Fault>
+fn put_result(text: &mut Vec<u8>, start: usize, item: &Item) -> Result<(), Fault>
     requires { start ≤ length text.old.items }
     ensures puts { OnOk result (text.new.items ≡ take start text.old.items
         ++ with_cell result_column (result_cell item.now) (drop start text.old.items)) }
@@ -144,12 +126,11 @@ fn put_result(alloc: Global, text: &mut Vec<u8>, start: usize, item: &Item) -> R
         return Ok(());
     }
     put_gap(text, start, RESULT)?;
-    put_literal(alloc, text, item.said.result, number)
+    put_literal(text, item.said.result, number)
 }
 
 /// Puts what an item writes at its column of the row that starts there, if it writes.
 fn put_if_written(
-    alloc: Global,
     text: &mut Vec<u8>,
     start: usize,
     legend: &Legend,
@@ -162,26 +143,22 @@ fn put_if_written(
 {
     if has_written(&item.seen) {
         put_gap(text, start, WRITTEN)?;
-        return put_written(alloc, text, legend, item);
+        return put_written(text, legend, item);
     }
     Ok(())
 }
 
 /// Puts the row of an item.
-fn put_row(alloc: Global, text: &mut Vec<u8>, legend: &Legend, item: &Item) -> Result<(), Fault>
+fn put_row(text: &mut Vec<u8>, legend: &Legend, item: &Item) -> Result<(), Fault>
     ensures puts { OnOk result (text.new.items ≡ text.old.items ++ row_of legend.now item.now) }
     ensures memory { IsOkUnless result Fault.Memory }
 {
     let start = text.len();
     let seen = &item.seen;
-    put_place(
-        text,
-        number_shown(seen),
-        seen.depth,
-        legend.line(seen.source),
-    )?;
-    put_result(alloc, text, start, item)?;
-    put_if_written(alloc, text, start, legend, item)?;
+    let line = legend.line(seen.source);
+    put_place(text, number_shown(seen), seen.depth, line)?;
+    put_result(text, start, item)?;
+    put_if_written(text, start, legend, item)?;
     put_bytes(text, b"\n")
 }
 
@@ -200,7 +177,7 @@ fn put_rows(
     let mut items = Items::new(alloc, legend, lines)?;
     for (index, seen) in lines.iter().enumerate() {
         let item = items.next(alloc, legend, machine, index + 1, seen)?;
-        put_row(alloc, text, legend, &item)?;
+        put_row(text, legend, &item)?;
     }
     Ok(())
 }

@@ -1,33 +1,11 @@
 ghost use Rattle.std.specs.Prelude.{◌≡◌, ◌≤◌, ◌+◌, ◌*◌, ◌-◌, ◌++◌, ◌∷◌, [], IsOkUnless, OnOk, drop, length, take};
 ghost use Rattle.std.specs.Str.{is_utf8};
-ghost use Rattle.wc_view_trace_rows.specs.Columns.{columns_of, first_columns, fitted, line_shown};
-ghost use Rattle.wc_view_trace_rows.specs.Shown.{between_words, shown, shown_byte, shown_first, single_spaces};
+ghost use Rattle.wc_view_trace_rows.specs.Columns.{first_columns, fitted, line_shown};
+ghost use Rattle.wc_view_trace_rows.specs.Shown.{between_words, shown, shown_first, single_spaces};
 ghost use Rattle.wc_view_trace_rows.specs.Puts.{Puts};
 
-use wc_diag_shown::hidden_length;
+use wc_diag_shown::{characters, hidden_length};
 use wc_model::{Fault, put_bytes};
-
-/// A byte as it is shown: a control character is not sent to a terminal, and of a text that is not
-/// UTF-8 no byte is that is not ASCII.
-fn printable(byte: u8, is_utf8: bool) -> u8
-    ensures { result ≡ shown_byte is_utf8 byte }
-{
-    match byte {
-        b'\t' => b' ',
-        0..32 | 127 => b'?',
-        128.. if !is_utf8 => b'?',
-        _ => byte,
-    }
-}
-
-/// The number of columns that a text takes: in UTF-8 the bytes that begin a character.
-pub(crate) fn columns_of(text: &[u8]) -> usize
-    ensures { result ≡ columns_of text.now }
-{
-    text.iter()
-        .filter(|byte| !matches!(byte, 0x80..=0xBF))
-        .count()
-}
 
 /// The number of bytes of a text that take that many columns.
 fn bytes_of(text: &[u8], columns: usize) -> usize
@@ -54,14 +32,19 @@ fn is_text(bytes: &[u8]) -> bool
     str::from_utf8(bytes).is_ok()
 }
 
-/// The byte that is shown of a character on which a terminal would act, or of any other byte.
+/// The byte that is shown of a character on which a terminal would act, or of any other byte: a control character is not sent to
+/// a terminal, and of a text that is not UTF-8 no byte is that is not ASCII.
 fn first_shown(length: usize, byte: u8, is_utf8: bool) -> u8
     ensures { result ≡ shown_first is_utf8 length byte }
 {
     if length > 0 {
-        b'?'
-    } else {
-        printable(byte, is_utf8)
+        return b'?';
+    }
+    match byte {
+        b'\t' => b' ',
+        0..32 | 127 => b'?',
+        128.. if !is_utf8 => b'?',
+        _ => byte,
     }
 }
 
@@ -121,7 +104,7 @@ fn fit(text: &mut Vec<u8>, start: usize, columns: usize) -> Result<(), Fault>
     ensures memory { IsOkUnless result Fault.Memory }
 {
     let put = bytes_from(text, start);
-    if columns_of(put) <= columns {
+    if characters(put) <= columns {
         return Ok(());
     }
     let kept = bytes_of(put, columns.saturating_sub(2));

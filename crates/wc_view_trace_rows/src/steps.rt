@@ -1,5 +1,5 @@
 ghost use Rattle.std.specs.Prelude.{◌≡◌, ◌++◌, IsOkUnless, OnOk, decimal};
-ghost use Rattle.wc_view_trace_rows.specs.Steps.{heading, heading_end, none_chosen, steps_line};
+ghost use Rattle.wc_view_trace_rows.specs.Steps.{heading, none_chosen, steps_line};
 ghost use Rattle.wc_view_trace_rows.specs.Puts.{Puts};
 
 use wc_model::{Fault, put_bytes};
@@ -14,17 +14,6 @@ fn put_between(text: &mut Vec<u8>, before: &[u8], number: u64, after: &[u8]) -> 
     put_bytes(text, after)
 }
 
-/// What is in a heading after the moment.
-fn heading_end(is_changed: bool) -> &'static [u8]
-    ensures { result.now ≡ heading_end is_changed }
-{
-    if is_changed {
-        b" ms, next program\n"
-    } else {
-        b" ms\n"
-    }
-}
-
 /// Puts the heading of a scan: its number among those of the run, from 1, its moment in milliseconds, and whether the next program
 /// has replaced the first. `Memory` is the only fault.
 pub(crate) fn put_heading(
@@ -36,7 +25,10 @@ pub(crate) fn put_heading(
     ensures { Puts text.old text.new result (heading number ms is_changed) }
 {
     put_between(text, b"scan ", u64::from(number), b" at ")?;
-    put_between(text, b"", ms, heading_end(is_changed))
+    if is_changed {
+        return put_between(text, b"", ms, b" ms, next program\n");
+    }
+    put_between(text, b"", ms, b" ms\n")
 }
 
 /// Puts that none of the scans was chosen, of which there are that many. `Memory` is the only fault.

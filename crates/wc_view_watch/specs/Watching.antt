@@ -1,13 +1,15 @@
 -- What an observer that watches variables has looked up, and what it has kept. (No rule of the language.)
-use Rattle.std.specs.Prelude.{◌≡◌, ⊤, ℕ, Bool, true, List, [], map, Option, Some, None, option_map, if◌then◌else◌}
+use Rattle.std.specs.Prelude.{◌≡◌, ⊤, ℕ, Bool, true, List, [], ◌∷◌, map, Option, Some, None, option_map, if◌then◌else◌}
 use Rattle.wc_machine.specs.Machines.{MachineState, RepresentsText}
 use Rattle.wc_model.specs.Instrument.Plates.{PlateData}
 use Rattle.wc_model.specs.Language.Tree.{Text}
 use Rattle.wc_model.specs.Run.Rows.{Past}
 use Rattle.wc_model.specs.Say.ProgramReport.{Logic}
 use Rattle.wc_run.specs.Logics.{logic_after}
-use Rattle.wc_run.specs.declared.fault.RunFault.{RunFault}
-use Rattle.wc_run.specs.declared.fault.RunFault.TheVariants.{Refused}
+use Rattle.wc_run.specs.Observing.{IsShown, row_of}
+use Rattle.wc_run.specs.Representation.{Represents}
+use Rattle.wc_run.specs.declared.row_seen.RowSeen.{RowSeen}
+use Rattle.wc_run.specs.declared.scale.Scale.{Scale}
 use Rattle.wc_text_variables.specs.Numbered.{variable_named}
 use Rattle.wc_view_watch.specs.Names.{names_in}
 use Rattle.wc_view_watch.specs.Plans.{last_values, scans_so_far}
@@ -78,11 +80,13 @@ pub record WatchesAs (old new : Watcher) : Type 0 where
   pub number : new.number ≡ old.number
   pub changes : new.changes ≡ old.changes
 
--- it refuses to begin with 401, and has found an unknown name
-abbrev pub RefusesFor : WatchedNames → RunFault → Type 0
-RefusesFor names (Refused number place) = (number ≡ 401) × (place ≡ 0) × ((name : UnknownName) × (names.unknown ≡ Some name))
-RefusesFor names fault = ⊥
-
 -- a name of the list was found that is unknown, and is the first one
 abbrev pub HasRefused : List ℕ → WatchedNames → Option Logic → Type 0
 HasRefused list names logic = (name : UnknownName) × (names.unknown ≡ Some name) × IsFirstUnknown list logic name
+
+-- so at a row that is shown, if the names are those of the logic after it, and the last scans and the values are those of the rows before it
+abbrev pub OfRow : {S : Type 0} → Watcher → RowSeen → Scale S → (PlateData → Option Logic → Past → Type 0) → Type 0
+OfRow watcher seen scale P =
+    (plate : PlateData) (logic : Option Logic) (past : Past) → IsShown seen plate logic past → Represents scale plate logic (row_of seen ∷ past)
+    → FitLogic watcher.names watcher.list.now (logic_after plate logic (row_of seen ∷ past)) → KeepsLast watcher.last watcher.number (scans_so_far watcher.list.now watcher.changes plate logic past)
+    → KeepsValues watcher.changes watcher.values (last_values watcher.list.now plate logic past) → P plate logic past

@@ -5,8 +5,6 @@
 mod last_texts;
 mod last_values;
 mod names;
-mod values;
-mod watched;
 mod watched_names;
 mod watcher;
 mod watching;

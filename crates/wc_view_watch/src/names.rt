@@ -1,8 +1,12 @@
 ghost use Rattle.std.specs.Prelude.{◌≡◌, ◌+◌, ◌≤◌, IfOk, IsOkUnless, length, map};
+ghost use Rattle.wc_model.specs.Language.Views.{text_view};
+ghost use Rattle.wc_text_variables.specs.Numbered.{variable_named};
 ghost use Rattle.wc_view_watch.specs.Names.{names_in};
 
 use std::alloc::Global;
+use wc_cost::Loaded;
 use wc_model::Fault;
+use wc_text_variables::{NamedVariable, variable_named};
 
 /// A name of a list that no program has: where it is in the list.
 #[derive(Clone, Copy, PartialEq, Eq)]
@@ -22,6 +26,24 @@ pub(crate) fn names_of<'n>(alloc: Global, list: &'n [u8]) -> Result<Vec<&'n [u8]
         Ok(names) => Ok(names),
         Err(_) => Err(Fault::Memory),
     }
+}
+
+/// What each of these names means in a program, in their order. `Memory` is the only fault.
+pub(crate) fn all_watched(
+    alloc: Global,
+    loaded: &Loaded<'_>,
+    names: &[&[u8]],
+) -> Result<Vec<Option<NamedVariable>>, Fault>
+    ensures mean { IfOk result (λ all. all.items
+        ≡ map (variable_named (text_view loaded.now.source)) (map (λ name. name.now) names.now)) }
+    ensures memory { IsOkUnless result Fault.Memory }
+{
+    let mut all = Vec::new(alloc);
+    for name in names {
+        let watched = variable_named(alloc, loaded, name)?;
+        all.push(watched).map_err(|_| Fault::Memory)?;
+    }
+    Ok(all)
 }
 
 /// A name that is in a list, or the first bytes of the list that it has.

@@ -12,11 +12,9 @@ ghost use Rattle.wc_text_variables.specs.Numbered.{variable_named};
 ghost use Rattle.wc_view_watch.specs.Unknown.{IsUnknown, begins_with};
 ghost use Rattle.wc_view_watch.specs.Plans.{numbers_of};
 ghost use Rattle.wc_view_watch.specs.Values.{numbers_in, value_text, values_in, values_line};
-ghost use Rattle.wc_view_watch.specs.Watching.{AreLookedUp, FitLogic, HasRefused, RefusesFor, RunsLogic, text_after};
+ghost use Rattle.wc_view_watch.specs.Watching.{AreLookedUp, FitLogic, HasRefused, RunsLogic, text_after};
 
-use crate::names::{UnknownName, names_of};
-use crate::values::put_value;
-use crate::watched::all_watched;
+use crate::names::{UnknownName, all_watched, names_of};
 use std::alloc::Global;
 use wc_cost::Loaded;
 use wc_machine::Machine;
@@ -26,6 +24,7 @@ use wc_report::put_number;
 use wc_run::{Program, RowSeen, RunFault};
 use wc_store::SlotStore;
 use wc_text_variables::NamedVariable;
+use wc_view_changes::put_literal;
 
 /// The names of a list that are watched, and what each of them means in the program that runs and in the next one, if one is
 /// left.
@@ -59,7 +58,7 @@ fn put_named(
     put_bytes(line, b" ")?;
     put_bytes(line, name)?;
     put_bytes(line, b"=")?;
-    put_value(line, watched.kind, number)
+    put_literal(line, watched.kind, number)
 }
 
 /// Whether the name of that number means something.
@@ -140,20 +139,6 @@ impl<'n> WatchedNames<'n> {
         })
     }
 
-    /// Refuses to begin if a name is unknown.
-    fn refuse_unknown(&self) -> Result<(), RunFault>
-        ensures known { OnOk result (self.now.unknown ≡ None) }
-        ensures refused { IfErr result (RefusesFor self.now) }
-    {
-        match self.unknown {
-            Some(_) => Err(RunFault::Refused {
-                number: 401,
-                place: 0,
-            }),
-            None => Ok(()),
-        }
-    }
-
     /// Looks for the names of a list, and for the first of them that no program has. `Memory` is the only fault.
     fn look_up(
         &mut self,
@@ -197,7 +182,13 @@ impl<'n> WatchedNames<'n> {
             return Ok(());
         };
         self.look_up(alloc, list, first.loaded, loaded(next))?;
-        self.refuse_unknown()
+        match self.unknown {
+            Some(_) => Err(RunFault::Refused {
+                number: 401,
+                place: 0,
+            }),
+            None => Ok(()),
+        }
     }
 
     /// The first name that no program has, if a run did not begin for that.

@@ -1,13 +1,9 @@
 ghost use Rattle.std.specs.Prelude.{◌≡◌, ◌≤◌, ◌++◌, ◌∷◌, List, [], ℕ, IfOk, IfSome, IsOkUnless, None, OnOk, Option, Some, option_copied};
-ghost use Rattle.wc_model.specs.Instrument.Plates.{PlateData};
-ghost use Rattle.wc_model.specs.Run.Rows.{Past};
 ghost use Rattle.wc_model.specs.Say.ProgramReport.{Logic};
-ghost use Rattle.wc_run.specs.Logics.{logic_after};
-ghost use Rattle.wc_run.specs.Observing.{IsShown, row_of};
+ghost use Rattle.wc_run.specs.Observing.{row_of};
 ghost use Rattle.wc_run.specs.Outputs.{line_of_record};
-ghost use Rattle.wc_run.specs.Representation.{Represents};
 ghost use Rattle.wc_view_watch.specs.Plans.{end_text, is_written, last_values, line_with_values, row_text, scans_so_far, values_of};
-ghost use Rattle.wc_view_watch.specs.Watching.{FitLogic, IsNew, KeepsLast, KeepsValues, RunsLogic, WatchesAs, written_now};
+ghost use Rattle.wc_view_watch.specs.Watching.{FitLogic, IsNew, KeepsLast, KeepsValues, OfRow, RunsLogic, WatchesAs, written_now};
 
 use crate::last_texts::LastTexts;
 use crate::last_values::LastValues;
@@ -41,13 +37,9 @@ pub(crate) struct Watcher<'n> {
 
 /// The number of bytes the text of a scan has at most, with the values of these names.
 fn scan_length(list: &[u8]) -> usize {
-    let mut length = list.len().saturating_add(SCAN).saturating_add(ALONGSIDE);
-    for byte in list {
-        if *byte == b',' {
-            length = length.saturating_add(ALONGSIDE);
-        }
-    }
-    length
+    let commas = list.iter().filter(|byte| **byte == b',').count();
+    let names = commas.saturating_add(1).saturating_mul(ALONGSIDE);
+    list.len().saturating_add(SCAN).saturating_add(names)
 }
 
 /// Space for the last n scans, if these are asked for.
@@ -156,39 +148,15 @@ impl<'n> Watcher<'n> {
     fn put_row(&mut self, seen: &RowSeen<'_>, scale: &Scale<'_, SlotStore>) -> Result<(), RunFault>
         ensures same { WatchesAs self.old self.new }
         ensures names { self.new.names ≡ self.old.names }
-        ensures text { OnOk result ((plate : PlateData) (logic : Option Logic) (past : Past)
-            → IsShown seen.now plate logic past
-            → Represents scale.now plate logic (row_of seen.now ∷ past)
-            → FitLogic self.old.names self.old.list.now
-            (logic_after plate logic (row_of seen.now ∷ past))
-            → KeepsLast self.old.last self.old.number
-            (scans_so_far self.old.list.now self.old.changes plate logic past)
-            → KeepsValues self.old.changes self.old.values
-            (last_values self.old.list.now plate logic past)
-            → self.new.text.items
-            ≡ row_text self.old.list.now self.old.changes self.old.number plate logic past
-            (row_of seen.now)) }
-        ensures scans { OnOk result ((plate : PlateData) (logic : Option Logic) (past : Past)
-            → IsShown seen.now plate logic past
-            → Represents scale.now plate logic (row_of seen.now ∷ past)
-            → FitLogic self.old.names self.old.list.now
-            (logic_after plate logic (row_of seen.now ∷ past))
-            → KeepsLast self.old.last self.old.number
-            (scans_so_far self.old.list.now self.old.changes plate logic past)
-            → KeepsValues self.old.changes self.old.values
-            (last_values self.old.list.now plate logic past)
-            → KeepsLast self.new.last self.old.number
-            (scans_so_far self.old.list.now self.old.changes plate logic
-            (row_of seen.now ∷ past))) }
-        ensures values { OnOk result ((plate : PlateData) (logic : Option Logic) (past : Past)
-            → IsShown seen.now plate logic past
-            → Represents scale.now plate logic (row_of seen.now ∷ past)
-            → FitLogic self.old.names self.old.list.now
-            (logic_after plate logic (row_of seen.now ∷ past))
-            → KeepsValues self.old.changes self.old.values
-            (last_values self.old.list.now plate logic past)
-            → KeepsValues self.new.changes self.new.values
-            (last_values self.old.list.now plate logic (row_of seen.now ∷ past))) }
+        ensures text { OnOk result (OfRow self.old seen.now scale.now (λ plate logic past.
+            self.new.text.items ≡ row_text self.old.list.now self.old.changes self.old.number plate
+            logic past (row_of seen.now))) }
+        ensures scans { OnOk result (OfRow self.old seen.now scale.now (λ plate logic past.
+            KeepsLast self.new.last self.old.number (scans_so_far self.old.list.now
+            self.old.changes plate logic (row_of seen.now ∷ past)))) }
+        ensures values { OnOk result (OfRow self.old seen.now scale.now (λ plate logic past.
+            KeepsValues self.new.changes self.new.values
+            (last_values self.old.list.now plate logic (row_of seen.now ∷ past)))) }
         ensures memory { IsOkUnless result RunFault.Memory }
     {
         self.text.clear();

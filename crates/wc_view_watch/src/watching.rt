@@ -30,8 +30,7 @@ pub fn is_at_names(ending: &Ending) -> bool
     ensures others { result ≡ false → ¬ (IsAt Input.Names ending.now) }
 {
     match ending {
-        Ending::Refused { input, .. } => *input == Input::Names,
-        Ending::ReadFault { input } => *input == Input::Names,
+        Ending::Refused { input, .. } | Ending::ReadFault { input } => *input == Input::Names,
         Ending::Done | Ending::WriteFault | Ending::NoMemory => false,
     }
 }

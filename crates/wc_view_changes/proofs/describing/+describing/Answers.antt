@@ -1,4 +1,4 @@
-use Rattle.std.proofs.Common.{◌≡◌, ◌++◌, ◌∷◌, [], Some, ap, sym, subst, ◌∙◌, map, option_map, arith}
+use Rattle.std.proofs.Common.{◌≡◌, ◌++◌, ◌∷◌, [], Some, ap, sym, subst, ◌∙◌, map, arith}
 use Rattle.std.proofs.lemmas.Grind.{common_steps}
 use Rattle.std.specs.List.{flat_map}
 use Rattle.std.specs.Prelude.{slice_get}
@@ -7,7 +7,6 @@ use Rattle.wc_model.specs.Language.Scopes.{type_of}
 use Rattle.wc_model.specs.Language.Store as store
 use Rattle.wc_model.specs.Language.Views.{text_view, unit_view}
 use Rattle.wc_model.specs.declared.operand.Word.{Word}
-use Rattle.wc_model.specs.declared.source.Initial.{Initial}
 use Rattle.wc_model.specs.declared.source.Unit.{Unit as CodeUnit}
 use Rattle.wc_names.proofs.Lists.{got_some}
 use Rattle.wc_names.specs.RepresentsText.{AreTables}
@@ -20,18 +19,13 @@ use Rattle.wc_view_changes.proofs.Units.{at_there, seen_unit}
 use Rattle.wc_view_changes.proofs.Variables.{all_reported, block_lines, elementary_type, instance_line, into, no_lines, on_ok, passed_lines, plain_line, standard_type}
 use Rattle.wc_view_changes.proofs.Wholes.{by_declarations, declaration_reported}
 use Rattle.wc_view_changes.proofs.describing.+describing.Goals as goal
-use Rattle.wc_view_changes.proofs.describing.+describing.Goals.{describe_declaration-in-None, describe_declaration-in-Some, describe_variable-then-units-block-via-else-units-block+then-size-eq0, describe_variable-then-units-block-via-then-units-block}
+use Rattle.wc_view_changes.proofs.describing.+describing.Goals.{describe_variable-then-units-block-via-else-units-block+then-size-eq0, describe_variable-then-units-block-via-then-units-block}
 
 pub describe_declaration-loop-word-preserved : goal.describe_declaration-loop-word-preserved
 describe_declaration-loop-word-preserved t c = record {
   names = c.in_ok-describe_variable.ensures.names ∙ c.loop-word.invariant.names;
   lines = λ side before u h at.
-      let literal : c.match-declaration.literal ≡ option_map (λ (i : Initial). i.value) c.args.declaration.now.initial =
-      elim c.match-declaration.branch [
-        | describe_declaration-in-Some w ↦ w.literal-is ∙ ap (option_map (λ (i : Initial). i.value)) (sym w.in-Some.is)
-        | describe_declaration-in-None w ↦ w.literal-is ∙ ap (option_map (λ (i : Initial). i.value)) (sym w.in-None.is)
-      ]
-      in
+      let literal = c.literal_of-literal.ensures in
       let said = rw c.loop-word.invariant.names at (c.in_ok-describe_variable.ensures.lines side before u c.args.declaration.now.initial h at literal) in
       let so = c.loop-word.invariant.lines side before u h at in
       grind (arith, common_steps);

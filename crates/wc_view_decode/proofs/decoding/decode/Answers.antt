@@ -1,6 +1,8 @@
-use Rattle.std.proofs.Common.{◌∙◌, sym, subst}
+use Rattle.std.proofs.Common.{◌∙◌, Result, sym, subst}
 use Rattle.std.specs.Io.KnownBytes.{Appends}
-use Rattle.wc_view_decode.proofs.Chunks.{all_decoded, heading_unwritten}
+use Rattle.wc_view_decode.proofs.Chunks.{all_decoded, heading_unwritten, propagated}
+use Rattle.wc_view_decode.specs.Decoding.{DecodesAll}
+use Rattle.wc_view_decode.specs.declared.format.DecodeFault.{DecodeFault}
 use Rattle.wc_view_decode.proofs.decoding.decode.Goals as goal
 
 pub returns-clause-decoded : goal.returns-clause-decoded
@@ -9,11 +11,14 @@ returns-clause-decoded g c =
     let after = g.W.ByteOut.bytes_taken c.write_text.new.output in
     all_decoded c.decode_rest.result c.new_decoder-decoder.result c.args.format
     (g.R.ByteIn.bytes_left c.args.input.now) (g.R.ByteIn.bytes_left c.decode_rest.new.input) before after (g.W.ByteOut.bytes_taken c.decode_rest.new.output)
-    c.new_decoder-decoder.ensures.format c.new_decoder-decoder.ensures.represents (subst (Appends before after) c.heading.ensures c.in_default.ensures.text)
+    c.new_decoder-decoder.ensures.format c.new_decoder-decoder.ensures.represents (subst (Appends before after) c.heading.ensures c.in_ok-write_text.ensures.text)
     c.decode_rest.ensures.rest
 
-pub returns-in-Err-clause-decoded : goal.returns-in-Err-clause-decoded
-returns-in-Err-clause-decoded g c =
-    let text = c.in-Err.ensures.text in
-    heading_unwritten c.args.format (g.R.ByteIn.bytes_left c.args.input.now) (g.W.ByteOut.bytes_taken c.args.output.now) (g.W.ByteOut.bytes_taken c.write_text.new.output)
-    text.0 text.1 (sym c.heading.ensures ∙ text.2) text.3
+pub returns-in_err-write_text-clause-decoded : goal.returns-in_err-write_text-clause-decoded
+returns-in_err-write_text-clause-decoded g c =
+    let input = g.R.ByteIn.bytes_left c.args.input.now in
+    let before = g.W.ByteOut.bytes_taken c.args.output.now in
+    let after = g.W.ByteOut.bytes_taken c.write_text.new.output in
+    let text = c.in_err-write_text.ensures.text in
+    propagated (λ (r : Result Unit DecodeFault). DecodesAll c.args.format r input input before after) c.in_err-write_text.field-0.0 c.from_residual.result c.from_residual.ensures
+    (heading_unwritten c.args.format input before after text.0 text.1 (sym c.heading.ensures ∙ text.2) text.3)

@@ -16,7 +16,7 @@ loop-rest-preserved c =
     (is_not_empty c.loop-rest.rest.now (sym c.is_empty.ensures ∙ c.loop-rest-test.true))
     first c.loop-rest.invariant in
     let rest = c.following-rest.ensures ∙ ap (λ n. drop n c.loop-rest.rest.now) (c.answer_length.ensures first.0) in
-    subst (λ items. LeavesRest c.args.bytes.now items c.following-rest.result.now) (sym c.in_ok-push_answer.ensures.answer)
+    subst (λ items. LeavesRest c.args.bytes.now items c.following-rest.result.now) (sym c.in-Ok.ensures.items)
     (subst (λ r. LeavesRest c.args.bytes.now (c.loop-rest.answers.items ++ c.in-Some.answer ∷ []) r) (sym rest) taken)
 
 pub returns-clause-answers : goal.returns-clause-answers

@@ -9,7 +9,7 @@ use Rattle.wc_endings.specs.Endings.{IsAt, ending_of}
 use Rattle.wc_endings.specs.declared.ending.Ending.{Ending}
 use Rattle.wc_endings.specs.declared.input.Input.TheVariants as input
 use Rattle.wc_record.specs.Reported.{fields_reported}
-use Rattle.wc_view_picture.proofs.Unrefused.{run_unrefused, unwritten}
+use Rattle.wc_view_picture.proofs.Unrefused.{run_unrefused, unknown_is, unwritten}
 use Rattle.wc_view_picture.proofs.showing.show_files.Goals as goal
 use Rattle.wc_view_picture.specs.Runs.{IsUnknownOf, drawn, unsaid}
 use Rattle.wc_view_picture.specs.Seen.{HasRefused, begins_with, list_of}
@@ -22,7 +22,7 @@ returns-then-is_at_names-clause-unknown g c =
     subst (λ (of : Option (List ℕ)). OfPrograms c.args.inputs.now.program c.args.inputs.now.next (λ logic. IsUnknownOf of logic c.unknown.result))
     c.new-picture.ensures.names
     (programs_more c.args.inputs.now.program c.args.inputs.now.next (λ logic. (begins_with list logic ≡ false) × HasRefused list answer.new.observer logic)
-    (λ logic. IsUnknownOf list logic c.unknown.result) (λ logic refused. c.unknown.ensures logic list refused.1)
+    (λ logic. IsUnknownOf list logic c.unknown.result) (λ logic refused. unknown_is list answer.new.observer logic c.unknown.result c.unknown.ensures refused.1)
     (answer.ensures.refused
     (stopped_at_names answer.result (ending_of answer.result) None None (unwritten answer.result)
     (subst (λ (ending : Ending). IsAt input.Names ending) c.of-ending.ensures (c.is_at_names.ensures.names c.if-is_at_names.true)))))

@@ -3,7 +3,7 @@ use Rattle.std.proofs.lemmas.List.{flat_map_more, take_more}
 use Rattle.wc_view_trace_rows.proofs.RowsPut.{all_items, one_more_item}
 use Rattle.wc_view_trace_rows.specs.Calls.{AreLastCalls}
 use Rattle.wc_view_trace_rows.specs.LevelViews.{levels_view}
-use Rattle.wc_view_trace_rows.specs.declared.block_calls.LastCalls.{LastCalls}
+use Rattle.wc_view_trace_rows.specs.declared.items.LastCalls.{LastCalls}
 use Rattle.wc_view_trace.specs.Items.{item_tokens}
 use Rattle.wc_view_trace.proofs.items.write_each.Goals as goal
 

@@ -13,5 +13,5 @@ returns-clause-puts c =
     on_ok c.put_bytes.result
     (λ put. put
     ∙ row_put c.args.text.now.items (prefix (number_shown item.seen.line item.seen.source) item.seen.depth (line_of c.args.legend.now item.seen.source)) c.put_place.new.text.items c.put_result.new.text.items c.put_if_written.new.text.items (result_cell item) (written_cell c.args.legend.now item)
-    result_column written_column c.len-start.result start (c.in_ok-put_place.ensures.0 ∙ (λ i. c.args.text.now.items ++ prefix (c.number_shown.ensures i) item.seen.depth (c.line.ensures i))) c.in_ok-put_result.ensures.puts c.in_ok-put_if_written.ensures.puts)
+    result_column written_column c.len-start.result start (c.in_ok-put_place.ensures.0 ∙ (λ i. c.args.text.now.items ++ prefix (c.number_shown.ensures i) item.seen.depth (c.line-line.ensures i))) c.in_ok-put_result.ensures.puts c.in_ok-put_if_written.ensures.puts)
     c.put_bytes.ensures.bytes

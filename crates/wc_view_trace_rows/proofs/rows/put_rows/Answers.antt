@@ -4,7 +4,7 @@ use Rattle.wc_view_trace_rows.proofs.RowsPut.{all_items, none_yet, one_more_item
 use Rattle.wc_view_trace_rows.specs.Calls.{AreLastCalls}
 use Rattle.wc_view_trace_rows.specs.LevelViews.{levels_view}
 use Rattle.wc_view_trace_rows.specs.Rows.{row_of}
-use Rattle.wc_view_trace_rows.specs.declared.block_calls.LastCalls.{LastCalls}
+use Rattle.wc_view_trace_rows.specs.declared.items.LastCalls.{LastCalls}
 use Rattle.wc_view_trace_rows.proofs.rows.put_rows.Goals as goal
 
 pub loop-index-init : goal.loop-index-init

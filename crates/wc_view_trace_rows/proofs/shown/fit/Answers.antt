@@ -8,7 +8,7 @@ pub returns-clause-fits : goal.returns-clause-fits
 returns-clause-fits c =
     let back = c.bytes_from-put.result.now in
     let prefix = c.bytes_of-kept.ensures.prefix ∙ ap (λ n. first_columns n back) c.saturating_sub.ensures in
-    let wide = subst (λ n. c.args.columns < n) c.columns_of.ensures c.if-columns_of-columns.false in
+    let wide = subst (λ n. c.args.columns < n) c.characters.ensures.count c.if-characters-columns.false in
     on_ok c.put_bytes.result
     (λ put. put
     ∙ cut_off c.args.start c.bytes_of-kept.result c.args.columns c.args.text.now.items back c.truncate.new.self.items

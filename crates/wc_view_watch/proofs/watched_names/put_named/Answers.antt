@@ -25,7 +25,7 @@ returns-clause-puts c = λ text store represents e.
     let found : Some c.in-Some-number.number ≡ Some (content_number (Plain s.value)) = c.in-Some-number.ensures text store s.place represents s.number ∙ s.held in
     let raw : to_z w64 (of_z w64 c.in-Some-number.number) ≡ c.in-Some-number.number = omega (arith, ints) in
     let number : to_z w64 (of_z w64 c.in-Some-number.number) ≡ content_number (Plain s.value) = raw ∙ cc (found) in
-    on_ok c.put_value.result
-    (λ put. chunks c.args.line.now.items c.put_bytes.new.text.items c.put_bytes-2.new.text.items c.put_bytes-3.new.text.items c.put_value.new.text.items c.args.name.now (content_text (Plain s.value))
+    on_ok c.put_literal.result
+    (λ put. chunks c.args.line.now.items c.put_bytes.new.text.items c.put_bytes-2.new.text.items c.put_bytes-3.new.text.items c.put_literal.new.out.items c.args.name.now (content_text (Plain s.value))
     c.in_ok-put_bytes.ensures.bytes c.in_ok-put_bytes-2.ensures.bytes c.in_ok-put_bytes-3.ensures.bytes put ∙ ap (λ t. c.args.line.now.items ++ t) (sym s.shown))
-    (c.put_value.ensures.value s.value s.kind number)
+    (c.put_literal.ensures.value s.value s.kind number)

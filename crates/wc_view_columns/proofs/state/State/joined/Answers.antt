@@ -1,4 +1,4 @@
-use Rattle.std.proofs.Common.{map, get_or, None, pos}
+use Rattle.std.proofs.Common.{map, get_or, None, pos, refl}
 use Rattle.std.specs.List.{filter_map}
 use Rattle.wc_view_columns.proofs.Together.{bits_on, flags_on, spans_on, words_on}
 use Rattle.wc_view_columns.proofs.state.State.joined.Goals as goal
@@ -7,10 +7,10 @@ pub returns : goal.returns
 returns c held others first second = record {
   gross = spans_on (λ h. h.gross) held others _ (c.join.ensures.both (filter_map (λ h. h.gross) held) (filter_map (λ h. h.gross) others) first.gross second.gross);
   net = spans_on (λ h. h.net) held others _ (c.join-2.ensures.both (filter_map (λ h. h.net) held) (filter_map (λ h. h.net) others) first.net second.net);
-  motion = flags_on (λ h. h.motion) held others _ _ _ c.either.ensures first.motion second.motion;
-  over = flags_on (λ h. h.over) held others _ _ _ c.either-2.ensures first.over second.over;
-  under = flags_on (λ h. h.under) held others _ _ _ c.either-3.ensures first.under second.under;
-  invalid = flags_on (λ h. h.invalid) held others _ _ _ c.either-4.ensures first.invalid second.invalid;
+  motion = flags_on (λ h. h.motion) held others _ _ _ refl first.motion second.motion;
+  over = flags_on (λ h. h.over) held others _ _ _ refl first.over second.over;
+  under = flags_on (λ h. h.under) held others _ _ _ refl first.under second.under;
+  invalid = flags_on (λ h. h.invalid) held others _ _ _ refl first.invalid second.invalid;
   inputs = bits_on (λ h. h.inputs) held others _ (c.joined.ensures (map (λ h. h.inputs) held) (map (λ h. h.inputs) others) first.inputs second.inputs);
   outputs = bits_on (λ h. h.outputs.bits) held others _ (c.joined-2.ensures (map (λ h. h.outputs.bits) held) (map (λ h. h.outputs.bits) others) first.outputs second.outputs);
   words = λ other i within.

@@ -20,7 +20,7 @@ returns-in_default-clause-scans c = λ plate logic past shown represents fit kep
     kept_without_scan old.list.now old.changes old.number plate logic past c.args.seen.now shown old.last c.in_default.is kept
 
 pub returns-in_default-clause-values : goal.returns-in_default-clause-values
-returns-in_default-clause-values c = λ plate logic past shown represents fit values chosen.
+returns-in_default-clause-values c = λ plate logic past shown represents fit kept values chosen.
     let old = c.args.self.now in
     values chosen ∙ sym (values_without_scan old.list.now old.changes old.number plate logic past c.args.seen.now shown c.in_default.is)
 

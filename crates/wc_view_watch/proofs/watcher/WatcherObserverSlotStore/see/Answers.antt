@@ -25,4 +25,4 @@ returns-clause-seen g c =
     let old = c.args.self.now in
     let fit = c.turn.ensures old.list.now plate logic past before.names in
     seen_after old c.put_row.new.self c.turn.new.self plate logic (row_of c.args.seen.now ∷ past) c.in_ok-put_row.ensures.same.list c.in_ok-put_row.ensures.same.number c.in_ok-put_row.ensures.same.changes c.in_ok-put_row.ensures.names
-    fit (c.in_ok-put_row.ensures.scans plate logic past shown represents fit before.scans before.values) (c.in_ok-put_row.ensures.values plate logic past shown represents fit before.values))
+    fit (c.in_ok-put_row.ensures.scans plate logic past shown represents fit before.scans before.values) (c.in_ok-put_row.ensures.values plate logic past shown represents fit before.scans before.values))

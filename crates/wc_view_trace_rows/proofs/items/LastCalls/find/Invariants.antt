@@ -1,6 +1,6 @@
 use Rattle.std.proofs.Common.{◌≡◌, ℕ, ◌<◌, length, get_or, take}
 use Rattle.wc_view_trace_rows.specs.Items.{last_call}
-use Rattle.wc_view_trace_rows.proofs.block_calls.LastCalls.find.Given as goal
+use Rattle.wc_view_trace_rows.proofs.items.LastCalls.find.Given as goal
 
 -- the last calls among the items so far
 pub record SoFar (l : goal.Live-loop-index) : Type 0 where

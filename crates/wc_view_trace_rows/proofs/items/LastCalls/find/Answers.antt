@@ -1,7 +1,7 @@
 use Rattle.std.proofs.Common.{◌∙◌, arith, get_or}
 use Rattle.std.proofs.lemmas.List.{take_more}
 use Rattle.wc_view_trace_rows.proofs.LastCalls.{marked}
-use Rattle.wc_view_trace_rows.proofs.block_calls.LastCalls.find.Goals as goal
+use Rattle.wc_view_trace_rows.proofs.items.LastCalls.find.Goals as goal
 
 pub loop-index-preserved : goal.loop-index-preserved
 loop-index-preserved c = record {
