@@ -199,11 +199,7 @@ fn report_rule(
 }
 
 /// Says that a section is not part of a plate.
-fn report_section(
-    alloc: Global,
-    diagnostic: &mut Diagnostic,
-    key: &str,
-) -> Result<(), AllocError> {
+fn report_section(alloc: Global, diagnostic: &mut Diagnostic, key: &str) -> Result<(), AllocError> {
     diagnostic.advice = format!(in alloc; "delete the line [{key}]: a plate has no sections")?;
     diagnostic.report(key.as_bytes(), Some("is not a key of a plate"))
 }
@@ -236,8 +232,7 @@ pub(crate) fn find_plate_fault(
     match toml::table_from_slice(alloc, text) {
         Ok(table) => match plate_of(&table) {
             Err(BrokenRule::UnknownKey { key, .. })
-                if number == 502 && matches!(table.get(key), Some(Value::Table(_))) =>
-            {
+                if number == 502 && matches!(table.get(key), Some(Value::Table(_))) => {
                 report_section(alloc, diagnostic, key)
             }
             Err(rule) if rule.number() == number => report_rule(alloc, diagnostic, text, rule),
