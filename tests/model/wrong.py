@@ -28,7 +28,7 @@ def centre_depends_on_net(self):
 
 
 def over_by_net(self):
-    """Over is judged by the gross weight less the tare."""
+    """Over is that of the gross weight less the tare."""
     return bool(self.samples) and self.in_intervals(self.load()) - self.in_intervals(self.tare) > self.plate.intervals + 9
 
 
