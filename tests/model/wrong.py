@@ -83,12 +83,6 @@ def a_moving_load_is_stable(self):
     return len(self.samples) >= self.plate.window
 
 
-def ties_go_toward_zero(numerator, denominator):
-    """Of two whole numbers that are nearest the one nearer to 0."""
-    size = (2 * abs(numerator) + denominator - 1) // (2 * denominator)
-    return size if numerator >= 0 else -size
-
-
 def weights_are_cut(numerator, denominator):
     """The whole number that a quotient has reached."""
     return abs(numerator) // denominator * (1 if numerator >= 0 else -1)
@@ -121,6 +115,11 @@ def request_cut_is_forgotten(self, content):
 def without_a_zero_before_the_point(value, decimals):
     """A weight, in which the digit before the point is blank if it is 0."""
     return re.sub(r"^(-?)0(?=\.|$)", r"\1 ", number_text(value, decimals))
+
+
+def without_a_point(value, decimals):
+    """A weight with a space in the place of its point."""
+    return number_text(value, decimals).replace(".", " ")
 
 
 def with_letter(place, letter, instead):
@@ -198,7 +197,7 @@ BODIES = {
     "tools/edits/wc_plate/twenty_thousand_intervals": (plate, "count_allowed", intervals_from(500, 20000)),
     "tools/edits/wc_plate/other_keys_are_passed_over": (plate, "read_table", read_with(without_a_note)),
     "tools/edits/wc_plate/a_missing_greatest_load_is_supplied": (plate, "read_table", read_with(with_a_greatest_load)),
-    "tools/edits/wc_indicator/ties_go_toward_zero": (indication, "nearest", ties_go_toward_zero),
+    "tools/edits/wc_sma/no_point_is_written": (line, "number_text", without_a_point),
     "tools/edits/wc_indicator/weights_are_cut": (indication, "nearest", weights_are_cut),
     "tools/edits/wc_indicator/weights_are_raised": (indication, "nearest", weights_are_raised),
     "tools/edits/wc_sma/a_zero_before_the_point_is_blank": (line, "number_text", without_a_zero_before_the_point),
