@@ -104,11 +104,18 @@ def verdicts(record):
 
 
 def axioms_in(record):
-    """For each program and its tests: how many functions of C its verdict rests on, and what the record says of them by library."""
-    for (crate, kind), lines in record.blocks().items():
+    """For each program, its tests and each library for C: how many functions of C its verdict rests on, and what the record says of them by
+    library; for a crate that is kept, what the earlier record says."""
+    here, earlier = record.blocks(), record.earlier.blocks() if record.earlier else {}
+    before = {key: lines for key, lines in earlier.items() if key[0] in record.same and key not in here}
+    for (crate, kind), lines in [*before.items(), *here.items()]:
         count = next(filter(None, (counted("axioms", line) for line in lines if line.startswith("logic="))), None)
         if count:
-            yield {"crate": crate, "what": kind or "itself", "axioms": count, "lines": [line.removeprefix("axioms ") for line in lines if line.startswith("axioms ")]}
+            said = [line.removeprefix("axioms ") for line in lines if line.startswith("axioms ")]
+            yield {"crate": crate, "what": (kind or "itself") + (", by the earlier record" if (crate, kind) in before else ""), "axioms": count, "lines": said}
+    for found in filter(None, (re.match(r"library (\S+): (logic=.*)", line) for line in record.output(".ci/check_embedded"))):
+        if counted("axioms", found[2]):
+            yield {"crate": "narbeddo", "what": f"the library for {found[1]}", "axioms": counted("axioms", found[2]), "lines": []}
 
 
 def tests_in(record):

@@ -70,7 +70,8 @@ def bound_in(code):
 class Links:
     """Where each name that is shown on a page is defined in it, and which names are defined elsewhere."""
 
-    def __init__(self, modules, laws, calls, types):
+    def __init__(self, modules, laws, calls, types, bodies=()):
+        self.bodies = dict(bodies)
         self.types = {path: anchor("type", it["crate"], it["name"]) for path, it in types.items()}
         self.laws = {it["name"]: anchor("law", it["name"]) for it in laws}
         self.paths, self.crates = {it["path"] for it in modules}, {it["crate"] for it in calls}
@@ -125,6 +126,8 @@ class Links:
     def reference(self, it):
         """Where a reference PATH or PATH:NAME is; None if it is not on the page."""
         path, _, name = it.partition(":")
+        if it in self.bodies:
+            return self.bodies[it]
         if name:
             return self.places.get((path, name)) or self.call(it, "") or (self.laws.get(name) if path.startswith("wc_laws_") else None)
         return anchor(path, "module") if path in self.paths else None

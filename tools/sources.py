@@ -198,6 +198,20 @@ def calls_in(file):
         }
 
 
+@functools.cache
+def contract_of(crate, function):
+    """The signature and the clauses of a function of a crate, private ones too, by its path; None if there is none."""
+    for file in sorted((CRATES / crate / "src").rglob("*.rt")):
+        source = file.read_text()
+        plain = try_edits.without_texts(source)
+        for found in try_edits.FUNCTION.finditer(plain):
+            end = end_of_contract(plain, found.end())
+            if end is not None and try_edits.path_at(str(file.relative_to(CRATES / crate)), plain[: found.end()]) == function:
+                own = [line[len(found[1]) :] for line in source[found.start() : end].rstrip().split("\n")]
+                return {"crate": crate, "function": function, "file": str(file.relative_to(TOP)), "code": "\n".join(own)}
+    return None
+
+
 def called_in(page):
     """The calls that a page names as `CALL` of `CRATE`, as pairs; the type `T` alone is all its calls."""
     return {(crate, name) for names, crate in CALLED.findall(page) for name in re.findall(r"`([\w:]+)`", names)}

@@ -1,8 +1,10 @@
 """The wrong bodies of the plate, the indicator and the line as changes of the model, each by the edit that makes it of the code."""
+import re
 from contextlib import contextmanager
 from unittest import mock
 
 from . import indication, line, plate
+from .line import number_text
 
 
 class Failed(Exception):
@@ -25,17 +27,23 @@ def centre_depends_on_net(self):
     return bool(self.samples) and 4 * abs((self.load() - self.tare) * self.plate.intervals) <= self.plate.span_counts
 
 
+def over_by_net(self):
+    """Over is that of the gross weight less the tare."""
+    return bool(self.samples) and self.in_intervals(self.load()) - self.in_intervals(self.tare) > self.plate.intervals + 9
+
+
 def over_one_interval_late(self):
     """Over is said from Max and eleven intervals on."""
     return bool(self.samples) and self.in_intervals(self.load()) > self.plate.intervals + 10
 
 
-def tare_of(may_move=False, least=1, above=0, rounded=False, is_kept=False):
-    """The tare command, which takes a moving load, one from a number of intervals on or up to some above Max, or a rounded one, or keeps an
-    active tare."""
+def tare_of(may_move=False, when_full=False, least=1, above=0, rounded=False, is_kept=False):
+    """The tare command, which takes a moving load, at once or when the window is full, one from a number of intervals on or up to some above
+    Max, or a rounded one, or keeps an active tare."""
 
     def set_tare(self):
-        if not self.samples or not (may_move or self.stable()) or not least <= self.in_intervals(self.load()) <= self.plate.intervals + above:
+        moves = may_move or when_full and len(self.samples) >= self.plate.window
+        if not self.samples or not (moves or self.stable()) or not least <= self.in_intervals(self.load()) <= self.plate.intervals + above:
             return False
         if is_kept and self.tare_active:
             return True
@@ -47,12 +55,14 @@ def tare_of(may_move=False, least=1, above=0, rounded=False, is_kept=False):
     return set_tare
 
 
-def zero_of(parts=50, keeps_tare=False, may_move=False):
-    """The zero command, which reaches to a part of the span, keeps the tare, or takes a moving load once the window is full."""
+def zero_of(parts=50, keeps_tare=False, may_move=False, walks=False):
+    """The zero command, which reaches to a part of the span, or is counted from the last zero point, keeps the tare, or takes a moving load
+    once the window is full."""
 
     def set_zero(self):
         present = self.samples[-1] if self.samples else self.plate.zero_counts
-        if not (may_move and len(self.samples) >= self.plate.window or self.stable()) or parts * abs(present - self.plate.zero_counts) > self.plate.span_counts:
+        moves, away = may_move and len(self.samples) >= self.plate.window, abs(present - (self.zero if walks else self.plate.zero_counts))
+        if not (moves or self.stable()) or parts * away > self.plate.span_counts:
             return False
         self.zero = present
         if not keeps_tare:
@@ -68,15 +78,19 @@ def stable_within_a_whole_interval(self):
     return len(last) == self.plate.window and (max(last) - min(last)) * self.plate.intervals <= self.plate.span_counts
 
 
-def ties_go_toward_zero(numerator, denominator):
-    """Of two whole numbers that are nearest the one nearer to 0."""
-    size = (2 * abs(numerator) + denominator - 1) // (2 * denominator)
-    return size if numerator >= 0 else -size
+def a_moving_load_is_stable(self):
+    """Any load is at rest once the window is full."""
+    return len(self.samples) >= self.plate.window
 
 
 def weights_are_cut(numerator, denominator):
     """The whole number that a quotient has reached."""
     return abs(numerator) // denominator * (1 if numerator >= 0 else -1)
+
+
+def weights_are_raised(numerator, denominator):
+    """The whole number that is not nearer to 0 than a quotient."""
+    return -(-abs(numerator) // denominator) * (1 if numerator >= 0 else -1)
 
 
 def tare_in_steps_of_two_intervals(self):
@@ -96,6 +110,16 @@ def request_cut_is_forgotten(self, content):
     """What began with earlier bytes is forgotten."""
     self.open = None
     return b"".join(self.take(byte) for byte in content)
+
+
+def without_a_zero_before_the_point(value, decimals):
+    """A weight, in which the digit before the point is blank if it is 0."""
+    return re.sub(r"^(-?)0(?=\.|$)", r"\1 ", number_text(value, decimals))
+
+
+def without_a_point(value, decimals):
+    """A weight with a space in the place of its point."""
+    return number_text(value, decimals).replace(".", " ")
 
 
 def with_letter(place, letter, instead):
@@ -120,12 +144,12 @@ def plate_with(change):
     return made
 
 
-def intervals_of(ones=(1, 2, 5), least=5):
-    """An interval that is one of these, or with 0 or 3 decimals one of 10, 20 and 50, and has at least that number of grams."""
+def intervals_of(ones=(1, 2, 5), after=(0, 3)):
+    """An interval that is one of these, or after so many decimals one of 10, 20 and 50, and has at least 5 g."""
 
     def interval_allowed(unit, decimals, e):
-        allowed = ones + ((10, 20, 50) if decimals in (0, 3) else ())
-        return e in allowed and e * plate.GRAMS[unit] >= least * 10**decimals
+        allowed = ones + ((10, 20, 50) if decimals in after else ())
+        return e in allowed and e * plate.GRAMS[unit] >= 5 * 10**decimals
 
     return interval_allowed
 
@@ -141,6 +165,11 @@ def without_a_note(values):
     return {key: value for key, value in values.items() if key != "note"}
 
 
+def with_pounds(values):
+    """The unit `lb` is read, as tons."""
+    return {**values, "unit": "t"} if values.get("unit") == "lb" else values
+
+
 def with_a_greatest_load(values):
     """Without a key `max` the greatest load is 15000."""
     return {"max": 15000, **values}
@@ -151,42 +180,48 @@ def intervals_from(least, most=10000):
     return lambda intervals: least <= intervals <= most
 
 
-def a_part_is_left(numerator, denominator):
-    """A quotient whose rest does not count."""
-    return numerator // denominator, 0
+def units_for_intervals(greatest, interval):
+    """As many intervals as the greatest load has units."""
+    return greatest, 0
 
 
 SCALE, LINE = indication.Indicator, line.Line
 # what each is in the model: where it is, its name, and the wrong body
 BODIES = {
-    "tools/edits/wc_plate/unit_is_cut": (plate.Plate, "__init__", plate_with(lambda self: setattr(self, "unit", self.unit[:1]))),
+    "tools/edits/wc_plate/a_foreign_unit_is_admitted": (plate, "read_table", read_with(with_pounds)),
     "tools/edits/wc_plate/interval_is_doubled": (plate.Plate, "__init__", plate_with(lambda self: setattr(self, "e", 2 * self.e))),
-    "tools/edits/wc_plate/interval_below_five_grams": (plate, "interval_allowed", intervals_of(least=2)),
     "tools/edits/wc_plate/an_interval_of_four": (plate, "interval_allowed", intervals_of(ones=(1, 2, 4, 5))),
-    "tools/edits/wc_plate/part_of_an_interval_is_left": (plate, "divmod", a_part_is_left),
+    "tools/edits/wc_plate/a_zero_after_two_decimals": (plate, "interval_allowed", intervals_of(after=(0, 2, 3))),
+    "tools/edits/wc_plate/intervals_are_units": (plate, "divmod", units_for_intervals),
     "tools/edits/wc_plate/a_hundred_intervals_are_enough": (plate, "count_allowed", intervals_from(100)),
     "tools/edits/wc_plate/twenty_thousand_intervals": (plate, "count_allowed", intervals_from(500, 20000)),
     "tools/edits/wc_plate/other_keys_are_passed_over": (plate, "read_table", read_with(without_a_note)),
     "tools/edits/wc_plate/a_missing_greatest_load_is_supplied": (plate, "read_table", read_with(with_a_greatest_load)),
-    "tools/edits/wc_indicator/ties_go_toward_zero": (indication, "nearest", ties_go_toward_zero),
+    "tools/edits/wc_sma/no_point_is_written": (line, "number_text", without_a_point),
     "tools/edits/wc_indicator/weights_are_cut": (indication, "nearest", weights_are_cut),
+    "tools/edits/wc_indicator/weights_are_raised": (indication, "nearest", weights_are_raised),
+    "tools/edits/wc_sma/a_zero_before_the_point_is_blank": (line, "number_text", without_a_zero_before_the_point),
     "wc_indicator/must-fail/over_before_rounding": (SCALE, "over", over_before_rounding),
     "tools/edits/wc_indicator/over_one_interval_late": (SCALE, "over", over_one_interval_late),
+    "tools/edits/wc_indicator/over_by_net": (SCALE, "over", over_by_net),
     "tools/edits/wc_indicator/tare_above_the_greatest": (SCALE, "set_tare", tare_of(above=9)),
     "tools/edits/wc_sma/net_is_reported_as_gross": (LINE, "answer", with_letter(3, b"N", b"G")),
     "tools/edits/wc_sma/motion_is_never_reported": (LINE, "answer", with_letter(4, b"M", b" ")),
+    "tools/edits/wc_indicator/a_moving_load_is_stable": (SCALE, "stable", a_moving_load_is_stable),
     "tools/edits/wc_indicator/stable_within_a_whole_interval": (SCALE, "stable", stable_within_a_whole_interval),
     "tools/edits/wc_indicator/zero_within_four_percent": (SCALE, "set_zero", zero_of(parts=25)),
+    "tools/edits/wc_indicator/zero_walks": (SCALE, "set_zero", zero_of(walks=True)),
     "wc_indicator/must-fail/zero_keeps_the_tare": (SCALE, "set_zero", zero_of(keeps_tare=True)),
     "tools/edits/wc_indicator/zero_in_motion": (SCALE, "set_zero", zero_of(may_move=True)),
     "wc_indicator/must-fail/centre_depends_on_net": (SCALE, "centre_of_zero", centre_depends_on_net),
     "tools/edits/wc_indicator/centre_within_half_an_interval": (SCALE, "centre_of_zero", centre_within_half_an_interval),
-    "tools/edits/wc_indicator/tare_value_is_gross": (SCALE, "tare_value", SCALE.gross),
     "tools/edits/wc_indicator/tare_in_steps_of_two_intervals": (SCALE, "tare_value", tare_in_steps_of_two_intervals),
     "tools/edits/wc_indicator/tare_at_zero": (SCALE, "set_tare", tare_of(least=0)),
+    "tools/edits/wc_indicator/tare_below_zero": (SCALE, "set_tare", tare_of(least=-20)),
     "tools/edits/wc_indicator/an_active_tare_is_kept": (SCALE, "set_tare", tare_of(is_kept=True)),
     "tools/edits/wc_indicator/shown_is_always_gross": (SCALE, "shown", SCALE.gross),
     "wc_indicator/must-fail/tare_in_motion": (SCALE, "set_tare", tare_of(may_move=True)),
+    "tools/edits/wc_indicator/tare_of_a_moving_load": (SCALE, "set_tare", tare_of(when_full=True)),
     "wc_indicator/must-fail/tare_is_rounded": (SCALE, "set_tare", tare_of(rounded=True)),
     "wc_sma/must-fail/a_long_chunk_is_a_fault": (LINE, "feed", a_long_chunk_is_a_fault),
     "wc_sma/must-fail/request_cut_is_forgotten": (LINE, "feed", request_cut_is_forgotten),
