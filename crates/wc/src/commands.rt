@@ -2,6 +2,7 @@ ghost use Rattle.std.specs.Prelude.{◌≡◌, ◌≤◌, IfSome, Some, None, fa
 ghost use Rattle.wc_arguments.specs.Asked.{asked, check, cut, decode, format_asked, job, line, run, show, texts_of, trace};
 
 use crate::files::{KeptSource, RunFiles, RunPaths, cause_of, kept_cause, kept_source, read_of};
+use crate::further::with_further;
 use crate::noting::with_notes;
 use crate::output::{FlushBeforeRead, SharedWriter};
 use crate::reporting::{CommandEnd, ReadFile, Sources, end, report_warnings, without_memory};
@@ -121,7 +122,9 @@ pub(crate) fn check_words(
         &program_alone(program, &reader),
         row,
     );
-    with_warnings(session, status, &read_of(program, &reader), deny)
+    let file = read_of(program, &reader);
+    let status = with_further(session, status, ending, &file);
+    with_warnings(session, status, &file, deny)
 }
 
 /// Tells what a change from the program in a file to the one in another keeps: the exit status.

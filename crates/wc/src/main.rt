@@ -9,6 +9,7 @@ mod commands;
 mod explaining;
 mod file_source;
 mod files;
+mod further;
 mod noting;
 mod output;
 mod reporting;

@@ -1,0 +1,50 @@
+ghost use Rattle.std.specs.Prelude.{◌≡◌, map};
+ghost use Rattle.wc_diag_further.specs.Mended.{IsMended, blank_of};
+
+use crate::marks::Mark;
+
+/// Bytes of a text that are taken out.
+#[derive(Clone, Copy)]
+pub(crate) struct Blank {
+    /// The first of them, counted from 0.
+    pub(crate) start: usize,
+    /// Their number.
+    pub(crate) length: usize,
+    /// The line of the first, counted from 1.
+    pub(crate) first: u32,
+    /// The line of the last.
+    pub(crate) last: u32,
+    /// What they are.
+    pub(crate) mark: Mark,
+}
+
+/// Writes spaces over all bytes but line feeds.
+fn blank_all(text: &mut [u8])
+    ensures { text.new ≡ map blank_of text.old }
+{
+    for byte in text.iter_mut() {
+        if *byte != b'\n' {
+            *byte = b' ';
+        }
+    }
+}
+
+/// Takes these bytes out of a text.
+fn blank(text: &mut [u8], blank: Blank)
+    ensures { IsMended text.old text.new }
+{
+    let start = blank.start.min(text.len());
+    let (_, rest) = text.split_at_mut(start);
+    let length = blank.length.min(rest.len());
+    let (slice, _) = rest.split_at_mut(length);
+    blank_all(slice);
+}
+
+/// Takes all of these bytes out of a text.
+pub(crate) fn blank_each(text: &mut [u8], blanks: &[Blank])
+    ensures { IsMended text.old text.new }
+{
+    for some in blanks {
+        blank(text, *some);
+    }
+}

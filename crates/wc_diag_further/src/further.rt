@@ -1,0 +1,207 @@
+ghost use Rattle.std.specs.Prelude.{◌≡◌, IfNone, IfOk, IfSome, OnOk};
+ghost use Rattle.wc_controller.specs.Loads.{IsNeverRefused};
+ghost use Rattle.wc_model.specs.Language.Loading.{IsRefused};
+ghost use Rattle.wc_diag_further.specs.Mended.{IsMended, IsStep};
+
+use crate::blanks::{Blank, blank_each};
+use crate::extents::{Faulty, taken_out};
+use crate::following::may_follow;
+use crate::logical_lines::logical_lines;
+use crate::marks::{Mark, Marks};
+use std::alloc::{AllocError, Global};
+use wc_controller::load;
+use wc_lexer::{tokens, tokens_or_stop};
+use wc_model::Fault;
+
+/// A refusal: its number and its line.
+#[derive(Clone, Copy)]
+pub struct LineFault {
+    /// The number, from the list of refusals.
+    pub number: u16,
+    /// The line of the text, counted from 1.
+    pub line: u32,
+}
+
+/// What is found of a text without what was refused before.
+#[derive(Clone, Copy)]
+pub enum Step {
+    /// It is refused so.
+    Refused(LineFault),
+    /// It is refused, but what is missing may be why.
+    Follows,
+    /// No more is found: it is accepted, or it cannot be read on.
+    End,
+}
+
+/// A program text that is refused, without what was refused so far but for the last fault.
+#[derive(Drop)]
+pub struct Further {
+    text: Vec<u8>,
+    broken: Marks,
+    /// Whether there are lines that could not be cut, of which only the malformed slices are taken out.
+    is_uncut: bool,
+    /// What is to be taken out for the last fault; nothing if the text cannot be read on then.
+    blanks: Option<Vec<Blank>>,
+}
+
+/// What is to be taken out for a fault, and whether the fault is one of its own.
+#[derive(Drop)]
+struct Judged {
+    blanks: Vec<Blank>,
+    is_own: bool,
+}
+
+/// How a text is refused; nothing if it is accepted. The error is out of memory.
+fn refusal_of(alloc: Global, text: &[u8]) -> Result<Option<LineFault>, AllocError>
+    ensures refused { IfOk result
+        (λ found. IfSome found (λ fault. IsRefused text.now fault.number fault.line)) }
+    ensures accepted { IfOk result (λ found. IfNone found (IsNeverRefused text.now)) }
+{
+    match load(alloc, text) {
+        Ok(_) => Ok(None),
+        Err(Fault::Memory) => Err(AllocError),
+        Err(Fault::Refused { number, place }) => Ok(Some(LineFault {
+            number,
+            line: place,
+        })),
+    }
+}
+
+/// The slice at which a text cannot be cut into tokens; nothing if there is none that can be taken out.
+fn malformed(alloc: Global, text: &[u8], fault: LineFault) -> Result<Option<Blank>, AllocError> {
+    if !matches!(fault.number, 101 | 104 | 105 | 106) {
+        return Ok(None);
+    }
+    match tokens_or_stop(alloc, text) {
+        Err(stop) if stop.fault == Fault::Memory => Err(AllocError),
+        Err(stop) => Ok(Some(Blank {
+            start: stop.start as usize,
+            length: stop.length as usize,
+            first: fault.line,
+            last: fault.line,
+            mark: Mark::Uncut,
+        })),
+        Ok(_) => Ok(None),
+    }
+}
+
+/// What is to be taken out of lines with faults; nothing if the text cannot be read on then.
+fn judge_lines(
+    alloc: Global,
+    text: &[u8],
+    broken: &Marks,
+    fault: LineFault,
+    is_uncut: bool,
+) -> Result<Option<Judged>, AllocError> {
+    let tokens = match tokens(alloc, text) {
+        Ok(tokens) => tokens,
+        Err(Fault::Memory) => return Err(AllocError),
+        Err(Fault::Refused { .. }) => return Ok(None),
+    };
+    let cut = logical_lines(alloc, &tokens)?;
+    let (number, line, lines) = (fault.number, fault.line, &cut.lines);
+    if (is_uncut || number < 300) && !cut.is_framed {
+        return Ok(None);
+    }
+    let is_known = is_uncut || broken.any(line, line, Mark::Taken);
+    let faulty = Faulty {
+        number: if is_uncut { 201 } else { number },
+        line: if is_uncut { None } else { Some(line) },
+        marks: broken,
+    };
+    match taken_out(alloc, &tokens, lines, faulty)? {
+        Some(blanks) => Ok(Some(Judged {
+            blanks,
+            is_own: !is_known && !may_follow(&tokens, lines, broken, number, line),
+        })),
+        None => Ok(None),
+    }
+}
+
+/// What is to be taken out for a fault; nothing if the text cannot be read on then. Lines that could not be cut are taken out
+/// once all of the text can be.
+fn judge(
+    alloc: Global,
+    text: &[u8],
+    broken: &Marks,
+    fault: LineFault,
+    is_uncut: bool,
+) -> Result<Option<Judged>, AllocError> {
+    if fault.number >= 200 {
+        return judge_lines(alloc, text, broken, fault, is_uncut);
+    }
+    let Some(slice) = malformed(alloc, text, fault)? else {
+        return Ok(None);
+    };
+    let mut blanks = Vec::new(alloc);
+    blanks.push(slice)?;
+    Ok(Some(Judged {
+        blanks,
+        is_own: !broken.any(fault.line, fault.line, Mark::Taken),
+    }))
+}
+
+impl Further {
+    /// A text that is refused so. The error is out of memory.
+    pub fn new(alloc: Global, text: &[u8], fault: LineFault) -> Result<Further, AllocError>
+        ensures text { IfOk result (λ further. further.text.items ≡ text.now) }
+    {
+        let mut kept = Vec::new(alloc);
+        kept.extend_from_slice(text)?;
+        let broken = Marks::new(alloc, text)?;
+        let blanks = match judge(alloc, text, &broken, fault, false)? {
+            Some(judged) => Some(judged.blanks),
+            None => None,
+        };
+        Ok(Further {
+            text: kept,
+            broken,
+            is_uncut: fault.number < 200,
+            blanks,
+        })
+    }
+
+    /// The text: what was taken out is spaces, so lines and columns are those of the text that was given.
+    pub fn text(&self) -> &[u8]
+        ensures { result.now ≡ self.now.text.items }
+    {
+        &self.text
+    }
+
+    /// Takes these bytes out.
+    fn take_out(&mut self, blanks: &[Blank])
+        ensures mended { IsMended self.old.text.items self.new.text.items }
+    {
+        blank_each(&mut self.text, blanks);
+        for blank in blanks {
+            self.broken.set_all(blank.first, blank.last, blank.mark);
+        }
+    }
+
+    /// Takes out what was refused last, and says how the text is refused then. After `End` nothing more is found. The error is out
+    /// of memory.
+    pub fn step(&mut self, alloc: Global) -> Result<Step, AllocError>
+        ensures mended { OnOk result (IsMended self.old.text.items self.new.text.items) }
+        ensures step { IfOk result (IsStep self.new.text.items) }
+    {
+        let Some(blanks) = self.blanks.take() else {
+            return Ok(Step::End);
+        };
+        self.take_out(&blanks);
+        let Some(fault) = refusal_of(alloc, &self.text)? else {
+            return Ok(Step::End);
+        };
+        let judged = judge(alloc, &self.text, &self.broken, fault, self.is_uncut)?;
+        self.is_uncut = fault.number < 200;
+        let Some(judged) = judged else {
+            return Ok(Step::End);
+        };
+        let is_own = judged.is_own;
+        self.blanks = Some(judged.blanks);
+        Ok(if is_own {
+            Step::Refused(fault)
+        } else {
+            Step::Follows
+        })
+    }
+}
