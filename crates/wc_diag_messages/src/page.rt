@@ -5,8 +5,7 @@ ghost use Rattle.wc_diag_texts.specs.Numbers.{is_from, is_refusal};
 
 use crate::warning_entries::warning_of;
 use std::alloc::{AllocError, Global};
-use wc_diag_shown::Message;
-use wc_diag_texts::{Entry, entry_of};
+use wc_diag_texts::{Entry, Message, entry_of};
 
 /// The plate of which the pages of plates speak.
 fn plate_a() -> &'static str {
