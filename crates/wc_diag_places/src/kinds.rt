@@ -3,11 +3,11 @@ ghost use Rattle.wc_diag_places.specs.Lists.{operand_in};
 ghost use Rattle.wc_model.specs.Language.Views.{term_view};
 
 use crate::operand_tokens::{is_closing, opens};
+use wc_built_in::{takes, takes_truth};
 use wc_diag_texts::Case;
 use wc_lexer::{Shape, Token};
 use wc_model::{Kind, Operand, Storing};
 use wc_names::{DeclaredType, Entity, Tables};
-use wc_text_kinds::{takes, takes_truth};
 use wc_text_lines::{Operating, Operation, operation_of};
 use wc_text_short_lines::operand_of;
 

@@ -7,7 +7,7 @@ macro_rules! with_constants {
             "0.1.0",
             "rattle-kit-13 logic dac8208d650f15bf",
             "24a004b73f18eb4df85ec3c3a7301333c6ff8db84e420eb5ea90a2ea11395ccc",
-            "27fe63e8461481dce0ed4ccbce5a8905776b9630e45f7459e7e93bc9d51443bd"
+            "607ec56ffd75e50d739dc40276a7762128ed284d5c641ae688cd2b9fd851c19d"
         )
     };
 }

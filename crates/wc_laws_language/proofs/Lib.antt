@@ -10,3 +10,15 @@ pub mod Returning
 pub mod KeptPlaces
 pub mod Pulsing
 pub mod OneBound
+pub mod Fields
+pub mod Fitting
+pub mod Going
+mod BodiesBefore
+mod Merging
+mod Declared
+mod Unchanged
+mod MeaningsBefore
+mod PathsBefore
+mod RulesBefore
+mod Spelling
+mod WorstPaths

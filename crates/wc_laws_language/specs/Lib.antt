@@ -1,1 +1,13 @@
+pub mod Before
+pub mod BlockHistories
+pub mod CallLaws
+pub mod CheckLaws
+pub mod DeclarationLaws
+pub mod HistoryLaws
 pub mod Laws
+pub mod OutputExamples
+pub mod OutputsRemoved
+pub mod SpelledBefore
+pub mod TextLaws
+pub mod TextsBefore
+pub mod WorstPathsBefore
