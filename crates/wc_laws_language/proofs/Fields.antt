@@ -3,7 +3,7 @@ use Rattle.std.proofs.Common.{◌≡◌, ℕ, Bool, true, false, ◌&&◌, ◌||
 use Rattle.std.specs.List.{list_any}
 use Rattle.std.specs.Prelude.{if◌then◌else◌}
 use Rattle.wc_laws_language.specs.BlockHistories.{of_block, Holds}
-use Rattle.wc_laws_soundness.proofs.Tests.{same_name-refl}
+use Rattle.wc_laws_language.proofs.Tests.{same_name-refl}
 use Rattle.wc_model.specs.Language.BlockCalls.{field_at, with_fields, standard_called}
 use Rattle.wc_model.specs.Language.Blocks.{r_trig_step, sr_step, rs_step, ctu_step, ton_step, tof_step, tp_step}
 use Rattle.wc_model.specs.Language.Declarations.{same_name}

@@ -5,8 +5,8 @@ use Rattle.wc_laws_language.specs.BlockHistories.{of_block, HasHistory, Holds}
 use Rattle.wc_laws_language.specs.HistoryLaws.{ACallAddsToTheHistory, HistoriesGoOnOverAChange, KeepsInstance}
 use Rattle.wc_laws_language.proofs.Fields.{AreFields, are_fields, called, stepped, written}
 use Rattle.wc_laws_language.proofs.Fitting.{fits_next}
-use Rattle.wc_laws_soundness.proofs.Carrying.{kept_whole}
-use Rattle.wc_laws_soundness.specs.Carrying.{HoldsTheSameFields}
+use Rattle.wc_laws_language.proofs.Carrying.{kept_whole}
+use Rattle.wc_laws_language.specs.Carrying.{HoldsTheSameFields}
 use Rattle.wc_model.specs.Language.BlockCalls.{with_fields}
 use Rattle.wc_model.specs.Language.Carried.{ToField, carried, keeps, lead_of, same_lead}
 use Rattle.wc_model.specs.Language.Names.{Name}

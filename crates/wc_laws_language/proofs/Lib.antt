@@ -1,3 +1,17 @@
+pub mod Tests
+pub mod FramePlaces
+pub mod Places
+pub mod Entities
+pub mod StandardCalls
+pub mod Applying
+pub mod Steps
+pub mod CallSteps
+pub mod Bodies
+pub mod Programs
+pub mod Texts
+pub mod Spelled
+pub mod Runs
+pub mod Carrying
 pub mod Wrapping
 pub mod Jumping
 pub mod Counting

@@ -26,7 +26,7 @@ use Rattle.wc_model.specs.declared.code.Code.TheVariants.{Store as StoreLine, No
 use Rattle.wc_model.specs.declared.operator.Condition.{Condition}
 use Rattle.wc_model.specs.declared.operator.Operator.{Operator}
 use Rattle.wc_model.specs.declared.value.Value.{Value}
-use Rattle.wc_laws_soundness.specs.Sound.{IsSimple, NestsSimply}
+use Rattle.wc_laws_language.specs.Sound.{IsSimple, NestsSimply}
 use Rattle.wc_text_flat.proofs.CallsSeen.{call_seen, call_sources_after}
 use Rattle.wc_text_flat.proofs.SeenSides.{OutcomeSeen, AreSeenAlike, OnwardSeen, EffectSeen, onward_effect_seen, seen_append, entry, line_then, line_seen, passed_unseen, ended_unseen, body_line_runs_none}
 use Rattle.wc_text_flat.specs.FlatSeen.{FlatSeen, FlatSeenCalls, flat_seen, is_body_line, AreSeenAs}

@@ -29,7 +29,7 @@ use Rattle.wc_model.specs.declared.code.Code.TheVariants.{Call as CallLine, Body
 use Rattle.wc_model.specs.declared.operator.Condition.{Condition}
 use Rattle.wc_model.specs.declared.place.Place.{Place}
 use Rattle.wc_model.specs.declared.value.Value.{Value}
-use Rattle.wc_laws_soundness.proofs.CallSteps.{IsInstance, type_of-found}
+use Rattle.wc_laws_language.proofs.CallSteps.{IsInstance, type_of-found}
 use Rattle.wc_text_flat.proofs.SeenSides.{OutcomeSeen, AreSeenAlike, OnwardSeen, seen_append, seen_deeper, IsNoBody, entry, line_then, passed_unseen}
 use Rattle.wc_text_flat.specs.FlatSeen.{FlatSeen, FlatSeenCalls, deeper, flat_seen_from, flat_seen, is_body_line, IsItem, AreSeenAs}
 use Rattle.wc_text_flat.specs.Seen.{Seen, SeenCalls, seen_at, seen_called, seen_store, seen_inputs, seen_outputs, seen_block, seen_after, seen_with, seen_made, seen_call, seen_step}

@@ -19,9 +19,9 @@ use Rattle.wc_model.specs.Language.Tree.{ProgramUnit}
 use Rattle.wc_model.specs.Text.Limits.{depth}
 use Rattle.wc_model.specs.declared.code.Code.{Code}
 use Rattle.wc_model.specs.declared.kind.SlotKind.{SlotKind}
-use Rattle.wc_laws_soundness.proofs.Places.{Some-same}
-use Rattle.wc_laws_soundness.proofs.Texts.{turned}
-use Rattle.wc_laws_soundness.specs.Sound.{NestsSimply}
+use Rattle.wc_laws_language.proofs.Places.{Some-same}
+use Rattle.wc_laws_language.proofs.Texts.{turned}
+use Rattle.wc_laws_language.specs.Sound.{NestsSimply}
 use Rattle.wc_text_flat.proofs.BodiesSeen.{lines_seen}
 use Rattle.wc_text_flat.proofs.SeenSides.{OutcomeSeen, AreSeenAlike}
 use Rattle.wc_text_flat.specs.FlatSeen.{FlatSeen, FlatSeenCalls, flat_seen_body, flat_seen_below}

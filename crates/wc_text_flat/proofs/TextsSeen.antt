@@ -14,12 +14,12 @@ use Rattle.wc_model.specs.Language.Scans.{initial_of_reversed, with_image}
 use Rattle.wc_model.specs.Language.Store.{Location, Content, Store, initial_store, program_frame}
 use Rattle.wc_model.specs.Language.Tree.{ProgramUnit}
 use Rattle.wc_model.specs.declared.code.Code.{Code}
-use Rattle.wc_laws_soundness.proofs.Places.{FitsScope-same}
-use Rattle.wc_laws_soundness.proofs.Programs.{Any, program_ends, first_store_fits}
-use Rattle.wc_laws_soundness.proofs.Spelled.{spelled_text_nests}
-use Rattle.wc_laws_soundness.proofs.Texts.{none_broken, units_clean}
-use Rattle.wc_laws_soundness.specs.Sound.{AreClean, EndsWell}
-use Rattle.wc_laws_soundness.specs.Typing.{SameSlots}
+use Rattle.wc_laws_language.proofs.Places.{FitsScope-same}
+use Rattle.wc_laws_language.proofs.Programs.{Any, program_ends, first_store_fits}
+use Rattle.wc_laws_language.proofs.Spelled.{spelled_text_nests}
+use Rattle.wc_laws_language.proofs.Texts.{none_broken, units_clean}
+use Rattle.wc_laws_language.specs.Sound.{AreClean, EndsWell}
+use Rattle.wc_laws_language.specs.Typing.{SameSlots}
 use Rattle.wc_text_flat.proofs.ProgramsSeen.{AreSourcesOf, body_seen, calls_seen, sources_are}
 use Rattle.wc_text_flat.proofs.SeenSides.{OutcomeSeen}
 use Rattle.wc_text_flat.specs.FlatSeen.{FlatSeen, AreSeenAs, flat_seen_body, flat_seen_below, flat_seen_of_program}

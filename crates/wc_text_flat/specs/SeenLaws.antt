@@ -12,7 +12,7 @@ use Rattle.wc_model.specs.Language.Tree.{Text}
 use Rattle.wc_model.specs.Text.Reading.{IsRead}
 use Rattle.wc_model.specs.declared.code.Code.{Code}
 use Rattle.wc_model.specs.declared.image.Image.{Image}
-use Rattle.wc_laws_soundness.specs.Typing.{SameSlots}
+use Rattle.wc_laws_language.specs.Typing.{SameSlots}
 use Rattle.wc_text_flat.specs.FlatSeen.{AreSeenAs, flat_seen_of_program}
 use Rattle.wc_text_flat.specs.Seen.{Seen, seen_of_scan}
 
