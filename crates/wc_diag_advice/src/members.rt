@@ -97,30 +97,3 @@ pub(crate) fn member_advice(
         }
     }
 }
-
-/// The first input of a block, or its first output, if it has one.
-pub(crate) fn first_member<'a>(
-    refused: &Refused<'a, '_>,
-    block: &str,
-    wanted: Section,
-) -> Option<&'a str> {
-    if let Some(standard) = standard_block(block.as_bytes()) {
-        return members_of(standard, wanted == Section::Input)
-            .first()
-            .copied();
-    }
-    let mut declarations = block_named(refused, block)?.declarations.iter();
-    let members = declarations.find(|declaration| declaration.section == wanted)?;
-    words(members.names.first()?.text)
-}
-
-/// Whether a block of the text has a variable in VAR.
-pub(crate) fn declares_own(refused: &Refused<'_, '_>, block: &str, name: &str) -> bool {
-    block_named(refused, block).is_some_and(|unit| unit.declarations.iter().any(|declaration| {
-        declaration.section == Section::Own
-            && declaration
-                .names
-                .iter()
-                .any(|word| word.text.eq_ignore_ascii_case(name.as_bytes()))
-    }))
-}

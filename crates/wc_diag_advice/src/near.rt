@@ -2,7 +2,7 @@ use std::alloc::Global;
 use wc_built_in::{Keyword, elementary_type, keyword_named};
 use wc_diag_mistakes::{Refused, Said, words};
 use wc_diag_stops::{
-    first_word, following, is_among, is_near, last_line, text_of, without_line_ends,
+    difference, first_word, following, is_among, is_near, last_line, text_of, without_line_ends,
 };
 use wc_lexer::Token;
 use wc_model::{Decl, Section, Unit, is_word};
@@ -11,11 +11,16 @@ use wc_model::{Decl, Section, Unit, is_word};
 const OPERATORS: &str =
     "LD LDN ST STN S R AND ANDN OR ORN XOR XORN NOT ADD SUB MUL DIV MOD GT GE EQ NE LE LT JMP JMPC JMPCN CAL CALC CALCN RET RETC RETCN";
 
-/// Which of some words another may be a misspelling of, if one is near.
+/// Which of some words another may be a misspelling of, if one is near: the nearest.
 pub(crate) fn near_word(words: &'static str, word: &[u8]) -> Option<&'static str> {
-    words
-        .split(' ')
-        .find(|other| is_near(other.as_bytes(), word))
+    for wanted in 0_u8..4 {
+        let mut others = words.split(' ');
+        let found = others.find(|other| difference(other.as_bytes(), word) == Some(wanted));
+        if found.is_some() {
+            return found;
+        }
+    }
+    None
 }
 
 /// What to write for what is near, if something is.
@@ -103,14 +108,42 @@ pub(crate) fn near_name<'a>(
     near_in_unit(refused.units, name, refused.span.start, wanted)
 }
 
-/// Which instance of the unit is called, if the name of its block is in place of its own.
+/// What to write for the name of a block in place of that of an instance: the one of the unit, or one to declare.
 pub(crate) fn instance_advice(refused: &Refused<'_, '_>) -> Said {
     let block = words(refused.offending())?;
-    let instance = near_name(refused, block.as_bytes(), Wanted::InstanceOf)?;
-    if !refused.is_called() {
-        return None;
-    }
-    Some(format!(in refused.alloc; "did you mean `{instance}`, which is an instance of {block}?"))
+    Some(
+        match near_name(refused, block.as_bytes(), Wanted::InstanceOf) {
+            Some(instance) => {
+                format!(in refused.alloc;
+                    "did you mean `{instance}`, which is an instance of {block}?"
+                )
+            }
+            None => {
+                format!(in refused.alloc;
+                    "declare an instance in VAR, such as v : {block}; and call that: CAL v(..)"
+                )
+            }
+        },
+    )
+}
+
+/// What to write for what is called and not declared: a label, or an instance.
+pub(crate) fn called_advice(refused: &Refused<'_, '_>) -> Said {
+    let name = words(refused.offending())?;
+    let mut lines = unit_at(refused.units, refused.span.start)?.body.iter();
+    let mut labels = lines.filter_map(|line| line.label);
+    Some(
+        match labels.find(|label| is_word(label.text, name.as_bytes())) {
+            Some(_) => {
+                format!(in refused.alloc;
+                    "`{name}` is a label: jump ahead to it with JMPC {name}, or make its lines a FUNCTION_BLOCK, and call an instance"
+                )
+            }
+            None => {
+                format!(in refused.alloc; "declare the instance in VAR, such as {name} : TON;")
+            }
+        },
+    )
 }
 
 /// Which variable of the program a watched name may be a misspelling of, if one is near. The program was read into these units;

@@ -1,5 +1,4 @@
 use crate::slices::{following, prefix};
-use std::cmp::Ordering;
 use wc_model::is_word;
 
 /// The units of time, in milliseconds.
@@ -31,9 +30,8 @@ fn length_until(text: &[u8], letter: bool) -> usize {
         .count()
 }
 
-/// The first number of a duration, without a fraction, its unit in milliseconds, which is 0 if it is none of the language, and what comes
-/// after them.
-fn first_part(text: &[u8]) -> (u64, u64, &[u8]) {
+/// The milliseconds of the first number of a duration with its unit, without a fraction, and what comes after them.
+fn first_part(text: &[u8]) -> (u64, &[u8]) {
     let number = prefix(text, length_until(text, true));
     let letters = following(text, number.len());
     let unit = prefix(letters, length_until(letters, false));
@@ -43,52 +41,30 @@ fn first_part(text: &[u8]) -> (u64, u64, &[u8]) {
         .find(|(word, _)| is_word(word, unit))
         .map_or(0, |(_, milliseconds)| *milliseconds);
     (
-        number_of(whole),
-        milliseconds,
+        number_of(whole).saturating_mul(milliseconds),
         following(letters, unit.len()),
     )
 }
 
-/// What follows the `#` of a literal.
-fn after_prefix(token: &[u8]) -> &[u8] {
-    match token.iter().position(|byte| *byte == b'#') {
+/// Whether the numbers of a duration with their units are more than a TIME holds.
+pub(crate) fn is_out_of_range(token: &[u8]) -> bool {
+    let mut rest = match token.iter().position(|byte| *byte == b'#') {
         Some(place) => following(token, place.saturating_add(1)),
         None => b"",
-    }
-}
-
-/// Whether the numbers of a duration with their units are more than a TIME holds, and how its units compare to those before them, if all
-/// are of the language: less, or as the first that is not smaller does.
-pub(crate) fn read_units(token: &[u8]) -> (bool, Option<Ordering>) {
-    let mut rest = after_prefix(token);
+    };
     let most = if rest.starts_with(b"-") {
         2_147_483_648
     } else {
         2_147_483_647
     };
-    let (mut total, mut before, mut order) = (0_u64, u64::MAX, None);
-    let mut is_known = true;
+    let mut total = 0_u64;
     for _ in 0..token.len() {
         if rest.is_empty() {
             break;
         }
-        let (number, unit, after) = first_part(rest);
-        total = total.saturating_add(number.saturating_mul(unit));
-        is_known = is_known && unit != 0;
-        order = match order {
-            None if unit == before => Some(Ordering::Equal),
-            None if unit > before => Some(Ordering::Greater),
-            found => found,
-        };
-        before = unit;
+        let (milliseconds, after) = first_part(rest);
+        total = total.saturating_add(milliseconds);
         rest = after;
     }
-    (
-        total > most,
-        if is_known {
-            Some(order.unwrap_or(Ordering::Less))
-        } else {
-            None
-        },
-    )
+    total > most
 }

@@ -27,4 +27,4 @@ pub use places::exchange;
 pub use slices::{bytes_at, following, prefix};
 pub use span::{Brought, LabelPaths, PathToLabel, RefusalSpan, ResultKind, Slice};
 pub use stops::{StoppedText, stop_of};
-pub use words::{first_word, is_among, is_near, same_prefix};
+pub use words::{difference, first_word, is_among, is_near, same_prefix};

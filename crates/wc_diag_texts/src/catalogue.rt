@@ -99,7 +99,7 @@ fn token_entry(number: u16) -> Option<&'static Entry>
             mended "PROGRAM P" "LD %ID1" "GE 1500" "AND %IX1.5" "ST %QX0.0" "END_PROGRAM";
         106 "tokens": "a duration is malformed or out of range" quoted "is not a valid duration, or is out of range"
             at "the line of the token", "T#" => 1,
-            help "write days to milliseconds in order, such as T#1d2h3m4s5ms, or one with a point, such as T#1.5s",
+            help "write days to milliseconds in order, each once, such as T#1d2h3m4s5ms: after the first number hours are below 24, minutes and seconds below 60; the last one may have a point, such as T#1.5s, and milliseconds are whole",
             wrong "PROGRAM P" "VAR t : TON; END_VAR" "CAL t(IN := %IX0.0, PT := T#5, Q => %QX0.0)" "END_PROGRAM"
             why "without a unit 5 could be seconds or milliseconds" rule "2.2"
             mended "PROGRAM P" "VAR t : TON; END_VAR" "CAL t(IN := %IX0.0, PT := T#5s, Q => %QX0.0)" "END_PROGRAM";
@@ -142,7 +142,7 @@ fn reading_entry(number: u16) -> Option<&'static Entry>
             why "the `)` applies the operator to the result in the parenthesis, and here there is none" rule "3.3"
             mended "PROGRAM P" "LD %IX0.0" "AND( %IX0.1" "OR %IX0.2" ")" "ST %QX0.0" "END_PROGRAM";
         205 "reader": "a jump, a call, a return or a label is not allowed inside a parenthesis"
-            at "its line", "PROGRAM P&( / x:" => 2, help "close the parenthesis before it, with a `)` on a line of its own",
+            at "its line", "PROGRAM P&( / x:" => 2, help "close the parenthesis before it with a `)` on a line of its own, or move it above the LD that begins the expression",
             wrong "PROGRAM P" "LD %IX0.0" "AND( %IX0.1" "RETCN" ")" "ST %QX0.0" "END_PROGRAM"
             why "the operator waits for its `)`: who leaves the parenthesis would leave it undone" rule "3.1"
             mended "PROGRAM P" "LD %IX0.1" "RETCN" "AND %IX0.0" "ST %QX0.0" "END_PROGRAM";

@@ -12,6 +12,9 @@ type Words = (&'static str, &'static str);
 /// What is said of a standard function.
 const NO_FUNCTION: &str = "is a standard function, and functions are not supported";
 
+/// What is said of a value that is passed, or of what takes one.
+const DIFFERS: &str = "is of another type than the input or output";
+
 /// What to write for a CTD.
 macro_rules! counting_down {
     () => {
@@ -132,11 +135,11 @@ fn declared_words(number: u16, case: Case) -> Words {
         302, Case::DownCounter => "", counting_down!();
         306, Case::Variable => "is one variable more than the 256 that a unit may have", "";
         401, Case::Field => "is not an input or output of a declared instance", "before the dot comes an instance that VAR declares, after it an output, such as t.Q; there are no global variables";
-        401, Case::BlockType => "is the name of a type, not of an instance", "declare an instance in VAR, `t : TON;`, and call that: CAL t(..)";
+        401, Case::BlockType => "is the name of a type, not of an instance", "";
         403, Case::Plain => "there is no current result", "begin with LD: no line that leads here has loaded a value";
         404, Case::LiteralTarget => "", "the target is a variable or an output, such as ST a, or Q => a in a call; LD loads the value";
         404, _ => "", "an input is set by the caller: copy it to a variable in VAR, and change the copy";
-        405, _ => "", "store the value in a variable of your own, pass that to the input, and read the variable";
+        405, _ => "", "declare it in VAR_OUTPUT of the block; the value of an input store in a variable of your own, pass that, and read it";
         408, Case::Deferred => "takes no parenthesis", "DIV and MOD take an integer literal, such as DIV 10; DIV( and MOD( do not exist";
         409, Case::InputArrow => "is an input of this block, and `=>` reads an output", "an input is passed with :=, such as IN := a";
         409, Case::OutputAssigned => "is an output of this block, and `:=` passes an input", "an output is read with =>, such as Q => a";
@@ -158,18 +161,12 @@ fn kind_words(number: u16, case: Case) -> Words {
         402, Case::MultipliedTime => "", "a TIME cannot be multiplied: write the product as a duration, such as T#15s, or ADD the time several times";
         402, Case::DividedTime => "", counting_seconds!("a TIME cannot be divided: compare it, such as GE T#15s");
         402, Case::Closing => "closes with another type than that of the result before its parenthesis", "end the lines in the parenthesis with the type of the result before it";
-        402, Case::Untaken(Kind::Bool) => "is a BOOL, which this operator does not take", "";
-        402, Case::Untaken(Kind::Dint) => "is a DINT, which this operator does not take", "";
-        402, Case::Untaken(Kind::Time) => "is a TIME, which this operator does not take", "";
-        402, Case::Unlike(Kind::Bool) => "is a BOOL, but the current result is of another type", "";
-        402, Case::Unlike(Kind::Dint) => "is a DINT, but the current result is of another type", "";
-        402, Case::Unlike(Kind::Time) => "is a TIME, but the current result is of another type", "";
+        402, Case::Untaken(_) => "is of a type that this operator does not take", "";
+        402, Case::Unlike(_) => "is of another type than the current result", "";
         402, Case::Result => "does not take the type of the current result", "";
-        402, Case::Unpassed(Kind::Bool, Kind::Dint) => "is a BOOL, but the input or output is a DINT", "pass a number to a DINT, a duration to a TIME";
-        402, Case::Unpassed(Kind::Bool, _) => "is a BOOL, but the input or output is a TIME", "pass a number to a DINT, a duration to a TIME";
-        402, Case::Unpassed(Kind::Dint, Kind::Bool) => "is a DINT, but the input or output is a BOOL", "compare before the call, store the BOOL in a variable, and pass that variable";
-        402, Case::Unpassed(Kind::Dint, _) => "is a DINT, but the input or output is a TIME", "write a duration, such as T#500ms, or pass a TIME";
-        402, Case::Unpassed(Kind::Time, Kind::Bool) => "is a TIME, but the input or output is a BOOL", "compare before the call, store the BOOL in a variable, and pass that variable";
-        402, Case::Unpassed(Kind::Time, _) => "is a TIME, but the input or output is a DINT", "write an integer, such as 500, or pass a DINT";
+        402, Case::Unpassed(Kind::Bool, _) => DIFFERS, "pass a number to a DINT, a duration to a TIME";
+        402, Case::Unpassed(_, Kind::Bool) => DIFFERS, "compare before the call, store the BOOL in a variable, and pass that variable";
+        402, Case::Unpassed(Kind::Dint, _) => DIFFERS, "write a duration, such as T#500ms, or pass a TIME";
+        402, Case::Unpassed(Kind::Time, _) => DIFFERS, "write an integer, such as 500, or pass a DINT";
     }
 }
