@@ -5,27 +5,18 @@ use crate::near::{
     operator_advice, type_advice,
 };
 use wc_built_in::{Keyword, keyword_named};
-use wc_diag_mistakes::{Refused, Said, follows_leaving, words};
+use wc_diag_mistakes::{Refused, Said, words};
 use wc_diag_stops::{Brought, is_near};
 use wc_diag_texts::{Case, Mistake, empty_path_advice};
 use wc_model::is_word;
 
-/// What to write if no path leads to the label before the slice, or one alone, which brings nothing.
+/// What to write if one path alone leads to the label before the slice, and it brings nothing.
 fn path_advice(refused: &Refused<'_, '_>) -> Said {
-    if let Some(paths) = refused.span.paths {
-        return match (paths.other, paths.first.brought) {
-            (None, Brought::Nothing) => Some(empty_path_advice(refused.alloc, paths.first.line)),
-            _ => None,
-        };
+    let paths = refused.span.paths?;
+    match (paths.other, paths.first.brought) {
+        (None, Brought::Nothing) => Some(empty_path_advice(refused.alloc, paths.first.line)),
+        _ => None,
     }
-    let token = refused.label_before()?;
-    let label = words(token.text)?;
-    if !follows_leaving(refused.tokens, token.line) {
-        return None;
-    }
-    Some(format!(in refused.alloc;
-        "make the JMP or RET above conditional (JMPC, JMPCN, RETC), jump to `{label}` from a line above, or delete this line"
-    ))
 }
 
 /// Where END_VAR is missing, if the word before begins a section, or is almost END_VAR.

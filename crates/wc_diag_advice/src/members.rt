@@ -24,11 +24,10 @@ fn members_of(block: StandardBlock, is_input: bool) -> &'static [&'static str] {
     }
 }
 
-/// Nearness of short names, of which one letter may be all: how many bytes at their start are the same letters.
+/// Nearness of short names, of which one letter may be all: the last letter differs at most.
 fn is_near_member(member: &[u8], name: &[u8]) -> bool {
-    let (shorter, longer) = (member.len().min(name.len()), member.len().max(name.len()));
-    let least = longer.saturating_sub(1);
-    longer > 1 && shorter >= least && same_prefix(member, name) >= least
+    let longer = member.len().max(name.len());
+    longer > 1 && same_prefix(member, name).saturating_add(1) >= longer
 }
 
 /// The block of the text that has that name.

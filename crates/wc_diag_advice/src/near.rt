@@ -130,13 +130,11 @@ pub(crate) fn instance_advice(refused: &Refused<'_, '_>) -> Said {
 /// What to write for what is called and not declared: a label, or an instance.
 pub(crate) fn called_advice(refused: &Refused<'_, '_>) -> Said {
     let name = words(refused.offending())?;
-    let mut lines = unit_at(refused.units, refused.span.start)?.body.iter();
-    let mut labels = lines.filter_map(|line| line.label);
     Some(
-        match labels.find(|label| is_word(label.text, name.as_bytes())) {
-            Some(_) => {
+        match near_label(refused.units, name.as_bytes(), refused.span.start) {
+            Some(label) => {
                 format!(in refused.alloc;
-                    "`{name}` is a label: jump ahead to it with JMPC {name}, or make its lines a FUNCTION_BLOCK, and call an instance"
+                    "`{label}` is a label: jump to it with JMPC {label}, or make its lines a FUNCTION_BLOCK, and call an instance"
                 )
             }
             None => {
@@ -175,12 +173,6 @@ fn near_label<'a>(units: &[Unit<'a>], name: &[u8], place: usize) -> Option<&'a s
 pub(crate) fn label_advice(refused: &Refused<'_, '_>) -> Said {
     let name = refused.offending();
     match near_label(refused.units, name, refused.span.start) {
-        None if keyword_named(name).is_some() => {
-            let label = words(name).unwrap_or("");
-            Some(format!(in refused.alloc;
-                "`{label}` is a reserved word: to leave the unit write RET, RETC or RETCN in place of the jump; a label has another name"
-            ))
-        }
         None => {
             let label = words(name).unwrap_or("label");
             Some(format!(in refused.alloc;

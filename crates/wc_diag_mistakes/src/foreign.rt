@@ -52,7 +52,7 @@ const UNITS: [Row; 2] = rows! {
 const OPERATORS: [Row; 3] = rows! {
     b"cd" => DownCounter "";
     b"network title begin nop bld" => Worded "delete this line, or make it a comment, such as (* NETWORK 1 *)";
-    b"cu pv in pt clk s1 r1" => InputOperator "set an input in CAL, such as CAL c(CU := a): a store alone does not call the block";
+    b"cu pv in pt clk s1 r1" => Worded says "is an input of a block, not an operator", "set an input in CAL, such as CAL c(CU := a): a store alone does not call the block";
 };
 
 /// Operators of other tools and languages, with what to write for each. Without these a name that is spelled almost as one of them, and does

@@ -3,25 +3,16 @@ use crate::foreign::{
 };
 use crate::refused::Refused;
 use crate::types::{is_conditional, mistaken_kind, mistaken_reset};
-use crate::unreached::{block_line, is_unreached};
+use crate::unreached::{block_line, follows_leaving, is_unreached};
 use wc_built_in::{Keyword, elementary_type, keyword_named, standard_block};
 use wc_diag_stops::{
-    following, follows_digit, is_among, is_bare_duration, is_digit, is_line_end, is_near,
-    is_operator, is_shape, mistaken_byte, mistaken_duration, mistaken_number, mistaken_statement,
-    operator_on, text_of, without_line_ends,
+    following, is_among, is_bare_duration, is_digit, is_line_end, is_near, is_operator, is_shape,
+    mistaken_byte, mistaken_duration, mistaken_number, mistaken_statement, operator_on,
+    text_before, text_of,
 };
 use wc_diag_texts::{Case, Expected, Mistake, mistake_among};
 use wc_lexer::{Shape, Token};
 use wc_model::{Kind, UnitKind, is_word};
-
-/// What a word in the place of an operator is, by the token after it.
-fn mistaken_word(word: &[u8], next: Option<&Token<'_>>) -> Mistake {
-    match mistaken_statement(word).or(mistaken_function(word)) {
-        Some(mistake) => mistake,
-        None if is_shape(next, Shape::Opening) => Mistake::of(Case::InstanceCall),
-        None => mistaken_name(word),
-    }
-}
 
 /// A word in the place of an operator that is known, or by the token after it.
 fn mistaken_start(refused: &Refused<'_, '_>) -> Option<Mistake> {
@@ -46,9 +37,13 @@ fn mistaken_operator(refused: &Refused<'_, '_>) -> Mistake {
     if matches!(keyword_named(word), Some(Keyword::Kept)) {
         return left_out(word);
     }
-    let mistake = match mistaken_start(refused) {
+    let known = mistaken_start(refused)
+        .or(mistaken_statement(word))
+        .or(mistaken_function(word));
+    let mistake = match known {
         Some(mistake) => mistake,
-        None => mistaken_word(word, refused.next()),
+        None if is_shape(refused.next(), Shape::Opening) => Mistake::of(Case::InstanceCall),
+        None => mistaken_name(word),
     };
     if matches!(mistake.case, Case::NoOperator | Case::OtherOperator) && is_label(refused) {
         return Mistake::of(Case::LabelWithoutColon);
@@ -78,19 +73,6 @@ fn has_jump(tokens: &[Token<'_>], label: &[u8]) -> bool {
     })
 }
 
-/// Whether END_VAR, or a word that begins a section, is there in two words.
-fn is_section_word_cut(refused: &Refused<'_, '_>) -> bool {
-    match without_line_ends(refused.before()) {
-        [.., word, name] => {
-            is_word(b"END", name.text) && is_word(b"VAR", refused.token())
-                || is_word(b"VAR", word.text)
-                    && is_among(b"input output", name.text)
-                    && !is_type(refused.token())
-        }
-        _ => false,
-    }
-}
-
 /// A mistake that the words before an unexpected token show.
 fn mistaken_before(refused: &Refused<'_, '_>) -> Option<Mistake> {
     let (before, line) = (refused.word_before(), refused.line_before());
@@ -105,7 +87,7 @@ fn mistaken_before(refused: &Refused<'_, '_>) -> Option<Mistake> {
         (Expected::LineEnd | Expected::PointOrLineEnd, Some(Keyword::Not)) => NegatedOperand "";
         (Expected::LineEnd | Expected::PointOrLineEnd, Some(Keyword::Load(_))) if is_opened => Worded "the operand is right after the `(`, without LD, such as AND( a";
         (Expected::CommaPointOrClosing | Expected::CommaOrClosing, Some(Keyword::Not)) => Worded "negate the value before the call: LDN a, ST b, and pass b";
-        (Expected::CommaOrColon, _) if is_section_word_cut(refused) => Worded "END_VAR, VAR_INPUT and VAR_OUTPUT are one word each, with an underscore";
+        (Expected::CommaOrColon, _) if is_among(b"end input output", before) && is_shape(refused.tokens.get(refused.index), Shape::Identifier) && !is_type(refused.token()) => Worded "END_VAR, VAR_INPUT and VAR_OUTPUT are one word each, with an underscore";
         (Expected::CommaOrColon, _)
             if word.is_some() && !is_type(before) || is_among(b"end var_end", before) || is_near(b"END_VAR", before) => OpenSection "";
     }
@@ -138,21 +120,9 @@ fn mistaken_in_unit(token: &[u8], next: Option<&Token<'_>>, expected: Expected) 
         (Expected::LineEnd | Expected::PointOrLineEnd, Some(b'+' | b'-'), _) => Worded "an operand is computed in a parenthesis: for GE n + 20 write GE( n, then ADD 20, then `)`; for LD n + 20 LD n, and ADD 20 on the next line";
         (Expected::LineEnd | Expected::PointOrLineEnd, Some(b'A'..=b'Z' | b'a'..=b'z' | b'%'), None) => Worded "an operator has one operand, and each instruction a line of its own";
         (Expected::Instruction | Expected::InstructionOrLineEnd, Some(b'%'), _) => Assignment "";
+        (Expected::NameOrEndVar | Expected::CommaOrColon | Expected::Name | Expected::TypeName | Expected::AssignOrSemicolon | Expected::Semicolon, _, word)
+            if !matches!(word, Some(Keyword::Kept)) => Declaration "";
         (Expected::Instruction | Expected::InstructionOrLineEnd, Some(b'('), _) => Worded "write the `(` on the line of its CAL, such as CAL t(IN := TRUE)";
-    }
-}
-
-/// The case of an unexpected token that is in a section of declarations, or not.
-fn case_of_section(expected: Expected) -> Case {
-    match expected {
-        Expected::NameOrEndVar
-        | Expected::CommaOrColon
-        | Expected::Name
-        | Expected::TypeName
-        | Expected::AssignOrSemicolon
-        | Expected::Literal
-        | Expected::Semicolon => Case::Declaration,
-        _ => Case::Unknown,
     }
 }
 
@@ -170,20 +140,15 @@ fn mistaken_token(refused: &Refused<'_, '_>) -> Mistake {
     match mistaken_in_unit(token, refused.next(), expected) {
         Some(mistake) => mistake,
         None if matches!(keyword_named(token), Some(Keyword::Kept)) => left_out(token),
-        None => Mistake::of(case_of_section(expected)),
+        None => Mistake::of(Case::Unknown),
     }
 }
 
 /// Whether a token is a comma between two digits.
 fn is_decimal_comma(refused: &Refused<'_, '_>) -> bool {
-    let end = refused.span.start.saturating_add(refused.span.length);
-    let is_before_digit = match refused.after().first() {
-        Some(token) => token.start as usize == end && is_digit(token.text.first()),
-        None => false,
-    };
-    is_before_digit
-        && refused.token().starts_with(b",")
-        && follows_digit(refused.before(), refused.span.start)
+    refused.token().starts_with(b",")
+        && is_digit(text_of(refused.after().first()).first())
+        && is_digit(text_before(refused.before(), refused.span.start).last())
 }
 
 /// A mistake in an instruction by what is before a token on its line.
@@ -299,17 +264,13 @@ fn mistaken_target(refused: &Refused<'_, '_>) -> Option<Mistake> {
     }
 }
 
-/// A type that this language does not have, or a function block where no instance is declared.
+/// A function block where no instance is declared.
 fn mistaken_type(refused: &Refused<'_, '_>) -> Option<Mistake> {
     let word = refused.token();
-    if standard_block(word).is_none() && block_line(refused.tokens, word).is_none() {
-        return foreign_type(word);
+    mistake_among! {
+        standard_block(word).is_some() || block_line(refused.tokens, word).is_some();
+        true => Worded says "is a function block, and only VAR declares instances", "declare the instance in VAR, and pass what is needed of it, such as t.Q to an input of type BOOL";
     }
-    Some(Mistake {
-        case: Case::Worded,
-        sentence: "is a function block, and only VAR declares instances",
-        hint: "declare the instance in VAR, and pass what is needed of it, such as t.Q to an input of type BOOL",
-    })
 }
 
 /// A function block that is not declared above, if that is sure.
@@ -323,14 +284,10 @@ fn mistaken_block(refused: &Refused<'_, '_>) -> Option<Mistake> {
 
 /// Whether a unit of the text declares a name.
 fn is_declared(refused: &Refused<'_, '_>, name: &[u8]) -> bool {
-    let mut declarations = refused
-        .units
-        .iter()
-        .flat_map(|unit| unit.declarations.iter());
-    declarations.any(|declaration| {
+    refused.units.iter().any(|unit| unit.declarations.iter().any(|declaration| {
         let mut names = declaration.names.iter();
         names.any(|word| word.text.eq_ignore_ascii_case(name))
-    })
+    }))
 }
 
 /// A name that its unit does not declare: that of another one, of a block, or a number, a timer, an area or a duration of other tools.
@@ -353,14 +310,20 @@ fn mistaken_undeclared(refused: &Refused<'_, '_>) -> Option<Mistake> {
 fn mistaken_use(refused: &Refused<'_, '_>) -> Option<Mistake> {
     let (token, span) = (refused.token(), refused.span);
     let is_variable = matches!(token.first(), Some(b'A'..=b'Z' | b'a'..=b'z' | b'_' | b'%'));
+    let is_left = span.paths.is_none()
+        && refused
+            .label_before()
+            .is_some_and(|label| follows_leaving(refused.tokens, label.line));
     mistake_among! {
         refused.number;
         205 if is_shape(refused.next(), Shape::Colon) => Worded "a jump cannot lead into a parenthesis: delete the label, or close the parenthesis above it";
         205 if matches!(keyword_named(token), Some(Keyword::Call(_))) => Worded "move the call, and the lines that set its inputs, above the LD that begins the expression, and read its output in the parenthesis, such as AND t.Q";
         403 if is_conditional(token) => Worded says "needs a BOOL, and there is no current result", "load the condition with LD first, or use CAL, JMP or RET without the C";
+        403 if is_left => AtLabel says "the current result is undefined: the paths to this label bring different types, or no value", "make the JMP or RET above conditional (JMPC, JMPCN, RETC), jump to this label from a line above, or delete this line";
         403 if is_shape(refused.previous(), Shape::Colon) => AtLabel says "the current result is undefined: the paths to this label bring different types, or no value", "write an LD between the label and this instruction, or bring the same type on every path to the label (JMPC and JMPCN bring a BOOL); if this instruction is only for the value above the label, move it above the label";
         403 if is_unreached(refused.tokens, refused.line()) => Unreached says "there is no current result, since this line is never reached", "make the JMP or RET above conditional (JMPC, JMPCN, RETC), give this line a label to which a line above jumps, or delete it";
         406 if span.first != 0 => LabelAbove says "is the label of a line above this jump", "jumps only go forward, and the whole program runs again in each scan without one: to wait, jump ahead over the lines that wait: JMPC done; the lines; `done:`; to repeat lines write them once for each pass, or do one pass in each scan: LD n, LT 10, JMPCN done; the lines; LD n, ADD 1, ST n (n keeps its value between scans: set it to 0 only to start again); `done:` goes on with an LD";
+        406 if keyword_named(token).is_some() => Worded "a label is not a reserved word: to leave the unit write RET, RETC or RETCN in place of the jump";
         408 if is_variable && !matches!(span.case, Case::Deferred) => Worded "there is no division by a variable: divide by a literal other than 0, such as DIV 10; to compare a quotient, MUL the other side instead; for a quotient set rest and q to start, the dividend and 0, and then subtract once in each scan: LD b, LE 0, JMPC done; LD rest, LT b, JMPC done; LD rest, SUB b, ST rest; LD q, ADD 1, ST q; `done:` goes on with an LD";
     }
 }
@@ -379,7 +342,7 @@ pub fn mistake_at(refused: &Refused<'_, '_>, case: Case) -> Mistake {
         }
         (201, _) => Some(mistaken_at(refused)),
         (202 | 203, _) => mistaken_unit_end(refused),
-        (302, _) => mistaken_type(refused),
+        (302, _) => mistaken_type(refused).or(foreign_type(token)),
         (303, _) => mistaken_value(before),
         (304, _) => mistaken_address(token),
         (308, _) => mistaken_block(refused),

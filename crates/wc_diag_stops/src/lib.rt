@@ -3,7 +3,6 @@
 #![tactic(auto)]
 
 mod around;
-mod durations;
 mod expected;
 mod lexemes;
 mod lexical;
@@ -19,8 +18,8 @@ pub use around::{
 };
 pub use lexemes::{BYTE_ORDER_MARK, case_of_lexeme, is_bare_duration};
 pub use lexical::{
-    follows_digit, is_digit, is_operator, mistaken_byte, mistaken_duration, mistaken_number,
-    mistaken_statement,
+    is_digit, is_operator, mistaken_byte, mistaken_duration, mistaken_number, mistaken_statement,
+    text_before,
 };
 pub use listing::the_list_is_exact;
 pub use places::exchange;

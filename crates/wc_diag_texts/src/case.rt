@@ -20,7 +20,6 @@ pub enum Case {
     SignAlone,
     WithBase,
     WithPoint,
-    StatementAddress,
     OutOfRange,
     NoNumber,
     // Tokens at which the reading stops.
@@ -42,7 +41,6 @@ pub enum Case {
     NoAddress,
     Closing,
     NegatedOperand,
-    InputOperator,
     InstanceCall,
     LabelWithoutColon,
     Loop,

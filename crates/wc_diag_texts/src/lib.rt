@@ -11,7 +11,7 @@ mod mistakes;
 mod paths;
 
 pub use case::Case;
-pub use catalogue::{Entry, entry_of};
+pub use catalogue::{Entry, entry_of, warning_of};
 pub use expected::{Expected, words_of};
 pub use format::Format;
 pub use mistake::Mistake;

@@ -92,7 +92,7 @@ fn reading_words(number: u16, case: Case) -> Words {
         104, Case::DoubleUnderscore => "has two underscores in a row", "";
         104, Case::LastUnderscore => "has an underscore at its end", "";
         105, Case::SignAlone => "is a sign without a number", "a sign is right before its digits, without a space, such as -5; write ADD or SUB and the number on a line of its own, such as LD n, then ADD m in place of an L m and a +I; the negative of a number is LD 0, and on the next line SUB and the number";
-        105, Case::WithBase => "is not a valid literal, or is out of range", "the largest is 16#7FFFFFFF: write -2147483648 for 16#80000000, -1 for 16#FFFFFFFF";
+        105, Case::WithBase => "is not a valid literal, or is out of range", "the largest is 16#7FFFFFFF: write -2147483648 for 16#80000000, -1 for 16#FFFFFFFF; the digits of 2# are 0 and 1, of 8# 0 to 7, of 16# 0 to 9 and A to F, with single underscores between";
         105, Case::WithPoint => "has a decimal point, but numbers are integers", "write 1.5 kg as 1500, if weights have 3 decimals";
         105, Case::OutOfRange => "is out of range", "";
         201, Case::SectionWord => "is not allowed after an instruction", "declarations go between VAR and END_VAR, before the first instruction";
