@@ -28,7 +28,7 @@ pub(crate) fn point_advice(refused: &Refused<'_, '_>) -> Said {
         }
         None if refused.is_in_program() => {
             format!(in alloc;
-                "there are no global variables: write {field} without `{name}.`, which VAR declares"
+                "there are no global variables: write {field}, declared in VAR, without `{name}.`"
             )
         }
         None => {

@@ -158,7 +158,7 @@ pub(crate) fn mistaken_reset(refused: &Refused<'_, '_>) -> Option<Mistake> {
     mistake_among! {
         block.filter(|_| refused.span.formal.is_none());
         Some(StandardBlock::Ton) => Worded "a TON runs while IN is TRUE at its call, and is reset by FALSE: LD a, ANDN reset, ST run, CAL t(IN := run, PT := T#1s)";
-        Some(StandardBlock::Tof | StandardBlock::Tp) => Worded "its call sets IN and PT, and its time ends it: for an earlier end write LD t.Q, ANDN reset";
+        Some(StandardBlock::Tof | StandardBlock::Tp) => Worded "the call of a TOF or TP sets IN and PT, and its time ends it: for an earlier end write LD t.Q, ANDN reset";
         Some(StandardBlock::Ctu) => Worded "a CTU counts, and is reset to a CV of 0, at its call: CAL c(CU := a, R := b, PV := 3)";
     }
 }

@@ -56,9 +56,9 @@ fn mistaken_sign(tokens: &[Token<'_>], byte: u8) -> Option<Mistake> {
         (Some(_), _) => Worded "this looks like Structured Text: for IF w >= 1000 write LD w, GE 1000, JMPCN skip; `skip:` is the END_IF";
         _ if before.is_empty() => Worded says "is not an operator", "this looks like Siemens STL (AWL): `=` is ST, ==I EQ, <>I NE, >I GT, <I LT, >=I GE and <=I LE, each comparison with its operand in place of the L before it: L 5 and ==I together are EQ 5; U or O is LD at the start and after each `=`, S or R, else AND or OR";
         _ if is_given(before) => Worded "after `:=` comes one value: compare on lines above, such as LD a, GT b, ST c, and take c";
-        (None, b'=') if has_colon => Worded "an initial value is written with `:=`, such as a : DINT := 5;";
         (None, b'=') if is_of_call(before) && before.len() > 1 => Worded "an input is passed with `:=`, such as IN := a";
-        (None, b'=') => Worded "to store write ST, to compare EQ, NE, GT, GE, LT or LE; a call and a declaration have `:=`";
+        (None, b'=') if has_colon => Worded "an initial value is written with `:=`, such as a : DINT := 5;";
+        (None, b'=') => Worded "to store write ST, to compare EQ, NE, GT, GE, LT or LE; a call has `:=`, and a declaration is a : DINT := 5;";
         _ if is_of_call(before) => Worded "an output is read with =>, such as Q => a";
         (None, b'>') => Worded "to compare write GT or GE";
         (None, b'<') => Worded "to compare write LT, LE or NE";
@@ -82,25 +82,25 @@ fn is_duration(text: &[u8]) -> bool {
     text.starts_with(b"T#") || text.starts_with(b"t#")
 }
 
-/// A byte of which this language has none, by the tokens before it on its line and the byte after it.
-fn foreign_byte(before: &[Token<'_>], byte: u8, next: Option<&u8>) -> Option<Mistake> {
+/// A byte of which this language has none, by the tokens before it on its line and what begins with it.
+fn foreign_byte(before: &[Token<'_>], rest: &[u8]) -> Option<Mistake> {
     mistake_among! {
-        (byte, next);
-        (b'[', Some(b'A'..=b'Z' | b'a'..=b'z')) if is_of_call(before) && before.len() == 2 => Worded "the list of a call is in parentheses, such as CAL t(IN := a)";
-        (b'[' | b']', _) => Worded "this language has no arrays: declare one variable for each element, such as a0, a1";
-        (b'{' | b'}', _) => Worded "delete it: this language has no pragmas; a comment is (* .. *)";
-        (b'/', Some(b'/')) => Worded "a comment is (* .. *)";
-        (b'*' | b'/', _) if is_given(before) => Worded "after `:=` comes one value: write the product or quotient itself, or compute it on lines above, such as LD a, MUL b, ST c, and take c";
-        (b'*', _) if is_duration(text_of(before.last())) => Worded "a TIME cannot be multiplied: write the product, such as T#15s";
-        (b'/', _) => Worded "to divide write DIV; a comment is (* .. *)";
-        (b'*', _) => Worded "to multiply write MUL; a comment is (* .. *)";
-        (b'#', Some(b'A'..=b'Z' | b'a'..=b'z' | b'_')) => Worded "write the name without the #; a # belongs to a literal, such as 16#FF or T#5s";
-        (b'#', _) => Worded "a # belongs to a literal, such as 16#FF or T#5s";
-        (b'\r', _) => Worded "save the file with line ends of Windows (CR LF) or Unix (LF)";
-        (0, _) => Worded "save the text as ASCII, or as UTF-8 without a byte order mark";
-        (0xc2, Some(0xa0)) => NoBreakSpace says "a no-break space (U+00A0) is not allowed here", "write a space in its place";
-        (0xe2, Some(0x80)) => Worded "a minus sign is -, as on the keyboard; comments may have any character";
-        (128.., _) => Worded "names have the letters A to Z and a to z, digits and underscores; comments may have any";
+        rest;
+        [b'[', b'A'..=b'Z' | b'a'..=b'z', ..] if is_of_call(before) && before.len() == 2 => Worded "the list of a call is in parentheses, such as CAL t(IN := a)";
+        [b'[' | b']', ..] => Worded "this language has no arrays: declare one variable for each element, such as a0, a1";
+        [b'{' | b'}', ..] => Worded "delete it: this language has no pragmas; a comment is (* .. *)";
+        [b'/', b'/', ..] => Worded "a comment is (* .. *)";
+        [b'*' | b'/', ..] if is_given(before) => Worded "after `:=` comes one value: write the product or quotient itself, or compute it on lines above, such as LD a, MUL b, ST c, and take c";
+        [b'*', ..] if is_duration(text_of(before.last())) => Worded "a TIME cannot be multiplied: write the product, such as T#15s";
+        [b'/', ..] => Worded "to divide write DIV; a comment is (* .. *)";
+        [b'*', ..] => Worded "to multiply write MUL; a comment is (* .. *)";
+        [b'#', b'A'..=b'Z' | b'a'..=b'z' | b'_', ..] => Worded "write the name without the #; a # belongs to a literal, such as 16#FF or T#5s";
+        [b'#', ..] => Worded "a # belongs to a literal, such as 16#FF or T#5s";
+        [b'\r', ..] => Worded "save the file with line ends of Windows (CR LF) or Unix (LF)";
+        [0, ..] => Worded "save the text as ASCII, or as UTF-8 without a byte order mark";
+        [0xc2, 0xa0, ..] => NoBreakSpace says "a no-break space (U+00A0) is not allowed here", "write a space in its place";
+        [0xe2, 0x80, 0x90..=0x95, ..] | [0xe2, 0x88, 0x92, ..] => Worded "a minus sign is that of the keyboard, such as -5; comments may have any";
+        [128.., ..] => Worded "names have the letters A to Z and a to z, digits and underscores; comments may have any";
     }
 }
 
@@ -114,7 +114,7 @@ pub fn mistaken_byte(
     match case {
         Case::Byte(byte @ (b'=' | b'<' | b'>')) => mistaken_sign(before, byte),
         Case::Byte(b'\'' | b'"') => mistaken_quote(before, start, rest),
-        Case::Byte(byte) => foreign_byte(last_line(before), byte, rest.get(1)),
+        Case::Byte(_) => foreign_byte(last_line(before), rest),
         _ => None,
     }
 }

@@ -99,7 +99,7 @@ fn token_entry(number: u16) -> Option<&'static Entry>
             mended "PROGRAM P" "LD %ID1" "GE 1500" "AND %IX1.5" "ST %QX0.0" "END_PROGRAM";
         106 "tokens": "a duration is malformed or out of range" quoted "is not a valid duration, or is out of range"
             at "the line of the token", "T#" => 1,
-            help "write days to milliseconds in order, each once, such as T#1d2h3m4s5ms, or one with a point, such as T#1.5s; after the first number hours are below 24, minutes and seconds below 60; the longest is T#24d20h31m23s647ms (a TON of T#1d and a CTU count days), the shortest T#1ms",
+            help "write days to milliseconds in order, each once, such as T#1d2h3m4s5ms, or one with a point, such as T#1.5s; after the first number hours are below 24, minutes and seconds below 60; the longest is T#24d20h31m23s647ms (a TON of T#1d and a CTU count days), and milliseconds are whole",
             wrong "PROGRAM P" "VAR t : TON; END_VAR" "CAL t(IN := %IX0.0, PT := T#5, Q => %QX0.0)" "END_PROGRAM"
             why "without a unit 5 could be seconds or milliseconds" rule "2.2"
             mended "PROGRAM P" "VAR t : TON; END_VAR" "CAL t(IN := %IX0.0, PT := T#5s, Q => %QX0.0)" "END_PROGRAM";

@@ -150,7 +150,7 @@ fn declared_words(number: u16, case: Case) -> Words {
 fn kind_words(number: u16, case: Case) -> Words {
     words_among! {
         number, case;
-        402, Case::Instance => "is an instance, and has no value of its own", "name one of its outputs, such as t.Q";
+        402, Case::Instance => "is an instance, and has no value of its own", "name one of its outputs, such as t.Q, c.CV or l.Q1";
         402, Case::NoInstance => "is not an instance of a function block", "CAL names an instance of a function block, declared in VAR: t : TON;";
         402, Case::TruthLiteral => "", "here 0 and 1 are DINTs: write FALSE for 0, TRUE for 1";
         402, Case::StoredTimeToNumber => "", counting_seconds!("a TIME cannot be converted: store it to a TIME variable");
@@ -162,7 +162,9 @@ fn kind_words(number: u16, case: Case) -> Words {
         402, Case::DividedTime => "", counting_seconds!("a TIME cannot be divided: compare it, such as GE T#15s");
         402, Case::Closing => "closes with another type than that of the result before its parenthesis", "end the lines in the parenthesis with the type of the result before it";
         402, Case::Untaken(_) => "is of a type that this operator does not take", "";
-        402, Case::Unlike(_) => "is of another type than the current result", "";
+        402, Case::Unlike(Kind::Bool) => "is a BOOL, but the current result is of another type", "";
+        402, Case::Unlike(Kind::Dint) => "is a DINT, but the current result is of another type", "";
+        402, Case::Unlike(Kind::Time) => "is a TIME, but the current result is of another type", "";
         402, Case::Result => "does not take the type of the current result", "";
         402, Case::Unpassed(Kind::Bool, _) => DIFFERS, "pass a number to a DINT, a duration to a TIME";
         402, Case::Unpassed(_, Kind::Bool) => DIFFERS, "compare before the call, store the BOOL in a variable, and pass that variable";
