@@ -117,7 +117,7 @@ fn mistaken_in_unit(token: &[u8], next: Option<&Token<'_>>, expected: Expected) 
         (Expected::LineEnd | Expected::PointOrLineEnd, _, Some(Keyword::Load(_) | Keyword::Store(_) | Keyword::Jump(_) | Keyword::Call(_) | Keyword::Return(_))) => Worded "write each instruction on a line of its own";
         (Expected::LineEnd | Expected::PointOrLineEnd, _, Some(Keyword::Apply(_))) => Worded "each operator has a line of its own: AND( a, then OR b, then `)`";
         (Expected::LineEnd, Some(b'.'), _) => Worded "a name has one point at most: what a block has inside is read by its VAR_OUTPUT";
-        (Expected::LineEnd | Expected::PointOrLineEnd, Some(b'+' | b'-'), _) => Worded "an operand is computed in a parenthesis: for GE n + 20 write GE( n, then ADD 20, then `)`; for LD n + 20 LD n, and ADD 20 on the next line";
+        (Expected::LineEnd | Expected::PointOrLineEnd, Some(b'+' | b'-'), _) => Worded "an operand is computed in a parenthesis: for GE n + 20 write GE( n, then ADD 20, then `)`; for LD n + 20 write LD n, and ADD 20 on the next line";
         (Expected::LineEnd | Expected::PointOrLineEnd, Some(b'A'..=b'Z' | b'a'..=b'z' | b'%'), None) => Worded "an operator has one operand, and each instruction a line of its own";
         (Expected::Instruction | Expected::InstructionOrLineEnd, Some(b'%'), _) => Assignment "";
         (Expected::NameOrEndVar | Expected::CommaOrColon | Expected::Name | Expected::TypeName | Expected::AssignOrSemicolon | Expected::Semicolon, _, word)

@@ -152,6 +152,7 @@ pub fn mistaken_number(
         (case, keyword_named(operator_on(line)));
         _ if is_name(text_before(tokens, start)) => SignAlone "a name has letters, digits and underscores alone, such as start_button; a sign is right before its digits";
         (Case::SignAlone, _) if token.starts_with(b"-") && rest.starts_with(b">") => Worded "an output is read with =>, such as Q => a";
+        (Case::SignAlone, _) if is_given(line) => SignAlone "after `:=` comes one value: write the sum itself, or compute it on lines above, such as LD a, ADD b, ST c, and take c";
         (Case::SignAlone, Some(Keyword::Apply(_))) if line.len() > 1 => SignAlone "an operand is computed in a parenthesis: for GE n + 20 write GE( n, then ADD 20, then `)`";
         (Case::WithPoint, _) if token.windows(2).any(|pair| pair.starts_with(b"..")) => Worded says "is a range, and there are no ranges", "leave the range out: a DINT is -2147483648 to 2147483647";
         (Case::WithPoint, _) if is_among(b"mul div mod", before) => Worded "write a factor with whole numbers: for MUL 0.5 write MUL 1, and DIV 2 on the next line";

@@ -139,7 +139,7 @@ fn declared_words(number: u16, case: Case) -> Words {
         403, Case::Plain => "there is no current result", "begin with LD: no line that leads here has loaded a value";
         404, Case::LiteralTarget => "", "the target is a variable or an output, such as ST a, or Q => a in a call; LD loads the value";
         404, _ => "", "an input is set by the caller: copy it to a variable in VAR, and change the copy";
-        405, _ => "", "declare it in VAR_OUTPUT of the block; the value of an input store in a variable of your own, pass that, and read it";
+        405, _ => "", "store the value of an input in a variable of your own, pass that, and read it; of a block of the text declare in VAR_OUTPUT what is to be read";
         408, Case::Deferred => "takes no parenthesis", "DIV and MOD take an integer literal, such as DIV 10; DIV( and MOD( do not exist";
         409, Case::InputArrow => "is an input of this block, and `=>` reads an output", "an input is passed with :=, such as IN := a";
         409, Case::OutputAssigned => "is an output of this block, and `:=` passes an input", "an output is read with =>, such as Q => a";
