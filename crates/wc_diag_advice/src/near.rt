@@ -130,18 +130,15 @@ pub(crate) fn instance_advice(refused: &Refused<'_, '_>) -> Said {
 /// What to write for what is called and not declared: a label, or an instance.
 pub(crate) fn called_advice(refused: &Refused<'_, '_>) -> Said {
     let name = words(refused.offending())?;
-    Some(
-        match near_label(refused.units, name.as_bytes(), refused.span.start) {
-            Some(label) => {
-                format!(in refused.alloc;
-                    "`{label}` is a label: jump to it with JMPC {label}, or make its lines a FUNCTION_BLOCK, and call an instance"
-                )
-            }
-            None => {
-                format!(in refused.alloc; "declare the instance in VAR, such as {name} : TON;")
-            }
-        },
-    )
+    let label = near_label(refused.units, name.as_bytes(), refused.span.start);
+    Some(match label {
+        Some(label) if is_word(label.as_bytes(), name.as_bytes()) => {
+            format!(in refused.alloc;
+                "`{label}` is a label: jump to it with JMPC {label}, or make its lines a FUNCTION_BLOCK, and call an instance"
+            )
+        }
+        _ => format!(in refused.alloc; "declare the instance in VAR, such as {name} : TON;"),
+    })
 }
 
 /// Which variable of the program a watched name may be a misspelling of, if one is near. The program was read into these units;

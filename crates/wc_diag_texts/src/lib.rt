@@ -1,5 +1,6 @@
-//! The sentences of the refusals: what is said of each by its number (`entry_of`, of a warning `warning_of`), by the case in which its rule is broken
-//! (`sentence_of`, `hint_of`), of what could be there (`words_of`) and of the paths to a label (`paths_text`); and the formats of a message.
+//! The sentences of the refusals: what is said of each by its number (`entry_of`; of a warning `warning_of`), by the case in
+//! which its rule is broken (`sentence_of`, `hint_of`), of what could be there (`words_of`) and of the paths to a label
+//! (`paths_text`); and the formats of a message.
 #![tactic(auto)]
 
 mod case;
