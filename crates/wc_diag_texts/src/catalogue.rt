@@ -318,7 +318,7 @@ fn input_entry(number: u16) -> Option<&'static Entry>
     entry_among! {
         number;
         501 "plate": "the plate is not TOML"
-            at "0", "plate x" => 0, help "the plate has lines `key = value`";
+            at "0", "plate x" => 0, help "the plate has lines `key = value`: a text is between quotation marks, such as unit = \"kg\", a number is digits alone, such as max = 15000";
         502 "plate": "a key is missing, is unknown, or has a value of the wrong type"
             at "0", "(the empty plate)" => 0,
             help "the keys are unit, decimals, max, e, zero_counts, span_counts and window, each once; unit is a text, the others are whole numbers, max and e in units of the last decimal, such as e = 5 for 0.005 kg";
