@@ -14,7 +14,6 @@ mod placing;
 mod short;
 mod snippets;
 mod warned_parts;
-mod warning_entries;
 
 pub use explaining::{explained, warning_message};
 pub use jobs::{JobSection, section_of};

@@ -1,5 +1,5 @@
-//! The sentences of the refusals: what is said of each by its number (`entry_of`), by the case in
-//! which its rule is broken (`sentence_of`, `hint_of`), of what could be there (`words_of`) and of
+//! The sentences of the refusals: what is said of each by its number (`entry_of`; of a warning
+//! `warning_of`), by the case in //! which its rule is broken (`sentence_of`, `hint_of`), of what could be there (`words_of`) and of
 //! the paths to a label (`paths_text`); and bytes as they are shown to people: a text of characters
 //! that a terminal only shows (`Message`), and columns of a line.
 #![tactic(auto)]
@@ -17,7 +17,7 @@ mod plain;
 
 pub use acting::hidden_length;
 pub use case::Case;
-pub use catalogue::{Entry, entry_of};
+pub use catalogue::{Entry, entry_of, warning_of};
 pub use expected::{Expected, words_of};
 pub use format::Format;
 pub use message::{Message, shown};
