@@ -1,7 +1,7 @@
-//! The sentences of the refusals: what is said of each by its number (`entry_of`; of a warning
-//! `warning_of`), by the case in //! which its rule is broken (`sentence_of`, `hint_of`), of what could be there (`words_of`) and of
-//! the paths to a label (`paths_text`); and bytes as they are shown to people: a text of characters
-//! that a terminal only shows (`Message`), and columns of a line.
+//! The sentences of the refusals: what is said of each by its number (`entry_of`; of a warning `warning_of`), by the case in
+//! which its rule is broken (`sentence_of`, `hint_of`), of what could be there (`words_of`) and of the paths to a label
+//! (`paths_text`); and bytes as they are shown to people: a text of characters that a terminal only shows (`Message`), and
+//! columns of a line.
 #![tactic(auto)]
 
 mod acting;
