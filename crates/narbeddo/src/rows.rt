@@ -2,7 +2,7 @@ ghost use types.Logic.{sem};
 ghost use Rattle.std.specs.Borrow.{full_share};
 ghost use Rattle.std.specs.Ptr.{lies_at};
 ghost use Rattle.std.specs.Prelude.{[]};
-ghost use Rattle.wc_laws_calls.specs.LineCalls.{AnswersWithoutTheCustomer, Inputs, IsStep, Scan};
+ghost use Rattle.wc_scale.specs.LineCalls.{AnswersWithoutTheCustomer, Inputs, IsStep, Scan};
 ghost use Rattle.wc_scale.specs.contracts.scale.Scale.{the_row};
 ghost use Rattle.wc_scale.specs.Calls.{RefusesByte, RefusesInputs, RefusesSample, RefusesScan, TakesByte, TakesInputs, TakesSample, TakesScan};
 

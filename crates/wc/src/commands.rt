@@ -17,9 +17,8 @@ use wc_diag_texts::Format;
 use wc_model::Device;
 use wc_view_decode::{DecodeFault, DecodeFormat, decode as decode_report};
 use wc_view_picture::show_files;
-use wc_view_preview::preview_files;
 use wc_view_trace::{Chosen, TraceFormat, trace_files};
-use wc_view_watch::{UnknownName, WatchChoice, watch_files};
+use wc_view_watch::{UnknownName, WatchChoice, preview_files, watch_files};
 
 /// Writes what is still gathered, and returns how the command ended: the exit status.
 fn finish(

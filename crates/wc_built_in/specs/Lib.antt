@@ -1,3 +1,4 @@
 pub mod Fields
 pub mod Direct
 pub mod Keywords
+pub mod WholeNumbers

@@ -14,8 +14,8 @@ use Rattle.wc_model.specs.Language.Loading.{IsLoaded, IsNextLoaded}
 use Rattle.wc_model.specs.Language.Tree.{Text}
 use Rattle.wc_model.specs.Run.Rows.{RowData, Counts, Bytes, Inputs, Scan, Change, Past}
 use Rattle.wc_model.specs.declared.value.Value.{Value}
-use Rattle.wc_laws_soundness.specs.Sound.{EndsWell}
-use Rattle.wc_laws_soundness.proofs.Runs.{first_sound, sound_after, sound_scan}
+use Rattle.wc_laws_language.specs.Sound.{EndsWell}
+use Rattle.wc_laws_language.proofs.Runs.{first_sound, sound_after, sound_scan}
 
 -- the next scan ends well, whatever rows have come
 well : (plate : PlateData) (bytes : List ℕ) (text : Text) → IsLoaded bytes text → (next : Option Text) → IsNextLoaded next → (past : Past) (ms : ℕ) →

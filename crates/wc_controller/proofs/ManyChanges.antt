@@ -16,12 +16,12 @@ use Rattle.wc_model.specs.Say.ProgramReport.{result_of}
 use Rattle.wc_model.specs.Say.Report.{state_with}
 use Rattle.wc_model.specs.declared.image.Image.{Image}
 use Rattle.wc_model.specs.declared.value.Value.{Value}
-use Rattle.wc_laws_soundness.proofs.Carrying.{carried_holds}
-use Rattle.wc_laws_soundness.proofs.Places.{SameSlots-refl}
-use Rattle.wc_laws_soundness.proofs.Runs.{left_by}
-use Rattle.wc_laws_soundness.proofs.Spelled.{loaded_text_is_never_stuck}
-use Rattle.wc_laws_soundness.specs.Sound.{EndsWell}
-use Rattle.wc_laws_soundness.specs.Typing.{SameSlots}
+use Rattle.wc_laws_language.proofs.Carrying.{carried_holds}
+use Rattle.wc_laws_language.proofs.Places.{SameSlots-refl}
+use Rattle.wc_laws_language.proofs.Runs.{left_by}
+use Rattle.wc_laws_language.proofs.Spelled.{loaded_text_is_never_stuck}
+use Rattle.wc_laws_language.specs.Sound.{EndsWell}
+use Rattle.wc_laws_language.specs.Typing.{SameSlots}
 
 -- the text that runs is loaded, its store holds the kinds of what it declares, and the texts that follow are loaded
 record AreSound (turns : Turns) : Type 0 where

@@ -12,7 +12,7 @@ use Rattle.wc_model.specs.Language.Scopes.{Scope}
 use Rattle.wc_model.specs.Language.Store.{Store}
 use Rattle.wc_model.specs.Language.Tree.{ProgramUnit}
 use Rattle.wc_model.specs.declared.value.Value.{Value}
-use Rattle.wc_laws_soundness.specs.Sound.{EndsWell}
+use Rattle.wc_laws_language.specs.Sound.{EndsWell}
 
 -- by how the scan ends
 by_outcome : (scope : Scope) (bound : ℕ) (first : Store) → IsLongest scope bound → (outcome : Outcome) → TraceIs (IsPath scope) outcome

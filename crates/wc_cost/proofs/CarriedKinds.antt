@@ -11,8 +11,8 @@ use Rattle.wc_model.specs.Language.Tree.{Text}
 use Rattle.wc_model.specs.Text.Grammar.{IsProgramLast}
 use Rattle.wc_model.specs.declared.place.Place.{Place}
 use Rattle.wc_model.specs.declared.value.Value.TheVariants.{Bool as Truth}
-use Rattle.wc_laws_soundness.proofs.Carrying.{first_holds, kept_leads, one_fits}
-use Rattle.wc_laws_soundness.specs.Typing.{slot_of}
+use Rattle.wc_laws_language.proofs.Carrying.{first_holds, kept_leads, one_fits}
+use Rattle.wc_laws_language.specs.Typing.{slot_of}
 
 -- the two ways to determine the kind of a content
 pub slots_alike : (o : Option Content) → option_map slot_kind_of o ≡ option_map slot_of o

@@ -17,8 +17,8 @@ use Rattle.wc_model.specs.Language.Tree.{ProgramUnit}
 use Rattle.wc_model.specs.declared.code.Code.{Code}
 use Rattle.wc_model.specs.declared.fault.Fault.{Fault}
 use Rattle.wc_model.specs.declared.fault.Fault.TheVariants.{Refused, Memory}
-use Rattle.wc_laws_soundness.proofs.Places.{Some-same}
-use Rattle.wc_laws_soundness.specs.Sound.{NestsSimply}
+use Rattle.wc_laws_language.proofs.Places.{Some-same}
+use Rattle.wc_laws_language.specs.Sound.{NestsSimply}
 use Rattle.wc_cost.specs.Faultless.{AreLoaded, IsMeasured, IsOverrun, LoadsUnits, MeasuresUnit}
 use Rattle.wc_cost.specs.LoadedInside.{AreLines, bounds_of, codes_of}
 use Rattle.wc_cost.specs.PathLengths.{AreSmall}

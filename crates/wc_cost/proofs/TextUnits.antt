@@ -17,12 +17,12 @@ use Rattle.wc_model.specs.Text.Grammar.{InBody, line_ends, unit_of}
 use Rattle.wc_model.specs.Text.Languages.{each, ◌then◌}
 use Rattle.wc_model.specs.Text.Marks.{Mark}
 use Rattle.wc_model.specs.Text.Reading.{mark_of_token}
-use Rattle.wc_laws_soundness.proofs.Places.{Some-same}
-use Rattle.wc_laws_soundness.proofs.Spelled.{spelled_text_nests}
-use Rattle.wc_laws_soundness.proofs.Steps.{clean_first, clean_second}
-use Rattle.wc_laws_soundness.proofs.Texts.{none_broken}
-use Rattle.wc_laws_soundness.specs.Laws.{UnitsNestSimply}
-use Rattle.wc_laws_soundness.specs.Sound.{Clean, NestsSimply}
+use Rattle.wc_laws_language.proofs.Places.{Some-same}
+use Rattle.wc_laws_language.proofs.Spelled.{spelled_text_nests}
+use Rattle.wc_laws_language.proofs.Steps.{clean_first, clean_second}
+use Rattle.wc_laws_language.proofs.Texts.{none_broken}
+use Rattle.wc_laws_language.specs.SoundnessLaws.{UnitsNestSimply}
+use Rattle.wc_laws_language.specs.Sound.{Clean, NestsSimply}
 use Rattle.wc_lowering.proofs.LowerableLines.{lines_lowerable}
 use Rattle.wc_cost.specs.Faultless.{IsFaultless, IsSpelled}
 use Rattle.wc_lowering.specs.Lowerable.{IsLowerable}

@@ -15,8 +15,8 @@ use Rattle.wc_model.specs.Text.Reading.{IsRead, mark_of_token}
 use Rattle.wc_model.specs.declared.code.Code.{Code}
 use Rattle.wc_model.specs.declared.source.Source.{Source}
 use Rattle.wc_model.specs.declared.source.Unit.{Unit as CodeUnit}
-use Rattle.wc_laws_soundness.proofs.Places.{Some-same}
-use Rattle.wc_laws_tokens.proofs.Ascii.{AreAscii, IsAsciiSymbol, ascii_parts, tokens_ascii}
+use Rattle.wc_laws_language.proofs.Places.{Some-same}
+use Rattle.wc_laws_grammar.proofs.Ascii.{AreAscii, IsAsciiSymbol, ascii_parts, tokens_ascii}
 
 -- the two parts of a sequence
 parts : {A B : List Mark → Type 0} (tokens : List Mark) (s : Sequence A B tokens) → AreAscii tokens → AreAscii s.prefix × AreAscii s.rest

@@ -21,7 +21,7 @@ use Rattle.wc_model.specs.Text.Grammar.{IsProgramLast}
 use Rattle.wc_model.specs.declared.fault.Fault.{Fault}
 use Rattle.wc_model.specs.declared.fault.Fault.TheVariants.{Refused, Memory}
 use Rattle.wc_model.specs.declared.source.Source.{Source}
-use Rattle.wc_laws_soundness.proofs.Texts.{turned}
+use Rattle.wc_laws_language.proofs.Texts.{turned}
 use Rattle.wc_cost.proofs.TextUnits.{unit_at}
 use Rattle.wc_cost.specs.Costs.{IsCosted}
 use Rattle.wc_cost.specs.Faultless.{IsFaultless, LoadsUnits}

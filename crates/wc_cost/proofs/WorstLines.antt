@@ -14,7 +14,7 @@ use Rattle.wc_model.specs.Language.Scopes.{Scope}
 use Rattle.wc_model.specs.Language.Tree.{ProgramUnit, Text}
 use Rattle.wc_model.specs.Language.WorstPaths.{AreWorstLines}
 use Rattle.wc_model.specs.Text.Reading.{IsRead}
-use Rattle.wc_laws_soundness.proofs.Places.{Some-same}
+use Rattle.wc_laws_language.proofs.Places.{Some-same}
 use Rattle.wc_cost.specs.LoadedInside.{AreLines, bounds_of, codes_of}
 use Rattle.wc_cost.specs.LoadedTexts.{AreWorstAt}
 use Rattle.wc_cost.specs.declared.lowered.LoweredUnit.{LoweredUnit}

@@ -7,7 +7,7 @@ use Rattle.wc_model.specs.Language.Frames.{first_numbers, slot_kinds}
 use Rattle.wc_model.specs.Language.Tree.{Text}
 use Rattle.wc_model.specs.Language.Views.{text_view}
 use Rattle.wc_model.specs.declared.code.Code.{Code}
-use Rattle.wc_laws_soundness.specs.FirstNumbers.{AreFirst}
+use Rattle.wc_laws_language.specs.FirstNumbers.{AreFirst}
 use Rattle.wc_cost.specs.LoadedTexts.{LoadedText, IsLoadedSound}
 use Rattle.wc_cost.specs.PathLengths.{AreSmall}
 use Rattle.wc_cost.specs.declared.lowered.LoweredUnit.{LoweredUnit}

@@ -4,7 +4,7 @@ ghost use Rattle.wc_model.specs.Language.Frames.{first_numbers, number_of_path, 
 ghost use Rattle.wc_model.specs.Language.Scopes.{Scope};
 ghost use Rattle.wc_model.specs.Language.Views.{text_view};
 ghost use Rattle.wc_model.specs.Say.UnitReport.{IsBoundAt};
-ghost use Rattle.wc_laws_soundness.specs.FirstNumbers.{AreFirst};
+ghost use Rattle.wc_laws_language.specs.FirstNumbers.{AreFirst};
 ghost use Rattle.wc_text_flat.specs.Contents.{frame_of_text};
 ghost use Rattle.wc_text_flat.specs.FlatPaths.{sources_of};
 ghost use Rattle.wc_cost.specs.LoadedTexts.{AreWorstAt, IsLoadedSound, IsProgramOf};

@@ -24,11 +24,10 @@ fn members_of(block: StandardBlock, is_input: bool) -> &'static [&'static str] {
     }
 }
 
-/// Nearness of short names, of which one letter may be all: how many bytes at their start are the same letters.
+/// Nearness of short names, of which one letter may be all: the last letter differs at most.
 fn is_near_member(member: &[u8], name: &[u8]) -> bool {
-    let (shorter, longer) = (member.len().min(name.len()), member.len().max(name.len()));
-    let least = longer.saturating_sub(1);
-    longer > 1 && shorter >= least && same_prefix(member, name) >= least
+    let longer = member.len().max(name.len());
+    longer > 1 && same_prefix(member, name).saturating_add(1) >= longer
 }
 
 /// The block of the text that has that name.
@@ -96,31 +95,4 @@ pub(crate) fn member_advice(
             format!(in refused.alloc; "did you mean `{instance}.{near}`? {said}")
         }
     }
-}
-
-/// The first input of a block, or its first output, if it has one.
-pub(crate) fn first_member<'a>(
-    refused: &Refused<'a, '_>,
-    block: &str,
-    wanted: Section,
-) -> Option<&'a str> {
-    if let Some(standard) = standard_block(block.as_bytes()) {
-        return members_of(standard, wanted == Section::Input)
-            .first()
-            .copied();
-    }
-    let mut declarations = block_named(refused, block)?.declarations.iter();
-    let members = declarations.find(|declaration| declaration.section == wanted)?;
-    words(members.names.first()?.text)
-}
-
-/// Whether a block of the text has a variable in VAR.
-pub(crate) fn declares_own(refused: &Refused<'_, '_>, block: &str, name: &str) -> bool {
-    block_named(refused, block).is_some_and(|unit| unit.declarations.iter().any(|declaration| {
-        declaration.section == Section::Own
-            && declaration
-                .names
-                .iter()
-                .any(|word| word.text.eq_ignore_ascii_case(name.as_bytes()))
-    }))
 }

@@ -2,7 +2,7 @@ use std::alloc::Global;
 use wc_built_in::{Keyword, elementary_type, keyword_named};
 use wc_diag_mistakes::{Refused, Said, words};
 use wc_diag_stops::{
-    first_word, following, is_among, is_near, last_line, text_of, without_line_ends,
+    difference, first_word, following, is_among, is_near, last_line, text_of, without_line_ends,
 };
 use wc_lexer::Token;
 use wc_model::{Decl, Section, Unit, is_word};
@@ -11,11 +11,16 @@ use wc_model::{Decl, Section, Unit, is_word};
 const OPERATORS: &str =
     "LD LDN ST STN S R AND ANDN OR ORN XOR XORN NOT ADD SUB MUL DIV MOD GT GE EQ NE LE LT JMP JMPC JMPCN CAL CALC CALCN RET RETC RETCN";
 
-/// Which of some words another may be a misspelling of, if one is near.
+/// Which of some words another may be a misspelling of, if one is near: the nearest.
 pub(crate) fn near_word(words: &'static str, word: &[u8]) -> Option<&'static str> {
-    words
-        .split(' ')
-        .find(|other| is_near(other.as_bytes(), word))
+    for wanted in 0_u8..4 {
+        let mut others = words.split(' ');
+        let found = others.find(|other| difference(other.as_bytes(), word) == Some(wanted));
+        if found.is_some() {
+            return found;
+        }
+    }
+    None
 }
 
 /// What to write for what is near, if something is.
@@ -103,14 +108,37 @@ pub(crate) fn near_name<'a>(
     near_in_unit(refused.units, name, refused.span.start, wanted)
 }
 
-/// Which instance of the unit is called, if the name of its block is in place of its own.
+/// What to write for the name of a block in place of that of an instance: the one of the unit, or one to declare.
 pub(crate) fn instance_advice(refused: &Refused<'_, '_>) -> Said {
     let block = words(refused.offending())?;
-    let instance = near_name(refused, block.as_bytes(), Wanted::InstanceOf)?;
-    if !refused.is_called() {
-        return None;
-    }
-    Some(format!(in refused.alloc; "did you mean `{instance}`, which is an instance of {block}?"))
+    Some(
+        match near_name(refused, block.as_bytes(), Wanted::InstanceOf) {
+            Some(instance) => {
+                format!(in refused.alloc;
+                    "did you mean `{instance}`, which is an instance of {block}?"
+                )
+            }
+            None => {
+                format!(in refused.alloc;
+                    "declare an instance in VAR, such as v : {block}; and call that: CAL v(..)"
+                )
+            }
+        },
+    )
+}
+
+/// What to write for what is called and not declared: a label, or an instance.
+pub(crate) fn called_advice(refused: &Refused<'_, '_>) -> Said {
+    let name = words(refused.offending())?;
+    let label = near_label(refused.units, name.as_bytes(), refused.span.start);
+    Some(match label {
+        Some(label) if is_word(label.as_bytes(), name.as_bytes()) => {
+            format!(in refused.alloc;
+                "`{label}` is a label: jump to it with JMPC {label}, or make its lines a FUNCTION_BLOCK, and call an instance"
+            )
+        }
+        _ => format!(in refused.alloc; "declare the instance in VAR, such as {name} : TON;"),
+    })
 }
 
 /// Which variable of the program a watched name may be a misspelling of, if one is near. The program was read into these units;
@@ -142,12 +170,6 @@ fn near_label<'a>(units: &[Unit<'a>], name: &[u8], place: usize) -> Option<&'a s
 pub(crate) fn label_advice(refused: &Refused<'_, '_>) -> Said {
     let name = refused.offending();
     match near_label(refused.units, name, refused.span.start) {
-        None if keyword_named(name).is_some() => {
-            let label = words(name).unwrap_or("");
-            Some(format!(in refused.alloc;
-                "`{label}` is a reserved word: to leave the unit write RET, RETC or RETCN in place of the jump; a label has another name"
-            ))
-        }
         None => {
             let label = words(name).unwrap_or("label");
             Some(format!(in refused.alloc;

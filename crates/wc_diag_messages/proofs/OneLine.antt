@@ -13,7 +13,7 @@ use Rattle.wc_diag_messages.specs.Explanations.{QuotesAndSays, left_out_text, li
 use Rattle.wc_diag_messages.specs.Formats.{after_colon, helped_text, position_text, short_text}
 use Rattle.wc_diag_messages.specs.Known.{IsKnown, IsPrintable}
 use Rattle.wc_diag_messages.specs.Locations.{column_text, counted_name, counted_text, heading, number_text, place_text, row_text, section_text}
-use Rattle.wc_diag_shown.specs.Plain.{HasNoControls, IsShown, acts, column_of, escaped_byte, escaped_text, hex_digit, is_calm, is_control, passes, shown_text, with_spaces, words_after}
+use Rattle.wc_diag_texts.specs.Plain.{HasNoControls, IsShown, acts, column_of, escaped_byte, escaped_text, hex_digit, is_calm, is_control, passes, shown_text, with_spaces, words_after}
 use Rattle.wc_diag_messages.specs.Warned.{KnowsWarning, named_text}
 use Rattle.wc_diag_messages.specs.declared.parts.Parts.{Parts}
 use Rattle.wc_diag_messages.specs.declared.parts.Severity.{Severity}

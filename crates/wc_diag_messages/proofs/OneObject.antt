@@ -7,7 +7,7 @@ use Rattle.json.specs.Token as json_token
 use Rattle.json.specs.Token.{Token}
 use Rattle.wc_diag_messages.proofs.OneLine.{decimal_above, digit_above, joined}
 use Rattle.wc_diag_messages.specs.Formats.{column_after, first_column, number_if_any, number_member, object_tokens, position_members, severity_members, text_if_any, text_member, word_members}
-use Rattle.wc_diag_shown.specs.Plain.{HasNoControls}
+use Rattle.wc_diag_texts.specs.Plain.{HasNoControls}
 use Rattle.wc_diag_messages.specs.Warned.{left_out_tokens}
 use Rattle.wc_diag_messages.specs.declared.parts.Parts.{Parts}
 use Rattle.wc_diag_messages.specs.declared.parts.Severity.{Severity}

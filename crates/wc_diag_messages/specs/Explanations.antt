@@ -6,7 +6,7 @@ use Rattle.wc_diag_spans.specs.declared.refusal.Part.TheVariants.{Job, Plate, Pr
 use Rattle.wc_diag_spans.specs.declared.refusal.Refusal.{Refusal}
 use Rattle.wc_diag_messages.specs.Snippets.{snippet_text}
 use Rattle.wc_diag_messages.specs.Locations.{alongside_text, margin_text, number_text}
-use Rattle.wc_diag_shown.specs.Plain.{IsShown, shown_text}
+use Rattle.wc_diag_texts.specs.Plain.{IsShown, shown_text}
 use Rattle.wc_diag_messages.specs.declared.parts.Parts.{Parts}
 use Rattle.wc_diag_messages.specs.declared.parts.Severity.{Severity}
 use Rattle.wc_diag_messages.specs.declared.parts.Severity.TheVariants.{Error, Warning}

@@ -12,7 +12,7 @@ use Rattle.wc_diag_spans.specs.declared.refusal.Refusal.{Refusal}
 use Rattle.wc_diag_messages.specs.Explanations.{line_text, long_text, numbered}
 use Rattle.wc_diag_messages.specs.Known.{IsKnown}
 use Rattle.wc_diag_messages.specs.Locations.{column_text}
-use Rattle.wc_diag_shown.specs.Plain.{IsOneLine, acts_nowhere, column_of, is_plain, shown_text, words_after}
+use Rattle.wc_diag_texts.specs.Plain.{IsOneLine, acts_nowhere, column_of, is_plain, shown_text, words_after}
 use Rattle.wc_diag_messages.specs.declared.parts.Parts.{Parts}
 use Rattle.wc_diag_messages.specs.declared.parts.Severity.{Severity}
 use Rattle.wc_diag_messages.specs.declared.parts.Severity.TheVariants.{Error, Warning}

@@ -4,7 +4,7 @@ use Rattle.wc_diag_spans.specs.Finds.{Finds, IsWithin}
 use Rattle.wc_diag_spans.specs.declared.refusal.Refusal.{Refusal}
 use Rattle.wc_diag_messages.specs.Explanations.{QuotesAndSays, named_line}
 use Rattle.wc_diag_messages.specs.Locations.{place_text}
-use Rattle.wc_diag_shown.specs.Plain.{HasNoControls, IsShown}
+use Rattle.wc_diag_texts.specs.Plain.{HasNoControls, IsShown}
 use Rattle.wc_diag_messages.specs.declared.parts.Parts.{Parts}
 use Rattle.wc_diag_messages.specs.declared.parts.Severity.TheVariants.{Error}
 

@@ -4,8 +4,8 @@ use Rattle.std.specs.Fmt.{decimal}
 use Rattle.wc_diag_spans.specs.declared.diagnostic.Span.{Span}
 use Rattle.wc_diag_spans.specs.declared.refusal.Part.{Part}
 use Rattle.wc_diag_spans.specs.declared.refusal.Part.TheVariants.{Job, Plate, Program, Next, Log}
-use Rattle.wc_diag_shown.specs.Plain.{column_of, shown_text}
-use Rattle.wc_diag_shown.specs.declared.message.Message.{Message}
+use Rattle.wc_diag_texts.specs.Plain.{column_of, shown_text}
+use Rattle.wc_diag_texts.specs.declared.message.Message.{Message}
 
 -- these bytes are written after those of a message
 abbrev pub Writes : (old new : Message) → List ℕ → Type 0

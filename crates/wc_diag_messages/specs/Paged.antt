@@ -3,7 +3,7 @@
 use Rattle.std.specs.Prelude.{◌≡◌, ℕ, List, [], ◌∷◌, ◌++◌, codes, if◌then◌else◌}
 use Rattle.std.specs.List.{flat_map}
 use Rattle.wc_diag_messages.specs.Locations.{number_text}
-use Rattle.wc_diag_shown.specs.Plain.{shown_text}
+use Rattle.wc_diag_texts.specs.Plain.{shown_text}
 use Rattle.wc_diag_texts.specs.Numbers.{is_from}
 use Rattle.wc_diag_texts.specs.declared.catalogue.Entry.{Entry}
 

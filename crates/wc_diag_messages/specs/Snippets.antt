@@ -3,7 +3,7 @@
 use Rattle.std.specs.Prelude.{ℕ, ◌-◌, max, nat_lt, Bool, List, [], ◌∷◌, ◌++◌, Option, Some, None, codes, drop, length, replicate, take, if◌then◌else◌}
 use Rattle.wc_diag_spans.specs.declared.diagnostic.Span.{Span}
 use Rattle.wc_diag_messages.specs.Locations.{margin_text, number_text}
-use Rattle.wc_diag_shown.specs.Plain.{characters, escaped_text, passes, shown_text, with_spaces, words_after}
+use Rattle.wc_diag_texts.specs.Plain.{characters, escaped_text, passes, shown_text, with_spaces, words_after}
 
 -- the number of columns that bytes of a line take on screen, if it is shown as it is, or with escapes
 abbrev pub columns : Bool → List ℕ → ℕ

@@ -11,7 +11,7 @@ use Rattle.wc_diag_spans.specs.declared.diagnostic.Diagnostic.{Diagnostic}
 use Rattle.wc_diag_spans.specs.declared.diagnostic.Span.{Span}
 use Rattle.wc_diag_messages.specs.Formats.{IsObjectOf, Prints, number_member, text_member}
 use Rattle.wc_diag_messages.specs.Locations.{number_text}
-use Rattle.wc_diag_shown.specs.Plain.{shown_text}
+use Rattle.wc_diag_texts.specs.Plain.{shown_text}
 use Rattle.wc_diag_messages.specs.declared.parts.Parts.{Parts}
 use Rattle.wc_diag_messages.specs.declared.parts.Severity.TheVariants as severity
 use Rattle.wc_diag_texts.specs.declared.format.Format.{Format}

@@ -5,8 +5,7 @@ ghost use Rattle.wc_diag_messages.specs.Warned.{CountsLeftOut, LeavesOut, Report
 use crate::object::{line_of, name_text, write_number, write_text};
 use json::Writer;
 use std::alloc::{AllocError, Global};
-use wc_diag_shown::Message;
-use wc_diag_texts::Format;
+use wc_diag_texts::{Format, Message};
 
 /// The number of warnings left out, in words.
 fn words_of(alloc: Global, count: usize) -> Result<Message, AllocError>

@@ -14,11 +14,10 @@ mod placing;
 mod short;
 mod snippets;
 mod warned_parts;
-mod warning_entries;
 
 pub use explaining::{explained, warning_message};
 pub use jobs::{JobSection, section_of};
 pub use left_out::warnings_left_out;
 pub use page::{page as page_of, warning_page};
-pub use wc_diag_shown::{Message, shown};
 pub use wc_diag_spans::{Evidence, Part, Refusal};
+pub use wc_diag_texts::{Message, shown};

@@ -7,7 +7,7 @@ use crate::parts::{Parts, Severity};
 use crate::placing::{margin, write_place_line};
 use crate::snippets::write_snippet;
 use std::alloc::{AllocError, Global};
-use wc_diag_shown::Message;
+use wc_diag_texts::Message;
 
 /// What comes before the number: that of a warning is after its W.
 fn opening(severity: Severity) -> &'static str

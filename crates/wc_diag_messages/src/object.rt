@@ -8,8 +8,8 @@ ghost use Rattle.wc_diag_spans.specs.Finds.{IsWithin};
 use crate::parts::{Parts, Severity};
 use json::Writer;
 use std::alloc::{AllocError, Global};
-use wc_diag_shown::{Message, column_of, shown};
 use wc_diag_spans::Diagnostic;
+use wc_diag_texts::{Message, column_of, shown};
 
 /// Writes a member with a text.
 pub(crate) fn write_text(writer: &mut Writer, name: &str, text: &str) -> Result<(), AllocError>

@@ -3,10 +3,8 @@ ghost use Rattle.wc_diag_messages.specs.Locations.{Writes};
 ghost use Rattle.wc_diag_messages.specs.Paged.{ReportsPage, answer_line, help_lines, number_line, page_line, page_lines, plate_line, raised_at, raised_lines, shown_line};
 ghost use Rattle.wc_diag_texts.specs.Numbers.{is_from, is_refusal};
 
-use crate::warning_entries::warning_of;
 use std::alloc::{AllocError, Global};
-use wc_diag_shown::Message;
-use wc_diag_texts::{Entry, entry_of};
+use wc_diag_texts::{Entry, Message, entry_of, warning_of};
 
 /// The plate of which the pages of plates speak.
 fn plate_a() -> &'static str {
@@ -129,7 +127,7 @@ fn warned_message(alloc: Global, warning: &Entry) -> Result<Message, AllocError>
 pub fn warning_page(alloc: Global, number: u8) -> Result<Option<Message>, AllocError>
     ensures { IfOk result (λ page. is_some page ≡ is_from 1 9 number) }
 {
-    match warning_of(number) {
+    match warning_of(u16::from(number)) {
         Some(entry) => Ok(Some(warned_message(alloc, entry)?)),
         None => Ok(None),
     }

@@ -2,14 +2,13 @@ ghost use Rattle.std.specs.Prelude.{◌≡◌, IfOk, OnOk};
 ghost use Rattle.wc_diag_messages.specs.Locations.{Writes};
 ghost use Rattle.wc_diag_messages.specs.Explanations.{QuotesAndSays, left_out_text, quoted_text};
 ghost use Rattle.wc_diag_messages.specs.Known.{IsKnown};
-ghost use Rattle.wc_diag_shown.specs.Plain.{IsShown, shown_text};
+ghost use Rattle.wc_diag_texts.specs.Plain.{IsShown, shown_text};
 
 use crate::placing::{named_line, place_words};
 use crate::snippets::{WIDEST, bytes_at};
 use std::alloc::{AllocError, Global};
-use wc_diag_shown::Message;
 use wc_diag_spans::{Diagnostic, Refusal, find};
-use wc_diag_texts::{entry_of, words_of};
+use wc_diag_texts::{Message, entry_of, words_of};
 
 /// Whether something is refused, or accepted and suspicious.
 #[derive(Clone, Copy)]

@@ -5,8 +5,8 @@ ghost use Rattle.wc_diag_messages.specs.Locations.{Writes, alongside_text, colum
 
 use crate::parts::Parts;
 use std::alloc::{AllocError, Global};
-use wc_diag_shown::{Message, column_of};
 use wc_diag_spans::{Diagnostic, Part, Refusal};
+use wc_diag_texts::{Message, column_of};
 
 /// Whether the part is a program.
 fn is_program(part: Part) -> bool

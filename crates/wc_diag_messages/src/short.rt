@@ -8,7 +8,7 @@ use crate::long::write_number;
 use crate::parts::Parts;
 use crate::placing::{write_column, write_line};
 use std::alloc::{AllocError, Global};
-use wc_diag_shown::Message;
+use wc_diag_texts::Message;
 
 /// Writes the line and the column, if the line is known, else the place by which a refusal is counted.
 fn write_position(message: &mut Message, parts: &Parts) -> Result<(), AllocError>

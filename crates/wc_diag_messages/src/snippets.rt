@@ -4,8 +4,8 @@ ghost use Rattle.wc_diag_messages.specs.Locations.{Writes, margin_text};
 
 use crate::parts::Parts;
 use std::alloc::{AllocError, Global};
-use wc_diag_shown::{Message, characters, passes, with_spaces};
 use wc_diag_spans::Span;
+use wc_diag_texts::{Message, characters, passes, with_spaces};
 
 /// The number of bytes of a line, or of what is quoted, that are shown at most.
 pub(crate) const WIDEST: usize = 120;

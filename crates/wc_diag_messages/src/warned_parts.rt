@@ -1,14 +1,13 @@
 ghost use Rattle.std.specs.Prelude.{◌≡◌, ◌++◌, IfOk};
 ghost use Rattle.std.specs.Option.{option_copied};
 ghost use Rattle.wc_diag_messages.specs.Warned.{IsPlaced, KnowsWarning, has_there, is_called, is_warned, marked, named_text, shown_line, start_on, warned_token};
-ghost use Rattle.wc_diag_shown.specs.Plain.{shown_text};
+ghost use Rattle.wc_diag_texts.specs.Plain.{shown_text};
 
 use crate::parts::{Parts, Severity, said_as};
 use crate::snippets::bytes_at;
-use crate::warning_entries::warning_of;
 use std::alloc::{AllocError, Global};
-use wc_diag_shown::Message;
 use wc_diag_spans::{Diagnostic, Span, column_at, line_at};
+use wc_diag_texts::{Message, warning_of};
 use wc_diag_warnings::Warning;
 use wc_lexer::Token;
 
@@ -81,7 +80,7 @@ fn marked(name: &[u8], start: usize, line: &[u8]) -> Span
 
 /// The sentence of a warning, and what to write instead.
 fn words_of(number: u8) -> (&'static str, &'static str) {
-    match warning_of(number) {
+    match warning_of(u16::from(number)) {
         Some(entry) => (entry.quoted, entry.hint),
         None => ("is suspicious", ""),
     }

@@ -1,5 +1,5 @@
 use crate::refused::{Refused, Said, words};
-use crate::types::{Family, family_of, taken_by};
+use crate::types::{family_of, taken_by};
 use wc_diag_texts::Case;
 use wc_model::Kind;
 
@@ -16,12 +16,6 @@ fn name_of(kind: Kind) -> &'static str {
 fn unlike_said(refused: &Refused<'_, '_>, kind: Kind) -> Said {
     let before = refused.span.result?;
     let (result, line) = (name_of(before.kind), before.line);
-    if names_operator(refused) {
-        let operator = words(refused.operator())?;
-        return Some(format!(in refused.alloc;
-            "{operator} takes a DINT, but the current result is a {result} since line {line}"
-        ));
-    }
     let kind = name_of(kind);
     Some(format!(in refused.alloc;
         "is a {kind}, but the current result is a {result} since line {line}"
@@ -81,19 +75,6 @@ fn name_said(refused: &Refused<'_, '_>, case: Case) -> Said {
         _ => return None,
     };
     Some(format!(in refused.alloc; "{is} {block}{more}"))
-}
-
-/// Whether what is said names its operator, so that nothing is quoted before it: a TIME is multiplied or divided.
-pub fn names_operator(refused: &Refused<'_, '_>) -> bool {
-    let kinds = (
-        refused.span.case,
-        refused.span.result.map(|before| before.kind),
-    );
-    matches!(kinds, (Case::Unlike(Kind::Dint), Some(Kind::Time)))
-        && matches!(
-            family_of(refused.operator()),
-            Family::Multiply | Family::Divide
-        )
 }
 
 /// What is said of a difference, if more is known than the case.

@@ -25,7 +25,8 @@ const FUNCTIONS: [Row; 7] = rows! {
 };
 
 /// Words of the standard that this language leaves out.
-const LEFT_OUT: [Row; 7] = rows! {
+const LEFT_OUT: [Row; 8] = rows! {
+    b"end_function" => Worded "a PROGRAM ends with END_PROGRAM, a FUNCTION_BLOCK with END_FUNCTION_BLOCK";
     b"at" => Worded "leave out AT and use the address itself (LD %IX0.0, ST %QX0.0); or copy inputs to variables on the first lines, and variables to outputs on the last";
     b"var_global var_external" => Worded "declare the variable in VAR of the PROGRAM, and pass it to blocks as an input or output";
     b"var_in_out" => Worded "declare a VAR_INPUT and a VAR_OUTPUT, and name the variable at both in the CAL; an input cannot be written: copy it to the output first";
@@ -44,22 +45,23 @@ const FRAMES: [Row; 2] = rows! {
 /// Words with which other tools begin a unit.
 const UNITS: [Row; 2] = rows! {
     b"type end_type struct end_struct" => Worded says "is not supported", "delete TYPE .. END_TYPE: values are BOOL, DINT or TIME; for an enumeration use a DINT with 0, 1, 2, for a structure one variable for each part";
-    b"organization_block function_block_end data_block begin network" => StatementList "";
+    b"organization_block function_block_end data_block begin network" => Worded "this looks like Siemens STL (AWL): write PROGRAM P in place of ORGANIZATION_BLOCK and BEGIN, and END_PROGRAM at the end";
 };
 
 /// Words in the place of an operator; the inputs of standard blocks the standard also writes as operators.
 const OPERATORS: [Row; 3] = rows! {
     b"cd" => DownCounter "";
     b"network title begin nop bld" => Worded "delete this line, or make it a comment, such as (* NETWORK 1 *)";
-    b"cu pv in pt clk s1 r1" => InputOperator "set an input in CAL, such as CAL c(CU := a): a store alone does not call the block";
+    b"cu pv in pt clk s1 r1" => Worded says "is an input of a block, not an operator", "set an input in CAL, such as CAL c(CU := a): a store alone does not call the block";
 };
 
 /// Operators of other tools and languages, with what to write for each. Without these a name that is spelled almost as one of them, and does
 /// something else, would be suggested.
-const OTHERS: [Row; 36] = rows! {
+const OTHERS: [Row; 40] = rows! {
     b"ldi ldnot" => OtherOperator "did you mean `LDN`?";
-    b"ani andi" => OtherOperator "did you mean `ANDN`?";
-    b"ori" => OtherOperator "did you mean `ORN`?";
+    b"ani andi and_not" => OtherOperator "did you mean `ANDN`?";
+    b"adn" => OtherOperator "did you mean `ANDN`, or `AND`?";
+    b"ori or_not" => OtherOperator "did you mean `ORN`?";
     b"nand" => OtherOperator "write AND and its operand, and NOT on the next line";
     b"nor" => OtherOperator "write OR and its operand, and NOT on the next line";
     b"xnor" => OtherOperator "write XOR and its operand, and NOT on the next line";
@@ -70,16 +72,19 @@ const OTHERS: [Row; 36] = rows! {
     b"caln" => OtherOperator "did you mean `CALCN`?";
     b"uc" => OtherOperator "did you mean `CAL`?";
     b"cc" => OtherOperator "did you mean `CALC`?";
-    b"set" => OtherOperator "did you mean `S`? It needs an operand; for SET alone write LD TRUE";
-    b"rst res" => OtherOperator "did you mean `R`?";
+    b"set otl" => OtherOperator "did you mean `S`? It needs an operand; for SET alone write LD TRUE";
+    b"rst res otu" => OtherOperator "did you mean `R`?";
     b"clr" => OtherOperator "write LD FALSE";
     b"sn rn" => OtherOperator "S and R have no N: negate the result with NOT on the line before";
-    b"out" => OtherOperator "did you mean `ST`?";
+    b"out ote" => OtherOperator "did you mean `ST`?";
     b"mov" => OtherOperator "LD loads the value, ST on the next line names where it goes";
     b"gtn gen eqn nen ltn" => OtherOperator "comparisons have no N: write the comparison without it, and NOT on the next line";
     b"gte geq" => OtherOperator "did you mean `GE`?";
+    b"les lss" => OtherOperator "did you mean `LT`?";
     b"lte leq" => OtherOperator "did you mean `LE`?";
     b"neq nq" => OtherOperator "did you mean `NE`?";
+    b"minus" => OtherOperator "did you mean `SUB`?";
+    b"var_in var_out" => OtherOperator "declarations are between VAR_INPUT, VAR_OUTPUT or VAR and END_VAR";
     b"inc" => OtherOperator "write LD n, on the next line ADD 1, on the next ST n";
     b"dec" => OtherOperator "write LD n, on the next line SUB 1, on the next ST n";
     b"bea beu return" => OtherOperator "did you mean `RET`?";

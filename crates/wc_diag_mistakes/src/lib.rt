@@ -9,7 +9,7 @@ mod refused;
 mod types;
 mod unreached;
 
-pub use differences::{difference_said, names_operator};
+pub use differences::difference_said;
 pub use foreign::block_with;
 pub use mistakes::mistake_at;
 pub use refused::{Refused, Said, said_text, words};

@@ -2,25 +2,17 @@ use crate::foreign::{
     foreign_type, is_type, left_out, mistaken_function, mistaken_name, mistaken_unit,
 };
 use crate::refused::Refused;
-use crate::types::{is_conditional, mistaken_kind};
-use crate::unreached::{block_line, is_unreached};
+use crate::types::{is_conditional, mistaken_kind, mistaken_reset};
+use crate::unreached::{block_line, follows_leaving, is_unreached};
 use wc_built_in::{Keyword, elementary_type, keyword_named, standard_block};
 use wc_diag_stops::{
-    following, follows_digit, is_among, is_digit, is_line_end, is_near, is_operator, is_shape,
-    mistaken_byte, mistaken_duration, mistaken_number, mistaken_statement, operator_on, text_of,
+    following, is_among, is_bare_duration, is_digit, is_line_end, is_near, is_operator, is_shape,
+    mistaken_byte, mistaken_duration, mistaken_number, mistaken_statement, operator_on,
+    text_before, text_of,
 };
 use wc_diag_texts::{Case, Expected, Mistake, mistake_among};
 use wc_lexer::{Shape, Token};
 use wc_model::{Kind, UnitKind, is_word};
-
-/// What a word in the place of an operator is, by the token after it.
-fn mistaken_word(word: &[u8], next: Option<&Token<'_>>) -> Mistake {
-    match mistaken_statement(word).or(mistaken_function(word)) {
-        Some(mistake) => mistake,
-        None if is_shape(next, Shape::Opening) => Mistake::of(Case::InstanceCall),
-        None => mistaken_name(word),
-    }
-}
 
 /// A word in the place of an operator that is known, or by the token after it.
 fn mistaken_start(refused: &Refused<'_, '_>) -> Option<Mistake> {
@@ -28,14 +20,14 @@ fn mistaken_start(refused: &Refused<'_, '_>) -> Option<Mistake> {
     mistake_among! {
         (keyword_named(word), refused.next().map(|token| token.shape));
         (Some(Keyword::SectionStart(_) | Keyword::SectionEnd), _) => SectionWord "";
-        (Some(Keyword::UnitStart(_)), _) if refused.is_in_program() => Worded says "begins a unit, and the one above is still open", "close the unit above with END_PROGRAM";
+        (Some(Keyword::UnitStart(UnitKind::FunctionBlock)), _) if refused.is_in_program() => Worded says "begins a unit, and the one above is still open", "move this block above the PROGRAM, which is the last unit and ends with END_PROGRAM";
+        (Some(Keyword::UnitStart(_)), _) if refused.is_in_program() => Worded says "begins a unit, and the one above is still open", "a file has one PROGRAM: make one of them a FUNCTION_BLOCK above the other, and call an instance with CAL";
         (Some(Keyword::UnitStart(_)), _) => Worded says "begins a unit, and the one above is still open", "close the unit above with END_FUNCTION_BLOCK";
         (Some(Keyword::UnitEnd(_)), _) => UnitEnd "";
         (_, Some(Shape::Colon | Shape::Assign)) => Assignment "";
         (_, Some(Shape::Opening)) if is_among(b"a an o on u un x xn", word) => Worded "this looks like Siemens STL (AWL): U( or A( is AND(, O( is OR(, X( is XOR(, UN( is ANDN(, ON( is ORN(, each with its first operand; at the start begin with LD and that operand, without a parenthesis";
         _ if block_line(refused.tokens, word).is_some() => InstanceCall "";
         (_, Some(Shape::Point)) => Worded "set an input of a block in its call, such as CAL t(IN := a), or by LD a, ST t.IN and then CAL t";
-        _ if is_among(b"jmpnc calnc retnc", word) => ConditionSpelling "C comes before N: JMPCN, CALCN, RETCN";
     }
 }
 
@@ -45,9 +37,13 @@ fn mistaken_operator(refused: &Refused<'_, '_>) -> Mistake {
     if matches!(keyword_named(word), Some(Keyword::Kept)) {
         return left_out(word);
     }
-    let mistake = match mistaken_start(refused) {
+    let known = mistaken_start(refused)
+        .or(mistaken_statement(word))
+        .or(mistaken_function(word));
+    let mistake = match known {
         Some(mistake) => mistake,
-        None => mistaken_word(word, refused.next()),
+        None if is_shape(refused.next(), Shape::Opening) => Mistake::of(Case::InstanceCall),
+        None => mistaken_name(word),
     };
     if matches!(mistake.case, Case::NoOperator | Case::OtherOperator) && is_label(refused) {
         return Mistake::of(Case::LabelWithoutColon);
@@ -55,10 +51,12 @@ fn mistaken_operator(refused: &Refused<'_, '_>) -> Mistake {
     mistake
 }
 
-/// Whether a word may be a label: a jump above leads to it, and nothing is after it on its line, or an operator.
+/// Whether a word may be a label: a jump above leads to it, and nothing is after it on its line, an operator or a `;`.
 fn is_label(refused: &Refused<'_, '_>) -> bool {
     let is_whole = match refused.after().first() {
-        Some(token) => is_line_end(token) || is_operator(token.text),
+        Some(token) => is_line_end(token)
+            || is_operator(token.text)
+            || token.shape == Shape::Semicolon,
         None => true,
     };
     is_whole && has_jump(refused.before(), refused.token())
@@ -75,18 +73,23 @@ fn has_jump(tokens: &[Token<'_>], label: &[u8]) -> bool {
     })
 }
 
-/// A mistake that the word before an unexpected token shows.
-fn mistaken_before(before: &[u8], expected: Expected) -> Option<Mistake> {
-    match (keyword_named(before), expected) {
-        (Some(Keyword::Not), Expected::LineEnd | Expected::PointOrLineEnd) => {
-            Some(Mistake::of(Case::NegatedOperand))
-        }
-        (Some(Keyword::Kept), Expected::CommaOrColon) => Some(left_out(before)),
-        (None, Expected::CommaOrColon) if is_word(b"persistent", before) => Some(left_out(before)),
-        (word, Expected::CommaOrColon)
-            if word.is_some() || is_among(b"end var_end", before) || is_near(b"END_VAR", before) =>
-            { Some(Mistake::of(Case::OpenSection)) }
-        _ => None,
+/// A mistake that the words before an unexpected token show.
+fn mistaken_before(refused: &Refused<'_, '_>) -> Option<Mistake> {
+    let (before, line) = (refused.word_before(), refused.line_before());
+    let (word, expected) = (keyword_named(before), refused.span.expected);
+    let is_kept = matches!(word, Some(Keyword::Kept)) || is_word(b"persistent", before);
+    if is_kept && matches!(expected, Expected::CommaOrColon) {
+        return Some(left_out(before));
+    }
+    let is_opened = matches!(line, [.., opening, _] if opening.shape == Shape::Opening);
+    mistake_among! {
+        (expected, word);
+        (Expected::LineEnd | Expected::PointOrLineEnd, Some(Keyword::Not)) => NegatedOperand "";
+        (Expected::LineEnd | Expected::PointOrLineEnd, Some(Keyword::Load(_))) if is_opened => Worded "the operand is right after the `(`, without LD, such as AND( a";
+        (Expected::CommaPointOrClosing | Expected::CommaOrClosing, Some(Keyword::Not)) => Worded "negate the value before the call: LDN a, ST b, and pass b";
+        (Expected::CommaOrColon, _) if is_among(b"end input output", before) && is_shape(refused.tokens.get(refused.index), Shape::Identifier) && !is_type(refused.token()) => Worded "END_VAR, VAR_INPUT and VAR_OUTPUT are one word each, with an underscore";
+        (Expected::CommaOrColon, _)
+            if word.is_some() && !is_type(before) || is_among(b"end var_end", before) || is_near(b"END_VAR", before) => OpenSection "";
     }
 }
 
@@ -95,39 +98,31 @@ fn mistaken_before(before: &[u8], expected: Expected) -> Option<Mistake> {
 fn mistaken_in_unit(token: &[u8], next: Option<&Token<'_>>, expected: Expected) -> Option<Mistake> {
     mistake_among! {
         (expected, token.first(), keyword_named(token));
-        (Expected::Field, Some(b'0'..=b'9'), _) => NoAddress "an address begins with `%`, such as %IX0.0; a DINT has no bits: compare the number, such as LT 0 for its sign";
+        (Expected::Field, Some(b'0'..=b'9'), _) => NoAddress "an address begins with `%`, such as %IX0.0; a DINT has no bits: bit 3 of an n that is not negative is LD n, DIV 8, MOD 2, EQ 1";
         (Expected::UnitName, _, _) => Worded "write a name after the word, such as PROGRAM Main";
         (Expected::Operand, Some(b'('), _) => Worded "only AND, OR, XOR, ADD, SUB, MUL and comparisons take a parenthesis: begin with LD and its operand";
         (Expected::LineEnd | Expected::PointOrLineEnd | Expected::OperandOrLineEnd, Some(b')'), _) => Worded "the `)` needs a line of its own";
         (Expected::Formal, Some(b')'), _) => Worded "delete the comma before this `)`: a comma is only between two inputs or outputs";
         (Expected::FormalOrClosing | Expected::Formal | Expected::AssignOrArrow, _, _) => Worded "name each input of the block, such as CAL e(CLK := a) of an R_TRIG, CAL t(IN := a, PT := T#1s) of a TON";
-        (Expected::OpeningOrLineEnd, Some(b'A'..=b'Z' | b'a'..=b'z' | b'%'), _) => BareInputs "put the inputs of the call in parentheses, each with its name, such as CAL t(IN := a, PT := T#1s) of a TON";
+        (Expected::OpeningOrLineEnd, Some(b'A'..=b'Z' | b'a'..=b'z' | b'%'), _) => Worded "put the inputs of the call in parentheses, each with its name, such as CAL t(IN := a, PT := T#1s) of a TON";
         (Expected::CommaPointOrClosing | Expected::CommaOrClosing, Some(_), _)
             if is_shape(next, Shape::Assign) || is_shape(next, Shape::Arrow) || token.starts_with(b";") => Worded "separate the parameters with commas, such as CAL t(IN := a, PT := T#1s)";
         (Expected::CommaPointOrClosing | Expected::CommaOrClosing, Some(_), _) => Worded "an input takes a variable, an address, a field or a literal: compute and store the value before the call";
         (Expected::CommaOrColon, Some(b';'), _) => Worded "a declaration names a type, such as d, e : DINT;";
         (Expected::Name | Expected::TypeName | Expected::Literal, Some(b';'), _) => Declaration "";
-        (_, Some(b';'), _) => Worded "an instruction ends with its line, without a semicolon";
+        (Expected::Literal, _, _) => Worded "an initial value is one literal, such as TRUE, 500 or T#5s; an address is read in the lines of the PROGRAM, or passed in a CAL";
+        (_, Some(b';'), _) => Worded "an instruction ends with its line, without a semicolon; a comment is (* .. *)";
         (Expected::InstructionOrLineEnd, _, _) if is_type(token) => Worded "declarations go between VAR and END_VAR, before the first instruction";
         (Expected::LineEnd | Expected::PointOrLineEnd, Some(b','), _) => Worded "write each instruction on a line of its own, without commas; an operator has one operand";
         (Expected::LineEnd | Expected::PointOrLineEnd, _, Some(Keyword::Load(_) | Keyword::Store(_) | Keyword::Jump(_) | Keyword::Call(_) | Keyword::Return(_))) => Worded "write each instruction on a line of its own";
         (Expected::LineEnd | Expected::PointOrLineEnd, _, Some(Keyword::Apply(_))) => Worded "each operator has a line of its own: AND( a, then OR b, then `)`";
+        (Expected::LineEnd, Some(b'.'), _) => Worded "a name has one point at most: what a block has inside is read by its VAR_OUTPUT";
+        (Expected::LineEnd | Expected::PointOrLineEnd, Some(b'+' | b'-'), _) => Worded "an operand is computed in a parenthesis: for GE n + 20 write GE( n, then ADD 20, then `)`; for LD n + 20 write LD n, and ADD 20 on the next line";
+        (Expected::LineEnd | Expected::PointOrLineEnd, Some(b'A'..=b'Z' | b'a'..=b'z' | b'%'), None) => Worded "an operator has one operand, and each instruction a line of its own";
         (Expected::Instruction | Expected::InstructionOrLineEnd, Some(b'%'), _) => Assignment "";
+        (Expected::NameOrEndVar | Expected::CommaOrColon | Expected::Name | Expected::TypeName | Expected::AssignOrSemicolon | Expected::Semicolon, _, word)
+            if !matches!(word, Some(Keyword::Kept)) => Declaration "";
         (Expected::Instruction | Expected::InstructionOrLineEnd, Some(b'('), _) => Worded "write the `(` on the line of its CAL, such as CAL t(IN := TRUE)";
-    }
-}
-
-/// The case of an unexpected token that is in a section of declarations, or not.
-fn case_of_section(expected: Expected) -> Case {
-    match expected {
-        Expected::NameOrEndVar
-        | Expected::CommaOrColon
-        | Expected::Name
-        | Expected::TypeName
-        | Expected::AssignOrSemicolon
-        | Expected::Literal
-        | Expected::Semicolon => Case::Declaration,
-        _ => Case::Unknown,
     }
 }
 
@@ -145,20 +140,15 @@ fn mistaken_token(refused: &Refused<'_, '_>) -> Mistake {
     match mistaken_in_unit(token, refused.next(), expected) {
         Some(mistake) => mistake,
         None if matches!(keyword_named(token), Some(Keyword::Kept)) => left_out(token),
-        None => Mistake::of(case_of_section(expected)),
+        None => Mistake::of(Case::Unknown),
     }
 }
 
 /// Whether a token is a comma between two digits.
 fn is_decimal_comma(refused: &Refused<'_, '_>) -> bool {
-    let end = refused.span.start.saturating_add(refused.span.length);
-    let is_before_digit = match refused.after().first() {
-        Some(token) => token.start as usize == end && is_digit(token.text.first()),
-        None => false,
-    };
-    is_before_digit
-        && refused.token().starts_with(b",")
-        && follows_digit(refused.before(), refused.span.start)
+    refused.token().starts_with(b",")
+        && is_digit(text_of(refused.after().first()).first())
+        && is_digit(text_before(refused.before(), refused.span.start).last())
 }
 
 /// A mistake in an instruction by what is before a token on its line.
@@ -167,28 +157,19 @@ fn mistaken_after(before: &[Token<'_>], token: &[u8], expected: Expected) -> Opt
     let is_unnamed = is_shape(last, Shape::Arrow) || is_shape(last, Shape::Assign);
     mistake_among! {
         (expected, keyword_named(operator_on(before)), token.first());
-        (Expected::Label, _, None | Some(b'\n')) => Worded "a jump names a label, such as JMPC done, and `done:` begins a line below";
+        (Expected::Label, _, _) => Worded "a jump names a label without parentheses, which begins with a letter, such as JMPC done; `done:` begins a line below";
         (Expected::LineEnd, Some(Keyword::Jump(_)), Some(b':')) => Worded "write the label here without its colon, such as JMPC done; the line to which it leads begins with `done:`";
         (Expected::LineEnd, Some(Keyword::Return(_)), Some(b'A'..=b'Z' | b'a'..=b'z' | b'_')) => Worded "RET has no operand: for a condition write LD and the operand on the line above, and RETC alone";
         (Expected::OpeningOrLineEnd, _, Some(b'.')) => Worded "CAL names the instance alone, and its inputs are in the list, such as CAL t(IN := a)";
+        (Expected::Operand, _, Some(b'(')) if is_unnamed => Worded "delete the parenthesis: an input or output takes one value, such as IN := a";
         (Expected::Operand, _, Some(b',' | b')')) if is_unnamed => Worded "leave out an input or output that is not used, such as CAL t(IN := a)";
     }
-}
-
-/// Whether a name is after its type on a line of declarations.
-fn is_type_first(refused: &Refused<'_, '_>) -> bool {
-    let (before, token) = (refused.word_before(), refused.token());
-    matches!(token.first(), Some(b'A'..=b'Z' | b'a'..=b'z' | b'_'))
-        && keyword_named(token).is_none()
-        && !refused.begins_line()
-        && (is_type(before) || block_line(refused.tokens, before).is_some())
 }
 
 /// What a token shows on its line, before what the word before it shows.
 fn mistaken_first(refused: &Refused<'_, '_>) -> Option<Mistake> {
     let (expected, mistake) = (refused.span.expected, left_out(refused.token()));
     match (expected, mistake.case) {
-        (Expected::CommaOrColon, _) if is_type_first(refused) => Some(Mistake::of(Case::TypeFirst)),
         (Expected::CommaOrColon, Case::Lasting) => Some(mistake),
         (Expected::CommaOrColon, _) => None,
         _ => mistaken_after(refused.line_before(), refused.token(), expected),
@@ -204,9 +185,11 @@ fn mistaken_on_line(refused: &Refused<'_, '_>) -> Option<Mistake> {
     );
     let is_address = before.starts_with(b"%") && !before.contains(&b'.');
     let is_duration = before.starts_with(b"T#") || before.starts_with(b"t#");
+    let follows_number = is_digit(before.first()) && keyword_named(refused.token()).is_none();
     mistake_among! {
         (refused.span.expected, refused.token().first());
         _ if is_duration && is_among(b"d h m s ms", refused.token()) => Worded "write the units of a duration without spaces, such as T#1m30s";
+        (Expected::LineEnd, Some(b'0'..=b'9' | b'A'..=b'Z' | b'a'..=b'z')) if follows_number => Worded "a number is digits alone, without spaces: 5 000 is 5_000, and 5 kg is 5000 if weights have 3 decimals";
         (Expected::AssignOrSemicolon | Expected::Semicolon, _) if refused.begins_line() => Worded "the declaration above has no `;` at its end";
         (Expected::LineEnd | Expected::Semicolon, _) if is_decimal_comma(refused) && is_address => Worded "an address has a point, such as %IX0.0";
         (Expected::LineEnd | Expected::Semicolon, _) if is_decimal_comma(refused) => Worded "numbers are integers, without a decimal comma: write 1,5 kg as 1500, if weights have 3 decimals";
@@ -218,9 +201,8 @@ fn mistaken_on_line(refused: &Refused<'_, '_>) -> Option<Mistake> {
 
 /// A mistake that an unexpected token shows by where it is, and else by itself.
 fn mistaken_at(refused: &Refused<'_, '_>) -> Mistake {
-    let before = mistaken_before(refused.word_before(), refused.span.expected);
     match mistaken_first(refused)
-        .or(before)
+        .or(mistaken_before(refused))
         .or(mistaken_on_line(refused))
     {
         Some(mistake) => mistake,
@@ -263,7 +245,7 @@ fn mistaken_address(address: &[u8]) -> Option<Mistake> {
         (Some(b'm' | b'M'), _) => Worded "there are no %M addresses: declare a variable in VAR";
         (_, Some(b'd' | b'D')) => Worded "numbers are %ID0 (gross), %ID1 (net), %ID2 (tare) and %QD0 to %QD3";
         (_, Some(b'w' | b'W' | b'b' | b'B' | b'l' | b'L')) => Worded "there are no 16-bit words: use %ID0 (gross), %ID1 (net), %ID2 (tare) or %QD0 to %QD3";
-        _ if address.starts_with(b"%") => NoSuchBit "bits are %IX0.0 to %IX0.15, %IX1.0 to %IX1.5 and %QX0.0 to %QX0.15: bit 0 of a second output byte is %QX0.8";
+        _ if address.starts_with(b"%") => Worded "bits are %IX0.0 to %IX0.15, %IX1.0 to %IX1.5 and %QX0.0 to %QX0.15: bit 0 of a second output byte is %QX0.8";
     }
 }
 
@@ -272,26 +254,23 @@ fn mistaken_target(refused: &Refused<'_, '_>) -> Option<Mistake> {
     let target = refused.token();
     mistake_among! {
         (target.first(), keyword_named(target));
+        (Some(b'%'), _) if matches!(target.get(2), Some(b'd' | b'D')) => Worded "inputs are only read: store a number to an output, such as %QD0, or to a variable";
         (Some(b'%'), _) => Worded "inputs are only read: store to an output, such as %QX0.0, or to a variable";
         (Some(b'0'..=b'9' | b'+' | b'-'), _) => LiteralTarget "";
         (_, Some(Keyword::Truth(_))) => LiteralTarget "";
         _ if target.contains(&b'#') => LiteralTarget "";
-        _ if !refused.names_one() => Worded "the block sets its own outputs: store to an input, or to a variable of your own";
+        _ if !refused.names_one() => Worded "only inputs of a block (VAR_INPUT) are stored to: it sets its outputs and the rest itself; store to an input, or to a variable of your own";
         _ if refused.is_in_program() => Worded "declare it in VAR: nothing calls a PROGRAM and sets its inputs";
     }
 }
 
-/// A type that this language does not have, or a function block where no instance is declared.
+/// A function block where no instance is declared.
 fn mistaken_type(refused: &Refused<'_, '_>) -> Option<Mistake> {
     let word = refused.token();
-    if standard_block(word).is_none() && block_line(refused.tokens, word).is_none() {
-        return foreign_type(word);
+    mistake_among! {
+        standard_block(word).is_some() || block_line(refused.tokens, word).is_some();
+        true => Worded says "is a function block, and only VAR declares instances", "declare the instance in VAR, and pass what is needed of it, such as t.Q to an input of type BOOL";
     }
-    Some(Mistake {
-        case: Case::Worded,
-        sentence: "is a function block, and only VAR declares instances",
-        hint: "declare the instance in VAR, and pass what is needed of it, such as t.Q to an input of type BOOL",
-    })
 }
 
 /// A function block that is not declared above, if that is sure.
@@ -303,32 +282,50 @@ fn mistaken_block(refused: &Refused<'_, '_>) -> Option<Mistake> {
     }
 }
 
-/// A mistake in an instruction that breaks a rule on results, labels or divisors.
-fn mistaken_use(refused: &Refused<'_, '_>) -> Option<Mistake> {
-    let (token, span) = (refused.token(), refused.span);
-    let is_variable = matches!(token.first(), Some(b'A'..=b'Z' | b'a'..=b'z' | b'_' | b'%'));
+/// Whether a unit of the text declares a name.
+fn is_declared(refused: &Refused<'_, '_>, name: &[u8]) -> bool {
+    refused.units.iter().any(|unit| unit.declarations.iter().any(|declaration| {
+        let mut names = declaration.names.iter();
+        names.any(|word| word.text.eq_ignore_ascii_case(name))
+    }))
+}
+
+/// A name that its unit does not declare: that of another one, of a block, or a number, a timer, an area or a duration of other tools.
+fn mistaken_undeclared(refused: &Refused<'_, '_>) -> Option<Mistake> {
+    let name = refused.offending();
+    let rest = following(name, 1);
+    let is_number = !rest.is_empty() && rest.iter().all(|byte| byte.is_ascii_digit());
     mistake_among! {
-        refused.number;
-        403 if is_conditional(token) => Worded says "needs a BOOL, and there is no current result", "load the condition with LD first, or use CAL, JMP or RET without the C";
-        403 if is_shape(refused.previous(), Shape::Colon) => AtLabel says "the current result is undefined: the paths to this label bring different types, or no value", "write an LD between the label and this instruction, or bring the same type on every path to the label (JMPC and JMPCN bring a BOOL); if this instruction is only for the value above the label, move it above the label";
-        403 if is_unreached(refused.tokens, refused.line()) => Unreached says "there is no current result, since this line is never reached", "make the JMP or RET above conditional (JMPC, JMPCN, RETC), give this line a label to which a line above jumps, or delete it";
-        406 if span.first != 0 => LabelAbove says "is the label of a line above this jump", "jumps only go forward; the whole program runs again in each scan, so to repeat it delete this jump; to repeat lines write them once for each pass, or do one pass in each scan: LD n, LT 10, JMPCN done; the lines; LD n, ADD 1, ST n (n keeps its value between scans: set it to 0 only to start again); `done:` goes on with an LD";
-        408 if is_variable && !matches!(span.case, Case::Deferred) => Worded "there is no division by a variable: divide by a literal other than 0, such as DIV 10; to compare a quotient, MUL the other side instead; for a quotient subtract once in each scan: LD rest, LT b, JMPC done; LD rest, SUB b, ST rest; LD q, ADD 1, ST q; `done:` goes on with an LD";
+        (name.first(), is_number);
+        _ if is_declared(refused, name) => Plain "another unit declares it, and each unit sees its own variables alone: pass it as an input or output of the block";
+        _ if block_line(refused.tokens, name).is_some() => Plain "a FUNCTION_BLOCK has no value: its results are stored to its VAR_OUTPUT, and read of an instance, such as v.q";
+        (Some(b'k' | b'K'), true) => Plain "write a number alone, such as 500 for K500";
+        (Some(b't' | b'c' | b'T' | b'C'), true) => Plain "a timer or counter is an instance: declare T1 : TON; or C1 : CTU; in VAR, call it with CAL, and load T1.Q or C1.Q";
+        (Some(b'a' | b'e' | b'i' | b'm' | b'q' | b'x' | b'y' | b'A' | b'E' | b'I' | b'M' | b'Q' | b'X' | b'Y'), true) => Plain "inputs are %IX0.0 to %IX0.15, outputs %QX0.0 to %QX0.15; variables are declared in VAR, VAR_INPUT and VAR_OUTPUT of this unit";
+        (Some(b't' | b'T'), _) if is_bare_duration(rest) => Plain "a duration begins with T#, such as T#5s";
     }
 }
 
-/// A sign in a name.
-const JOINED_NAME: Mistake = Mistake {
-    case: Case::SignAlone,
-    sentence: "",
-    hint: "a name has letters, digits and underscores alone, such as start_button; a sign is right before its digits",
-};
-
-/// Whether it is right after a word that is not reserved.
-fn follows_name(refused: &Refused<'_, '_>) -> bool {
-    let name = refused.word_before();
-    let end = refused.previous().map(|token| token.text.len().saturating_add(token.start as usize));
-    !name.is_empty() && keyword_named(name).is_none() && end == Some(refused.span.start)
+/// A mistake in an instruction that breaks a rule on parentheses, results, labels or divisors.
+fn mistaken_use(refused: &Refused<'_, '_>) -> Option<Mistake> {
+    let (token, span) = (refused.token(), refused.span);
+    let is_variable = matches!(token.first(), Some(b'A'..=b'Z' | b'a'..=b'z' | b'_' | b'%'));
+    let is_left = span.paths.is_none()
+        && refused
+            .label_before()
+            .is_some_and(|label| follows_leaving(refused.tokens, label.line));
+    mistake_among! {
+        refused.number;
+        205 if is_shape(refused.next(), Shape::Colon) => Worded "a jump cannot lead into a parenthesis: delete the label, or close the parenthesis above it";
+        205 if matches!(keyword_named(token), Some(Keyword::Call(_))) => Worded "move the call, and the lines that set its inputs, above the LD that begins the expression, and read its output in the parenthesis, such as AND t.Q";
+        403 if is_conditional(token) => Worded says "needs a BOOL, and there is no current result", "load the condition with LD first, or use CAL, JMP or RET without the C";
+        403 if is_left => AtLabel says "the current result is undefined: the paths to this label bring different types, or no value", "make the JMP or RET above conditional (JMPC, JMPCN, RETC), jump to this label from a line above, or delete this line";
+        403 if is_shape(refused.previous(), Shape::Colon) => AtLabel says "the current result is undefined: the paths to this label bring different types, or no value", "write an LD between the label and this instruction, or bring the same type on every path to the label (JMPC and JMPCN bring a BOOL); if this instruction is only for the value above the label, move it above the label";
+        403 if is_unreached(refused.tokens, refused.line()) => Unreached says "there is no current result, since this line is never reached", "make the JMP or RET above conditional (JMPC, JMPCN, RETC), give this line a label to which a line above jumps, or delete it";
+        406 if span.first != 0 => LabelAbove says "is the label of a line above this jump", "jumps only go forward, and the whole program runs again in each scan without one: to wait, jump ahead over the lines that wait: JMPC done; the lines; `done:`; to repeat lines write them once for each pass, or do one pass in each scan: LD n, LT 10, JMPCN done; the lines; LD n, ADD 1, ST n (n keeps its value between scans: set it to 0 only to start again); `done:` goes on with an LD";
+        406 if keyword_named(token).is_some() => Worded "a label is not a reserved word: to leave the unit write RET, RETC or RETCN in place of the jump";
+        408 if is_variable && !matches!(span.case, Case::Deferred) => Worded "there is no division by a variable: divide by a literal other than 0, such as DIV 10; to compare a quotient, MUL the other side instead; for a quotient set rest and q to start, the dividend and 0, and then subtract once in each scan: LD b, LE 0, JMPC done; LD rest, LT b, JMPC done; LD rest, SUB b, ST rest; LD q, ADD 1, ST q; `done:` goes on with an LD";
+    }
 }
 
 /// Which mistake a refusal refers to that breaks a rule in that way, with its words.
@@ -337,8 +334,7 @@ pub fn mistake_at(refused: &Refused<'_, '_>, case: Case) -> Mistake {
     let rest = following(refused.lexeme, token.len());
     let found = match (refused.number, refused.span.expected) {
         (101, _) => mistaken_byte(before, refused.span.start, refused.lexeme, case),
-        (105, _) if follows_name(refused) => Some(JOINED_NAME),
-        (105, _) => mistaken_number(text_of(refused.previous()), token, rest, case),
+        (105, _) => mistaken_number(before, refused.span.start, (token, rest), case),
         (106, _) => mistaken_duration(token, rest),
         (201, Expected::LabelColon) => Some(mistaken_operator(refused)),
         (201, Expected::CommaPointOrClosing | Expected::CommaOrClosing) => {
@@ -346,12 +342,13 @@ pub fn mistake_at(refused: &Refused<'_, '_>, case: Case) -> Mistake {
         }
         (201, _) => Some(mistaken_at(refused)),
         (202 | 203, _) => mistaken_unit_end(refused),
-        (302, _) => mistaken_type(refused),
+        (302, _) => mistaken_type(refused).or(foreign_type(token)),
         (303, _) => mistaken_value(before),
         (304, _) => mistaken_address(token),
         (308, _) => mistaken_block(refused),
         (402, _) => mistaken_kind(refused),
-        (404, _) => mistaken_target(refused),
+        (401, _) if matches!(case, Case::Plain) => mistaken_undeclared(refused),
+        (404, _) => mistaken_reset(refused).or(mistaken_target(refused)),
         _ => mistaken_use(refused),
     };
     found.unwrap_or(Mistake::of(case)).worded(refused.number)

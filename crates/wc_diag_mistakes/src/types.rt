@@ -1,9 +1,9 @@
 use crate::refused::Refused;
-use wc_built_in::{Keyword, keyword_named};
+use wc_built_in::{Keyword, keyword_named, standard_block};
 use wc_diag_stops::{last_line, without_line_ends};
 use wc_diag_texts::{Case, Mistake, mistake_among};
 use wc_lexer::Token;
-use wc_model::{Condition, Kind, Operator, Storing, is_word};
+use wc_model::{Condition, Kind, Operator, StandardBlock, Storing, is_word};
 
 /// What operators do, as far as types are asked.
 #[derive(Clone, Copy, PartialEq, Eq)]
@@ -102,11 +102,11 @@ fn mistaken_operand(case: Case, family: Family, before: Option<Kind>) -> Option<
         (Case::Untaken(_), Family::Order, _) => Worded "compare with a number or a duration, such as GE 500, and AND the BOOL on the next line";
         (Case::Untaken(Kind::Bool), _, _) => CountedBool "";
         (Case::Untaken(_), Family::Multiply | Family::Divide, _) => Worded "a TIME cannot be multiplied: load the product, such as LD T#5s, and store it to a TIME variable; for milliseconds as a number use DINTs only, such as MUL 1000";
-        (Case::Untaken(Kind::Dint), _, _) => Worded "compare the number before: LD n, GE 500, and then AND with the BOOL";
-        (Case::Untaken(Kind::Time), _, _) => Worded "compare the time before: LD t.ET, GE T#1s, and then AND with the BOOL";
+        (Case::Untaken(Kind::Dint), _, _) => Worded "compare the number in a parenthesis of this operator: for OR n and GE 500 write OR( n, then GE 500, then `)`";
+        (Case::Untaken(Kind::Time), _, _) => Worded "compare the time in a parenthesis of this operator: for AND t.ET and GE T#1s write AND( t.ET, then GE T#1s, then `)`";
         (Case::Unlike(_), Family::Order, Some(Kind::Bool)) => OrderedBool "";
         (Case::Unlike(_), Family::Equal, Some(Kind::Bool)) => Worded "compare a BOOL with TRUE or FALSE; to compare a number or a time, load it first";
-        (Case::Unlike(_), Family::Order | Family::Equal, Some(Kind::Dint)) => Worded "compare a DINT with a number, such as GE 500";
+        (Case::Unlike(_), Family::Order | Family::Equal, Some(Kind::Dint)) => Worded "compare a DINT with a number, such as GE 500, and a TIME with a duration: LD t.ET, GE T#5s";
         (Case::Unlike(_), Family::Order | Family::Equal, Some(Kind::Time)) => Worded "compare a TIME with a duration, such as GE T#500ms";
         (Case::Unlike(_), Family::Add | Family::Multiply | Family::Divide, Some(Kind::Bool)) => CountedBool "";
         (Case::Unlike(_), Family::Add, Some(Kind::Dint)) => Worded "add a number to a DINT, such as ADD 5; a TIME cannot be converted to a number";
@@ -144,11 +144,22 @@ fn mistaken_without_operator(refused: &Refused<'_, '_>, before: Option<Kind>) ->
         (Case::Unpassed(_, Kind::Bool), _, _) if !is_passed => Worded "read it to a BOOL variable or to an output bit, such as Q => %QX0.0";
         (Case::Unpassed(_, Kind::Dint), _, _) if !is_passed => Worded "read it to a DINT variable or to a number, such as CV => %QD0";
         (Case::Unpassed(_, Kind::Time), _, _) if !is_passed => Worded "read it to a TIME variable, such as ET => elapsed; a TIME cannot be converted to a number";
-        (Case::Instance, _, _) if refused.sets() => InstanceTarget "name one of its inputs, such as t.IN";
+        (Case::Instance, _, _) if refused.sets() => Worded "name one of its inputs, such as x.S1 of an SR, or set them in its CAL";
         (Case::Untaken(Kind::Dint), _, _) if is_bit(refused.token()) => TruthLiteral "";
         (Case::Unlike(Kind::Bool) | Case::Result, _, _) if follows_bit(refused.before()) => TruthLiteral "";
         (Case::Closing, Some(Kind::Dint), Some(Kind::Bool)) => Worded "compare the number before the `)`, such as GE 500: a comparison gives a BOOL";
         (Case::Closing, Some(Kind::Time), Some(Kind::Bool)) => Worded "compare the time before the `)`, such as GE T#500ms: a comparison gives a BOOL";
+    }
+}
+
+/// What to write for a store to a timer or a counter, or to its output: what its call does.
+pub(crate) fn mistaken_reset(refused: &Refused<'_, '_>) -> Option<Mistake> {
+    let block = standard_block(refused.word_at(refused.span.block)?.as_bytes());
+    mistake_among! {
+        block.filter(|_| refused.span.formal.is_none());
+        Some(StandardBlock::Ton) => Worded "a TON runs while IN is TRUE at its call, and is reset by FALSE: LD a, ANDN reset, ST run, CAL t(IN := run, PT := T#1s)";
+        Some(StandardBlock::Tof | StandardBlock::Tp) => Worded "the call of a TOF or TP sets IN and PT, and its time ends it: for an earlier end write LD t.Q, ANDN reset";
+        Some(StandardBlock::Ctu) => Worded "a CTU counts, and is reset to a CV of 0, at its call: CAL c(CU := a, R := b, PV := 3)";
     }
 }
 
@@ -160,5 +171,11 @@ pub(crate) fn mistaken_kind(refused: &Refused<'_, '_>) -> Option<Mistake> {
         Case::Result => mistaken_result(family_of(refused.token()), before),
         case => mistaken_operand(case, family_of(refused.operator()), before),
     };
-    mistaken_without_operator(refused, before).or(found)
+    let reset = match span.case {
+        Case::Instance if refused.sets() => mistaken_reset(refused),
+        _ => None,
+    };
+    reset
+        .or(mistaken_without_operator(refused, before))
+        .or(found)
 }

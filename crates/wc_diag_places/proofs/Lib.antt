@@ -1,2 +1,4 @@
+mod Positions
+pub mod Breaking
 pub mod Placing
 mod Units

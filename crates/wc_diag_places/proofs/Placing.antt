@@ -9,7 +9,7 @@ use Rattle.wc_model.specs.Language.Faults.{body_fault, declaration_fault}
 use Rattle.wc_model.specs.Language.Tree.{Text}
 use Rattle.wc_model.specs.declared.fault.Fault.{Fault}
 use Rattle.wc_model.specs.declared.fault.Fault.TheVariants.{Memory, Refused}
-use Rattle.wc_diag_operands.specs.OperandTokens.{on_line, tokens_from}
+use Rattle.wc_diag_places.specs.OperandTokens.{on_line, tokens_from}
 use Rattle.wc_diag_places.specs.LaterSpans.{IsBodyFault, RefusesLater, at_costs, unit_number}
 use Rattle.wc_diag_places.specs.Spotting.{IsNamed, PointsToOffending}
 use Rattle.wc_diag_stops.specs.ReadingSpans.{AreReadByPlaces, place_mark, place_marks}

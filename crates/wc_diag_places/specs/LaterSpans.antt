@@ -10,8 +10,8 @@ use Rattle.wc_model.specs.Language.Views.{text_view}
 use Rattle.wc_model.specs.declared.fault.Fault.{Fault}
 use Rattle.wc_model.specs.declared.fault.Fault.TheVariants.{Memory, Refused}
 use Rattle.wc_names.specs.Numbered.{IsUnit}
-use Rattle.wc_diag_operands.specs.Arguments.{IsArgument}
-use Rattle.wc_diag_operands.specs.OperandTokens.{IsOperandOf, is_listed, length_of_operand, line_at, on_line, operator_of, start_of_operand, tokens_from}
+use Rattle.wc_diag_places.specs.Arguments.{IsArgument}
+use Rattle.wc_diag_places.specs.OperandTokens.{IsOperandOf, is_listed, length_of_operand, line_at, on_line, operator_of, start_of_operand, tokens_from}
 use Rattle.wc_diag_stops.specs.ReadingSpans.{AreReadByPlaces}
 use Rattle.wc_diag_places.specs.declared.spanned_source.SpannedSource.{SpannedSource}
 

@@ -1,2 +1,5 @@
+pub mod Arguments
 pub mod LaterSpans
+pub mod Lists
+pub mod OperandTokens
 pub mod Spotting

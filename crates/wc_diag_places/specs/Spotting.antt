@@ -6,8 +6,8 @@ use Rattle.wc_model.specs.Language.Tree.{Text}
 use Rattle.wc_model.specs.declared.fault.Fault.{Fault}
 use Rattle.wc_model.specs.declared.fault.Fault.TheVariants.{Memory, Refused}
 use Rattle.wc_diag_places.specs.LaterSpans.{IsBodyFault, IsTokenFault}
-use Rattle.wc_diag_operands.specs.Arguments.{IsArgument}
-use Rattle.wc_diag_operands.specs.OperandTokens.{IsOperandOf, is_listed, length_of_operand, line_at, on_line, start_of_operand}
+use Rattle.wc_diag_places.specs.Arguments.{IsArgument}
+use Rattle.wc_diag_places.specs.OperandTokens.{IsOperandOf, is_listed, length_of_operand, line_at, on_line, start_of_operand}
 use Rattle.wc_diag_stops.specs.declared.span.RefusalSpan.{RefusalSpan}
 
 -- a fault of pass 3 or of the costs

@@ -1,4 +1,4 @@
-use wc_diag_operands::{is_listed, line_at, span_of};
+use crate::operand_tokens::{is_listed, line_at, span_of};
 use wc_diag_stops::Slice;
 use wc_diag_texts::Case;
 use wc_lexer::Token;

@@ -1,6 +1,6 @@
+use crate::operand_tokens::{line_at, tokens_at, tokens_from};
 use crate::results::{always_leaves, place_of, result_after, result_before};
 use crate::spanned_source::SpannedSource;
-use wc_diag_operands::{line_at, tokens_at, tokens_from};
 use wc_diag_stops::{Brought, LabelPaths, PathToLabel, ResultKind, last_line, without_line_ends};
 use wc_lexer::Token;
 use wc_model::{Instr, Line, Word};

@@ -1,7 +1,7 @@
+use wc_built_in::kind_after_operator;
 use wc_diag_stops::ResultKind;
 use wc_model::{Condition, Instr, Line, MOST_DEPTH, Operand};
 use wc_names::Tables;
-use wc_text_kinds::kind_after_operator;
 
 /// The kinds of the result before an instruction, and before the parenthesis that it closes; nothing if that is not sure.
 #[derive(Clone, Copy)]

@@ -1,15 +1,21 @@
 ghost use Rattle.std.specs.Prelude.{◌≡◌, true, None, IfOk, IfNone, IfSome};
 ghost use Rattle.wc_model.specs.Language.Faults.{declaration_fault};
 ghost use Rattle.wc_names.specs.RepresentsText.{AreTables};
-ghost use Rattle.wc_diag_operands.specs.Arguments.{IsArgument};
+ghost use Rattle.wc_diag_places.specs.Arguments.{IsArgument};
 ghost use Rattle.wc_diag_places.specs.LaterSpans.{IsAccepted, OfRead, RefusesLater, unit_number};
 ghost use Rattle.wc_model.specs.Language.Scopes.{Scope};
 ghost use Rattle.wc_model.specs.Language.Views.{text_view};
 ghost use Rattle.wc_verify.specs.Seeing.{IsScope};
-ghost use Rattle.wc_diag_operands.specs.OperandTokens.{IsOperatorOrOperand, IsOperandOf, is_listed, on_line, operator_of, operand_by_number, tokens_from};
+ghost use Rattle.wc_diag_places.specs.OperandTokens.{IsOperatorOrOperand, IsOperandOf, is_listed, on_line, operator_of, operand_by_number, tokens_from};
 ghost use Rattle.wc_diag_places.specs.Spotting.{IsInBody, IsNamed, PointsTo, PointsToOffending};
 
+use crate::calls::{offending_in_call, operand_of_call};
 use crate::instances::{block_in, slice_of};
+use crate::kinds::unfit;
+use crate::operand_tokens::{
+    case_of_operand, is_listed, line_at, opens, operand_of, operator_of, span_of, tokens_at,
+    tokens_from,
+};
 use crate::paths::paths_to_label;
 use crate::results::results_at;
 use crate::spanned_source::SpannedSource;
@@ -17,10 +23,6 @@ use crate::twice::{case_of_capacity, first_of_two, unit_at};
 use std::alloc::Global;
 use wc_cost::measure;
 use wc_declare::tables;
-use wc_diag_operands::{
-    case_of_operand, is_listed, line_at, offending_in_call, opens, operand_of, operand_of_call,
-    operator_of, span_of, tokens_at, tokens_from, unfit,
-};
 use wc_diag_stops::{RefusalSpan, ResultKind, Slice};
 use wc_diag_texts::Case;
 use wc_lexer::{Shape, Token};

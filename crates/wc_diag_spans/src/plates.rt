@@ -115,7 +115,7 @@ fn interval_advice(alloc: Global, unit: [u8; 3], decimals: u32) -> Result<String
     let unit = str::from_utf8(&unit).unwrap_or("g").trim();
     if allowed.is_empty() {
         return format!(in alloc;
-            "no e is allowed with unit = \"{unit}\" and decimals = {decimals}; write fewer decimals"
+            "no e is allowed with unit = \"{unit}\" and decimals = {decimals}; write decimals = 0"
         );
     }
     format!(in alloc; "with unit = \"{unit}\" and decimals = {decimals}, e is one of {allowed}")
@@ -150,16 +150,6 @@ fn advice_of(alloc: Global, rule: BrokenRule<'_>) -> Said {
     }
 }
 
-/// The key that is missing, if a text has another in its place: the one of which that is a part, else the first.
-fn likely_key<'a>(text: &[u8], key: &str, missing: &'a str) -> &'a str {
-    for counts in ["zero_counts", "span_counts"] {
-        if !key.is_empty() && counts.starts_with(key) && search_key(text, counts).is_none() {
-            return counts;
-        }
-    }
-    missing
-}
-
 /// Says which rule is broken, and points to the key that is referred to.
 fn report_rule(
     alloc: Global,
@@ -171,8 +161,7 @@ fn report_rule(
         BrokenRule::UnknownKey { key, missing } => {
             point_to(diagnostic, text, key, true);
             if let Some(missing) = missing {
-                let likely = likely_key(text, key, missing);
-                diagnostic.advice = format!(in alloc; "{likely} is missing")?;
+                diagnostic.advice = format!(in alloc; "{missing} is missing")?;
             }
             diagnostic.report(key.as_bytes(), Some("is not a key of a plate"))
         }

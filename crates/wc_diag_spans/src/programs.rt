@@ -11,8 +11,8 @@ use std::alloc::{AllocError, Global};
 use wc_built_in::{Keyword, keyword_named, standard_block};
 use wc_diag_advice::advice_at;
 use wc_diag_mistakes::{
-    Refused, Said, block_line, block_with, difference_said, follows_leaving, is_unreached,
-    mistake_at, names_operator, said_text, words,
+    Refused, Said, block_line, difference_said, follows_leaving, is_unreached, mistake_at,
+    said_text, words,
 };
 use wc_diag_places::{SpannedSource, read_by_places, span_in};
 use wc_diag_stops::{
@@ -100,7 +100,6 @@ fn quoted_length(refused: &Refused<'_, '_>, mistake: Mistake) -> usize {
         (201, Case::LineEnd | Case::Lasting) | (202..=208, _) => 0,
         (403, Case::AtLabel | Case::Unreached | Case::Plain) => 0,
         (number, _) if span.below.is_some() || said_of_mistake(number, mistake).is_none() => 0,
-        (402, _) if names_operator(refused) => 0,
         _ => span.length,
     }
 }
@@ -179,7 +178,6 @@ fn label_said(refused: &Refused<'_, '_>) -> Said {
 
 /// What is said in place of the sentence, with the available values.
 fn said_there(refused: &Refused<'_, '_>, case: Case, mistake: Case) -> Said {
-    let word = words(refused.token()).unwrap_or("");
     match mistake {
         Case::LabelAbove => {
             let line = refused.span.first;
@@ -190,19 +188,6 @@ fn said_there(refused: &Refused<'_, '_>, case: Case, mistake: Case) -> Said {
             let line = block_line(refused.tokens, refused.token())?;
             Some(format!(in refused.alloc;
                 "is a function block that is declared below, on line {line}"
-            ))
-        }
-        Case::InputOperator => {
-            let block = match block_with(refused.token())? {
-                "TON" => "TON, TOF and TP",
-                block => block,
-            };
-            Some(format!(in refused.alloc; "is an input of {block}, not an operator"))
-        }
-        Case::StatementAddress => {
-            let area = words(refused.word_before()).unwrap_or("");
-            Some(format!(in refused.alloc;
-                "is not a number, and `{area} {word}` is not an address"
             ))
         }
         _ => difference_said(refused, case),

@@ -4,7 +4,7 @@ use Rattle.std.proofs.lemmas.List.{length-map}
 use Rattle.std.specs.Prelude.{if◌then◌else◌}
 use Rattle.wc_laws_grammar.proofs.Readings.{read_is_spelled, refused_is_first}
 use Rattle.wc_laws_grammar.specs.Moves.{at_first, reading}
-use Rattle.wc_laws_tokens.proofs.TokenLaws.{cut_has_no_fault}
+use Rattle.wc_laws_grammar.proofs.TokenLaws.{cut_has_no_fault}
 use Rattle.wc_lexer.proofs.Spans.{span_is_first}
 use Rattle.wc_lexer.specs.Spans.{StopsAt}
 use Rattle.wc_lexer.specs.Views.{token_view}

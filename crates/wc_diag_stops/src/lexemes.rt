@@ -27,22 +27,6 @@ fn is_decimal(text: &[u8]) -> bool {
         && digits.last() != Some(&b'_')
 }
 
-/// Whether the digits of a literal with a base are not all of that base, with single underscores between.
-pub(crate) fn has_foreign_digit(text: &[u8]) -> bool {
-    let mut parts = text.split(|byte| *byte == b'#');
-    let greatest = match parts.next().and_then(|base| base.last()) {
-        Some(b'2') => b'1',
-        Some(b'8') => b'7',
-        Some(b'6') => b'f',
-        _ => return false,
-    };
-    let digits = parts.next().unwrap_or(b"");
-    let are_all = digits.iter().all(|byte| {
-        *byte == b'_' || byte.is_ascii_hexdigit() && byte.to_ascii_lowercase() <= greatest
-    });
-    !are_all || has_double_underscore(digits) || matches!(digits, [] | [b'_', ..] | [.., b'_'])
-}
-
 /// Digits and a unit of time.
 pub fn is_bare_duration(text: &[u8]) -> bool {
     let digits = text

@@ -1,9 +1,7 @@
 use crate::around::{is_shape, last_line, operator_on, text_of, without_line_ends};
-use crate::durations::read_units;
-use crate::lexemes::{has_foreign_digit, is_bare_duration};
+use crate::lexemes::is_bare_duration;
 use crate::slices::following;
 use crate::words::{first_word, is_among};
-use std::cmp::Ordering;
 use wc_built_in::{Keyword, keyword_named};
 use wc_diag_texts::{Case, Mistake, mistake_among};
 use wc_lexer::{Shape, Token};
@@ -13,12 +11,12 @@ pub fn is_digit(byte: Option<&u8>) -> bool {
     matches!(byte, Some(b'0'..=b'9'))
 }
 
-/// Whether a digit is right before a place, at the end of the last of these tokens.
-pub fn follows_digit(before: &[Token<'_>], start: usize) -> bool {
-    before.last().is_some_and(|token| {
-        let end = token.text.len().saturating_add(token.start as usize);
-        end == start && is_digit(token.text.last())
-    })
+/// The last of these tokens, if a place is right after it; no bytes, if it is not.
+pub fn text_before<'a>(before: &[Token<'a>], start: usize) -> &'a [u8] {
+    match before.last() {
+        Some(token) if token.text.len().saturating_add(token.start as usize) == start => token.text,
+        _ => b"",
+    }
 }
 
 /// The statement of Structured Text that a word begins or ends, if it is one.
@@ -31,40 +29,37 @@ pub fn mistaken_statement(word: &[u8]) -> Option<Mistake> {
     }
 }
 
-/// Whether a text begins with a comparison of STL, with its letter of a type.
-fn is_statement_comparison(text: &[u8]) -> bool {
-    match text {
-        [b'=', b'=', letter, ..]
-        | [b'<', b'>', letter, ..]
-        | [b'<' | b'>', b'=', letter, ..]
-        | [b'<' | b'>', letter, ..] => matches!(letter, b'D' | b'I' | b'R' | b'd' | b'i' | b'r'),
-        _ => false,
+/// Whether a line calls an instance, or has an item of a call's list alone.
+fn is_of_call(line: &[Token<'_>]) -> bool {
+    match keyword_named(operator_on(line)) {
+        Some(word) => matches!(word, Keyword::Call(_)),
+        None => line.len() == 1,
     }
 }
 
-/// Whether the last of these tokens is in the place of a name that is declared.
-fn begins_declaration(tokens: &[Token<'_>]) -> bool {
-    let (above, _) = tokens.split_at(tokens.len().saturating_sub(1));
-    let start = without_line_ends(above).last();
-    let word = keyword_named(text_of(start));
-    is_shape(start, Shape::Semicolon) || matches!(word, Some(Keyword::SectionStart(_)))
+/// Whether the last item of a list, or of a line, has a `:=`.
+fn is_given(line: &[Token<'_>]) -> bool {
+    line.iter()
+        .rev()
+        .take_while(|token| !matches!(token.shape, Shape::Comma | Shape::Opening))
+        .any(|token| matches!(token.shape, Shape::Assign))
 }
 
-/// A `=`, `<` or `>` in place of something else, by the tokens before it and what begins with it.
-fn mistaken_sign(tokens: &[Token<'_>], byte: u8, rest: &[u8]) -> Option<Mistake> {
+/// A `=`, `<` or `>` in place of something else, by the tokens before it.
+fn mistaken_sign(tokens: &[Token<'_>], byte: u8) -> Option<Mistake> {
     let before = last_line(tokens);
-    let has = |shape: Shape| before.iter().any(|token| token.shape == shape);
+    let has_colon = before.iter().any(|token| token.shape == Shape::Colon);
     mistake_among! {
         (mistaken_statement(text_of(before.first())), byte);
-        _ if before.is_empty() && is_statement_comparison(rest) => StatementComparison says "is not an operator", "this looks like Siemens STL (AWL): ==I and ==D are EQ, <>I is NE, >I GT, <I LT, >=I GE and <=I LE, each with its operand in place of the L before it: L 5 and ==I together are EQ 5";
         (Some(Mistake { case: Case::Loop, .. }), _) => Worded "this looks like Structured Text: there are no loops; do one pass of the loop in each scan: LD n, LT 10, JMPCN done; its lines; LD n, ADD 1, ST n; `done:` goes on with an LD";
         (Some(_), b'=') => Worded "this looks like Structured Text: for IF a = 5 write LD a, EQ 5, JMPCN skip; `skip:` is the END_IF";
         (Some(_), _) => Worded "this looks like Structured Text: for IF w >= 1000 write LD w, GE 1000, JMPCN skip; `skip:` is the END_IF";
-        (None, b'=') if before.is_empty() => StatementAssign says "is not an operator", "this looks like Siemens STL (AWL): `=` is ST; U or O is LD at the start and after each `=`, S or R, else AND or OR";
-        (None, b'=') if has(Shape::Opening) => Worded "an input is passed with `:=`, such as IN := a";
-        (None, b'=') if has(Shape::Colon) || has(Shape::Assign) => Worded "an initial value is written with `:=`, such as a : DINT := 5;";
-        (None, b'=') if begins_declaration(tokens) => Worded "a declaration is `name : TYPE;`, such as a : BOOL;";
-        (None, b'=') => Worded "to store write ST, to compare EQ, NE, GT, GE, LT or LE; a call and a declaration have `:=`";
+        _ if before.is_empty() => Worded says "is not an operator", "this looks like Siemens STL (AWL): `=` is ST, ==I EQ, <>I NE, >I GT, <I LT, >=I GE and <=I LE, each comparison with its operand in place of the L before it: L 5 and ==I together are EQ 5; U or O is LD at the start and after each `=`, S or R, else AND or OR";
+        _ if is_given(before) => Worded "after `:=` comes one value: compare on lines above, such as LD a, GT b, ST c, and take c";
+        (None, b'=') if is_of_call(before) && before.len() > 1 => Worded "an input is passed with `:=`, such as IN := a";
+        (None, b'=') if has_colon => Worded "an initial value is written with `:=`, such as a : DINT := 5;";
+        (None, b'=') => Worded "to store write ST, to compare EQ, NE, GT, GE, LT or LE; a call has `:=`, and a declaration is a : DINT := 5;";
+        _ if is_of_call(before) => Worded "an output is read with =>, such as Q => a";
         (None, b'>') => Worded "to compare write GT or GE";
         (None, b'<') => Worded "to compare write LT, LE or NE";
     }
@@ -74,30 +69,38 @@ fn mistaken_sign(tokens: &[Token<'_>], byte: u8, rest: &[u8]) -> Option<Mistake>
 fn mistaken_quote(before: &[Token<'_>], start: usize, rest: &[u8]) -> Option<Mistake> {
     let name = first_word(following(rest, 1));
     let is_closed = following(rest, name.len().saturating_add(1)).starts_with(b"\"");
-    let is_operand = is_operator(operator_on(last_line(before)));
     mistake_among! {
         rest.first();
-        Some(b'\'') if follows_digit(before, start) && is_digit(rest.get(1)) => Worded "write the digits together, or with underscores, such as 1_000";
-        Some(b'"') if is_closed && is_operand => QuotedName "write a name without quotation marks, such as LD start";
+        Some(b'\'') if is_digit(text_before(before, start).last()) && is_digit(rest.get(1)) => Worded "write the digits together, or with underscores, such as 1_000";
+        Some(b'"') if is_closed => Worded "write a name without quotation marks, such as LD start; there are no strings";
         Some(_) => Worded "this language has no strings: use a DINT with a number for each text, such as 1";
     }
 }
 
-/// A byte of which this language has none, by the byte after it.
-fn foreign_byte(byte: u8, next: Option<&u8>) -> Option<Mistake> {
+/// Whether a text begins a duration.
+fn is_duration(text: &[u8]) -> bool {
+    text.starts_with(b"T#") || text.starts_with(b"t#")
+}
+
+/// A byte of which this language has none, by the tokens before it on its line and what begins with it.
+fn foreign_byte(before: &[Token<'_>], rest: &[u8]) -> Option<Mistake> {
     mistake_among! {
-        (byte, next);
-        (b'[' | b']', _) => Worded "this language has no arrays: declare one variable for each element, such as a0, a1";
-        (b'{' | b'}', _) => Worded "delete it: this language has no pragmas; a comment is (* .. *)";
-        (b'/', Some(b'/')) => Worded "a comment is (* .. *)";
-        (b'/', _) => Worded "to divide write DIV; a comment is (* .. *)";
-        (b'*', _) => Worded "to multiply write MUL; a comment is (* .. *)";
-        (b'#', Some(b'A'..=b'Z' | b'a'..=b'z' | b'_')) => Worded "write the name without the #; a # belongs to a literal, such as 16#FF or T#5s";
-        (b'#', _) => Worded "a # belongs to a literal, such as 16#FF or T#5s";
-        (b'\r', _) => Worded "save the file with line ends of Windows (CR LF) or Unix (LF)";
-        (0, _) => Worded "save the text as ASCII, or as UTF-8 without a byte order mark";
-        (0xc2, Some(0xa0)) => NoBreakSpace says "a no-break space (U+00A0) is not allowed here", "write a space in its place";
-        (128.., _) => Worded "names have the letters A to Z and a to z, digits and underscores; comments may have any";
+        rest;
+        [b'[', b'A'..=b'Z' | b'a'..=b'z', ..] if is_of_call(before) && before.len() == 2 => Worded "the list of a call is in parentheses, such as CAL t(IN := a)";
+        [b'[' | b']', ..] => Worded "this language has no arrays: declare one variable for each element, such as a0, a1";
+        [b'{' | b'}', ..] => Worded "delete it: this language has no pragmas; a comment is (* .. *)";
+        [b'/', b'/', ..] => Worded "a comment is (* .. *)";
+        [b'*' | b'/', ..] if is_given(before) => Worded "after `:=` comes one value: write the product or quotient itself, or compute it on lines above, such as LD a, MUL b, ST c, and take c";
+        [b'*', ..] if is_duration(text_of(before.last())) => Worded "a TIME cannot be multiplied: write the product, such as T#15s";
+        [b'/', ..] => Worded "to divide write DIV; a comment is (* .. *)";
+        [b'*', ..] => Worded "to multiply write MUL; a comment is (* .. *)";
+        [b'#', b'A'..=b'Z' | b'a'..=b'z' | b'_', ..] => Worded "write the name without the #; a # belongs to a literal, such as 16#FF or T#5s";
+        [b'#', ..] => Worded "a # belongs to a literal, such as 16#FF or T#5s";
+        [b'\r', ..] => Worded "save the file with line ends of Windows (CR LF) or Unix (LF)";
+        [0, ..] => Worded "save the text as ASCII, or as UTF-8 without a byte order mark";
+        [0xc2, 0xa0, ..] => NoBreakSpace says "a no-break space (U+00A0) is not allowed here", "write a space in its place";
+        [0xe2, 0x80, 0x90..=0x95, ..] | [0xe2, 0x88, 0x92, ..] => Worded "a minus sign is that of the keyboard, such as -5; comments may have any";
+        [128..=255, ..] => Worded "names have the letters A to Z and a to z, digits and underscores; comments may have any";
     }
 }
 
@@ -109,26 +112,20 @@ pub fn mistaken_byte(
     case: Case,
 ) -> Option<Mistake> {
     match case {
-        Case::Byte(byte @ (b'=' | b'<' | b'>')) => mistaken_sign(before, byte, rest),
+        Case::Byte(byte @ (b'=' | b'<' | b'>')) => mistaken_sign(before, byte),
         Case::Byte(b'\'' | b'"') => mistaken_quote(before, start, rest),
-        Case::Byte(byte) => foreign_byte(byte, rest.get(1)),
+        Case::Byte(_) => foreign_byte(last_line(before), rest),
         _ => None,
     }
 }
 
 /// A mistake in a duration; `rest` begins after it.
 pub fn mistaken_duration(token: &[u8], rest: &[u8]) -> Option<Mistake> {
-    let (is_long, order) = read_units(token);
     mistake_among! {
-        (token.last(), order);
+        token.last();
         _ if rest.starts_with(b",") && is_digit(rest.get(1)) => Worded says "has a comma in place of a decimal point", "write a decimal point instead of the comma, such as T#1.5s";
-        (Some(b'0'..=b'9' | b'.' | b'_'), _) => Worded says "is a duration without a unit", "a duration has a unit right after its number, without a space, such as T#1s or T#500ms";
-        (Some(b'#'), _) => Worded says "is a duration without a number", "write the number right after T#, without a space, such as T#5s";
-        _ if is_long && token.contains(&b'-') => Worded says "is a duration out of range", "durations are T#-24d20h31m23s648ms to T#24d20h31m23s647ms";
-        _ if is_long => Worded says "is a duration out of range", "durations are T#-24d20h31m23s648ms to T#24d20h31m23s647ms; for longer ones count days, with start, run, stop : BOOL and day : TON and days : CTU: LD start, ANDN day.Q, ST run; CAL day(IN := run, PT := T#1d); LDN start, ST stop; CAL days(CU := day.Q, R := stop, PV := 30); days.Q is TRUE after 30 days";
-        (_, Some(Ordering::Equal)) => Worded says "has a unit twice", "write each unit once, the larger first, such as T#1m10s";
-        (_, Some(Ordering::Greater)) => Worded says "has its units in a wrong order", "each unit is smaller than that before it: write days, hours, minutes, seconds, milliseconds in this order, such as T#3h5s";
-        (_, Some(Ordering::Less)) if !token.contains(&b'.') => Worded "after the first unit hours are below 24, minutes and seconds below 60, milliseconds below 1000: T#1m90s is T#2m30s or T#150s";
+        Some(b'0'..=b'9' | b'.' | b'_') => Worded says "is a duration without a unit", "a duration has a unit right after each number, without a space, such as T#1s, T#500ms or T#1m30s";
+        Some(b'#') => Worded says "is a duration without a number", "write the number right after T#, without a space, such as T#5s";
     }
 }
 
@@ -137,22 +134,36 @@ fn is_foreign_address(before: &[u8], token: &[u8]) -> bool {
     is_among(b"e a i q m", before) && token.len() < 8 && token.contains(&b'.')
 }
 
-/// A mistake in a number after a token; `rest` begins after it.
-pub fn mistaken_number(before: &[u8], token: &[u8], rest: &[u8], case: Case) -> Option<Mistake> {
+/// Whether a token is a word that is not reserved.
+fn is_name(text: &[u8]) -> bool {
+    matches!(text.first(), Some(b'A'..=b'Z' | b'a'..=b'z')) && keyword_named(text).is_none()
+}
+
+/// A mistake in a number at a place, by the tokens before it; `rest` begins after it.
+pub fn mistaken_number(
+    tokens: &[Token<'_>],
+    start: usize,
+    (token, rest): (&[u8], &[u8]),
+    case: Case,
+) -> Option<Mistake> {
+    let (before, line) = (text_of(without_line_ends(tokens).last()), last_line(tokens));
     let is_foreign_duration = is_among(b"s5t s5time ltime lt", first_word(token));
     mistake_among! {
-        case;
-        Case::SignAlone if token.starts_with(b"-") && rest.starts_with(b">") => Worded "an output is read with =>, such as Q => a";
-        Case::WithPoint if token.windows(2).any(|pair| pair.starts_with(b"..")) => Worded says "is a range, and there are no ranges", "leave the range out: a DINT is -2147483648 to 2147483647";
-        Case::WithPoint if is_among(b"mul div mod", before) => Worded "write a factor with whole numbers: for MUL 0.5 write MUL 1, and DIV 2 on the next line";
-        Case::WithPoint if is_foreign_address(before, token) => StatementAddress "this looks like Siemens STL (AWL): E 0.0 is %IX0.0, A 4.0 an output such as %QX0.0; U is LD at the start and after each `=`, S or R, else AND (UN: LDN, ANDN); `=` is ST";
-        Case::WithPoint if is_among(b"%ix %qx", before) => Worded "write an address without a space, such as %IX0.0";
-        Case::NoNumber if is_bare_duration(token) && (before.starts_with(b"T#") || before.starts_with(b"t#")) => Worded "write the units of a duration without spaces, such as T#1m30s";
-        Case::NoNumber | Case::WithBase if is_foreign_duration || is_bare_duration(token) => Worded "a duration begins with T#, such as T#500ms";
-        Case::WithBase if has_foreign_digit(token) => Worded says "is not a valid literal", "the digits of 2# are 0 and 1, of 8# 0 to 7, of 16# 0 to 9 and A to F, with single underscores between";
-        Case::WithBase if token.starts_with(b"BOOL") || token.starts_with(b"bool") => Worded says "is not a literal of this language", "a BOOL is TRUE, FALSE, BOOL#0 or BOOL#1";
-        Case::NoNumber if token.iter().any(|byte| byte.is_ascii_alphabetic()) => Worded "a name begins with a letter, such as a1; a number has digits alone, in the smallest unit: 10 kg is 10000 with 3 decimals";
-        Case::WithBase if token.first().is_some_and(|byte| byte.is_ascii_alphabetic()) => Worded says "is not a literal of this language", "write the number without its type, such as 5";
+        (case, keyword_named(operator_on(line)));
+        _ if is_name(text_before(tokens, start)) => SignAlone "a name has letters, digits and underscores alone, such as start_button; a sign is right before its digits";
+        (Case::SignAlone, _) if token.starts_with(b"-") && rest.starts_with(b">") => Worded "an output is read with =>, such as Q => a";
+        (Case::SignAlone, _) if is_given(line) => SignAlone "after `:=` comes one value: write the sum itself, or compute it on lines above, such as LD a, ADD b, ST c, and take c";
+        (Case::SignAlone, Some(Keyword::Apply(_))) if line.len() > 1 => SignAlone "an operand is computed in a parenthesis: for GE n + 20 write GE( n, then ADD 20, then `)`";
+        (Case::WithPoint, _) if token.windows(2).any(|pair| pair.starts_with(b"..")) => Worded says "is a range, and there are no ranges", "leave the range out: a DINT is -2147483648 to 2147483647";
+        (Case::WithPoint, _) if is_among(b"mul div mod", before) => Worded "write a factor with whole numbers: for MUL 0.5 write MUL 1, and DIV 2 on the next line";
+        (Case::WithPoint, _) if is_foreign_address(before, token) => Worded says "is not a number, and not an address with the letter before it", "this looks like Siemens STL (AWL): E 0.0 is %IX0.0, A 4.0 an output such as %QX0.0; U is LD at the start and after each `=`, S or R, else AND (UN: LDN, ANDN); `=` is ST";
+        (Case::WithPoint, _) if is_among(b"%ix %qx", before) => Worded "write an address without a space, such as %IX0.0";
+        (Case::NoNumber, _) if is_bare_duration(token) && is_duration(before) => Worded "write the units of a duration without spaces, such as T#1m30s";
+        (Case::NoNumber | Case::WithBase, _) if is_foreign_duration || is_bare_duration(token) => Worded "a duration begins with T#, such as T#500ms";
+        (Case::WithBase, _) if matches!(token.first(), Some(b'+' | b'-')) => Worded "a number with a base has no sign: write -16#14 as -20";
+        (Case::WithBase, _) if token.starts_with(b"BOOL") || token.starts_with(b"bool") => Worded says "is not a literal of this language", "a BOOL is TRUE, FALSE, BOOL#0 or BOOL#1";
+        (Case::NoNumber, _) if token.iter().any(|byte| byte.is_ascii_alphabetic()) => Worded "a name begins with a letter, such as a1; a number has digits alone: write 0xFF as 16#FF, 5e3 as 5000, and 10 kg as 10000 if weights have 3 decimals";
+        (Case::WithBase, _) if token.first().is_some_and(|byte| byte.is_ascii_alphabetic()) => Worded says "is not a literal of this language", "write the number without its type, such as 5";
     }
 }
 

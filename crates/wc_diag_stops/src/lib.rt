@@ -3,7 +3,6 @@
 #![tactic(auto)]
 
 mod around;
-mod durations;
 mod expected;
 mod lexemes;
 mod lexical;
@@ -19,12 +18,12 @@ pub use around::{
 };
 pub use lexemes::{BYTE_ORDER_MARK, case_of_lexeme, is_bare_duration};
 pub use lexical::{
-    follows_digit, is_digit, is_operator, mistaken_byte, mistaken_duration, mistaken_number,
-    mistaken_statement,
+    is_digit, is_operator, mistaken_byte, mistaken_duration, mistaken_number, mistaken_statement,
+    text_before,
 };
 pub use listing::the_list_is_exact;
 pub use places::exchange;
 pub use slices::{bytes_at, following, prefix};
 pub use span::{Brought, LabelPaths, PathToLabel, RefusalSpan, ResultKind, Slice};
 pub use stops::{StoppedText, stop_of};
-pub use words::{first_word, is_among, is_near, same_prefix};
+pub use words::{difference, first_word, is_among, is_near, same_prefix};

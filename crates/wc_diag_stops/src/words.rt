@@ -32,18 +32,27 @@ fn are_exchanged(a: &[u8], b: &[u8]) -> bool {
     }
 }
 
-/// Whether two names differ by one letter, more, less or other, or by two neighbours that are exchanged.
-pub fn is_near(a: &[u8], b: &[u8]) -> bool {
+/// How two names differ that are near, the less the nearer they are: 0, by letter case alone; 1, by two neighbours that are exchanged;
+/// 2, by a letter that one of them has more; 3, by one other letter of at least three. Nothing, if they are not near.
+pub fn difference(a: &[u8], b: &[u8]) -> Option<u8> {
     let (shorter, longer) = (a.len().min(b.len()), a.len().max(b.len()));
     let start = same_prefix(a, b);
     let same = start.saturating_add(same_end(a, b)).min(shorter);
     match longer.saturating_sub(same) {
-        0 | 1 => shorter > 1,
-        2 => shorter > 1
-            && a.len() == b.len()
-            && are_exchanged(following(a, start), following(b, start)),
-        _ => false,
+        _ if shorter < 2 => None,
+        0 => Some(0),
+        1 if shorter < longer => Some(2),
+        1 if shorter > 2 => Some(3),
+        2 if a.len() == b.len() && are_exchanged(following(a, start), following(b, start)) => Some(
+            1,
+        ),
+        _ => None,
     }
+}
+
+/// Whether two names are near.
+pub fn is_near(a: &[u8], b: &[u8]) -> bool {
+    difference(a, b).is_some()
 }
 
 /// Whether a text is one of these words. Letter case is not significant.

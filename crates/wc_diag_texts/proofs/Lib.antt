@@ -1,0 +1,4 @@
+pub mod ActingBytes
+pub mod Calm
+pub mod CalmTexts
+pub mod OnLines

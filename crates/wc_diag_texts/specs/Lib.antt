@@ -1,2 +1,4 @@
+pub mod Acting
 pub mod Numbers
 pub mod PathTexts
+pub mod Plain

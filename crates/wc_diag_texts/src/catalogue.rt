@@ -26,7 +26,7 @@ pub struct Entry {
 macro_rules! entry_among {
     ($among:expr; $($number:literal $pass:literal: $sentence:literal $(quoted $quoted:literal)?
         at $place:literal, $input:literal => $answer:literal, help $hint:literal
-        $(, wrong $($wrong:literal)* why $why:literal rule $section:literal mended $($mended:literal)*)?;)*) => {
+        $(, $kind:ident $($wrong:literal)* why $why:literal $(rule $section:literal)? mended $($mended:literal)*)?;)*) => {
         Some(match $among {
             $($number => &Entry {
                 number: $number,
@@ -38,8 +38,8 @@ macro_rules! entry_among {
                 answer: $answer,
                 hint: $hint,
                 usual: &[$(
-                    "wrong:", $(concat!("    ", $wrong),)* concat!("why: ", $why), "mended:", $(concat!("    ", $mended),)*
-                    concat!("rule: section ", $section, " of docs/LANGUAGE.md"),
+                    concat!(stringify!($kind), ":"), $(concat!("    ", $wrong),)* concat!("why: ", $why),
+                    "mended:", $(concat!("    ", $mended),)* $(concat!("rule: section ", $section, " of docs/LANGUAGE.md"),)?
                 )?],
             },)*
             _ => return None,
@@ -99,7 +99,7 @@ fn token_entry(number: u16) -> Option<&'static Entry>
             mended "PROGRAM P" "LD %ID1" "GE 1500" "AND %IX1.5" "ST %QX0.0" "END_PROGRAM";
         106 "tokens": "a duration is malformed or out of range" quoted "is not a valid duration, or is out of range"
             at "the line of the token", "T#" => 1,
-            help "write days to milliseconds in order, such as T#1d2h3m4s5ms, or one with a point, such as T#1.5s",
+            help "write days to milliseconds in order, each once, such as T#1d2h3m4s5ms, or one with a point, such as T#1.5s; after the first number hours are below 24, minutes and seconds below 60; the longest is T#24d20h31m23s647ms (a TON of T#1d and a CTU count days), and milliseconds are whole",
             wrong "PROGRAM P" "VAR t : TON; END_VAR" "CAL t(IN := %IX0.0, PT := T#5, Q => %QX0.0)" "END_PROGRAM"
             why "without a unit 5 could be seconds or milliseconds" rule "2.2"
             mended "PROGRAM P" "VAR t : TON; END_VAR" "CAL t(IN := %IX0.0, PT := T#5s, Q => %QX0.0)" "END_PROGRAM";
@@ -142,7 +142,7 @@ fn reading_entry(number: u16) -> Option<&'static Entry>
             why "the `)` applies the operator to the result in the parenthesis, and here there is none" rule "3.3"
             mended "PROGRAM P" "LD %IX0.0" "AND( %IX0.1" "OR %IX0.2" ")" "ST %QX0.0" "END_PROGRAM";
         205 "reader": "a jump, a call, a return or a label is not allowed inside a parenthesis"
-            at "its line", "PROGRAM P&( / x:" => 2, help "close the parenthesis before it, with a `)` on a line of its own",
+            at "its line", "PROGRAM P&( / x:" => 2, help "close the parenthesis before it with a `)` on a line of its own, or move it above the LD that begins the expression",
             wrong "PROGRAM P" "LD %IX0.0" "AND( %IX0.1" "RETCN" ")" "ST %QX0.0" "END_PROGRAM"
             why "the operator waits for its `)`: who leaves the parenthesis would leave it undone" rule "3.1"
             mended "PROGRAM P" "LD %IX0.1" "RETCN" "AND %IX0.0" "ST %QX0.0" "END_PROGRAM";
@@ -318,7 +318,7 @@ fn input_entry(number: u16) -> Option<&'static Entry>
     entry_among! {
         number;
         501 "plate": "the plate is not TOML"
-            at "0", "plate x" => 0, help "the plate has lines `key = value`";
+            at "0", "plate x" => 0, help "the plate has lines `key = value`: a text is between quotation marks, such as unit = \"kg\", a number is digits alone, such as max = 15000";
         502 "plate": "a key is missing, is unknown, or has a value of the wrong type"
             at "0", "(the empty plate)" => 0,
             help "the keys are unit, decimals, max, e, zero_counts, span_counts and window, each once; unit is a text, the others are whole numbers, max and e in units of the last decimal, such as e = 5 for 0.005 kg";
@@ -359,5 +359,67 @@ fn input_entry(number: u16) -> Option<&'static Entry>
             help "a job is a line @plate and the plate, a line @program and the program, a line @log and the log; each of the three is on a line of its own, in lower case";
         702 "job, files": "there are more than 1048576 bytes"
             at "0", "(1048577 spaces)" => 0, help "a plate and a job may have 1048576 bytes, a program 65536";
+    }
+}
+
+/// All that is said of a warning by its number alone, if there is one of that number: no pass, and no answer.
+pub fn warning_of(number: u16) -> Option<&'static Entry>
+    ensures known { is_some result ≡ is_from 1 9 number }
+    ensures number { IfSome result (λ entry. entry.now.number ≡ number) }
+{
+    entry_among! {
+        number;
+        1 "": "a variable is neither read nor written" quoted "is neither read nor written"
+            at "the line of its name", "PROGRAM P / VAR a : BOOL; END_VAR / END_PROGRAM" => 0, help "remove the variable, or use it",
+            suspicious "PROGRAM P" "VAR a, b : BOOL; END_VAR" "LD %IX0.0" "ST a" "LD a" "ST %QX0.0" "END_PROGRAM"
+            why "it may be left over, or another name may be written in its place"
+            mended "PROGRAM P" "VAR a : BOOL; END_VAR" "LD %IX0.0" "ST a" "LD a" "ST %QX0.0" "END_PROGRAM";
+        2 "": "a variable is never read" quoted "is never read"
+            at "the line of its name", "PROGRAM P / VAR a : BOOL; END_VAR / LD TRUE / ST a / END_PROGRAM" => 0,
+            help "read the variable, or remove it and what writes it",
+            suspicious "PROGRAM P" "VAR a : BOOL; END_VAR" "LD %IX0.0" "ST a" "ST %QX0.0" "END_PROGRAM"
+            why "what is stored in it has no effect"
+            mended "PROGRAM P" "LD %IX0.0" "ST %QX0.0" "END_PROGRAM";
+        3 "": "a variable is read, but it is never written and has no initial value" quoted "is read, but it is never written and has no initial value"
+            at "the line of its name", "PROGRAM P / VAR a : BOOL; END_VAR / LD a / ST %QX0.0 / END_PROGRAM" => 0,
+            help "write the variable, or give it an initial value, such as a : BOOL := TRUE;",
+            suspicious "PROGRAM P" "VAR limit : DINT; END_VAR" "LD %ID1" "GE limit" "AND %IX1.5" "ST %QX0.0" "END_PROGRAM"
+            why "it is 0, FALSE or T#0s in each scan"
+            mended "PROGRAM P" "VAR limit : DINT := 500; END_VAR" "LD %ID1" "GE limit" "AND %IX1.5" "ST %QX0.0" "END_PROGRAM";
+        4 "": "an instance is never called" quoted "is never called"
+            at "the line of its name", "PROGRAM P / VAR t : TON; END_VAR / END_PROGRAM" => 0, help "call the instance with CAL, or remove it",
+            suspicious "PROGRAM P" "VAR t : TON; END_VAR" "LD t.Q" "ST %QX0.0" "END_PROGRAM"
+            why "a block does something only when it is called: this timer never runs"
+            mended "PROGRAM P" "VAR t : TON; END_VAR" "CAL t(IN := %IX0.0, PT := T#2s)" "LD t.Q" "ST %QX0.0" "END_PROGRAM";
+        5 "": "a variable is an output that its function block never writes" quoted "is an output that its function block never writes"
+            at "the line of its name", "FUNCTION_BLOCK B / VAR_OUTPUT q : BOOL; END_VAR / END_FUNCTION_BLOCK / PROGRAM P / END_PROGRAM" => 0,
+            help "store the output in the function block, or remove it",
+            suspicious "FUNCTION_BLOCK Always" "VAR_OUTPUT q : BOOL; END_VAR" "LD TRUE" "END_FUNCTION_BLOCK" "PROGRAM P" "END_PROGRAM"
+            why "each caller reads its initial value"
+            mended "FUNCTION_BLOCK Always" "VAR_OUTPUT q : BOOL; END_VAR" "LD TRUE" "ST q" "END_FUNCTION_BLOCK" "PROGRAM P" "END_PROGRAM";
+        6 "": "an instance is a timer whose PT is never set: its time is T#0ms" quoted "is a timer whose PT is never set: its time is T#0ms"
+            at "the line of its name", "PROGRAM P / VAR t : TON; END_VAR / CAL t / END_PROGRAM" => 0,
+            help "set the time in the call, such as CAL t(PT := T#5s)",
+            suspicious "PROGRAM P" "VAR t : TON; END_VAR" "CAL t(IN := %IX0.0, Q => %QX0.0)" "END_PROGRAM"
+            why "without a time it ends as soon as it begins"
+            mended "PROGRAM P" "VAR t : TON; END_VAR" "CAL t(IN := %IX0.0, PT := T#2s, Q => %QX0.0)" "END_PROGRAM";
+        7 "": "the lines from here on are never executed" quoted "the lines from here on are never executed"
+            at "the line of the first instruction", "PROGRAM P / RET / LD 1 / ST %QD0 / END_PROGRAM" => 0,
+            help "remove the lines, or put a label before them and jump to it",
+            suspicious "PROGRAM P" "LD %IX0.0" "ST %QX0.0" "RET" "LD %IX0.1" "ST %QX0.1" "END_PROGRAM"
+            why "RET and JMP always leave; RETC, RETCN, JMPC and JMPCN leave on a condition"
+            mended "PROGRAM P" "LD %IX0.0" "ST %QX0.0" "RETC" "LD %IX0.1" "ST %QX0.1" "END_PROGRAM";
+        8 "": "an output is stored here, and earlier on a path to here: the last value counts" quoted "is stored here, and earlier on a path to here: the last value counts"
+            at "the line of the later store", "PROGRAM P / LD 1 / ST %QD0 / ST %QD0 / END_PROGRAM" => 0,
+            help "compute the value in a variable, and store the output once",
+            suspicious "PROGRAM P" "LD %IX0.0" "ST %QX0.0" "LD %IX0.1" "ST %QX0.0" "END_PROGRAM"
+            why "outputs are set at the end of a scan, so the first store has no effect"
+            mended "PROGRAM P" "LD %IX0.0" "OR %IX0.1" "ST %QX0.0" "END_PROGRAM";
+        9 "": "a weight is read, but %IX1.5 is never read: while it is FALSE all weights are 0" quoted "is read, but %IX1.5 is never read: while it is FALSE all weights are 0"
+            at "the line of the first instruction that reads a weight", "PROGRAM P / LD %ID1 / ST %QD0 / END_PROGRAM" => 0,
+            help "read %IX1.5, and act on a weight only if it is TRUE",
+            suspicious "PROGRAM P" "LD %ID1" "LT 500" "ST %QX0.0" "END_PROGRAM"
+            why "a weight that is not valid reads as 0, here as below 500"
+            mended "PROGRAM P" "LD %ID1" "LT 500" "AND %IX1.5" "ST %QX0.0" "END_PROGRAM";
     }
 }

@@ -12,6 +12,9 @@ type Words = (&'static str, &'static str);
 /// What is said of a standard function.
 const NO_FUNCTION: &str = "is a standard function, and functions are not supported";
 
+/// What is said of a value that is passed, or of what takes one.
+const DIFFERS: &str = "is of another type than the input or output";
+
 /// What to write for a CTD.
 macro_rules! counting_down {
     () => {
@@ -89,7 +92,7 @@ fn reading_words(number: u16, case: Case) -> Words {
         104, Case::DoubleUnderscore => "has two underscores in a row", "";
         104, Case::LastUnderscore => "has an underscore at its end", "";
         105, Case::SignAlone => "is a sign without a number", "a sign is right before its digits, without a space, such as -5; write ADD or SUB and the number on a line of its own, such as LD n, then ADD m in place of an L m and a +I; the negative of a number is LD 0, and on the next line SUB and the number";
-        105, Case::WithBase => "is not a valid literal, or is out of range", "the largest is 16#7FFFFFFF: write -2147483648 for 16#80000000, -1 for 16#FFFFFFFF";
+        105, Case::WithBase => "is not a valid literal, or is out of range", "the largest is 16#7FFFFFFF: write -2147483648 for 16#80000000, -1 for 16#FFFFFFFF; the digits of 2# are 0 and 1, of 8# 0 to 7, of 16# 0 to 9 and A to F, with single underscores between";
         105, Case::WithPoint => "has a decimal point, but numbers are integers", "write 1.5 kg as 1500, if weights have 3 decimals";
         105, Case::OutOfRange => "is out of range", "";
         201, Case::SectionWord => "is not allowed after an instruction", "declarations go between VAR and END_VAR, before the first instruction";
@@ -132,11 +135,11 @@ fn declared_words(number: u16, case: Case) -> Words {
         302, Case::DownCounter => "", counting_down!();
         306, Case::Variable => "is one variable more than the 256 that a unit may have", "";
         401, Case::Field => "is not an input or output of a declared instance", "before the dot comes an instance that VAR declares, after it an output, such as t.Q; there are no global variables";
-        401, Case::BlockType => "is the name of a type, not of an instance", "declare an instance in VAR, `t : TON;`, and call that: CAL t(..)";
+        401, Case::BlockType => "is the name of a type, not of an instance", "";
         403, Case::Plain => "there is no current result", "begin with LD: no line that leads here has loaded a value";
         404, Case::LiteralTarget => "", "the target is a variable or an output, such as ST a, or Q => a in a call; LD loads the value";
         404, _ => "", "an input is set by the caller: copy it to a variable in VAR, and change the copy";
-        405, _ => "", "store the value in a variable of your own, pass that to the input, and read the variable";
+        405, _ => "", "store the value of an input in a variable of your own, pass that, and read it; of a block of the text declare in VAR_OUTPUT what is to be read";
         408, Case::Deferred => "takes no parenthesis", "DIV and MOD take an integer literal, such as DIV 10; DIV( and MOD( do not exist";
         409, Case::InputArrow => "is an input of this block, and `=>` reads an output", "an input is passed with :=, such as IN := a";
         409, Case::OutputAssigned => "is an output of this block, and `:=` passes an input", "an output is read with =>, such as Q => a";
@@ -147,7 +150,7 @@ fn declared_words(number: u16, case: Case) -> Words {
 fn kind_words(number: u16, case: Case) -> Words {
     words_among! {
         number, case;
-        402, Case::Instance => "is an instance, and has no value of its own", "name one of its outputs, such as t.Q";
+        402, Case::Instance => "is an instance, and has no value of its own", "name one of its outputs, such as t.Q, c.CV or l.Q1";
         402, Case::NoInstance => "is not an instance of a function block", "CAL names an instance of a function block, declared in VAR: t : TON;";
         402, Case::TruthLiteral => "", "here 0 and 1 are DINTs: write FALSE for 0, TRUE for 1";
         402, Case::StoredTimeToNumber => "", counting_seconds!("a TIME cannot be converted: store it to a TIME variable");
@@ -158,18 +161,14 @@ fn kind_words(number: u16, case: Case) -> Words {
         402, Case::MultipliedTime => "", "a TIME cannot be multiplied: write the product as a duration, such as T#15s, or ADD the time several times";
         402, Case::DividedTime => "", counting_seconds!("a TIME cannot be divided: compare it, such as GE T#15s");
         402, Case::Closing => "closes with another type than that of the result before its parenthesis", "end the lines in the parenthesis with the type of the result before it";
-        402, Case::Untaken(Kind::Bool) => "is a BOOL, which this operator does not take", "";
-        402, Case::Untaken(Kind::Dint) => "is a DINT, which this operator does not take", "";
-        402, Case::Untaken(Kind::Time) => "is a TIME, which this operator does not take", "";
+        402, Case::Untaken(_) => "is of a type that this operator does not take", "";
         402, Case::Unlike(Kind::Bool) => "is a BOOL, but the current result is of another type", "";
         402, Case::Unlike(Kind::Dint) => "is a DINT, but the current result is of another type", "";
         402, Case::Unlike(Kind::Time) => "is a TIME, but the current result is of another type", "";
         402, Case::Result => "does not take the type of the current result", "";
-        402, Case::Unpassed(Kind::Bool, Kind::Dint) => "is a BOOL, but the input or output is a DINT", "pass a number to a DINT, a duration to a TIME";
-        402, Case::Unpassed(Kind::Bool, _) => "is a BOOL, but the input or output is a TIME", "pass a number to a DINT, a duration to a TIME";
-        402, Case::Unpassed(Kind::Dint, Kind::Bool) => "is a DINT, but the input or output is a BOOL", "compare before the call, store the BOOL in a variable, and pass that variable";
-        402, Case::Unpassed(Kind::Dint, _) => "is a DINT, but the input or output is a TIME", "write a duration, such as T#500ms, or pass a TIME";
-        402, Case::Unpassed(Kind::Time, Kind::Bool) => "is a TIME, but the input or output is a BOOL", "compare before the call, store the BOOL in a variable, and pass that variable";
-        402, Case::Unpassed(Kind::Time, _) => "is a TIME, but the input or output is a DINT", "write an integer, such as 500, or pass a DINT";
+        402, Case::Unpassed(Kind::Bool, _) => DIFFERS, "pass a number to a DINT, a duration to a TIME";
+        402, Case::Unpassed(_, Kind::Bool) => DIFFERS, "compare before the call, store the BOOL in a variable, and pass that variable";
+        402, Case::Unpassed(Kind::Dint, _) => DIFFERS, "write a duration, such as T#500ms, or pass a TIME";
+        402, Case::Unpassed(Kind::Time, _) => DIFFERS, "write an integer, such as 500, or pass a DINT";
     }
 }

@@ -6,7 +6,7 @@ use Rattle.wc_examples_instrument.specs.Worked.{plate_text, plate_of_15_kg}
 use Rattle.wc_examples_instrument.specs.FirstJob.{program_bytes, program_tokens, log_bytes, log_records, table, job_bytes}
 use Rattle.wc_examples_language.specs.BoolPrograms.{copies_an_input, first_unit}
 use Rattle.wc_laws_language.proofs.Longest.{computed_is_worst, longest_of_worst}
-use Rattle.wc_laws_tokens.proofs.FoundTokens.{found_cut}
+use Rattle.wc_laws_grammar.proofs.FoundTokens.{found_cut}
 use Rattle.wc_laws_grammar.proofs.Spelling.{spelling}
 use Rattle.wc_model.specs.Language.Faults.{IsCostFault}
 use Rattle.wc_model.specs.Say.Job.{JobAnswer, AnswersPlate, AnswersJob, AnswersPrograms, loads_program, run_answer}

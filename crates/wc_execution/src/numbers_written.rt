@@ -1,7 +1,7 @@
 ghost use Rattle.std.specs.Prelude.{◌≡◌, ◌≤◌, [], length};
 ghost use Rattle.wc_execution.specs.Lines.{here_at, no_calls, state_of};
 ghost use Rattle.wc_execution.specs.Writing.{IsStorable, IsWritable};
-ghost use Rattle.wc_laws_trace.specs.FlatSeen.{number_stored, number_written};
+ghost use Rattle.wc_text_flat.specs.FlatSeen.{number_stored, number_written};
 
 use crate::operators::truth;
 use crate::places::{flipped, read};

@@ -7,7 +7,7 @@ macro_rules! with_constants {
             "0.1.0",
             "rattle-kit-13 logic dac8208d650f15bf",
             "24a004b73f18eb4df85ec3c3a7301333c6ff8db84e420eb5ea90a2ea11395ccc",
-            "acd181f4344027d416d60cd327ad7749fa4c8b44484a77acc71d29da1a42fc84"
+            "607ec56ffd75e50d739dc40276a7762128ed284d5c641ae688cd2b9fd851c19d"
         )
     };
 }

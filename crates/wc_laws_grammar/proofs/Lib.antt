@@ -36,3 +36,11 @@ pub mod Unique
 pub mod Ranks
 pub mod OneLine
 pub mod FirstFaults
+pub mod Reach
+pub mod Ascii
+pub mod TokenSteps
+pub mod TokenLaws
+pub mod Attained
+pub mod FoundTokens
+pub mod TokenSlices
+pub mod DurationParts

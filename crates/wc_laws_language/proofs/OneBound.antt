@@ -8,7 +8,7 @@ use Rattle.wc_model.specs.Language.Paths.{IsLongest, IsBoundOfLast}
 use Rattle.wc_model.specs.Language.Scopes.{Scope}
 use Rattle.wc_model.specs.Language.Tree.{ProgramUnit}
 use Rattle.wc_model.specs.Say.UnitReport.{IsBoundOf}
-use Rattle.wc_laws_soundness.proofs.Texts.{turned}
+use Rattle.wc_laws_language.proofs.Texts.{turned}
 
 -- no longest path is longer than another
 pub at_most : (scope : Scope) (m n : ℕ) → IsLongest scope m → IsLongest scope n → m ≤ n

@@ -14,12 +14,12 @@ use Rattle.wc_model.specs.Language.Store.{Store, initial_store}
 use Rattle.wc_model.specs.Language.Traces.{Item}
 use Rattle.wc_model.specs.Language.Tree.{ProgramUnit}
 use Rattle.wc_model.specs.Language.WorstPaths.{IsWorstPath}
-use Rattle.wc_laws_soundness.proofs.Programs.{Any, first_store_fits, program_ends}
-use Rattle.wc_laws_soundness.proofs.Spelled.{spelled_text_nests}
-use Rattle.wc_laws_soundness.proofs.Steps.{clean_first, clean_second}
-use Rattle.wc_laws_soundness.proofs.Texts.{none_broken, rules_at}
-use Rattle.wc_laws_soundness.specs.Laws.{UnitsNestSimply}
-use Rattle.wc_laws_soundness.specs.Sound.{Clean, AreClean, EndsWell}
+use Rattle.wc_laws_language.proofs.Programs.{Any, first_store_fits, program_ends}
+use Rattle.wc_laws_language.proofs.Spelled.{spelled_text_nests}
+use Rattle.wc_laws_language.proofs.Steps.{clean_first, clean_second}
+use Rattle.wc_laws_language.proofs.Texts.{none_broken, rules_at}
+use Rattle.wc_laws_language.specs.SoundnessLaws.{UnitsNestSimply}
+use Rattle.wc_laws_language.specs.Sound.{Clean, AreClean, EndsWell}
 
 -- an outcome that ends well has a path
 pub path_of : (scope : Scope) (first : Store) (outcome : Outcome) → TraceIs (IsPath scope) outcome → EndsWell Any first outcome → (path : List Item) × IsPath scope path

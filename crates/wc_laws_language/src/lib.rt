@@ -1,7 +1,28 @@
-//! Laws about the definitions of the language. Each function has an empty body: its clause is the law.
+//! Laws about the definitions of the language: jumps, blocks, paths and bounds; a text whose bodies
+//! break no rule is never stuck; histories of the standard blocks over a change of the program; and
+//! what outputs of a call left as it was. Each function has an empty body: its clause is the law.
 #![tactic(auto)]
 
+mod histories;
+mod soundness;
+mod without_outputs;
+
 ghost use Rattle.wc_laws_language.specs.Laws.{WrapIsTheOnlyOne, JumpGoesOnAhead, ReturnEndsTheBody, ATextKeepsItsPlaces, RTrigKeepsItsHistory, SrKeepsItsHistory, RsKeepsItsHistory, CtuKeepsItsHistory, TonKeepsItsHistory, TofKeepsItsHistory, TpKeepsItsHistory, FirstFaultIsFirst, WorstPathIsLongest, EachUnitHasAWorstPath, EachLoadedUnitHasABound, AUnitHasOneBound, ThePrintedBoundIsThePrograms, NoRunIsLongerThanThePaths};
+
+pub use histories::{a_call_adds_to_the_history, histories_go_on_over_a_change};
+pub use soundness::{
+    a_standard_block_is_kept_whole, a_text_for_itself_is_no_change, carried_store_holds_its_kinds,
+    loaded_text_is_never_stuck, no_run_is_ever_stuck, spelled_text_nests_simply,
+    verified_text_is_never_stuck,
+};
+pub use without_outputs::{
+    a_call_has_the_paths_it_had, a_call_is_validated_as_it_was, a_call_means_what_it_did,
+    a_check_prints_what_it_printed, a_text_is_spelled_as_it_was, a_text_is_too_long_where_it_was,
+    a_text_is_validated_as_it_was, a_text_means_what_it_did, a_unit_has_the_bound_it_had,
+    a_unit_has_the_paths_it_had, a_unit_has_the_worst_path_it_had, an_input_is_spelled_as_it_was,
+    an_old_text_stays_as_it_is, an_output_to_no_address_is_refused, declarations_ignore_directions,
+    outputs_add_only_their_addresses, outputs_fail_only_by_their_addresses,
+};
 
 /// Arithmetic wraps to the one number of 32 bits that is equal modulo 2^32.
 pub fn wrap_is_the_only_one()

@@ -1,6 +1,6 @@
 -- What a language spells takes at least as many tokens as it has parts.
 use Rattle.std.proofs.Common.{◌≡◌, ◌≤◌, ◌+◌, ℕ, suc, Bool, true, false, cond, List, [], ◌∷◌, ◌++◌, length, length-append, filter, refl, ap, ◌∙◌, arith}
-use Rattle.wc_laws_tokens.proofs.TokenSteps.{lexeme_is_filled}
+use Rattle.wc_laws_grammar.proofs.TokenSteps.{lexeme_is_filled}
 use Rattle.wc_model.specs.Text.Languages.{one, each, separated, ◌then◌, Sequence}
 use Rattle.wc_model.specs.Text.Tokens.{Token, Cuts, Nothing, Skipped, Taken}
 

@@ -15,7 +15,7 @@ use Rattle.wc_model.specs.Text.Limits.{IsWithinLimits}
 use Rattle.wc_model.specs.Text.Reading.{IsRead, last_line, mark_of_token}
 use Rattle.wc_model.specs.Text.ReadingFaults.{IsFirstReadingFault, ReadingFault, number_of}
 use Rattle.wc_model.specs.Text.Tokens.{IsCut, IsFirstTokenFault, Token, TooLong, most_bytes}
-use Rattle.wc_laws_tokens.proofs.FoundTokens.{cut_or_fault}
+use Rattle.wc_laws_grammar.proofs.FoundTokens.{cut_or_fault}
 
 -- what is said of the bytes
 abbrev pub IsValidated : List ℕ → Type 0

@@ -8,9 +8,9 @@ use Rattle.wc_laws_language.specs.Laws.{HasABound}
 use Rattle.wc_laws_loading.proofs.OneWorstPath.{one_list}
 use Rattle.wc_laws_loading.specs.Laws.{HasOne}
 use Rattle.wc_laws_loading.specs.Reports.{EachUnitHasOneWorstPath, HasOneWorstPath, OneReport}
-use Rattle.wc_laws_soundness.proofs.Spelled.{spelled_text_nests}
-use Rattle.wc_laws_soundness.specs.Laws.{UnitsNestSimply}
-use Rattle.wc_laws_soundness.specs.Sound.{NestsSimply}
+use Rattle.wc_laws_language.proofs.Spelled.{spelled_text_nests}
+use Rattle.wc_laws_language.specs.SoundnessLaws.{UnitsNestSimply}
+use Rattle.wc_laws_language.specs.Sound.{NestsSimply}
 use Rattle.wc_model.specs.Language.Checks.{Position, positions_after}
 use Rattle.wc_model.specs.Language.Paths.{Onward, IsPath}
 use Rattle.wc_model.specs.Language.Scopes.{Scope}

@@ -2,7 +2,7 @@
 -- of its caller's, and inside parentheses nothing is conditional.
 use Rattle.std.proofs.Common.{◌≡◌, ◌≢◌, ℕ, true, List, [], ◌∷◌, ◌++◌, Option, Some, None, ◌⊎◌, inl, inr, sym, ap, subst, ◌∙◌, arith}
 use Rattle.wc_laws_language.proofs.Longest.{worst_is_path}
-use Rattle.wc_laws_soundness.specs.Sound.{is_simple, IsSimple, NestsSimply}
+use Rattle.wc_laws_language.specs.Sound.{is_simple, IsSimple, NestsSimply}
 use Rattle.wc_model.specs.Language.Declarations.{VariableType, Elementary, Standard, Block}
 use Rattle.wc_model.specs.Language.Names.{Name}
 use Rattle.wc_model.specs.Language.Paths.{Way, Onward, Toward, Back, arriving_way, GoesOn, IsBlockPath, IsBodyPath, IsCallPath, IsNestedPath, IsPathFrom, Joined, MayAct, MayPass, MayStep}

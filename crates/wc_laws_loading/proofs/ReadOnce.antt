@@ -7,7 +7,7 @@ use Rattle.wc_model.specs.Text.Grammar.{Spells}
 use Rattle.wc_model.specs.Text.Reading.{IsMisread, IsRead, last_line, mark_of_token}
 use Rattle.wc_model.specs.Text.ReadingFaults.{IsFirstReadingFault, ReadingFault}
 use Rattle.wc_model.specs.Text.Tokens.{IsFirstTokenFault, Token}
-use Rattle.wc_laws_tokens.proofs.TokenLaws.{cut_has_no_fault, cut_is_unique}
+use Rattle.wc_laws_grammar.proofs.TokenLaws.{cut_has_no_fault, cut_is_unique}
 
 -- bytes are read as one text
 pub one_read : (bytes : List ℕ) (text other : Text) → IsRead bytes text → IsRead bytes other → text ≡ other

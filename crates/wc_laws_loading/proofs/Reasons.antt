@@ -9,7 +9,7 @@ use Rattle.wc_model.specs.Language.Tree.{Text}
 use Rattle.wc_model.specs.Text.Reading.{IsMisread, IsRead}
 use Rattle.wc_model.specs.Text.ReadingFaults.{ReadingFault, number_of}
 use Rattle.wc_model.specs.Text.Tokens.{IsFirstTokenFault}
-use Rattle.wc_laws_tokens.proofs.TokenLaws.{first_fault_is_unique}
+use Rattle.wc_laws_grammar.proofs.TokenLaws.{first_fault_is_unique}
 
 -- the fault of the last two passes
 abbrev pub IsBodyOrCost : Text → Refusal → Type 0

@@ -2,8 +2,8 @@
 use Rattle.std.proofs.Common.{◌≡◌, ◌==◌, ℕ, ◌≤◌, Bool, true, false, cond, not, ◌||◌, List, [], ◌∷◌, length, drop, Option, Some, None, refl, sym, ap, ◌∙◌, subst, arith, true≢false}
 use Rattle.std.proofs.lemmas.Bool.{eqb-true}
 use Rattle.std.specs.Option.{option_map_or}
-use Rattle.wc_laws_tokens.proofs.Reach.{mark_passes}
-use Rattle.wc_laws_tokens.specs.Sights.{Take, sight, sight_by_reach}
+use Rattle.wc_laws_grammar.proofs.Reach.{mark_passes}
+use Rattle.wc_laws_grammar.specs.Sights.{Take, sight, sight_by_reach}
 use Rattle.wc_model.specs.Text.Characters.{begins}
 use Rattle.wc_model.specs.Text.Lexemes.{may_occur_before}
 use Rattle.wc_model.specs.Text.Shapes.{Assign, Colon, Shape, mark_of}

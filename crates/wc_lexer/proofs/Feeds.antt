@@ -5,9 +5,9 @@ use Rattle.std.proofs.lemmas.List.Folds.{list_all-append}
 use Rattle.std.proofs.lemmas.List.Sums.{count_by-le-length, sum_by-cons}
 use Rattle.std.specs.List.{list_all}
 use Rattle.wc_lexer.proofs.Steps.{holds_at, some_left}
-use Rattle.wc_laws_tokens.proofs.FoundTokens.{Holds}
-use Rattle.wc_laws_tokens.proofs.Reach.{mark_passes}
-use Rattle.wc_laws_tokens.specs.Sights.{Pass, Take, sight}
+use Rattle.wc_laws_grammar.proofs.FoundTokens.{Holds}
+use Rattle.wc_laws_grammar.proofs.Reach.{mark_passes}
+use Rattle.wc_laws_grammar.specs.Sights.{Pass, Take, sight}
 use Rattle.wc_model.specs.Text.Blanks.{Blank, Comment, Return, Space, Tab}
 use Rattle.wc_model.specs.Text.Characters.{begins, is_address_character, is_identifier_character, is_line_feed, is_minus, is_number_character, starts_identifier}
 use Rattle.wc_model.specs.Text.Lexemes.{Addressed, Lexeme, Marked, Run, Sign, Signed, Typed, Unsigned, is_literal_value, is_run, is_unsigned_run}

@@ -4,8 +4,8 @@ use Rattle.std.proofs.lemmas.Bool.{and_parts, cond-true, cond-false, not-true}
 use Rattle.std.proofs.lemmas.List.{append-nil}
 use Rattle.std.specs.Char.{is_ascii_alphabetic}
 use Rattle.std.specs.List.{list_all, prefix_len}
-use Rattle.wc_laws_tokens.proofs.Attained.{prefix_passes}
-use Rattle.wc_laws_tokens.proofs.DurationParts.{has_no_letter, part, first_part, onto_number}
+use Rattle.wc_laws_grammar.proofs.Attained.{prefix_passes}
+use Rattle.wc_laws_grammar.proofs.DurationParts.{has_no_letter, part, first_part, onto_number}
 use Rattle.wc_model.specs.Text.Characters.{begins}
 use Rattle.wc_model.specs.Text.Durations.{parts_of, onto_parts}
 

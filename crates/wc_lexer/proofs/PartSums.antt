@@ -9,7 +9,7 @@ use Rattle.std.specs.Option.{option_and_then, option_map_or}
 use Rattle.std.specs.Str.Parse.{digits_value}
 use Rattle.wc_lexer.proofs.Cuts.{some_passes}
 use Rattle.wc_lexer.proofs.FirstParts.{is_no_letter, text_parts}
-use Rattle.wc_laws_tokens.proofs.DurationParts.{part}
+use Rattle.wc_laws_grammar.proofs.DurationParts.{part}
 use Rattle.wc_lexer.proofs.Fractions.{wide_product}
 use Rattle.wc_lexer.proofs.Widths.{from_wide, narrow, wide, wide_for_32_bits}
 use Rattle.wc_lexer.specs.Parts.{IsParsedPart, IsParsedSum, IsParsedAs, are_later, are_none, parsed_fraction, part_by}

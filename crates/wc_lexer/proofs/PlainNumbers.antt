@@ -7,7 +7,7 @@ use Rattle.std.specs.Char.{digit_value, is_ascii_alphanumeric, is_ascii_digit, i
 use Rattle.std.specs.Int.{is_in_range}
 use Rattle.std.specs.List.{list_all, list_any, prefix_len}
 use Rattle.std.specs.Str.Parse.{digits_value, digits_value_after}
-use Rattle.wc_laws_tokens.proofs.Attained.{digit_goes_on}
+use Rattle.wc_laws_grammar.proofs.Attained.{digit_goes_on}
 use Rattle.wc_lexer.specs.PlainNumbers.{IsPlain, IsUnsigned, number_prefix}
 use Rattle.wc_model.specs.Text.Characters.{begins, is_hash, is_number_character, is_underscore}
 use Rattle.wc_model.specs.Text.Digits.{are_digits, digits_of, has_single_underscores, value_of_digits}

@@ -1,7 +1,7 @@
 -- What the look ahead finds lies within the text, and what it says of its place.
 use Rattle.std.proofs.Common.{true, false, cond, ◌≡◌, ℕ, zero, suc, ◌≤◌, List, [], ◌∷◌, length, take, Ok, Err, refl, ap, ◌∙◌, ⊎_elim, arith}
-use Rattle.wc_laws_tokens.specs.Sights.{Take, Refuse, sight_by_reach, sight_of_lexeme}
-use Rattle.wc_laws_tokens.specs.Reaches.{reach}
+use Rattle.wc_laws_grammar.specs.Sights.{Take, Refuse, sight_by_reach, sight_of_lexeme}
+use Rattle.wc_laws_grammar.specs.Reaches.{reach}
 use Rattle.std.proofs.lemmas.Bool.{or_cases}
 use Rattle.std.specs.Cmp.Lexicographic.{bytes_decides}
 use Rattle.wc_model.specs.Text.Blanks.{comment_closing, comment_opening, from_bracket, starts_with_bracket}

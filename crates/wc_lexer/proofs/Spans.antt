@@ -3,11 +3,11 @@ use Rattle.std.proofs.Common.{◌≡◌, ◌≢◌, ℕ, zero, suc, ◌≤◌, �
 use Rattle.std.proofs.lemmas.Bool.{and_parts, cond-false, eqb-true, ne_eqb}
 use Rattle.wc_lexer.specs.Refusals.{Names}
 use Rattle.wc_lexer.specs.Spans.{IsSpanAt, IsTokenSpan, NoSlice, FaultSlice, StopsAt, fault_slice, stuck_length}
-use Rattle.wc_laws_tokens.proofs.Attained.{attained, attained_longest}
-use Rattle.wc_laws_tokens.proofs.Reach.{within_reach}
-use Rattle.wc_laws_tokens.proofs.TokenSteps.{lexeme_is_filled, no_lexeme_at_comment}
-use Rattle.wc_laws_tokens.specs.Reaches.{reach}
-use Rattle.wc_laws_tokens.specs.Sights.{opens_comment}
+use Rattle.wc_laws_grammar.proofs.Attained.{attained, attained_longest}
+use Rattle.wc_laws_grammar.proofs.Reach.{within_reach}
+use Rattle.wc_laws_grammar.proofs.TokenSteps.{lexeme_is_filled, no_lexeme_at_comment}
+use Rattle.wc_laws_grammar.specs.Reaches.{reach}
+use Rattle.wc_laws_grammar.specs.Sights.{opens_comment}
 use Rattle.wc_model.specs.Text.Blanks.{comment_opening}
 use Rattle.wc_model.specs.Text.Characters.{is_star}
 use Rattle.wc_model.specs.Text.Lexemes.{IsLongestLexeme, Lexeme}

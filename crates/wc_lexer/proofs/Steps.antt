@@ -7,9 +7,9 @@ use Rattle.wc_lexer.proofs.PartSums.{empty}
 use Rattle.wc_lexer.proofs.Spans.{is_stuck_length}
 use Rattle.wc_lexer.specs.Refusals.{AtToken, NeedsMemory}
 use Rattle.wc_lexer.specs.Spans.{IsSpanAt, IsTokenSpan, FaultSlice, stuck_length}
-use Rattle.wc_laws_tokens.specs.Sights.{Pass, Refuse, Sight, Take, sight}
-use Rattle.wc_laws_tokens.proofs.FoundTokens.{Holds, sight_holds}
-use Rattle.wc_laws_tokens.proofs.TokenSteps.{blank_is_filled, lexeme_is_filled}
+use Rattle.wc_laws_grammar.specs.Sights.{Pass, Refuse, Sight, Take, sight}
+use Rattle.wc_laws_grammar.proofs.FoundTokens.{Holds, sight_holds}
+use Rattle.wc_laws_grammar.proofs.TokenSteps.{blank_is_filled, lexeme_is_filled}
 use Rattle.wc_model.specs.Text.Blanks.{Blank}
 use Rattle.wc_model.specs.Text.Characters.{is_line_feed}
 use Rattle.wc_model.specs.Text.Lexemes.{IsLongestLexeme}

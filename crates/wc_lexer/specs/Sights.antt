@@ -3,8 +3,8 @@ use Rattle.std.specs.Prelude.{ℕ, ◌≤◌, List, [], ◌∷◌}
 use Rattle.wc_lexer.specs.Views.{shape_view}
 use Rattle.wc_lexer.specs.declared.element.LexicalElement.{LexicalElement}
 use Rattle.wc_lexer.specs.declared.element.LexicalElement.TheVariants.{Space, Comment, Lexeme, Fault}
-use Rattle.wc_laws_tokens.specs.Sights.{Sight, Pass, Take, Refuse}
-use Rattle.wc_laws_tokens.specs.Reaches.{mark_reach}
+use Rattle.wc_laws_grammar.specs.Sights.{Sight, Pass, Take, Refuse}
+use Rattle.wc_laws_grammar.specs.Reaches.{mark_reach}
 
 -- the length of the mark that is here
 abbrev pub mark_reach_of : List ℕ → ℕ

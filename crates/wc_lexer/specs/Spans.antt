@@ -5,8 +5,8 @@ use Rattle.wc_model.specs.Text.Blanks.{comment_opening}
 use Rattle.wc_model.specs.Text.Tokens.{Cuts, FaultAt, Foreign, Malformed, Nested, Token, Unclosed, line_after, most_bytes}
 use Rattle.wc_model.specs.declared.fault.Fault.{Fault}
 use Rattle.wc_model.specs.declared.fault.Fault.TheVariants.{Memory, Refused}
-use Rattle.wc_laws_tokens.specs.Reaches.{reach}
-use Rattle.wc_laws_tokens.specs.Sights.{opens_comment}
+use Rattle.wc_laws_grammar.specs.Reaches.{reach}
+use Rattle.wc_laws_grammar.specs.Sights.{opens_comment}
 
 -- the slice that a fault is about: the byte that belongs to nothing, the opening of the comment, or
 -- the malformed lexeme

@@ -1,5 +1,5 @@
 ghost use Rattle.std.specs.Prelude.{◌≡◌, ◌+◌, ◌≤◌, length};
-ghost use Rattle.wc_laws_tokens.specs.Reaches.{hash_reach, is_mark_before, reach, signed_reach, value_reach, word_reach};
+ghost use Rattle.wc_laws_grammar.specs.Reaches.{hash_reach, is_mark_before, reach, signed_reach, value_reach, word_reach};
 ghost use Rattle.wc_lexer.specs.Sights.{mark_reach_of};
 
 use crate::Shape;

@@ -1,5 +1,5 @@
 ghost use Rattle.std.specs.Prelude.{◌≡◌, ◌≤◌, count_by, if◌then◌else◌, length};
-ghost use Rattle.wc_laws_tokens.specs.Sights.{opens_comment, starts_space};
+ghost use Rattle.wc_laws_grammar.specs.Sights.{opens_comment, starts_space};
 ghost use Rattle.wc_model.specs.Text.Blanks.{from_bracket, starts_with_bracket};
 ghost use Rattle.wc_model.specs.Text.Characters.{begins, is_line_feed};
 

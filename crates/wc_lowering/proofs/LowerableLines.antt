@@ -22,12 +22,12 @@ use Rattle.wc_model.specs.declared.operator.Operator.{Operator}
 use Rattle.wc_model.specs.declared.operator.Storing.{Storing}
 use Rattle.wc_model.specs.declared.operator.Storing.TheVariants.{Result as StoreResult, Negation, Set, Reset}
 use Rattle.wc_model.specs.declared.value.Value.TheVariants.{Bool as Truth, Dint, Time}
-use Rattle.wc_laws_soundness.proofs.CallSteps.{block_known, field_found, input_found, output_found, type_of-found}
-use Rattle.wc_laws_soundness.proofs.Steps.{clean_first, clean_second, or-true, some_of}
-use Rattle.wc_laws_soundness.proofs.Entities.{writable_is_stored}
-use Rattle.wc_laws_soundness.proofs.Bodies.{nested_parts}
-use Rattle.wc_laws_soundness.proofs.Programs.{three_parts}
-use Rattle.wc_laws_soundness.specs.Sound.{Clean}
+use Rattle.wc_laws_language.proofs.CallSteps.{block_known, field_found, input_found, output_found, type_of-found}
+use Rattle.wc_laws_language.proofs.Steps.{clean_first, clean_second, or-true, some_of}
+use Rattle.wc_laws_language.proofs.Entities.{writable_is_stored}
+use Rattle.wc_laws_language.proofs.Bodies.{nested_parts}
+use Rattle.wc_laws_language.proofs.Programs.{three_parts}
+use Rattle.wc_laws_language.specs.Sound.{Clean}
 use Rattle.wc_lowering.proofs.PlacesThere.{HasKind, readable, writable}
 use Rattle.wc_lowering.specs.Lowerable.{ArePassable, IsCallable, IsInsideLowerable, IsKnownBlock, IsLowerable, IsLoadable, IsNear, IsOpenable, IsPassable, IsReadable, IsStepLowerable, IsWritable, Nowhere}
 

@@ -11,7 +11,7 @@ use Rattle.wc_model.specs.Language.Tree.{Field}
 use Rattle.wc_model.specs.declared.place.Place.{Place}
 use Rattle.wc_names.specs.Numbered.{numbered_entity}
 use Rattle.wc_names.specs.declared.entity.Entity.{Entity as Found}
-use Rattle.wc_laws_soundness.proofs.Entities.{found_member_name}
+use Rattle.wc_laws_language.proofs.Entities.{found_member_name}
 use Rattle.wc_lowering.specs.Lowerable.{HasPlace}
 
 -- the place of a location in the unit's frame

@@ -14,10 +14,10 @@ use Rattle.wc_model.specs.Language.Store.{Content, Location, Direct, Path, initi
 use Rattle.wc_model.specs.Language.Tree.{Term, Constant, Address, Variable as NameOf, Field, Word}
 use Rattle.wc_model.specs.declared.kind.Kind.{Kind}
 use Rattle.wc_model.specs.declared.kind.SlotKind.{SlotKind}
-use Rattle.wc_laws_soundness.proofs.Entities.{EntityTyped, PlacedEntity, entity_placed, entity_typed, is_stored}
-use Rattle.wc_laws_soundness.proofs.Programs.{after_direct, first_store_fits}
-use Rattle.wc_laws_soundness.specs.Sound.{Clean}
-use Rattle.wc_laws_soundness.specs.Typing.{slot_of, slot_of_kind}
+use Rattle.wc_laws_language.proofs.Entities.{EntityTyped, PlacedEntity, entity_placed, entity_typed, is_stored}
+use Rattle.wc_laws_language.proofs.Programs.{after_direct, first_store_fits}
+use Rattle.wc_laws_language.specs.Sound.{Clean}
+use Rattle.wc_laws_language.specs.Typing.{slot_of, slot_of_kind}
 use Rattle.wc_lowering.proofs.Placed.{reached}
 use Rattle.wc_lowering.specs.Lowerable.{HasPlace, IsReadable, IsWritable}
 

@@ -20,9 +20,9 @@ use Rattle.wc_model.specs.Language.Store.{Location, Content, Store, same_place, 
 use Rattle.wc_model.specs.Language.Tree.{ProgramUnit, Text}
 use Rattle.wc_model.specs.Text.Grammar.{IsProgramLast}
 use Rattle.wc_model.specs.declared.kind.SlotKind.{SlotKind}
-use Rattle.wc_laws_soundness.proofs.Carrying.{carried_holds, first_holds, kept_leads}
-use Rattle.wc_laws_soundness.proofs.FramePlaces.{number_within, place_found}
-use Rattle.wc_laws_soundness.specs.Typing.{SameSlots, slot_of}
+use Rattle.wc_laws_language.proofs.Carrying.{carried_holds, first_holds, kept_leads}
+use Rattle.wc_laws_language.proofs.FramePlaces.{number_within, place_found}
+use Rattle.wc_laws_language.specs.Typing.{SameSlots, slot_of}
 
 -- what has no number holds nothing
 lost : (entries : List (Location × Content)) (place : Location) (i : ℕ) → position_from (λ (e : Location × Content). same_place e.0 place) i entries ≡ None → store_of entries place ≡ None

@@ -7,7 +7,7 @@ use Rattle.wc_execution.specs.Lines.{AreBefore}
 use Rattle.wc_model.specs.Language.Frames.{IsInRange}
 use Rattle.wc_model.specs.declared.kind.SlotKind.{SlotKind}
 use Rattle.wc_model.specs.declared.kind.SlotKind.TheVariants as slots
-use Rattle.wc_laws_soundness.specs.FirstNumbers.{AreFirst, IsFirst}
+use Rattle.wc_laws_language.specs.FirstNumbers.{AreFirst, IsFirst}
 use Rattle.wc_store.specs.Slots.{IsInRangeAt}
 
 -- there are as many as kinds

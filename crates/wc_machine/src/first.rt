@@ -1,6 +1,6 @@
 ghost use Rattle.std.specs.Prelude.{◌≡◌, ◌≤◌, IfOk, IsOkUnless, length};
 ghost use Rattle.wc_execution.specs.Lines.{AreBefore};
-ghost use Rattle.wc_laws_soundness.specs.FirstNumbers.{AreFirst};
+ghost use Rattle.wc_laws_language.specs.FirstNumbers.{AreFirst};
 
 use std::alloc::Global;
 use wc_model::{Fault, SlotKind};

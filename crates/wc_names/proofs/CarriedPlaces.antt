@@ -25,7 +25,7 @@ use Rattle.wc_names.proofs.Positions.{position_on}
 use Rattle.wc_names.proofs.Lists.{found_within}
 use Rattle.wc_names.proofs.ScopeTables.{address_in_program, all_below, as_entry, directs, frame_path}
 use Rattle.wc_names.proofs.VariablePlaces.{prefix_item, later_item}
-use Rattle.wc_laws_soundness.proofs.Tests.{same_direct-sound}
+use Rattle.wc_laws_language.proofs.Tests.{same_direct-sound}
 
 -- a program's frame, as a list in two parts
 program_is : (scope : Scope) → is_block scope.unit ≡ false → frame_of scope ≡ directs ++ map as_entry (unit_places scope.before scope.unit)

@@ -5,7 +5,7 @@ use Rattle.wc_model.specs.declared.kind.SlotKind.{SlotKind}
 use Rattle.wc_model.specs.declared.kind.SlotKind.TheVariants as slots
 use Rattle.wc_model.specs.Language.Frames.{content_number, slot_kind_of}
 use Rattle.wc_built_in.specs.Fields.{zero_content}
-use Rattle.wc_laws_soundness.specs.FirstNumbers.{AreFirst, IsFirst}
+use Rattle.wc_laws_language.specs.FirstNumbers.{AreFirst, IsFirst}
 
 -- each may hold 0
 pub zero_is_first : (kind : SlotKind) → IsFirst kind (pos 0)

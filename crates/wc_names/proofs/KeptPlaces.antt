@@ -24,7 +24,7 @@ use Rattle.wc_names.proofs.Lookups.{field_of_one, from_row, has_capacity, place_
 use Rattle.wc_names.proofs.Places.{TypeCase, found_block, of_block, of_elementary, of_standard, holds_further, units_length}
 use Rattle.wc_names.proofs.Positions.{position_on}
 use Rattle.wc_names.proofs.VariablePlaces.{other_name}
-use Rattle.wc_laws_soundness.proofs.Carrying.{at_once, is_field, one_block}
+use Rattle.wc_laws_language.proofs.Carrying.{at_once, is_field, one_block}
 
 -- where a place of a variable of one type is among those of a variable of another, if it keeps its value
 abbrev pub kept_within : List ProgramUnit → Option VariableType → List ProgramUnit → Option VariableType → Option Initial → List Name → Option ℕ

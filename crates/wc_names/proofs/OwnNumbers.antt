@@ -6,7 +6,7 @@ use Rattle.wc_model.specs.Language.Scopes.{Scope}
 use Rattle.wc_model.specs.Language.Store.{Location}
 use Rattle.wc_model.specs.declared.place.Path.{Path as WrittenPath}
 use Rattle.wc_model.specs.declared.place.Place.{Place}
-use Rattle.wc_laws_soundness.proofs.FramePlaces.{one_place}
+use Rattle.wc_laws_language.proofs.FramePlaces.{one_place}
 
 pub own_number : (scope : Scope) (path : WrittenPath) (other : Location) (o : Option Place) → option_map (λ (p : Place). p.0) o ≡ number_of_path scope path → IfSome o (λ p. place_number (frame_of scope) other ≡ Some p.0 → location_of path ≡ Some other)
 own_number scope path other None e = tt

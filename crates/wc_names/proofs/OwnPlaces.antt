@@ -17,7 +17,7 @@ use Rattle.wc_names.proofs.KeptPlaces.{field_of, fields_differ, own_number}
 use Rattle.wc_names.proofs.Lookups.{field_of_one, no_name}
 use Rattle.wc_names.proofs.Positions.{or_else, position_append, position_on}
 use Rattle.wc_names.proofs.VariablePlaces.{prefix_item, item_below, later_item}
-use Rattle.wc_laws_soundness.proofs.Tests.{same_name-refl}
+use Rattle.wc_laws_language.proofs.Tests.{same_name-refl}
 
 -- each entry is the first with its path
 abbrev pub HaveOwnNumbers : List (List Name × Content) → Type 0

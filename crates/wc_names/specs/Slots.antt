@@ -5,7 +5,7 @@ use Rattle.wc_model.specs.Language.Frames.{content_number, slot_kind_of}
 use Rattle.wc_model.specs.Language.Names.{Name}
 use Rattle.wc_model.specs.Language.Store.{Content, unit_places, zero_of}
 use Rattle.wc_model.specs.Language.Tree.{ProgramUnit}
-use Rattle.wc_laws_soundness.specs.FirstNumbers.{AreFirst}
+use Rattle.wc_laws_language.specs.FirstNumbers.{AreFirst}
 use Rattle.wc_names.specs.RepresentsText.{Represents}
 use Rattle.wc_names.specs.declared.frame.Frame.{Frame}
 use Rattle.wc_names.specs.declared.unit_table.UnitTable.{UnitTable}

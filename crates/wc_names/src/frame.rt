@@ -3,8 +3,8 @@ ghost use Rattle.wc_model.specs.Language.Frames.{content_number, slot_kind_of};
 ghost use Rattle.wc_model.specs.Language.Store.{first_content, standard_fields, zero_of};
 ghost use Rattle.wc_model.specs.Language.DirectVariables.{direct_variables, kind_of_direct};
 ghost use Rattle.wc_model.specs.declared.source.Initial.{Initial};
-ghost use Rattle.wc_laws_soundness.specs.FirstNumbers.{IsFirst};
-ghost use Rattle.wc_laws_soundness.specs.Typing.{slot_of_kind};
+ghost use Rattle.wc_laws_language.specs.FirstNumbers.{IsFirst};
+ghost use Rattle.wc_laws_language.specs.Typing.{slot_of_kind};
 ghost use Rattle.wc_names.specs.Slots.{HoldsFirst, IsGrown};
 
 use std::alloc::Global;

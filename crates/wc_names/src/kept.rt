@@ -8,7 +8,7 @@ ghost use Rattle.wc_model.specs.Language.Scopes.{Scope, entity_of, type_of};
 ghost use Rattle.wc_model.specs.Language.Store.{Content, Location};
 ghost use Rattle.wc_model.specs.Language.Tree.{Text};
 ghost use Rattle.wc_model.specs.Language.Views.{term_view};
-ghost use Rattle.wc_laws_soundness.specs.FirstNumbers.{AreFirst};
+ghost use Rattle.wc_laws_language.specs.FirstNumbers.{AreFirst};
 ghost use Rattle.wc_names.specs.RepresentsText.{AreTables, first_number};
 ghost use Rattle.wc_model.specs.declared.source.Source.{Source};
 ghost use Rattle.wc_names.specs.Spelled.{AreSpelledAs, spelled, spelled_of_unit};

@@ -3,7 +3,7 @@ use Rattle.std.proofs.Common.{◌≡◌, ℕ, ◌+◌, ◌==◌, List, [], ◌�
 use Rattle.std.proofs.lemmas.List.{map-append}
 use Rattle.std.proofs.lemmas.List.Elements.{All-pop}
 use Rattle.std.proofs.lemmas.List.Sums.{sum_by-append}
-use Rattle.wc_laws_tokens.proofs.TokenSlices.{tokens_are_slices}
+use Rattle.wc_laws_grammar.proofs.TokenSlices.{tokens_are_slices}
 use Rattle.wc_lexer.specs.Views.{token_view}
 use Rattle.wc_lexer.specs.declared.shape.Token.{Token}
 use Rattle.wc_model.specs.Text.Reading.{last_line}

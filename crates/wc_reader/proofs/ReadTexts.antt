@@ -4,7 +4,7 @@ use Rattle.std.specs.Prelude.{Ok, Err, Result, IfOk, IfErr}
 use Rattle.wc_laws_grammar.specs.Moves.{Raised, at_first, reading}
 use Rattle.wc_laws_grammar.proofs.Readings.{read_is_spelled, refused_is_first, refused_spells_nothing}
 use Rattle.wc_lexer.specs.Refusals.{AtToken, Names, NeedsMemory}
-use Rattle.wc_laws_tokens.proofs.TokenLaws.{cut_has_no_fault, cut_is_unique}
+use Rattle.wc_laws_grammar.proofs.TokenLaws.{cut_has_no_fault, cut_is_unique}
 use Rattle.wc_model.specs.Text.Grammar.{Spells}
 use Rattle.wc_model.specs.Text.Marks.{Mark}
 use Rattle.wc_model.specs.Text.Reading.{IsMisread, IsRead, last_line, mark_of_token}

@@ -3,3 +3,5 @@ pub mod Opened
 pub mod ReadValues
 pub mod RefusedScans
 pub mod Refusing
+pub mod LineCalls
+pub mod LineSteps

@@ -1,7 +1,7 @@
 -- A call of what is open in a scale is a call of the scale.
 use Rattle.std.proofs.Common.{◌≡◌, ◌≤◌, ℕ, List, Option, Some, IfSome, sym, subst}
 use Rattle.wc_controller.specs.Loads.{IsNeverRefused}
-use Rattle.wc_laws_histories.proofs.Going.{goes_on}
+use Rattle.wc_laws_language.proofs.Going.{goes_on}
 use Rattle.wc_laws_loading.proofs.FittingTexts.{loaded_is_small}
 use Rattle.wc_machine.specs.Machines.{MachineState, RepresentsText}
 use Rattle.wc_model.specs.Instrument.Plates.{PlateData}

@@ -8,3 +8,4 @@ pub mod Representation
 pub mod PlateDigests
 pub mod Preludes
 pub mod Values
+pub mod LineCalls

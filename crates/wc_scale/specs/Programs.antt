@@ -1,7 +1,7 @@
 -- What a call with a program's text does to a scale and what it answers. (The profile's own.)
 use Rattle.std.specs.Prelude.{◌≡◌, ℕ, ◌≤◌, List, IfSome, Some}
 use Rattle.wc_controller.specs.Loads.{IsNeverRefused}
-use Rattle.wc_laws_histories.specs.Laws.{HistoriesGoOn}
+use Rattle.wc_laws_language.specs.HistoryLaws.{HistoriesGoOn}
 use Rattle.wc_laws_loading.specs.Sizes.{IsSmall}
 use Rattle.wc_model.specs.Instrument.Plates.{PlateData}
 use Rattle.wc_model.specs.Language.Loading.{IsLoaded}

@@ -1,10 +1,11 @@
-//! A scale for a maker's own program: its indicator, its line, its digital inputs and the program with it in one
-//! value, which takes what comes of it call by call. Each call on arguments that can't be taken answers by a status
-//! and changes nothing.
+//! A scale for a maker's own program: its indicator, its line, its digital inputs and the program
+//! with it in one value, which takes what comes of it call by call, and laws of lists of such
+//! calls. Each call on arguments that can't be taken answers by a status and changes nothing.
 #![tactic(auto)]
 
 mod answer_buffer;
 mod beginning;
+mod call_laws;
 mod changing;
 mod line;
 mod opening;
@@ -18,6 +19,7 @@ mod statuses;
 mod units;
 mod values;
 
+pub use call_laws::{each_call_is_a_step, legal_calls_decide, the_customers_calls_have_no_part};
 pub use results::{
     Answer, Engraved, PathAnswer, PlateDigest, PreludeAnswer, Reading, Refusal, Scanned,
     UnitAnswer, VariableRead,

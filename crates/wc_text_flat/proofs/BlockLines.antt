@@ -23,7 +23,7 @@ use Rattle.wc_model.specs.declared.block.StandardBlock.TheVariants.{RTrig, Sr, R
 use Rattle.wc_model.specs.declared.kind.SlotKind.{SlotKind}
 use Rattle.wc_model.specs.declared.kind.SlotKind.TheVariants as slots
 use Rattle.wc_model.specs.declared.value.Value.TheVariants.{Bool as Truth, Dint, Time}
-use Rattle.wc_laws_soundness.proofs.Places.{places_of}
+use Rattle.wc_laws_language.proofs.Places.{places_of}
 
 -- the fields of an instance are one after another in the frame
 abbrev pub FieldsAt : List (Location × Content) → List Name → ℕ → List (Name × Content) → Type 0

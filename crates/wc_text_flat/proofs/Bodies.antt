@@ -28,8 +28,8 @@ use Rattle.wc_model.specs.declared.code.Code.TheVariants.{Store as StoreLine, No
 use Rattle.wc_model.specs.declared.operator.Condition.{Condition}
 use Rattle.wc_model.specs.declared.operator.Operator.{Operator}
 use Rattle.wc_model.specs.declared.value.Value.{Value}
-use Rattle.wc_laws_soundness.specs.Sound.{is_simple, IsSimple, NestsSimply}
-use Rattle.wc_laws_soundness.proofs.FramePlaces.{one_number}
+use Rattle.wc_laws_language.specs.Sound.{is_simple, IsSimple, NestsSimply}
+use Rattle.wc_laws_language.proofs.FramePlaces.{one_number}
 
 -- a step that is executed and is neither a jump nor a return
 abbrev pub stays : Step → Bool

@@ -32,8 +32,8 @@ use Rattle.wc_model.specs.declared.kind.Kind.TheVariants.{Bool as KindBool, Dint
 use Rattle.wc_model.specs.declared.operator.Condition.{Condition}
 use Rattle.wc_model.specs.declared.place.Place.{Place}
 use Rattle.wc_model.specs.declared.value.Value.{Value}
-use Rattle.wc_laws_soundness.proofs.CallSteps.{IsInstance, type_of-found}
-use Rattle.wc_laws_soundness.proofs.Places.{Some-same, places_of, block_places-found}
+use Rattle.wc_laws_language.proofs.CallSteps.{IsInstance, type_of-found}
+use Rattle.wc_laws_language.proofs.Places.{Some-same, places_of, block_places-found}
 
 -- an argument as its input's kind wants it
 pub argument_operand : (scope : Scope) (type : VariableType) (term : Term) (operand : Operand) → IsOperand scope term operand → IsOperand scope (argument_term type term) operand

@@ -18,7 +18,7 @@ use Rattle.wc_model.specs.Language.Tree.{Term, Assignment, inputs_of, outputs_of
 use Rattle.wc_model.specs.declared.code.Code.{Code}
 use Rattle.wc_model.specs.declared.code.Code.TheVariants.{LoadNumber, LoadPlace, Store, ApplyNumber, ApplyPlace, Not, Open, OpenNumber, OpenPlace, Close, Jump, Return, Call, ArgumentNumber, ArgumentPlace, Standard as StandardLine, Body}
 use Rattle.wc_model.specs.declared.operator.Operator.{Operator}
-use Rattle.wc_laws_soundness.proofs.FramePlaces.{one_number}
+use Rattle.wc_laws_language.proofs.FramePlaces.{one_number}
 
 -- what a line asks of the depth before it and of the lines after it
 abbrev pub IsDeepEnough : ℕ → Code → List Code → Type 0

@@ -21,8 +21,8 @@ use Rattle.wc_model.specs.declared.code.Code.TheVariants.{Close}
 use Rattle.wc_model.specs.declared.operator.Condition.{Condition}
 use Rattle.wc_model.specs.declared.operator.Condition.TheVariants.{Always, IfTrue, IfFalse}
 use Rattle.wc_model.specs.declared.operator.Operator.{Operator}
-use Rattle.wc_laws_soundness.specs.Sound.{is_simple, IsSimple, NestsSimply}
-use Rattle.wc_laws_soundness.proofs.FramePlaces.{one_number}
+use Rattle.wc_laws_language.specs.Sound.{is_simple, IsSimple, NestsSimply}
+use Rattle.wc_laws_language.proofs.FramePlaces.{one_number}
 
 -- the lines of items that are joined; of arguments, and of a called block's items
 pub own_lines-append : (xs ys : List Item) → own_lines (xs ++ ys) ≡ own_lines xs ++ own_lines ys

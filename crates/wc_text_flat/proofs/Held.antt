@@ -12,10 +12,10 @@ use Rattle.wc_model.specs.Language.Frames.{slot_kinds}
 use Rattle.wc_model.specs.Language.Meaning.{Outcome, Done, Stuck}
 use Rattle.wc_model.specs.Language.Scans.{initial_of, scan_of, with_image}
 use Rattle.wc_model.specs.Language.Store.{Location, Content, Store}
-use Rattle.wc_laws_soundness.proofs.Programs.{Any}
-use Rattle.wc_laws_soundness.proofs.Spelled.{spelled_text_nests, some_text_ends}
-use Rattle.wc_laws_soundness.specs.Sound.{EndsWell}
-use Rattle.wc_laws_soundness.specs.Typing.{SameSlots}
+use Rattle.wc_laws_language.proofs.Programs.{Any}
+use Rattle.wc_laws_language.proofs.Spelled.{spelled_text_nests, some_text_ends}
+use Rattle.wc_laws_language.specs.Sound.{EndsWell}
+use Rattle.wc_laws_language.specs.Typing.{SameSlots}
 
 -- an outcome that ends well and is followed leaves numbers that are held
 pub left_held : (frame : List (Location × Content)) (first : Store) (o : Outcome) (run : Option Ran) → EndsWell Any first o → RunsAlike frame o run → (ran : Ran) × (run ≡ Some ran) × ((store : Store) × SameSlots first store × AreContents frame store ran.numbers)

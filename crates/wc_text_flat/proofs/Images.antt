@@ -11,7 +11,7 @@ use Rattle.wc_model.specs.Language.Scans.{image_contents, overlaid, with_image, 
 use Rattle.wc_model.specs.Language.Store.{Location, Content, Store, same_place, store_of, program_frame}
 use Rattle.wc_model.specs.Language.Tree.{ProgramUnit}
 use Rattle.wc_model.specs.declared.image.Image.{Image}
-use Rattle.wc_laws_soundness.proofs.FramePlaces.{one_number}
+use Rattle.wc_laws_language.proofs.FramePlaces.{one_number}
 
 -- a search that starts at another number finds the same
 pub position_unshifted : {X : Type 0} (test : X → Bool) (start k : ℕ) (xs : List X) → position_from test (start + 1) xs ≡ Some k → (j : ℕ) × (k ≡ suc j) × (position_from test start xs ≡ Some j)

@@ -11,9 +11,9 @@ use Rattle.wc_model.specs.Language.Names.{Name}
 use Rattle.wc_model.specs.Language.Scopes.{Scope}
 use Rattle.wc_model.specs.Language.Store.{Location, Direct, Path, Content, same_path, same_place, zero_of, below, unit_places, program_frame}
 use Rattle.wc_model.specs.Language.Tree.{ProgramUnit}
-use Rattle.wc_laws_soundness.proofs.Places.{Some-same, places_of}
-use Rattle.wc_laws_soundness.proofs.Tests.{same_name-refl}
-use Rattle.wc_laws_soundness.proofs.FramePlaces.{one_number}
+use Rattle.wc_laws_language.proofs.Places.{Some-same, places_of}
+use Rattle.wc_laws_language.proofs.Tests.{same_name-refl}
+use Rattle.wc_laws_language.proofs.FramePlaces.{one_number}
 
 -- the number of a path among places
 abbrev pub path_from : ℕ → List (List Name × Content) → List Name → Option ℕ
@@ -63,7 +63,7 @@ variable_number before (u ∷ vs) start name v first k path f p e =
     here : same_name u.name name ≡ true → Some u ≡ Some v → Some 0 ≡ Some first → path_from start (below u.name (places_of before u) ++ all_places before vs) (name ∷ path) ≡ Some (start + (first + k))
     here same g q =
         let is : v ≡ u = Some-same u v g in
-        let called : u.name ≡ name = Rattle.wc_laws_soundness.proofs.Tests.same_name-sound u.name name same in
+        let called : u.name ≡ name = Rattle.wc_laws_language.proofs.Tests.same_name-sound u.name name same in
         let zeroth : 0 ≡ first = one_number (Some 0) 0 first refl q in
         let own : path_from 0 (places_of before u) path ≡ Some k = ap (λ (w : Variable). path_from 0 (places_of before w) path) (sym is) ∙ e in
         let shifted : path_from (start + 0) (places_of before u) path ≡ Some (start + k) = position_shifted (λ (x : List Name × Content). same_path x.0 path) 0 start k (places_of before u) own in

@@ -18,3 +18,9 @@ pub mod Depths
 pub mod Skipping
 pub mod Shortness
 pub mod Outputs
+pub mod Items
+pub mod SeenSides
+pub mod CallsSeen
+pub mod BodiesSeen
+pub mod ProgramsSeen
+pub mod TextsSeen

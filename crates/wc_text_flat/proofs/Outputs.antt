@@ -19,9 +19,9 @@ use Rattle.wc_model.specs.Language.Reasons.{NoSuchPlace}
 use Rattle.std.proofs.Common.{Result, Ok, Err}
 use Rattle.wc_model.specs.Language.Reasons.{Reason}
 use Rattle.wc_model.specs.declared.value.Value.{Value}
-use Rattle.wc_laws_soundness.proofs.Places.{FitsScope-same}
-use Rattle.wc_laws_soundness.proofs.Programs.{first_store_fits}
-use Rattle.wc_laws_soundness.specs.Typing.{slot_of, SameSlots, FitsScope}
+use Rattle.wc_laws_language.proofs.Places.{FitsScope-same}
+use Rattle.wc_laws_language.proofs.Programs.{first_store_fits}
+use Rattle.wc_laws_language.specs.Typing.{slot_of, SameSlots, FitsScope}
 
 -- where the outputs are
 pub bit_place : (before : List ProgramUnit) (program : ProgramUnit) (i : ℕ) → i < 16 → place_number (program_frame before program) (Direct (OutputBit i)) ≡ Some (25 + i)

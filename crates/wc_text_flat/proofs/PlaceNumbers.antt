@@ -6,8 +6,8 @@ use Rattle.std.specs.Prelude.{slice_get, slice_set, if◌then◌else◌}
 use Rattle.wc_text_flat.specs.Contents.{AreContents}
 use Rattle.wc_model.specs.Language.Frames.{content_number, place_number, slot_kind_of, slot_kinds}
 use Rattle.wc_model.specs.Language.Store.{Location, Content, Store, same_place, with_content}
-use Rattle.wc_laws_soundness.proofs.FramePlaces.{one_number, one_place, number_within, same_place-refl}
-use Rattle.wc_laws_soundness.proofs.Tests.{same_place-sound}
+use Rattle.wc_laws_language.proofs.FramePlaces.{one_number, one_place, number_within, same_place-refl}
+use Rattle.wc_laws_language.proofs.Tests.{same_place-sound}
 
 -- a number that was written is there
 pub set_here : (ns : List ℤ) (i : ℕ) (n old : ℤ) → slice_get ns i ≡ Some old → slice_get (slice_set ns i n) i ≡ Some n

@@ -19,9 +19,9 @@ use Rattle.wc_model.specs.Language.Store.{Location, Content, Store}
 use Rattle.wc_model.specs.Language.Tree.{ProgramUnit}
 use Rattle.wc_model.specs.declared.code.Code.{Code}
 use Rattle.wc_model.specs.declared.kind.SlotKind.{SlotKind}
-use Rattle.wc_laws_soundness.proofs.Places.{Some-same}
-use Rattle.wc_laws_soundness.proofs.Texts.{turned}
-use Rattle.wc_laws_soundness.specs.Sound.{NestsSimply}
+use Rattle.wc_laws_language.proofs.Places.{Some-same}
+use Rattle.wc_laws_language.proofs.Texts.{turned}
+use Rattle.wc_laws_language.specs.Sound.{NestsSimply}
 
 -- the bodies of these units nest simply, and not too deep
 abbrev pub NestWell : List ProgramUnit → Type 0

@@ -23,13 +23,13 @@ use Rattle.wc_model.specs.declared.code.Code.{Code}
 use Rattle.wc_model.specs.declared.image.Image.{Image}
 use Rattle.wc_model.specs.declared.source.UnitKind.{UnitKind}
 use Rattle.wc_model.specs.declared.source.UnitKind.TheVariants.{FunctionBlock, Program}
-use Rattle.wc_laws_soundness.proofs.Places.{SameSlots-trans, FitsScope-same}
-use Rattle.wc_laws_soundness.proofs.Programs.{Any, program_ends, first_store_fits, image-keeps}
-use Rattle.wc_laws_soundness.proofs.Spelled.{spelled_text_nests}
-use Rattle.wc_laws_soundness.proofs.Texts.{none_broken, turned, units_clean}
-use Rattle.wc_laws_soundness.specs.Laws.{UnitsNestSimply}
-use Rattle.wc_laws_soundness.specs.Sound.{AreClean, EndsWell}
-use Rattle.wc_laws_soundness.specs.Typing.{SameSlots}
+use Rattle.wc_laws_language.proofs.Places.{SameSlots-trans, FitsScope-same}
+use Rattle.wc_laws_language.proofs.Programs.{Any, program_ends, first_store_fits, image-keeps}
+use Rattle.wc_laws_language.proofs.Spelled.{spelled_text_nests}
+use Rattle.wc_laws_language.proofs.Texts.{none_broken, turned, units_clean}
+use Rattle.wc_laws_language.specs.SoundnessLaws.{UnitsNestSimply}
+use Rattle.wc_laws_language.specs.Sound.{AreClean, EndsWell}
+use Rattle.wc_laws_language.specs.Typing.{SameSlots}
 
 -- what ends well and is followed runs alike
 pub alike : (frame : List (Location × Content)) (old : Store) (o : Outcome) (run : Option Ran) → EndsWell Any old o → BodyFollows frame o run → RunsAlike frame o run

@@ -16,10 +16,10 @@ use Rattle.wc_model.specs.Language.Traces.{Item}
 use Rattle.wc_model.specs.Language.Tree.{ProgramUnit}
 use Rattle.wc_model.specs.Language.WorstPaths.{AreWorstLines}
 use Rattle.wc_model.specs.declared.code.Code.{Code}
-use Rattle.wc_laws_soundness.proofs.Places.{Some-same}
-use Rattle.wc_laws_soundness.proofs.Spelled.{spelled_text_nests}
-use Rattle.wc_laws_soundness.specs.Laws.{UnitsNestSimply}
-use Rattle.wc_laws_soundness.specs.Sound.{NestsSimply}
+use Rattle.wc_laws_language.proofs.Places.{Some-same}
+use Rattle.wc_laws_language.proofs.Spelled.{spelled_text_nests}
+use Rattle.wc_laws_language.specs.SoundnessLaws.{UnitsNestSimply}
+use Rattle.wc_laws_language.specs.Sound.{NestsSimply}
 
 -- the worst path of a unit whose blocks are known
 pub unit_measured : (bounds : List ℕ) (before : List ProgramUnit) (unit : ProgramUnit) → BlocksMeasured bounds before (best_block before) → NestsSimply unit.body → (code : List Code) → IsLowered (record { before = before; unit = unit }) unit.body code → MeasuredAs (best_path (record { before = before; unit = unit })) (worst_of bounds code (sources_of unit.body))

@@ -22,9 +22,9 @@ use Rattle.wc_model.specs.Language.Tree.{Term, Constant, Address, Variable as Na
 use Rattle.wc_model.specs.declared.code.Code.{Code}
 use Rattle.wc_model.specs.declared.code.Code.TheVariants.{Close}
 use Rattle.wc_model.specs.declared.place.Place.{Place}
-use Rattle.wc_laws_soundness.proofs.CallSteps.{type_of-found}
-use Rattle.wc_laws_soundness.proofs.Places.{Some-same, places_of, block_places-found}
-use Rattle.wc_laws_soundness.proofs.FramePlaces.{one_number, number_within}
+use Rattle.wc_laws_language.proofs.CallSteps.{type_of-found}
+use Rattle.wc_laws_language.proofs.Places.{Some-same, places_of, block_places-found}
+use Rattle.wc_laws_language.proofs.FramePlaces.{one_number, number_within}
 
 -- each line, with the number of lines after it: those of the list and some more
 abbrev pub AllWithin : (ℕ → Code → Type 0) → ℕ → List Code → Type 0

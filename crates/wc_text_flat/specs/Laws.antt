@@ -21,7 +21,7 @@ use Rattle.wc_model.specs.Language.WorstPaths.{AreWorstLines}
 use Rattle.wc_model.specs.declared.code.Code.{Code}
 use Rattle.wc_model.specs.declared.image.Image.{Image}
 use Rattle.wc_model.specs.declared.kind.SlotKind.{SlotKind}
-use Rattle.wc_laws_soundness.specs.Typing.{SameSlots}
+use Rattle.wc_laws_language.specs.Typing.{SameSlots}
 
 -- the flat run is as the outcome: it leaves the numbers of its store and the number of its result, and takes a step for each item
 -- of its trace

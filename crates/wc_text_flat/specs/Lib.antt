@@ -9,3 +9,6 @@ pub mod FlatPaths
 pub mod Depths
 pub mod Laws
 pub mod LoweredExample
+pub mod Seen
+pub mod FlatSeen
+pub mod SeenLaws

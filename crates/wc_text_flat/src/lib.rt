@@ -1,11 +1,12 @@
-//! Flat code: what it means on numbers alone, when it is a lowered program text, and that it then
-//! means what the text means. Each function has an empty body: its clause is the law, or an example
-//! that computes.
+//! Flat code: what it means on numbers alone, when it is a lowered program text, that it then means
+//! what the text means, and what is seen of a scan of either. Each function has an empty body: its
+//! clause is the law, or an example that computes.
 #![tactic(auto)]
 
 mod bounds;
 mod examples;
 mod meaning;
+mod trace;
 
 pub use bounds::{
     flat_code_has_the_worst_path, flat_code_is_short, lowered_code_keeps_within, lowered_code_nests,
@@ -19,3 +20,4 @@ pub use meaning::{
     flat_code_scans_the_text, held_numbers_stay_held, outputs_are_numbers,
     skipped_lines_are_dropped,
 };
+pub use trace::{flat_code_is_seen_as_the_text, seen_is_the_trace};

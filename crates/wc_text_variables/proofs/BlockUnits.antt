@@ -10,7 +10,7 @@ use Rattle.wc_model.specs.Language.Scopes.{Scope}
 use Rattle.wc_model.specs.Language.Tree.{ProgramUnit, Text}
 use Rattle.wc_names.specs.Numbered.{IsUnit}
 use Rattle.wc_names.specs.RepresentsText.{onto}
-use Rattle.wc_laws_soundness.proofs.Places.{Some-same}
+use Rattle.wc_laws_language.proofs.Places.{Some-same}
 
 pub onto_more : {X : Type 0} (xs ys zs : List X) → onto (xs ++ ys) zs ≡ onto ys (onto xs zs)
 onto_more [] ys zs = refl

@@ -12,7 +12,7 @@ use Rattle.wc_model.specs.Language.Tree.{ProgramUnit, Text}
 use Rattle.wc_model.specs.declared.kind.Kind.{Kind}
 use Rattle.wc_model.specs.declared.value.Value.{Value}
 use Rattle.wc_model.specs.declared.value.Value.TheVariants.{Bool as Truth, Dint, Time}
-use Rattle.wc_laws_soundness.specs.Typing.{SameSlots, slot_of}
+use Rattle.wc_laws_language.specs.Typing.{SameSlots, slot_of}
 use Rattle.wc_text_variables.specs.Numbered.{variable_at_location, variable_named, numbered_variable}
 use Rattle.wc_text_variables.specs.Names.{if_readable, is_hidden, is_value, is_readable, named_location, place_named}
 use Rattle.wc_text_variables.specs.declared.variables.NamedVariable.{NamedVariable}

@@ -4,7 +4,7 @@ use Rattle.std.specs.List.{list_all}
 use Rattle.std.specs.Prelude.{if◌then◌else◌, ◌&&◌}
 use Rattle.wc_model.specs.Language.Kinds.{agreed, same_result}
 use Rattle.wc_model.specs.declared.kind.Kind.{Kind}
-use Rattle.wc_laws_soundness.proofs.Bodies.{same_result-sound}
+use Rattle.wc_laws_language.proofs.Bodies.{same_result-sound}
 use Rattle.wc_verify.specs.Edges.{joined_edges, kind_of_way, way_of, with_way}
 use Rattle.wc_verify.specs.declared.edges.Way.TheVariants.{Agreed, Different}
 

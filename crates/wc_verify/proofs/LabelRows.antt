@@ -6,7 +6,7 @@ use Rattle.indexmap.specs.IndexMap.{insert_entry}
 use Rattle.wc_model.specs.Language.Declarations.{named_in, same_name}
 use Rattle.wc_model.specs.Language.Names.{Name}
 use Rattle.wc_names.specs.Keys.{name_of_key, same_key, same_name_laws}
-use Rattle.wc_laws_soundness.proofs.Tests.{same_name-sound}
+use Rattle.wc_laws_language.proofs.Tests.{same_name-sound}
 use Rattle.wc_verify.specs.Rows.{named_rows, row_of}
 use Rattle.wc_names.specs.declared.key.Key.{Key}
 use Rattle.wc_verify.specs.declared.labels.Row.{Row}

@@ -18,9 +18,9 @@ use crate::first::{first_of, refusal, refuse, unless};
 use crate::refusals::{is_of_kind, validate_condition, validate_reading, validate_writing};
 use crate::seen::{Seen, see};
 use std::alloc::Global;
+use wc_built_in::{is_bit_literal, is_kind};
 use wc_model::{Argument, Condition, Direction, Fault, Kind, Operand};
 use wc_names::{DeclaredType, Names, Tables};
-use wc_text_kinds::{is_bit_literal, is_kind};
 
 /// Whether an input of a kind takes what is assigned.
 fn suits_input(kind: Kind, operand: &Operand<'_>, seen: Seen) -> bool

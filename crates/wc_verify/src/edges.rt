@@ -1,8 +1,8 @@
 ghost use Rattle.std.specs.Prelude.{◌≡◌};
 ghost use Rattle.wc_verify.specs.Edges.{joined_edges, kind_of_way, with_way};
 
+use wc_built_in::same_result;
 use wc_model::Kind;
-use wc_text_kinds::same_result;
 
 /// What the incoming paths of a line agree on.
 #[derive(Clone, Copy)]

@@ -12,9 +12,9 @@ use crate::instructions::{apply, call, jump, kind_following, leave, load, negate
 use crate::seen::{Seen, see};
 use crate::steps::{validate_closing, validate_opening};
 use std::alloc::Global;
+use wc_built_in::kind_after_operator;
 use wc_model::{Fault, Instr, Kind, Line, Operand, Operator};
 use wc_names::Tables;
-use wc_text_kinds::kind_after_operator;
 
 /// What the operand on an opening line names, if one is written.
 fn see_if_any<'a>(tables: &Tables<'a>, unit: usize, operand: &Option<Operand<'a>>) -> Option<Seen>

@@ -16,9 +16,9 @@ use crate::refusals::{validate_condition, validate_truth};
 use crate::seen::see;
 use crate::steps::{validate_apply, validate_load, validate_store};
 use std::alloc::Global;
+use wc_built_in::kind_after_operator;
 use wc_model::{Argument, Condition, Fault, Kind, Operand, Operator, Storing};
 use wc_names::Tables;
-use wc_text_kinds::kind_after_operator;
 
 /// What follows a line that is checked: the kind of the result after it.
 pub(crate) fn kind_following(

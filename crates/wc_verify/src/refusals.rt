@@ -10,8 +10,8 @@ ghost use Rattle.wc_verify.specs.Seeing.{IsSeen};
 
 use crate::first::{first_of, unless};
 use crate::seen::Seen;
+use wc_built_in::{divides, is_bit_literal, is_bool, is_divisor, is_kind, takes, takes_truth};
 use wc_model::{Condition, Kind, Operand, Operator};
-use wc_text_kinds::{divides, is_bit_literal, is_bool, is_divisor, is_kind, takes, takes_truth};
 
 /// What is read: 401, 405.
 pub(crate) fn validate_reading(seen: Seen) -> Option<u16>

@@ -13,8 +13,8 @@ use crate::refusals::{
     validate_truth, validate_writing,
 };
 use crate::seen::Seen;
+use wc_built_in::{divides, is_bool, same_result};
 use wc_model::{Kind, Operand, Operator, Storing};
-use wc_text_kinds::{divides, is_bool, same_result};
 
 /// Whether LD or LDN takes an operand of the kind.
 fn is_loaded(negated: bool, kind: Option<Kind>) -> bool

@@ -12,7 +12,7 @@ use Rattle.wc_model.specs.declared.source.Initial.{Initial}
 use Rattle.wc_model.specs.Language.Tree.{ProgramUnit, Text}
 use Rattle.wc_names.specs.Numbered.{numbered_type}
 use Rattle.wc_names.specs.declared.declared_type.DeclaredType.TheVariants as numbered
-use Rattle.wc_laws_soundness.proofs.Carrying.{is_field}
+use Rattle.wc_laws_language.proofs.Carrying.{is_field}
 use Rattle.wc_view_changes.specs.ChangeReport.{Found, found_by, found_from, initial_of, path_text}
 use Rattle.wc_view_changes.specs.Shown.{Shape, Plain, Instance, Shown, inside, names_of, paths_at, paths_of}
 use Rattle.wc_view_changes.specs.Sides.{IsSide, kept_between, line_between, numbered_side, pass_text, side_after, side_found, side_lead, type_after, unit_numbered}

@@ -15,7 +15,7 @@ use Rattle.wc_model.specs.declared.block.StandardBlock.TheVariants.{RTrig}
 use Rattle.wc_model.specs.declared.kind.Kind.{Kind}
 use Rattle.wc_names.specs.Numbered.{numbered_type}
 use Rattle.wc_names.specs.declared.declared_type.DeclaredType.TheVariants as numbered
-use Rattle.wc_laws_soundness.proofs.Carrying.{at_once, is_field, one_block}
+use Rattle.wc_laws_language.proofs.Carrying.{at_once, is_field, one_block}
 use Rattle.wc_view_changes.specs.Shapes.{has_shape}
 use Rattle.wc_view_changes.specs.Shown.{Plain, Instance}
 use Rattle.wc_view_changes.specs.Sides.{numbered_side, side_lead}

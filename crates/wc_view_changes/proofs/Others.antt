@@ -19,8 +19,8 @@ use Rattle.wc_model.specs.declared.source.Unit.{Unit as CodeUnit}
 use Rattle.wc_names.specs.Numbered.{IsUnit, numbered_type}
 use Rattle.wc_names.specs.declared.declared_type.DeclaredType.TheVariants as numbered
 use Rattle.wc_names.proofs.Places.{TypeCase, of_block, of_elementary, of_standard, type_case}
-use Rattle.wc_laws_soundness.proofs.Places.{Some-same}
-use Rattle.wc_laws_soundness.proofs.Steps.{is_kind-sound}
+use Rattle.wc_laws_language.proofs.Places.{Some-same}
+use Rattle.wc_laws_language.proofs.Steps.{is_kind-sound}
 use Rattle.wc_view_changes.specs.ChangeReport.{Group, block_text, found_by, found_first, found_from, found_type, has_line, initial_of, kind_text}
 use Rattle.wc_view_changes.specs.Shapes.{has_shape}
 use Rattle.wc_view_changes.specs.Shown.{Plain}

@@ -16,7 +16,7 @@ use Rattle.wc_view_columns.specs.Rows.{AreFrom, Row, nothing}
 use Rattle.wc_view_columns.specs.TimeLines.{IsTimeLineOf}
 use Rattle.wc_view_columns.specs.declared.events.Events.{Events}
 use Rattle.wc_view_columns.specs.declared.line.TimeLine.{TimeLine}
-use Rattle.wc_view_drawing.specs.declared.view.ScanSteps.{ScanSteps}
+use Rattle.wc_view_picture.specs.declared.view.ScanSteps.{ScanSteps}
 use Rattle.wc_view_picture.specs.declared.picture.Picture.{Picture}
 use Rattle.wc_view_watch.specs.Plans.{numbers_of}
 use Rattle.wc_view_watch.specs.Unknown.{begins_with as names_begin}

@@ -1,8 +1,22 @@
-//! A picture of a run: what a log, its plate and its program come to over time, as one SVG of a bounded size.
+//! A picture of a run: what a log, its plate and its program come to over time, as one SVG of a
+//! bounded size, with its weights, marks, lanes and axes.
 #![tactic(auto)]
 
+mod axes;
+mod curves;
+mod drawing;
+mod lane_rows;
+mod marks;
 mod picture;
+mod readings;
+mod requests;
 mod rows;
+mod sheet;
 mod showing;
+mod style;
+mod values;
+mod view;
 
+pub use drawing::draw;
 pub use showing::show_files;
+pub use view::{ScanSteps, View};

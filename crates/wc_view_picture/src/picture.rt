@@ -10,7 +10,9 @@ ghost use Rattle.wc_run.specs.Representation.{Represents};
 ghost use Rattle.wc_sma.specs.Representation.{HasRead};
 ghost use Rattle.wc_view_picture.specs.Seen.{AreNamesOf, HasHappened, HasSeen, IsNew, list_of, most_at, most_of, most_with, numbers_after, replaced_at};
 
+use crate::drawing::draw;
 use crate::rows::{change_of, inputs_after, keep, outputs_after, scan_of, steps_after};
+use crate::view::{ScanSteps, View};
 use std::alloc::{AllocError, Global};
 use wc_cost::Loaded;
 use wc_model::{ByteOut, Outputs};
@@ -19,7 +21,6 @@ use wc_record::HeadKind;
 use wc_run::{Observer, Program, RowSeen, RunFault, Scale, write_text};
 use wc_store::SlotStore;
 use wc_view_columns::{Column, Events, State, TimeLine, Tracker};
-use wc_view_drawing::{ScanSteps, View, draw};
 use wc_view_watch::WatchedNames;
 
 /// Observes a run, and after its rows writes a picture of it. What is kept of the rows is allocated at the first of

@@ -9,12 +9,12 @@ ghost use Rattle.wc_view_columns.specs.Rows.{Row};
 ghost use Rattle.wc_view_columns.specs.TimeLines.{row_at};
 ghost use Rattle.wc_view_picture.specs.Seen.{IsTimeOf, change_of, most_of, most_with, outputs_with, scan_in};
 
+use crate::view::ScanSteps;
 use std::alloc::{AllocError, Global};
 use wc_model::Outputs;
 use wc_record::HeadKind;
 use wc_run::ScanSeen;
 use wc_view_columns::{Column, Events, TimeLine};
-use wc_view_drawing::ScanSteps;
 
 /// The inputs after a row of this kind.
 pub(crate) fn inputs_after(kind: HeadKind, inputs: u16) -> u16

@@ -4,7 +4,7 @@ use Rattle.std.specs.Prelude.{◌==◌, ◌&&◌, nat_le}
 use Rattle.std.proofs.Common.{tests}
 use Rattle.std.proofs.lemmas.List.{append_assoc, drop_more, drop-take, take-append-drop, take-take}
 use Rattle.wc_view_trace_rows.specs.Columns.{columns_of, first_columns, fitted}
-use Rattle.wc_diag_shown.specs.Acting.{acting_length}
+use Rattle.wc_diag_texts.specs.Acting.{acting_length}
 use Rattle.wc_view_trace_rows.specs.Shown.{shown_bytes, shown_first, single_spaces}
 
 -- a byte of a character that is shown already

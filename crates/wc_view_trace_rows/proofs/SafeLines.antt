@@ -3,10 +3,10 @@ use Rattle.std.proofs.Common.{◌≡◌, ◌∙◌, ℕ, zero, suc, ◌-◌, ◌
 use Rattle.std.proofs.lemmas.Bool.Decides.{nat_tests}
 use Rattle.std.specs.Prelude.{◌==◌, ◌&&◌, nat_le}
 use Rattle.std.specs.Str.{is_utf8}
-use Rattle.wc_diag_shown.proofs.ActingBytes.{ascii_not, no_fourth, no_second, no_third, plain_first}
+use Rattle.wc_diag_texts.proofs.ActingBytes.{ascii_not, no_fourth, no_second, no_third, plain_first}
 use Rattle.wc_view_trace_rows.specs.Columns.{columns_of, first_columns, fitted}
 use Rattle.wc_view_trace_rows.specs.Safe.{IsSafe, ShownLinesAreSafe}
-use Rattle.wc_diag_shown.specs.Acting.{acting_by, acting_length, continues}
+use Rattle.wc_diag_texts.specs.Acting.{acting_by, acting_length, continues}
 use Rattle.wc_view_trace_rows.specs.Shown.{between_words, is_control, shown, shown_byte, shown_bytes, shown_first, single_spaces}
 
 -- a number is below another or not

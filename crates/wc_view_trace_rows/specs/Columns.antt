@@ -1,7 +1,7 @@
 -- The columns of a row. (The profile's own.)
 use Rattle.std.specs.Prelude.{ℕ, zero, suc, ◌+◌, ◌*◌, ◌-◌, max, min, nat_le, List, [], ◌∷◌, ◌++◌, length, replicate, Option, Some, None, codes, decimal, if◌then◌else◌}
-use Rattle.wc_diag_shown.specs.Acting.{continues}
-use Rattle.wc_diag_shown.specs.Plain.{characters}
+use Rattle.wc_diag_texts.specs.Acting.{continues}
+use Rattle.wc_diag_texts.specs.Plain.{characters}
 use Rattle.wc_view_trace_rows.specs.Shown.{between_words, shown}
 
 abbrev pub spaces : ℕ → List ℕ

@@ -2,7 +2,7 @@
 use Rattle.std.specs.Prelude.{ℕ, zero, suc, ◌-◌, ◌==◌, nat_lt, nat_le, Bool, not, ◌&&◌, ◌||◌, List, [], ◌∷◌, if◌then◌else◌}
 use Rattle.std.specs.Char.{is_ascii_whitespace}
 use Rattle.std.specs.Str.{is_utf8}
-use Rattle.wc_diag_shown.specs.Acting.{acting_length}
+use Rattle.wc_diag_texts.specs.Acting.{acting_length}
 
 -- a control character of ASCII
 abbrev pub is_control : ℕ → Bool

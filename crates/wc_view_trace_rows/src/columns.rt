@@ -3,7 +3,7 @@ ghost use Rattle.wc_view_trace_rows.specs.Columns.{prefix, gap, six_columns, spa
 ghost use Rattle.wc_view_trace_rows.specs.Puts.{Puts};
 
 use crate::shown::{bytes_from, put_line};
-use wc_diag_shown::characters;
+use wc_diag_texts::characters;
 use wc_model::{Fault, put_bytes};
 use wc_report::put_number;
 

@@ -6,9 +6,9 @@ ghost use Rattle.wc_view_trace_rows.specs.Levels.{after_seen, closed, fresh, lev
 use crate::legend::Legend;
 use crate::notes::Note;
 use std::alloc::Global;
+use wc_built_in::kind_after_operator;
 use wc_machine::SeenLine;
 use wc_model::{Code, Fault, Kind, Operator};
-use wc_text_kinds::kind_after_operator;
 
 /// What is known of a body while its lines are gone through: the kind of its result, the kinds of those that are put by, and
 /// the number of items of the list of its last call that were passed.

@@ -4,7 +4,7 @@ ghost use Rattle.wc_view_trace_rows.specs.Columns.{first_columns, fitted, line_s
 ghost use Rattle.wc_view_trace_rows.specs.Shown.{between_words, shown, shown_first, single_spaces};
 ghost use Rattle.wc_view_trace_rows.specs.Puts.{Puts};
 
-use wc_diag_shown::{characters, hidden_length};
+use wc_diag_texts::{characters, hidden_length};
 use wc_model::{Fault, put_bytes};
 
 /// The number of bytes of a text that take that many columns.

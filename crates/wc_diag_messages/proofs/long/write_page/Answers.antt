@@ -2,7 +2,7 @@ use Rattle.std.proofs.Common.{codes, decimal, ◌∷◌, []}
 use Rattle.wc_diag_messages.proofs.Assembled.{four_after}
 use Rattle.wc_diag_messages.proofs.long.write_page.Goals as goal
 use Rattle.wc_diag_messages.specs.Explanations.{page_opening}
-use Rattle.wc_diag_shown.specs.Plain.{shown_text}
+use Rattle.wc_diag_texts.specs.Plain.{shown_text}
 
 pub returns : goal.returns
 returns c =

@@ -1,4 +1,4 @@
-use Rattle.wc_diag_operands.proofs.Breaking.{argument_operand_tokens}
+use Rattle.wc_diag_places.proofs.Breaking.{argument_operand_tokens}
 use Rattle.wc_diag_places.proofs.spans.found_in.Goals as goal
 
 pub returns-clause-argument : goal.returns-clause-argument

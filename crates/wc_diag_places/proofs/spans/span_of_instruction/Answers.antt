@@ -1,6 +1,6 @@
 use Rattle.std.proofs.Common.{◌≡◌, true, List, inr, subst, sym}
-use Rattle.wc_diag_operands.specs.Arguments.{IsArgument}
-use Rattle.wc_diag_operands.specs.OperandTokens.{is_listed}
+use Rattle.wc_diag_places.specs.Arguments.{IsArgument}
+use Rattle.wc_diag_places.specs.OperandTokens.{is_listed}
 use Rattle.wc_lexer.specs.declared.shape.Token.{Token}
 use Rattle.wc_verify.specs.Seeing.{IsScope}
 use Rattle.wc_diag_places.proofs.spans.span_of_instruction.Goals as goal

@@ -1,5 +1,5 @@
 use Rattle.std.proofs.Common.{refl}
-use Rattle.wc_laws_tokens.proofs.FoundTokens.{found_cut}
+use Rattle.wc_laws_grammar.proofs.FoundTokens.{found_cut}
 use Rattle.wc_examples_language.proofs.cuts.blanks.Goals as goal
 
 pub returns-clause-nothing : goal.returns-clause-nothing

@@ -1,5 +1,5 @@
 use Rattle.std.proofs.Common.{refl, lit≤}
-use Rattle.wc_laws_tokens.proofs.FoundTokens.{found_fault}
+use Rattle.wc_laws_grammar.proofs.FoundTokens.{found_fault}
 use Rattle.wc_examples_language.proofs.token_faults.bytes_that_belong_to_nothing.Goals as goal
 
 pub returns-clause-hash : goal.returns-clause-hash

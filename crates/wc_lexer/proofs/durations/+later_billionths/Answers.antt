@@ -3,7 +3,7 @@ use Rattle.std.proofs.lemmas.Grind.{common_steps}
 use Rattle.wc_lexer.proofs.PartSums.{text_later}
 use Rattle.wc_lexer.proofs.durations.+later_billionths.Goals as goal
 use Rattle.wc_lexer.specs.Parts.{IsParsedPart}
-use Rattle.wc_laws_tokens.proofs.DurationParts.{part}
+use Rattle.wc_laws_grammar.proofs.DurationParts.{part}
 
 pub returns : goal.returns
 returns t c =

@@ -1,7 +1,7 @@
 use Rattle.std.proofs.Common.{ap, arith, drop, length, length-drop, length-take, ◌-◌, ◌≤◌}
 use Rattle.wc_lexer.proofs.Reaches.{left_is_long}
 use Rattle.wc_lexer.proofs.element.comment.Goals as goal
-use Rattle.wc_laws_tokens.proofs.TokenSteps.{from_bracket_shrinks}
+use Rattle.wc_laws_grammar.proofs.TokenSteps.{from_bracket_shrinks}
 use Rattle.wc_model.specs.Text.Blanks.{from_bracket}
 
 pub returns-in-42-clause-within : goal.returns-in-42-clause-within

@@ -3,7 +3,7 @@ use Rattle.std.proofs.Common.{◌≡◌, ◌≤◌, ℕ, zero, suc, length, repl
 use Rattle.std.proofs.lemmas.List.{length-replicate}
 use Rattle.std.specs.Prelude.{slice_get}
 use Rattle.wc_execution.specs.Lines.{AreBefore}
-use Rattle.wc_laws_soundness.specs.FirstNumbers.{AreFirst}
+use Rattle.wc_laws_language.specs.FirstNumbers.{AreFirst}
 use Rattle.wc_machine.proofs.first.first_store.Goals as goal
 
 zero_found : (count place n : ℕ) → slice_get (replicate count (pos 0)) place ≡ Some (pos n) → n ≤ 0

@@ -10,7 +10,7 @@ use Rattle.wc_model.specs.declared.operand.Word.{Word}
 use Rattle.wc_model.specs.declared.source.Unit.{Unit as CodeUnit}
 use Rattle.wc_names.proofs.Lists.{got_some}
 use Rattle.wc_names.specs.RepresentsText.{AreTables}
-use Rattle.wc_laws_soundness.proofs.Places.{Some-same}
+use Rattle.wc_laws_language.proofs.Places.{Some-same}
 use Rattle.wc_view_changes.specs.Shapes.{has_shape}
 use Rattle.wc_view_changes.specs.Shown.{Plain, Instance, declared_of, seen}
 use Rattle.wc_view_changes.specs.Sides.{IsSide, declaration_lines, lines_between, pass_text, side_after, side_found, unit_numbered, variable_lines}

@@ -16,9 +16,9 @@ use Rattle.wc_model.specs.Language.Store.{Store}
 use Rattle.wc_model.specs.Language.Tree.{Text}
 use Rattle.wc_model.specs.Language.Views.{text_view}
 use Rattle.wc_model.specs.Text.Grammar.{IsProgramLast}
-use Rattle.wc_laws_soundness.proofs.Carrying.{carried_holds}
-use Rattle.wc_laws_soundness.specs.FirstNumbers.{AreFirst}
-use Rattle.wc_laws_soundness.specs.Typing.{SameSlots}
+use Rattle.wc_laws_language.proofs.Carrying.{carried_holds}
+use Rattle.wc_laws_language.specs.FirstNumbers.{AreFirst}
+use Rattle.wc_laws_language.specs.Typing.{SameSlots}
 
 -- the carried numbers are the contents of the carried store
 held : (old new : Text) → IsProgramLast old → IsProgramLast new → (store : Store) → SameSlots (initial_of old) store → (numbers : List ℤ) → AreContents (frame_of_text old) store numbers → (first all : List ℤ) → first ≡ first_numbers (frame_of_text new) →

@@ -12,8 +12,8 @@ use Rattle.wc_model.specs.Language.Frames.{content_number, first_numbers, slot_k
 use Rattle.wc_model.specs.Language.Scans.{initial_of}
 use Rattle.wc_model.specs.Language.Tree.{Text}
 use Rattle.wc_model.specs.Language.Views.{text_view}
-use Rattle.wc_laws_soundness.specs.FirstNumbers.{AreFirst}
-use Rattle.wc_laws_soundness.proofs.Places.{SameSlots-refl}
+use Rattle.wc_laws_language.specs.FirstNumbers.{AreFirst}
+use Rattle.wc_laws_language.proofs.Places.{SameSlots-refl}
 
 -- the first numbers are those of the declarations' store
 first_held : (text : Text) (numbers : List ℤ) → numbers ≡ first_numbers (frame_of_text text) → AreContents (frame_of_text text) (initial_of text) numbers

@@ -12,7 +12,7 @@ use Rattle.wc_model.specs.Language.Frames.{slot_kind_of}
 use Rattle.wc_model.specs.Language.Paths.{IsProgramBound}
 use Rattle.wc_model.specs.Language.Scans.{initial_of, scan_of}
 use Rattle.wc_model.specs.Language.Views.{text_view}
-use Rattle.wc_laws_soundness.specs.Typing.{SameSlots}
+use Rattle.wc_laws_language.specs.Typing.{SameSlots}
 
 pub copy_image-requires-clause-weights : goal.copy_image-requires-clause-weights
 copy_image-requires-clause-weights g c =

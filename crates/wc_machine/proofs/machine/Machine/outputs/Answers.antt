@@ -9,7 +9,7 @@ use Rattle.wc_model.specs.Language.DirectVariables.{OutputBit, OutputWord}
 use Rattle.wc_model.specs.Language.Scans.{initial_of, bit_of, word_of, output_bits, output_words}
 use Rattle.wc_model.specs.Language.Store.{Direct, value_at}
 use Rattle.wc_model.specs.Language.Views.{text_view}
-use Rattle.wc_laws_soundness.specs.Typing.{SameSlots}
+use Rattle.wc_laws_language.specs.Typing.{SameSlots}
 
 pub read_outputs-requires-clause-bits : goal.read_outputs-requires-clause-bits
 read_outputs-requires-clause-bits g c =

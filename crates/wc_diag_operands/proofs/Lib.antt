@@ -1,2 +1,0 @@
-mod Positions
-pub mod Breaking

@@ -1,8 +1,0 @@
-use Rattle.std.proofs.Common.{arith}
-use Rattle.std.proofs.lemmas.Grind.{common_steps}
-use Rattle.wc_diag_operands.proofs.lists.mark_after.Goals as goal
-use Rattle.wc_diag_operands.specs.Lists.{mark_after}
-
-pub returns-clause-mark : goal.returns-clause-mark
-unfolding mark_after
-returns-clause-mark c = grind (arith, common_steps)

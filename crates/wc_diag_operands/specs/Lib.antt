@@ -1,3 +1,0 @@
-pub mod OperandTokens
-pub mod Lists
-pub mod Arguments

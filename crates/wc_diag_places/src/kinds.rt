@@ -1,0 +1,94 @@
+ghost use Rattle.std.specs.Prelude.{◌≡◌, option_map};
+ghost use Rattle.wc_diag_places.specs.Lists.{operand_in};
+ghost use Rattle.wc_model.specs.Language.Views.{term_view};
+
+use crate::operand_tokens::{is_closing, opens};
+use wc_built_in::{takes, takes_truth};
+use wc_diag_texts::Case;
+use wc_lexer::{Shape, Token};
+use wc_model::{Kind, Operand, Storing};
+use wc_names::{DeclaredType, Entity, Tables};
+use wc_text_lines::{Operating, Operation, operation_of};
+use wc_text_short_lines::operand_of;
+
+/// The operand that some tokens are: one alone, or a name with a field.
+pub(crate) fn operand_in<'a>(operand_tokens: &[Token<'a>]) -> Option<Operand<'a>>
+    ensures { option_map term_view result ≡ operand_in operand_tokens.now }
+{
+    match (operand_tokens.first(), operand_tokens.last()) {
+        (Some(first), Some(last)) => {
+            if operand_tokens.len() > 1 {
+                return Some(Operand::Field {
+                    instance: first.text,
+                    field: last.text,
+                });
+            }
+            operand_of(*first)
+        }
+        _ => None,
+    }
+}
+
+/// What some tokens name.
+pub(crate) fn entity_in(
+    tables: &Tables<'_>,
+    unit: usize,
+    operand_tokens: &[Token<'_>],
+) -> Option<Entity> {
+    tables.entity(unit, &operand_in(operand_tokens)?)
+}
+
+/// Whether some tokens are a literal 0 or 1.
+pub(crate) fn is_bit(operand_tokens: &[Token<'_>]) -> bool {
+    matches!(operand_tokens.first(), Some(token) if matches!(token.shape, Shape::Whole(0 | 1)))
+}
+
+/// What does not fit if an operand of a kind follows its operator.
+fn unfit_operand(operating: Operating, kind: Kind, is_bit: bool) -> Case {
+    let is_taken = match operating {
+        Operating::Loads(negated) => !negated || kind == Kind::Bool,
+        Operating::Stores(Storing::Result) => true,
+        Operating::Stores(_) => kind == Kind::Bool,
+        Operating::Applies(operator) => takes(operator, kind),
+    };
+    match operating {
+        _ if is_taken => Case::Unlike(kind),
+        Operating::Applies(operator) if is_bit && takes_truth(operator) => Case::Result,
+        _ => Case::Untaken(kind),
+    }
+}
+
+/// Whether a name is that of an instance of the unit, or of nothing.
+fn is_instance(tables: &Tables<'_>, unit: usize, name: &[u8]) -> bool {
+    match tables.variable(unit, name) {
+        Some(found) => !matches!(found.declared, DeclaredType::Elementary(_)),
+        None => true,
+    }
+}
+
+/// What does not fit in an instruction without a list whose kinds are refused.
+pub fn unfit(
+    tables: &Tables<'_>,
+    unit: usize,
+    tokens: &[Token<'_>],
+    operand: &[Token<'_>],
+) -> Case {
+    let Some(token) = tokens.first() else {
+        return Case::Result;
+    };
+    if is_closing(token) {
+        return Case::Closing;
+    }
+    let kind = entity_in(tables, unit, operand).and_then(|entity| entity.kind);
+    match (operation_of(*token), kind) {
+        (Some(Operation::Operates(_)), None) if operand_in(operand).is_some() => Case::Instance,
+        (Some(Operation::Operates(operating)), Some(kind)) if !opens(tokens) => {
+            unfit_operand(operating, kind, is_bit(operand))
+        }
+        (Some(Operation::Calls(_)), _) => match operand.first() {
+            Some(name) if !is_instance(tables, unit, name.text) => Case::NoInstance,
+            _ => Case::Result,
+        },
+        _ => Case::Result,
+    }
+}

@@ -1,4 +1,0 @@
-pub mod ActingBytes
-pub mod Calm
-pub mod CalmTexts
-pub mod OnLines

@@ -1,0 +1,63 @@
+-- Bytes as they are shown on one line.
+use Rattle.std.proofs.Common.{◌≡◌, ◌∙◌, ◌==◌, ◌&&◌, ◌||◌, ◌<◌, not, Bool, true, false, if◌then◌else◌, List, [], ◌∷◌, ℕ, ◌++◌, refl, sym, ap, Result, Ok, Err, OnOk}
+use Rattle.std.proofs.lemmas.Bool.{and_parts}
+use Rattle.std.proofs.lemmas.List.{append-nil, flat_map_more}
+use Rattle.std.proofs.lemmas.Str.{IsUtf8-append, IsUtf8-from_ascii, IsUtf8-from_is_utf8, is_utf8-from_IsUtf8}
+use Rattle.std.proofs.lemmas.Str.Ascii.{IsAscii-cons, IsAscii-nil}
+use Rattle.std.proofs.lemmas.List.Folds.{list_all-append}
+use Rattle.std.specs.List.{list_all}
+use Rattle.std.specs.Str.{is_utf8}
+use Rattle.wc_diag_texts.specs.Plain.{IsShown, acts, is_calm, is_control, is_plain, passes, shown_text}
+
+-- more of them after these
+pub shown_further : (old new text : List ℕ) → IsShown old → new ≡ old ++ shown_text text → IsShown new
+shown_further old new text was e =
+    (was.0 ++ text ∷ [], e ∙ ap (λ l. l ++ shown_text text) was.1 ∙ flat_map_more shown_text [] was.0 text)
+
+-- likewise, if it may fail
+pub says_further : {E : Type 0} (r : Result Unit E) (old new text : List ℕ) → OnOk r (new ≡ old ++ shown_text text) → IsShown old → OnOk r (IsShown new)
+says_further (Ok x) old new text e was = shown_further old new text was e
+says_further (Err x) old new text e was = tt
+
+-- two texts in UTF-8
+pub text_joined : (bytes more : List ℕ) → is_utf8 bytes ≡ true → is_utf8 more ≡ true → is_utf8 (bytes ++ more) ≡ true
+text_joined bytes more first second = is_utf8-from_IsUtf8 (bytes ++ more) (IsUtf8-append bytes more (IsUtf8-from_is_utf8 bytes first) (IsUtf8-from_is_utf8 more second))
+
+-- what passes is in UTF-8, and plain
+pub passing_is_text : (bytes : List ℕ) → passes bytes ≡ true → is_utf8 bytes ≡ true
+passing_is_text bytes e = (and_parts (is_calm bytes) (is_utf8 bytes) e).1
+
+plain_if_calm : (control other rest feed : Bool) → (not (control || other) && rest) ≡ true → (feed || not control) ≡ true
+plain_if_calm true other rest feed e = absurd (cc)
+plain_if_calm false true rest feed e = absurd (cc)
+plain_if_calm false false rest true e = refl
+plain_if_calm false false rest false e = refl
+
+calm_is_plain : (bytes : List ℕ) → is_calm bytes ≡ true → list_all is_plain bytes ≡ true
+calm_is_plain [] e = refl
+calm_is_plain (byte ∷ bytes) e =
+    let first : is_plain byte ≡ true = plain_if_calm (is_control byte) (acts (byte ∷ bytes)) (is_calm bytes) (byte == 10) e in
+    let more : list_all is_plain bytes ≡ true = calm_is_plain bytes (and_parts (not (is_control byte || acts (byte ∷ bytes))) (is_calm bytes) e).1 in
+    rw (first, more) refl
+
+pub passing_is_plain : (bytes : List ℕ) → passes bytes ≡ true → list_all is_plain bytes ≡ true
+passing_is_plain bytes e = calm_is_plain bytes (and_parts (is_calm bytes) (is_utf8 bytes) e).0
+
+-- what was there, with more of the same or as it was
+pub text_kept : (b : Bool) (old more new : List ℕ) → new ≡ (if b then old ++ more else old) → is_utf8 old ≡ true → is_utf8 more ≡ true → is_utf8 new ≡ true
+text_kept true old more new e f g = ap is_utf8 e ∙ text_joined old more f g
+text_kept false old more new e f g = ap is_utf8 e ∙ f
+
+pub plain_kept : (b : Bool) (old more new : List ℕ) → new ≡ (if b then old ++ more else old) → list_all is_plain old ≡ true → list_all is_plain more ≡ true → list_all is_plain new ≡ true
+plain_kept true old more new e f g = ap (list_all is_plain) e ∙ list_all-append is_plain old more ∙ (λ i. f i && g i)
+plain_kept false old more new e f g = ap (list_all is_plain) e ∙ f
+
+pub ascii_is_text : (byte : ℕ) → byte < 128 → is_utf8 (byte ∷ []) ≡ true
+ascii_is_text byte less = is_utf8-from_IsUtf8 (byte ∷ []) (IsUtf8-from_ascii (byte ∷ []) (IsAscii-cons byte [] less IsAscii-nil))
+
+pub nothing_is_text : is_utf8 [] ≡ true
+nothing_is_text = is_utf8-from_IsUtf8 [] (IsUtf8-from_ascii [] IsAscii-nil)
+
+-- one of them
+pub one_shown : (bytes text : List ℕ) → bytes ≡ shown_text text → IsShown bytes
+one_shown bytes text e = (text ∷ [], e ∙ sym (append-nil (shown_text text)))

@@ -1,0 +1,94 @@
+-- What a message may hold: characters that a terminal only shows. (The profile's own; the characters are those of Unicode in UTF-8.)
+use Rattle.std.specs.Prelude.{◌≡◌, ◌<◌, ℕ, ◌+◌, ◌/◌, ◌%◌, Bool, true, false, not, ◌==◌, ◌||◌, ◌&&◌, nat_le, nat_lt, if◌then◌else◌, List, [], ◌∷◌, ◌++◌, count_by, map, take}
+use Rattle.std.specs.List.{flat_map}
+use Rattle.std.specs.Str.{is_utf8}
+use Rattle.wc_diag_texts.specs.Acting.{acting_length}
+
+-- a control character of ASCII
+abbrev pub is_control : ℕ → Bool
+is_control byte = nat_lt byte 32 || byte == 127
+
+-- a line feed, or a byte that is no control character of ASCII
+abbrev pub is_plain : ℕ → Bool
+is_plain byte = byte == 10 || not (is_control byte)
+
+abbrev pub is_within : ℕ → ℕ → ℕ → Bool
+is_within first last byte = nat_le first byte && nat_le byte last
+
+-- these bytes begin a character above ASCII on which a terminal or an editor acts, or which is not seen
+abbrev pub acts : List ℕ → Bool
+acts bytes = nat_lt 0 (acting_length bytes)
+
+-- the first character of a text is a control character of ASCII, or acts so
+abbrev pub starts_acting : List ℕ → Bool
+starts_acting [] = false
+starts_acting (byte ∷ bytes) = is_control byte || acts (byte ∷ bytes)
+
+-- no character of a text acts so, and none is a control character of ASCII
+abbrev pub is_calm : List ℕ → Bool
+is_calm [] = true
+is_calm (byte ∷ bytes) = not (is_control byte || acts (byte ∷ bytes)) && is_calm bytes
+
+-- none of its characters acts so
+abbrev pub acts_nowhere : List ℕ → Bool
+acts_nowhere [] = true
+acts_nowhere (byte ∷ bytes) = not (acts (byte ∷ bytes)) && acts_nowhere bytes
+
+-- a text is shown as it is
+abbrev pub passes : List ℕ → Bool
+passes bytes = is_calm bytes && is_utf8 bytes
+
+-- a tab as a space
+abbrev pub spaced : ℕ → ℕ
+spaced byte = if byte == 9 then 32 else byte
+
+abbrev pub with_spaces : List ℕ → List ℕ
+with_spaces bytes = map spaced bytes
+
+-- a hexadecimal digit
+abbrev pub hex_digit : ℕ → ℕ
+hex_digit value = if nat_lt value 10 then 48 + value else 87 + value
+
+-- a byte of another text: printable ASCII as it is, a tab as a space, any other byte as `\x` and its two digits
+abbrev pub escaped_byte : ℕ → List ℕ
+escaped_byte byte =
+    if nat_le 32 byte && nat_le byte 126 then byte ∷ []
+    else (if byte == 9 then 32 ∷ [] else 92 ∷ 120 ∷ hex_digit (byte / 16) ∷ hex_digit (byte % 16) ∷ [])
+
+abbrev pub escaped_text : List ℕ → List ℕ
+escaped_text bytes = flat_map escaped_byte bytes
+
+-- how bytes are shown on a line: with spaces for tabs, as they are if they pass so, and else escaped
+abbrev pub shown_text : List ℕ → List ℕ
+shown_text bytes = if passes (with_spaces bytes) then with_spaces bytes else escaped_text bytes
+
+-- these are texts as they are shown, one after another on one line
+abbrev pub IsShown : List ℕ → Type 0
+IsShown bytes = (texts : List (List ℕ)) × (bytes ≡ flat_map shown_text texts)
+
+-- the number of characters of a UTF-8 text: of its bytes that begin one
+abbrev pub is_further : ℕ → Bool
+is_further byte = is_within 128 191 byte
+
+abbrev pub characters : List ℕ → ℕ
+characters bytes = count_by (λ byte. not (is_further byte)) bytes
+
+-- the column of a place of a line, counted from 1: in characters, if the line is UTF-8, else in bytes
+abbrev pub column_of : List ℕ → ℕ → ℕ
+column_of line place = (if is_utf8 line then characters (take place line) else place) + 1
+
+-- words after a mark; nothing if there are none
+abbrev pub words_after : List ℕ → List ℕ → List ℕ
+words_after mark [] = []
+words_after mark (byte ∷ rest) = mark ++ (byte ∷ rest)
+
+-- no byte is a control of ASCII, a line feed least of all
+abbrev pub HasNoControls : List ℕ → Type 0
+HasNoControls [] = Unit {0}
+HasNoControls (byte ∷ bytes) = (31 < byte) × HasNoControls bytes
+
+-- these bytes are one line with its line feed
+pub record IsOneLine (bytes : List ℕ) : Type 0 where
+  pub line : List ℕ
+  pub ends : bytes ≡ line ++ (10 ∷ [])
+  pub controls : HasNoControls line

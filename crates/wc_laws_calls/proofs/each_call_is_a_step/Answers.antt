@@ -1,5 +1,0 @@
-use Rattle.wc_laws_calls.proofs.LineSteps.{each_step}
-use Rattle.wc_laws_calls.proofs.each_call_is_a_step.Goals as goal
-
-pub returns : goal.returns
-returns c = each_step

@@ -1,2 +1,0 @@
-pub mod BlockHistories
-pub mod Laws

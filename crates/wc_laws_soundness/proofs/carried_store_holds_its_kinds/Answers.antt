@@ -1,5 +1,0 @@
-use Rattle.wc_laws_soundness.proofs.Carrying.{carried_holds}
-use Rattle.wc_laws_soundness.proofs.carried_store_holds_its_kinds.Goals as goal
-
-pub returns : goal.returns
-returns c = carried_holds

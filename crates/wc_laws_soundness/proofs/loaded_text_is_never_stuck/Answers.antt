@@ -1,5 +1,0 @@
-use Rattle.wc_laws_soundness.proofs.Spelled.{loaded_text_is_never_stuck}
-use Rattle.wc_laws_soundness.proofs.loaded_text_is_never_stuck.Goals as goal
-
-pub returns : goal.returns
-returns c = loaded_text_is_never_stuck

@@ -1,5 +1,0 @@
-use Rattle.wc_laws_soundness.proofs.Runs.{no_run_is_ever_stuck}
-use Rattle.wc_laws_soundness.proofs.no_run_is_ever_stuck.Goals as goal
-
-pub returns : goal.returns
-returns c = no_run_is_ever_stuck

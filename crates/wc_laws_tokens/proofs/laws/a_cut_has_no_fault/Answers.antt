@@ -1,5 +1,0 @@
-use Rattle.wc_laws_tokens.proofs.TokenLaws.{cut_has_no_fault}
-use Rattle.wc_laws_tokens.proofs.laws.a_cut_has_no_fault.Goals as goal
-
-pub returns : goal.returns
-returns c = cut_has_no_fault

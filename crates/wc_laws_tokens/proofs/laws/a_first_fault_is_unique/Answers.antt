@@ -1,5 +1,0 @@
-use Rattle.wc_laws_tokens.proofs.TokenLaws.{first_fault_is_unique}
-use Rattle.wc_laws_tokens.proofs.laws.a_first_fault_is_unique.Goals as goal
-
-pub returns : goal.returns
-returns c = first_fault_is_unique

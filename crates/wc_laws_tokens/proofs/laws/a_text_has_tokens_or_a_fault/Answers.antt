@@ -1,5 +1,0 @@
-use Rattle.wc_laws_tokens.proofs.FoundTokens.{cut_or_fault}
-use Rattle.wc_laws_tokens.proofs.laws.a_text_has_tokens_or_a_fault.Goals as goal
-
-pub returns : goal.returns
-returns c = cut_or_fault

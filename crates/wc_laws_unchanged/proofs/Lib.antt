@@ -1,9 +1,0 @@
-mod Bodies
-mod Merging
-mod Declared
-mod Unchanged
-mod MeaningsBefore
-mod PathsBefore
-mod RulesBefore
-mod Spelling
-mod WorstPaths

@@ -1,5 +1,0 @@
-use Rattle.wc_laws_unchanged.proofs.WorstPaths.{same_report}
-use Rattle.wc_laws_unchanged.proofs.a_check_prints_what_it_printed.Goals as goal
-
-pub returns : goal.returns
-returns c = same_report

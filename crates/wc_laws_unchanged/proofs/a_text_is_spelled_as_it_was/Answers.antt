@@ -1,5 +1,0 @@
-use Rattle.wc_laws_unchanged.proofs.Spelling.{same_spelling}
-use Rattle.wc_laws_unchanged.proofs.a_text_is_spelled_as_it_was.Goals as goal
-
-pub returns : goal.returns
-returns c = same_spelling

@@ -1,5 +1,0 @@
-use Rattle.wc_laws_unchanged.proofs.PathsBefore.{same_longest}
-use Rattle.wc_laws_unchanged.proofs.a_unit_has_the_bound_it_had.Goals as goal
-
-pub returns : goal.returns
-returns c = same_longest

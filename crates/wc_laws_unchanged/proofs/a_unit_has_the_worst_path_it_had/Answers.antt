@@ -1,5 +1,0 @@
-use Rattle.wc_laws_unchanged.proofs.WorstPaths.{same_worst_path}
-use Rattle.wc_laws_unchanged.proofs.a_unit_has_the_worst_path_it_had.Goals as goal
-
-pub returns : goal.returns
-returns c = same_worst_path
