@@ -10,7 +10,7 @@ use wc_diag_messages::{Evidence, Part, Refusal, explained};
 const MOST_REFUSALS: usize = 20;
 
 /// The number of texts that are tried for them at most.
-const MOST_STEPS: usize = 100;
+const MOST_STEPS: usize = 50;
 
 /// What is said of a further refusal, and its line.
 #[derive(Drop)]
@@ -40,11 +40,7 @@ fn message_of(
 }
 
 /// What else is wrong with a program that is refused so, in text order. The error is out of memory.
-fn further(
-    session: Session<'_>,
-    file: &ReadFile<'_>,
-    first: LineFault,
-) -> io::Result<Vec<Listed>> {
+fn further(session: Session<'_>, file: &ReadFile<'_>, first: LineFault) -> io::Result<Vec<Listed>> {
     let alloc = session.rt.alloc();
     let mut further = Further::new(alloc, file.bytes, first)?;
     let mut listed: Vec<Listed> = Vec::new(alloc);
@@ -85,7 +81,8 @@ pub(crate) fn with_further(
         input: Input::Program,
         number,
         place,
-    } = ending else {
+    } = ending
+    else {
         return status;
     };
     let first = LineFault {

@@ -1,12 +1,12 @@
 -- A text without some of its bytes, and how it is refused. (No rule of the language: what is listed after a refusal is the
 -- profile's own.)
-use Rattle.std.specs.Prelude.{ℕ, List, [], ◌∷◌, ◌==◌, if◌then◌else◌, ⊥}
+use Rattle.std.specs.Prelude.{ℕ, List, [], ◌∷◌, ◌==◌, if◌then◌else◌}
 use Rattle.wc_model.specs.Language.Loading.{IsRefused}
 use Rattle.wc_diag_further.specs.declared.further.Step.{Step}
 use Rattle.wc_diag_further.specs.declared.further.Step.TheVariants.{Refused, Follows, End}
 
 -- what stands for a byte that is taken out: a space, but a line feed stays
-pub blank_of : ℕ → ℕ
+abbrev pub blank_of : ℕ → ℕ
 blank_of byte = if byte == 10 then 10 else 32
 
 -- a byte is as it was, or taken out
@@ -15,11 +15,11 @@ pub data IsByteMended (old : ℕ) : ℕ → Type 0 where
   taken : IsByteMended old (blank_of old)
 
 -- so is each byte of a text
-pub IsMended : List ℕ → List ℕ → Type 0
+unfoldable pub IsMended : List ℕ → List ℕ → Type 0
 IsMended [] [] = Unit {0}
-IsMended [] (b ∷ bs) = ⊥
-IsMended (a ∷ as) [] = ⊥
-IsMended (a ∷ as) (b ∷ bs) = IsByteMended a b × IsMended as bs
+IsMended [] (new ∷ more) = ⊥
+IsMended (old ∷ rest) [] = ⊥
+IsMended (old ∷ rest) (new ∷ more) = IsByteMended old new × IsMended rest more
 
 -- a fault that is found is the refusal of the text as it then is
 abbrev pub IsStep : List ℕ → Step → Type 0

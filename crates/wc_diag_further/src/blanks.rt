@@ -1,7 +1,7 @@
 ghost use Rattle.std.specs.Prelude.{◌≡◌, map};
 ghost use Rattle.wc_diag_further.specs.Mended.{IsMended, blank_of};
 
-use crate::marks::Mark;
+use crate::marks::{Mark, Marks};
 
 /// Bytes of a text that are taken out.
 #[derive(Clone, Copy)]
@@ -18,19 +18,24 @@ pub(crate) struct Blank {
     pub(crate) mark: Mark,
 }
 
+/// What stands for a byte that is taken out.
+fn blank_of(byte: u8) -> u8
+    ensures { result ≡ blank_of byte }
+{
+    if byte == b'\n' { b'\n' } else { b' ' }
+}
+
 /// Writes spaces over all bytes but line feeds.
 fn blank_all(text: &mut [u8])
     ensures { text.new ≡ map blank_of text.old }
 {
     for byte in text.iter_mut() {
-        if *byte != b'\n' {
-            *byte = b' ';
-        }
+        *byte = blank_of(*byte);
     }
 }
 
 /// Takes these bytes out of a text.
-fn blank(text: &mut [u8], blank: Blank)
+fn write_blank(text: &mut [u8], blank: Blank)
     ensures { IsMended text.old text.new }
 {
     let start = blank.start.min(text.len());
@@ -45,6 +50,13 @@ pub(crate) fn blank_each(text: &mut [u8], blanks: &[Blank])
     ensures { IsMended text.old text.new }
 {
     for some in blanks {
-        blank(text, *some);
+        write_blank(text, *some);
+    }
+}
+
+/// Marks the lines of all of these bytes.
+pub(crate) fn mark_each(broken: &mut Marks, blanks: &[Blank]) {
+    for some in blanks {
+        broken.set_all(some.first, some.last, some.mark);
     }
 }

@@ -67,9 +67,9 @@ fn calls(tokens: &[Token<'_>], line: &LogicalLine) -> bool {
     matches!(keyword_named(text_of(first)), Some(Keyword::Call(_)))
 }
 
-/// Whether what is taken out may have a label: it has a colon, or a word that is no operator is first, so that one may be missing.
+/// Whether what is taken out may have a label whose name is not seen: it has a colon, or does not begin with a word.
 fn may_have_label(tokens: &[Token<'_>]) -> bool {
-    !is_operator(text_of(tokens.first()))
+    !is_shape(tokens.first(), Shape::Identifier)
         || tokens.iter().any(|token| token.shape == Shape::Colon)
 }
 
@@ -85,21 +85,26 @@ fn extent_in_body(tokens: &[Token<'_>], line: &LogicalLine, faulty: Faulty<'_>) 
         _ => line.to,
     };
     let (from, after) = (line.from, line.after_label(tokens));
-    let may_label = faulty.is_unread() && may_have_label(tokens.get(after..to).unwrap_or(&[]));
-    let label = Extent {
-        from,
-        to: after,
-        names: 1,
-        mark: Mark::Unlabelled,
+    let rest = tokens.get(after..to).unwrap_or(&[]);
+    let mark = if faulty.is_unread() && may_have_label(rest) {
+        Mark::Unlabelled
+    } else {
+        Mark::Taken
     };
+    // a word that is no operator may be a label whose colon is missing
+    let is_word = faulty.is_unread() && after == from && !is_operator(text_of(tokens.get(from)));
     Some(match faulty.number {
-        307 | 407 if after > from => label,
-        _ if may_label && after == from => Extent { to, ..label },
+        307 | 407 if after > from => Extent {
+            from,
+            to: after,
+            names: 1,
+            mark: Mark::Unlabelled,
+        },
         _ => Extent {
             from: after,
             to,
-            names: 0,
-            mark: if may_label { Mark::Unlabelled } else { Mark::Taken },
+            names: if is_word { 1 } else { 0 },
+            mark,
         },
     })
 }
@@ -210,9 +215,9 @@ fn take_at<'a>(
         && faulty.is_unread()
         && faulty.line.is_some();
     if line.region == Region::Edge && faulty.is_on(first, last) {
-        return Ok(!faulty.is_unread()
-            || is_on_one_line(tokens, lines, line)
-            || !taken.blanks.is_empty());
+        return Ok(
+            !faulty.is_unread() || is_on_one_line(tokens, lines, line) || !taken.blanks.is_empty(),
+        );
     }
     if !is_open && !faulty.is_on(first, last) {
         return Ok(true);

@@ -3,7 +3,7 @@ ghost use Rattle.wc_controller.specs.Loads.{IsNeverRefused};
 ghost use Rattle.wc_model.specs.Language.Loading.{IsRefused};
 ghost use Rattle.wc_diag_further.specs.Mended.{IsMended, IsStep};
 
-use crate::blanks::{Blank, blank_each};
+use crate::blanks::{Blank, blank_each, mark_each};
 use crate::extents::{Faulty, taken_out};
 use crate::following::may_follow;
 use crate::logical_lines::logical_lines;
@@ -168,16 +168,6 @@ impl Further {
         &self.text
     }
 
-    /// Takes these bytes out.
-    fn take_out(&mut self, blanks: &[Blank])
-        ensures mended { IsMended self.old.text.items self.new.text.items }
-    {
-        blank_each(&mut self.text, blanks);
-        for blank in blanks {
-            self.broken.set_all(blank.first, blank.last, blank.mark);
-        }
-    }
-
     /// Takes out what was refused last, and says how the text is refused then. After `End` nothing more is found. The error is out
     /// of memory.
     pub fn step(&mut self, alloc: Global) -> Result<Step, AllocError>
@@ -187,7 +177,8 @@ impl Further {
         let Some(blanks) = self.blanks.take() else {
             return Ok(Step::End);
         };
-        self.take_out(&blanks);
+        blank_each(&mut self.text, &blanks);
+        mark_each(&mut self.broken, &blanks);
         let Some(fault) = refusal_of(alloc, &self.text)? else {
             return Ok(Step::End);
         };

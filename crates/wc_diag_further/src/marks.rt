@@ -63,8 +63,6 @@ impl Marks {
 
     /// Whether one of these lines has that mark or a greater one.
     pub(crate) fn any(&self, first: u32, last: u32, mark: Mark) -> bool {
-        self.between(first, last)
-            .iter()
-            .any(|found| *found >= mark)
+        self.between(first, last).iter().any(|found| *found >= mark)
     }
 }
