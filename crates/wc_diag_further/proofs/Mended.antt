@@ -1,5 +1,5 @@
 -- Bytes taken out of parts of a text are taken out of the text, and those taken out twice are taken out once.
-use Rattle.std.proofs.Common.{◌≡◌, ◌==◌, ℕ, Bool, true, false, cond, List, [], ◌∷◌, ◌++◌, map, if◌then◌else◌, refl, sym, ap}
+use Rattle.std.proofs.Common.{◌≡◌, ◌==◌, ℕ, Bool, true, false, List, [], ◌∷◌, ◌++◌, map, if◌then◌else◌, refl}
 use Rattle.wc_diag_further.specs.Mended.{IsByteMended, IsMended, blank_of, kept, taken}
 
 -- a text of which nothing is taken out

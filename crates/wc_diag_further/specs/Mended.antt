@@ -5,7 +5,7 @@ use Rattle.wc_model.specs.Language.Loading.{IsRefused}
 use Rattle.wc_diag_further.specs.declared.further.Step.{Step}
 use Rattle.wc_diag_further.specs.declared.further.Step.TheVariants.{Refused, Follows, End}
 
--- what stands for a byte that is taken out: a space, but a line feed stays
+-- what is written over a byte that is taken out: a space, but a line feed stays
 abbrev pub blank_of : ℕ → ℕ
 blank_of byte = if byte == 10 then 10 else 32
 

@@ -18,7 +18,7 @@ pub(crate) struct Blank {
     pub(crate) mark: Mark,
 }
 
-/// What stands for a byte that is taken out.
+/// What is written over a byte that is taken out.
 fn blank_of(byte: u8) -> u8
     ensures { result ≡ blank_of byte }
 {

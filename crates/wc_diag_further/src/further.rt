@@ -46,7 +46,7 @@ pub struct Further {
 
 /// What is to be taken out for a fault, and whether the fault is one of its own.
 #[derive(Drop)]
-struct Judged {
+struct Mending {
     blanks: Vec<Blank>,
     is_own: bool,
 }
@@ -86,13 +86,13 @@ fn malformed(alloc: Global, text: &[u8], fault: LineFault) -> Result<Option<Blan
 }
 
 /// What is to be taken out of lines with faults; nothing if the text cannot be read on then.
-fn judge_lines(
+fn mending_of_lines(
     alloc: Global,
     text: &[u8],
     broken: &Marks,
     fault: LineFault,
     is_uncut: bool,
-) -> Result<Option<Judged>, AllocError> {
+) -> Result<Option<Mending>, AllocError> {
     let tokens = match tokens(alloc, text) {
         Ok(tokens) => tokens,
         Err(Fault::Memory) => return Err(AllocError),
@@ -110,7 +110,7 @@ fn judge_lines(
         marks: broken,
     };
     match taken_out(alloc, &tokens, lines, faulty)? {
-        Some(blanks) => Ok(Some(Judged {
+        Some(blanks) => Ok(Some(Mending {
             blanks,
             is_own: !is_known && !may_follow(&tokens, lines, broken, number, line),
         })),
@@ -120,22 +120,22 @@ fn judge_lines(
 
 /// What is to be taken out for a fault; nothing if the text cannot be read on then. Lines that could not be cut are taken out
 /// once all of the text can be.
-fn judge(
+fn mending_of(
     alloc: Global,
     text: &[u8],
     broken: &Marks,
     fault: LineFault,
     is_uncut: bool,
-) -> Result<Option<Judged>, AllocError> {
+) -> Result<Option<Mending>, AllocError> {
     if fault.number >= 200 {
-        return judge_lines(alloc, text, broken, fault, is_uncut);
+        return mending_of_lines(alloc, text, broken, fault, is_uncut);
     }
     let Some(slice) = malformed(alloc, text, fault)? else {
         return Ok(None);
     };
     let mut blanks = Vec::new(alloc);
     blanks.push(slice)?;
-    Ok(Some(Judged {
+    Ok(Some(Mending {
         blanks,
         is_own: !broken.any(fault.line, fault.line, Mark::Taken),
     }))
@@ -149,8 +149,8 @@ impl Further {
         let mut kept = Vec::new(alloc);
         kept.extend_from_slice(text)?;
         let broken = Marks::new(alloc, text)?;
-        let blanks = match judge(alloc, text, &broken, fault, false)? {
-            Some(judged) => Some(judged.blanks),
+        let blanks = match mending_of(alloc, text, &broken, fault, false)? {
+            Some(mending) => Some(mending.blanks),
             None => None,
         };
         Ok(Further {
@@ -182,13 +182,13 @@ impl Further {
         let Some(fault) = refusal_of(alloc, &self.text)? else {
             return Ok(Step::End);
         };
-        let judged = judge(alloc, &self.text, &self.broken, fault, self.is_uncut)?;
+        let mending = mending_of(alloc, &self.text, &self.broken, fault, self.is_uncut)?;
         self.is_uncut = fault.number < 200;
-        let Some(judged) = judged else {
+        let Some(mending) = mending else {
             return Ok(Step::End);
         };
-        let is_own = judged.is_own;
-        self.blanks = Some(judged.blanks);
+        let is_own = mending.is_own;
+        self.blanks = Some(mending.blanks);
         Ok(if is_own {
             Step::Refused(fault)
         } else {
