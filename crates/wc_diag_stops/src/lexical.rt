@@ -100,7 +100,7 @@ fn foreign_byte(before: &[Token<'_>], rest: &[u8]) -> Option<Mistake> {
         [0, ..] => Worded "save the text as ASCII, or as UTF-8 without a byte order mark";
         [0xc2, 0xa0, ..] => NoBreakSpace says "a no-break space (U+00A0) is not allowed here", "write a space in its place";
         [0xe2, 0x80, 0x90..=0x95, ..] | [0xe2, 0x88, 0x92, ..] => Worded "a minus sign is that of the keyboard, such as -5; comments may have any";
-        [128.., ..] => Worded "names have the letters A to Z and a to z, digits and underscores; comments may have any";
+        [128..=255, ..] => Worded "names have the letters A to Z and a to z, digits and underscores; comments may have any";
     }
 }
 
