@@ -2,7 +2,7 @@ ghost use Rattle.std.specs.Prelude.{◌≡◌, ◌≤◌, IfSome, Some, None, fa
 ghost use Rattle.wc_arguments.specs.Asked.{asked, check, cut, decode, format_asked, job, line, run, show, texts_of, trace};
 
 use crate::files::{KeptSource, RunFiles, RunPaths, cause_of, kept_cause, kept_source, read_of};
-use crate::further::with_further;
+use crate::further::list_further;
 use crate::noting::with_notes;
 use crate::output::{FlushBeforeRead, SharedWriter};
 use crate::reporting::{CommandEnd, ReadFile, Sources, end, report_warnings, without_memory};
@@ -122,7 +122,7 @@ pub(crate) fn check_words(
         row,
     );
     let file = read_of(program, &reader);
-    let status = with_further(session, status, ending, &file);
+    list_further(session, ending, &file);
     with_warnings(session, status, &file, deny)
 }
 

@@ -1,4 +1,4 @@
-use crate::reporting::{ReadFile, without_memory};
+use crate::reporting::ReadFile;
 use crate::session::Session;
 use std::io;
 use std::io::Write;
@@ -70,28 +70,20 @@ fn report_further(session: Session<'_>, file: &ReadFile<'_>, first: LineFault) -
     Ok(())
 }
 
-/// Prints what else is wrong with a program, if that is what ended its check: the exit status.
-pub(crate) fn with_further(
-    session: Session<'_>,
-    status: u8,
-    ending: Ending,
-    file: &ReadFile<'_>,
-) -> u8 {
+/// Prints what else is wrong with a program, if that is what ended its check. The refusal is reported by then, and so is its status: if
+/// memory runs out or standard error fails, less is listed.
+pub(crate) fn list_further(session: Session<'_>, ending: Ending, file: &ReadFile<'_>) {
     let Ending::Refused {
         input: Input::Program,
         number,
         place,
     } = ending
     else {
-        return status;
+        return;
     };
     let first = LineFault {
         number,
         line: place,
     };
-    match report_further(session, file, first) {
-        Err(error) if error.kind() == io::ErrorKind::OutOfMemory => without_memory(session.rt),
-        // If standard error fails there is nobody left to report to.
-        _ => status,
-    }
+    let _reported = report_further(session, file, first);
 }
