@@ -2,10 +2,11 @@ ghost use Rattle.std.specs.Prelude.{◌≡◌, ◌≤◌, IfSome, Some, None, fa
 ghost use Rattle.wc_arguments.specs.Asked.{asked, check, cut, decode, format_asked, job, line, run, show, texts_of, trace};
 
 use crate::files::{KeptSource, RunFiles, RunPaths, cause_of, kept_cause, kept_source, read_of};
-use crate::further::list_further;
 use crate::noting::with_notes;
 use crate::output::{FlushBeforeRead, SharedWriter};
-use crate::reporting::{CommandEnd, ReadFile, Sources, end, report_warnings, without_memory};
+use crate::reporting::{
+    CommandEnd, ReadFile, Sources, end, list_further, report_warnings, without_memory,
+};
 use crate::session::Session;
 use std::io;
 use std::io::{IsTerminal, Stdin};
@@ -122,7 +123,7 @@ pub(crate) fn check_words(
         row,
     );
     let file = read_of(program, &reader);
-    list_further(session, ending, &file);
+    list_further(session, ending, &file, row);
     with_warnings(session, status, &file, deny)
 }
 
@@ -186,22 +187,13 @@ pub(crate) fn run_words(
     finish_run(session, ending, &opened, row)
 }
 
-/// The variables that are watched, the number of last scans, 1 to 1000, or `None` for every scan, and whether only the scans are
-/// printed at which they change.
-#[derive(Clone, Copy)]
-pub(crate) struct Watched<'a> {
-    pub(crate) names: &'a str,
-    pub(crate) last: Option<u16>,
-    pub(crate) changes: bool,
-}
-
 /// Runs the log in a file with a program as `run_words` does, and prints the values of variables after each scan: the exit
 /// status.
 pub(crate) fn watch_words(
     session: Session<'_>,
     _words: &[String],
     row: &mut RefusedRow,
-    watched: Watched<'_>,
+    watched: WatchChoice<'_>,
     plate: &str,
     files: ProgramFiles<'_>,
 ) -> u8
@@ -212,14 +204,9 @@ pub(crate) fn watch_words(
     requires so_many { IfSome watched.last (λ n. (1 ≤ n) × (n ≤ 1000)) }
 {
     let mut opened = RunFiles::new(session, RunPaths::with_program(plate, files));
-    let choice = WatchChoice {
-        names: watched.names.as_bytes(),
-        last: watched.last,
-        changes: watched.changes,
-    };
     let answer = watch_files(
         session.rt.alloc(),
-        choice,
+        watched,
         &mut opened.inputs,
         &mut Device::new(SharedWriter::new(session.gathered)),
         row,
@@ -233,7 +220,7 @@ pub(crate) fn watch_words(
 /// Reports that a name to be watched is unknown in these files: the exit status.
 fn refuse_name(
     session: Session<'_>,
-    list: &str,
+    list: &[u8],
     unknown: UnknownName,
     files: &Sources<'_>,
     row: &RefusedRow,
@@ -329,7 +316,7 @@ pub(crate) fn show_words(
         Ok(ending) => finish_run(session, ending, &opened, row),
         Err(unknown) => refuse_name(
             session,
-            names.unwrap_or(""),
+            bytes_of(names).unwrap_or(b""),
             unknown,
             &opened.sources(),
             row,
@@ -340,10 +327,7 @@ pub(crate) fn show_words(
 
 /// The bytes of a list of names, if one is given.
 fn bytes_of(names: Option<&str>) -> Option<&[u8]> {
-    match names {
-        Some(names) => Some(names.as_bytes()),
-        None => None,
-    }
+    Some(names?.as_bytes())
 }
 
 /// How a command ends that decodes a report.
@@ -398,13 +382,7 @@ pub(crate) fn line_words<'a>(
     requires asked { asked (texts_of _words.now) ≡ line plate.now log.now }
     requires format { format_asked (texts_of _words.now) ≡ Some session.format }
 {
-    let paths = RunPaths {
-        plate,
-        program: None,
-        next: None,
-        log,
-    };
-    let mut opened = RunFiles::new(session, paths);
+    let mut opened = RunFiles::new(session, RunPaths::alone(plate, log));
     let ending = report_files(
         session.rt.alloc(),
         &mut opened.inputs,
@@ -444,13 +422,7 @@ pub(crate) fn cut_words<'a>(
     requires asked { asked (texts_of _words.now) ≡ cut plate.now log.now at }
     requires format { format_asked (texts_of _words.now) ≡ Some session.format }
 {
-    let paths = RunPaths {
-        plate,
-        program: None,
-        next: None,
-        log,
-    };
-    let mut opened = RunFiles::new(session, paths);
+    let mut opened = RunFiles::new(session, RunPaths::alone(plate, log));
     let answer = cut_files(
         session.rt.alloc(),
         rows_before(at),

@@ -38,18 +38,12 @@ pub(crate) fn read_of<'a>(path: &'a str, source: &'a KeptSource<'_>) -> ReadFile
 
 /// A file that may be missing. It is opened at the first read.
 fn optional_source<'a>(session: Session<'a>, path: Option<&'a str>) -> Option<KeptSource<'a>> {
-    match path {
-        Some(path) => Some(kept_source(session, path)),
-        None => None,
-    }
+    Some(kept_source(session, path?))
 }
 
 /// Why such a file could not be read, if the system said so.
 fn optional_cause(source: &Option<KeptSource<'_>>) -> Option<io::Error> {
-    match source {
-        Some(source) => kept_cause(source),
-        None => None,
-    }
+    kept_cause(source.as_ref()?)
 }
 
 /// Such a file by its path, with the bytes that were read of it.
@@ -57,10 +51,7 @@ fn optional_read<'a>(
     path: Option<&'a str>,
     source: &'a Option<KeptSource<'_>>,
 ) -> Option<ReadFile<'a>> {
-    match (path, source) {
-        (Some(path), Some(source)) => Some(read_of(path, source)),
-        _ => None,
-    }
+    Some(read_of(path?, source.as_ref()?))
 }
 
 /// The paths of the files of a run. With no program the line alone is run.
@@ -73,6 +64,16 @@ pub(crate) struct RunPaths<'a> {
 }
 
 impl<'a> RunPaths<'a> {
+    /// The paths of a run with no program.
+    pub(crate) fn alone(plate: &'a str, log: &'a str) -> RunPaths<'a> {
+        RunPaths {
+            plate,
+            program: None,
+            next: None,
+            log,
+        }
+    }
+
     /// The paths of a run with a program.
     pub(crate) fn with_program(plate: &'a str, files: ProgramFiles<'a>) -> RunPaths<'a> {
         RunPaths {

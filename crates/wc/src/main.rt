@@ -6,10 +6,8 @@ ghost use Rattle.std.specs.Prelude.{◌≡◌, Some};
 ghost use Rattle.wc_arguments.specs.Asked.{asked, explain as explain_asked, format_asked, texts_of, view};
 
 mod commands;
-mod explaining;
 mod file_source;
 mod files;
-mod further;
 mod noting;
 mod output;
 mod reporting;
@@ -18,10 +16,9 @@ mod session;
 use clap::Error;
 use clap::error::ErrorKind;
 use commands::{
-    ChangedPaths, Watched, check_words, cut_words, decode_words, line_words, preview_words,
-    run_job, run_words, show_words, trace_words, watch_words,
+    ChangedPaths, check_words, cut_words, decode_words, line_words, preview_words, run_job,
+    run_words, show_words, trace_words, watch_words,
 };
-use explaining::explain;
 use files::RunPaths;
 use output::shared_output;
 use reporting::{report_write_fault, without_memory};
@@ -32,7 +29,8 @@ use std::process::ExitCode;
 use std::{env, io};
 use wc_arguments::{Wanted, read_words};
 use wc_controller::RefusedRow;
-use wc_diag_messages::shown;
+use wc_diag_messages::{page_of, shown, warning_page};
+use wc_view_watch::WatchChoice;
 
 /// The exit status if the arguments are wrong.
 const WRONG_WORDS: u8 = 2;
@@ -177,6 +175,26 @@ fn show(rt: &HostRuntime, error: &Error, words: &[String]) -> u8 {
     }
 }
 
+/// Prints the page of a refusal, or of a warning, whose number follows a W: false if there is none of that number.
+fn explain(rt: &HostRuntime, number: &str) -> io::Result<bool> {
+    let warning = number.strip_prefix("W").or(number.strip_prefix("w"));
+    let page = match warning {
+        Some(number) => match number.parse::<u8>() {
+            Ok(number) => warning_page(rt.alloc(), number)?,
+            Err(_) => None,
+        },
+        None => match number.parse::<u16>() {
+            Ok(number) => page_of(rt.alloc(), number)?,
+            Err(_) => None,
+        },
+    };
+    let Some(page) = page else {
+        return Ok(false);
+    };
+    rt.stdout().write_all(page.as_bytes())?;
+    Ok(true)
+}
+
 /// Says that there is no page of that number.
 fn report_no_page(rt: &HostRuntime, number: &str) -> io::Result<()> {
     rt.eprint("error: there is no refusal or warning ")?;
@@ -236,8 +254,8 @@ fn execute(session: Session<'_>, words: &[String], row: &mut RefusedRow, wanted:
                     session,
                     words,
                     row,
-                    Watched {
-                        names,
+                    WatchChoice {
+                        names: names.as_bytes(),
                         last,
                         changes,
                     },

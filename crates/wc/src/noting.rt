@@ -31,10 +31,7 @@ fn report_notes(session: Session<'_>, files: &Sources<'_>) -> io::Result<()> {
     let Some(new) = accepted(alloc, new.text)? else {
         return Ok(());
     };
-    let as_objects = match session.format {
-        Format::Json => true,
-        Format::Long | Format::Short => false,
-    };
+    let as_objects = matches!(session.format, Format::Json);
     match notes(alloc, as_objects, &old, &new) {
         Ok(lines) => session.rt.stderr().write_all(&lines),
         Err(_) => Err(memory_error()),

@@ -3,12 +3,13 @@ use std::alloc::Global;
 use std::io;
 use std::io::Write;
 use wc_controller::{Ending, Input, RefusedRow};
+use wc_diag_further::{Further, LineFault};
 use wc_diag_messages::{
     Evidence, JobSection, Part, Refusal, explained, section_of, shown, warning_message,
     warnings_left_out,
 };
 use wc_diag_warnings::{Warning, find_warnings};
-use wc_lexer::{Token, tokens};
+use wc_lexer::tokens;
 use wc_model::Fault;
 use wc_reader::read;
 use wc_view_watch::UnknownName;
@@ -48,7 +49,7 @@ pub(crate) enum Sources<'a> {
     /// An option's list of names, of which one is unknown.
     Names {
         option: &'a str,
-        list: &'a str,
+        list: &'a [u8],
         unknown: UnknownName,
         program: &'a [u8],
     },
@@ -81,17 +82,14 @@ impl<'a> Sources<'a> {
             },
             Sources::Names { option, list, .. } => Some(ReadFile {
                 path: option,
-                bytes: list.as_bytes(),
+                bytes: list,
             }),
         }
     }
 
     /// The path of an input, if it comes from a file.
     fn path(&self, input: Input) -> Option<&'a str> {
-        match self.file(input) {
-            Some(file) => Some(file.path),
-            None => None,
-        }
+        Some(self.file(input)?.path)
     }
 
     /// The text of an input, if it has one, and the number of lines above it in what is named.
@@ -188,17 +186,61 @@ fn report_refusal(
     session.rt.stderr().write_all(&message)
 }
 
-/// The number of warnings of a program that are printed at most.
-const MOST_WARNINGS: usize = 100;
+/// The number of further refusals that are printed at most.
+const MOST_REFUSALS: usize = 20;
 
-/// The tokens of a text, in which its warnings are placed; none if it has a fault, as no accepted text.
-fn tokens_of<'a>(alloc: Global, text: &'a [u8]) -> io::Result<Vec<Token<'a>>> {
-    match tokens(alloc, text) {
-        Ok(found) => Ok(found),
-        Err(Fault::Memory) => Err(memory_error()),
-        Err(Fault::Refused { .. }) => Ok(Vec::new(alloc)),
+/// Prints what else is wrong with a program that is refused so. The error is out of memory, or standard error fails.
+fn report_further(
+    session: Session<'_>,
+    file: &ReadFile<'_>,
+    row: &RefusedRow,
+    number: u16,
+    line: u32,
+) -> io::Result<()> {
+    let alloc = session.rt.alloc();
+    let mut further = Further::new(alloc, file.bytes, LineFault { number, line })?;
+    for _ in 0..MOST_REFUSALS {
+        let Some(fault) = further.next(alloc)? else {
+            break;
+        };
+        let program = ReadFile {
+            path: file.path,
+            bytes: further.text(),
+        };
+        let next = None;
+        let sources = Sources::Program { program, next };
+        report_refusal(
+            session,
+            &sources,
+            row,
+            Input::Program,
+            fault.number,
+            fault.line,
+        )?;
+    }
+    Ok(())
+}
+
+/// Prints what else is wrong with a program, if that is what ended its check. The refusal and its status are reported by then: if memory
+/// runs out or standard error fails, less is listed.
+pub(crate) fn list_further(
+    session: Session<'_>,
+    ending: Ending,
+    file: &ReadFile<'_>,
+    row: &RefusedRow,
+) {
+    if let Ending::Refused {
+        input: Input::Program,
+        number,
+        place,
+    } = ending
+    {
+        let _reported = report_further(session, file, row, number, place);
     }
 }
+
+/// The number of warnings of a program that are printed at most.
+const MOST_WARNINGS: usize = 100;
 
 /// Prints the first warnings of a program, and the number of those left out.
 fn write_warnings(
@@ -212,7 +254,10 @@ fn write_warnings(
     }
     let alloc = session.rt.alloc();
     let name = file.path.as_bytes();
-    let tokens = tokens_of(alloc, text)?;
+    // An accepted text has tokens.
+    let Ok(tokens) = tokens(alloc, text) else {
+        return Err(memory_error());
+    };
     for warning in warnings.iter().take(MOST_WARNINGS) {
         let message = warning_message(alloc, session.format, name, text, &tokens, warning)?;
         session.rt.stderr().write_all(&message)?;

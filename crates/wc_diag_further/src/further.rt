@@ -22,9 +22,12 @@ pub struct LineFault {
     pub line: u32,
 }
 
+/// The number of texts that are tried for one further refusal at most.
+const MOST_STEPS: usize = 20;
+
 /// What is found of a text without what was refused before.
 #[derive(Clone, Copy)]
-pub enum Step {
+enum Step {
     /// It is refused so.
     Refused(LineFault),
     /// It is refused, but what is missing may be why.
@@ -168,9 +171,8 @@ impl Further {
         &self.text
     }
 
-    /// Takes out what was refused last, and says how the text is refused then. After `End` nothing more is found. The error is out
-    /// of memory.
-    pub fn step(&mut self, alloc: Global) -> Result<Step, AllocError>
+    /// Takes out what was refused last, and says how the text is refused then.
+    fn step(&mut self, alloc: Global) -> Result<Step, AllocError>
         ensures mended { OnOk result (IsMended self.old.text.items self.new.text.items) }
         ensures step { IfOk result (IsStep self.new.text.items) }
     {
@@ -194,5 +196,23 @@ impl Further {
         } else {
             Step::Follows
         })
+    }
+
+    /// The next refusal that is one of its own: the text is then refused so, without what was refused before. Nothing if no more is
+    /// found: the text is accepted then, or cannot be read on. The error is out of memory.
+    pub fn next(&mut self, alloc: Global) -> Result<Option<LineFault>, AllocError>
+        ensures mended { OnOk result (IsMended self.old.text.items self.new.text.items) }
+        ensures refused { IfOk result
+            (λ found. IfSome found
+            (λ fault. IsRefused self.new.text.items fault.number fault.line)) }
+    {
+        for _ in 0..MOST_STEPS {
+            match self.step(alloc)? {
+                Step::Refused(fault) => return Ok(Some(fault)),
+                Step::Follows => {}
+                Step::End => return Ok(None),
+            }
+        }
+        Ok(None)
     }
 }
