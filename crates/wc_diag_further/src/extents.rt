@@ -186,6 +186,12 @@ fn take_faulty<'a>(
     let extent = match line.region {
         Region::Section => extent_in_section(tokens, line, faulty),
         Region::Body => extent_in_body(tokens, line, faulty),
+        Region::Outside => Some(Extent {
+            from: line.from,
+            to: line.to,
+            names: 0,
+            mark: Mark::Taken,
+        }),
         _ => None,
     };
     let Some(extent) = extent else {
@@ -225,14 +231,15 @@ fn take_at<'a>(
     take_faulty(taken, tokens, line, faulty)
 }
 
-/// Takes an instruction out if one of the unknown names is in it. Its label stays.
+/// Takes an instruction out if one of the unknown names is among its operands. Its label stays.
 fn take_named<'a>(
     taken: &mut TakenOut<'a>,
     tokens: &[Token<'a>],
     line: &LogicalLine,
 ) -> Result<(), AllocError> {
     let from = line.after_label(tokens);
-    let is_named = taken.is_named(tokens.get(from..line.to).unwrap_or(&[]));
+    let operands = from.saturating_add(1)..line.to;
+    let is_named = taken.is_named(tokens.get(operands).unwrap_or(&[]));
     if line.region != Region::Body || !is_named {
         return Ok(());
     }

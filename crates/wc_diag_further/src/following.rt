@@ -66,7 +66,7 @@ fn is_result_unsure(
 fn end_of_unit(tokens: &[Token<'_>], lines: &[LogicalLine], number: u32) -> u32 {
     for line in lines {
         let (first, _) = line.span(tokens);
-        if first > number && line.region == Region::Outside {
+        if first > number && line.region == Region::Head {
             return first;
         }
     }

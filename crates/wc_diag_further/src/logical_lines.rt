@@ -6,8 +6,10 @@ use wc_lexer::{Shape, Token};
 /// In which part of a text a line is.
 #[derive(Clone, Copy, PartialEq, Eq)]
 pub(crate) enum Region {
-    /// Outside all units, or it is the head or the end of one.
+    /// Outside all units.
     Outside,
+    /// It is the head or the end of a unit.
+    Head,
     /// It is the word that begins a section, or END_VAR.
     Edge,
     /// In a section: it is a declaration.
@@ -25,7 +27,7 @@ pub(crate) struct LogicalLine {
     pub(crate) from: usize,
     /// The token after its last one.
     pub(crate) to: usize,
-    /// Whether all of its parentheses are closed; of a declaration, whether it ends in a semicolon.
+    /// Whether all of its parentheses are closed; of a declaration, whether it has a semicolon.
     pub(crate) is_closed: bool,
 }
 
@@ -96,13 +98,13 @@ impl Cutter {
     /// Ends the line before a token. One without tokens is none.
     fn end(&mut self, tokens: &[Token<'_>], to: usize) -> Result<(), AllocError> {
         if self.from < to {
-            let last = tokens.get(to.saturating_sub(1));
+            let line = tokens.get(self.from..to).unwrap_or(&[]);
             self.cut.lines.push(LogicalLine {
                 region: self.region,
                 from: self.from,
                 to,
                 is_closed: match self.region {
-                    Region::Section => is_shape(last, Shape::Semicolon),
+                    Region::Section => line.iter().any(|token| token.shape == Shape::Semicolon),
                     _ => self.open == 0,
                 },
             })?;
@@ -131,8 +133,8 @@ impl Cutter {
         let (own, length, then) = match word {
             Keyword::SectionStart(_) => (Region::Edge, 1, Region::Section),
             Keyword::SectionEnd => (Region::Edge, 1, Region::Body),
-            Keyword::UnitStart(_) => (Region::Outside, 2, Region::Body),
-            _ => (Region::Outside, 1, Region::Outside),
+            Keyword::UnitStart(_) => (Region::Head, 2, Region::Body),
+            _ => (Region::Head, 1, Region::Outside),
         };
         self.cut.is_framed = self.cut.is_framed && self.suits(word);
         self.end(tokens, index)?;
@@ -142,12 +144,12 @@ impl Cutter {
         Ok(())
     }
 
-    /// Whether a line end ends the line: not between the tokens of a declaration, nor inside parentheses.
+    /// Whether a line end ends the line: not before the semicolon of a declaration, nor inside parentheses.
     fn ends_at(&self, tokens: &[Token<'_>], index: usize) -> bool {
+        let line = tokens.get(self.from..index).unwrap_or(&[]);
         match self.region {
             Region::Section => {
-                self.from >= index
-                    || is_shape(tokens.get(index.saturating_sub(1)), Shape::Semicolon)
+                line.is_empty() || line.iter().any(|token| token.shape == Shape::Semicolon)
             }
             _ => self.open == 0,
         }
