@@ -405,8 +405,9 @@ fn with_too_many_rows(rt: &HostRuntime, status: u8) -> u8 {
     if status != 0 {
         return status;
     }
-    let _reported = rt.eprintln("error: the log that was written has more than 1000000 rows (607)");
-    let _helped = rt.eprintln("help: cut it after a later row: a prelude can have 52 rows");
+    let _reported = rt.eprintln(
+        "error: the log that was written has more than 1000000 rows (607)\nhelp: cut it after a later row: a prelude can have 52 rows",
+    );
     1
 }
 

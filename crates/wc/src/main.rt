@@ -119,17 +119,13 @@ fn report_taken(rt: &HostRuntime, words: &[String]) -> io::Result<()> {
     }
 }
 
-/// Whether an argument is the command `run`, whose one number is that of last scans.
-fn asks_for_run(words: &[String]) -> bool {
-    words.iter().any(|word| word.as_str() == "run")
-}
-
 /// Says what helps if arguments are wrong.
 fn report_help(rt: &HostRuntime, kind: ErrorKind, words: &[String]) -> io::Result<()> {
     match kind {
         ErrorKind::InvalidSubcommand => suggest_command(rt, words),
         ErrorKind::UnknownArgument => report_taken(rt, words),
-        ErrorKind::ValueValidation if asks_for_run(words) => {
+        // The one number of `run` is that of last scans.
+        ErrorKind::ValueValidation if words.iter().any(|word| word.as_str() == "run") => {
             rt.eprintln("help: --last takes a number of scans from 1 to 1000")
         }
         _ => Ok(()),

@@ -55,11 +55,6 @@ pub(crate) enum Sources<'a> {
     },
 }
 
-/// A log by its path, of which no bytes are kept.
-fn log_file(path: &str) -> ReadFile<'_> {
-    ReadFile { path, bytes: b"" }
-}
-
 impl<'a> Sources<'a> {
     /// The file of an input, if it comes from one.
     fn file(&self, input: Input) -> Option<ReadFile<'a>> {
@@ -77,7 +72,10 @@ impl<'a> Sources<'a> {
             } => match input {
                 Input::Plate => Some(*plate),
                 Input::Next => *next,
-                Input::Log => Some(log_file(log)),
+                Input::Log => Some(ReadFile {
+                    path: log,
+                    bytes: b"",
+                }),
                 _ => *program,
             },
             Sources::Names { option, list, .. } => Some(ReadFile {
@@ -107,12 +105,11 @@ impl<'a> Sources<'a> {
 /// The name of an input of a job, which comes from standard input.
 fn section(input: Input) -> &'static str {
     match input {
-        Input::Job => "standard input",
+        Input::Job | Input::Names => "standard input",
         Input::Plate => "standard input, section @plate",
         Input::Program => "standard input, section @program",
         Input::Next => "standard input, section @next",
         Input::Log => "standard input, section @log",
-        Input::Names => "standard input",
     }
 }
 
@@ -189,6 +186,26 @@ fn report_refusal(
 /// The number of further refusals that are printed at most.
 const MOST_REFUSALS: usize = 20;
 
+/// Prints a further refusal of a program, without what was refused before.
+fn report_one(
+    session: Session<'_>,
+    path: &str,
+    bytes: &[u8],
+    row: &RefusedRow,
+    fault: LineFault,
+) -> io::Result<()> {
+    let (program, next) = (ReadFile { path, bytes }, None);
+    let sources = Sources::Program { program, next };
+    report_refusal(
+        session,
+        &sources,
+        row,
+        Input::Program,
+        fault.number,
+        fault.line,
+    )
+}
+
 /// Prints what else is wrong with a program that is refused so. The error is out of memory, or standard error fails.
 fn report_further(
     session: Session<'_>,
@@ -200,23 +217,10 @@ fn report_further(
     let alloc = session.rt.alloc();
     let mut further = Further::new(alloc, file.bytes, LineFault { number, line })?;
     for _ in 0..MOST_REFUSALS {
-        let Some(fault) = further.next(alloc)? else {
-            break;
-        };
-        let program = ReadFile {
-            path: file.path,
-            bytes: further.text(),
-        };
-        let next = None;
-        let sources = Sources::Program { program, next };
-        report_refusal(
-            session,
-            &sources,
-            row,
-            Input::Program,
-            fault.number,
-            fault.line,
-        )?;
+        match further.next(alloc)? {
+            Some(fault) => report_one(session, file.path, further.text(), row, fault)?,
+            None => break,
+        }
     }
     Ok(())
 }
