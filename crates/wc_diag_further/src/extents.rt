@@ -186,7 +186,8 @@ fn take_faulty<'a>(
     let extent = match line.region {
         Region::Section => extent_in_section(tokens, line, faulty),
         Region::Body => extent_in_body(tokens, line, faulty),
-        Region::Outside => Some(Extent {
+        // an instruction outside all units lacks the head of its unit
+        Region::Outside if !is_operator(text_of(tokens.get(line.from))) => Some(Extent {
             from: line.from,
             to: line.to,
             names: 0,
@@ -271,7 +272,7 @@ pub(crate) fn taken_out<'a>(
             return Ok(None);
         }
     }
-    if taken.blanks.is_empty() {
+    if taken.blanks.is_empty() && faulty.line.is_some() {
         return Ok(None);
     }
     for line in lines {

@@ -130,6 +130,10 @@ fn mending_of(
     fault: LineFault,
     is_uncut: bool,
 ) -> Result<Option<Mending>, AllocError> {
+    // Of what is too long, or without an end, nothing can be taken out.
+    if matches!(fault.number, 202 | 203 | 208 | 306 | 411) {
+        return Ok(None);
+    }
     if fault.number >= 200 {
         return mending_of_lines(alloc, text, broken, fault, is_uncut);
     }
