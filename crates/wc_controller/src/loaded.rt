@@ -196,7 +196,8 @@ pub(crate) fn run_alone<W: ByteOut, O: Observer<SlotStore, W>, L: ByteIn>(
         (raised result) (said O.speaks (W.bytes_taken writer.old))
         (said O.speaks (W.bytes_taken writer.new))) }
     ensures ended { OnEnd result (IfSome (L.bytes_left log.old)
-        (λ bytes. says_of (O.has_ended observer.new (O.settings observer.old)) (W.bytes_taken writer.new)
+        (λ bytes. says_of (O.has_ended observer.new (O.settings observer.old))
+        (W.bytes_taken writer.new)
         (start_of None None (W.bytes_taken writer.old)) plate.now None (log_by None bytes))) }
     ensures unwritten { IsUnwritten result (W.bytes_taken writer.old)
         (W.bytes_taken writer.new) }
@@ -252,7 +253,8 @@ pub(crate) fn run_loaded<W: ByteOut, O: Observer<SlotStore, W>, L: ByteIn>(
     ensures ended { OnEnd result (OfLogic (text_view programs.entry.loaded.source)
         (option_map (λ text. text.now) programs.entry.next)
         (λ logic. IfSome (L.bytes_left log.old)
-        (λ bytes. says_of (O.has_ended observer.new (O.settings observer.old)) (W.bytes_taken writer.new)
+        (λ bytes. says_of (O.has_ended observer.new (O.settings observer.old))
+        (W.bytes_taken writer.new)
         (start_with programs.entry.text.now (option_map (λ text. text.now) programs.entry.next)
         (W.bytes_taken writer.old)) programs.entry.plate logic (log_by logic bytes)))) }
     ensures unwritten { IsUnwritten result (W.bytes_taken writer.old)

@@ -31,7 +31,8 @@ fn write_words(message: &mut Message, words: &str) -> Result<(), AllocError>
 
 /// Writes lines of words alone.
 fn write_lines(message: &mut Message, lines: &[&str]) -> Result<(), AllocError>
-    ensures { OnOk result (Writes message.old message.new (page_lines (λ line. line.now) lines.now)) }
+    ensures { OnOk result
+        (Writes message.old message.new (page_lines (λ line. line.now) lines.now)) }
 {
     for line in lines {
         write_words(message, line)?;
@@ -41,7 +42,8 @@ fn write_lines(message: &mut Message, lines: &[&str]) -> Result<(), AllocError>
 
 /// Writes what to write instead, and a usual text with the text mended.
 fn write_help(message: &mut Message, hint: &str, usual: &[&str]) -> Result<(), AllocError>
-    ensures { OnOk result (Writes message.old message.new (help_lines hint.now (λ line. line.now) usual.now)) }
+    ensures { OnOk result
+        (Writes message.old message.new (help_lines hint.now (λ line. line.now) usual.now)) }
 {
     write_line(message, "help", hint)?;
     write_lines(message, usual)

@@ -60,7 +60,8 @@ pub(crate) fn write_line(message: &mut Message, line: u32) -> Result<(), AllocEr
 /// Writes the column of the offending slice.
 pub(crate) fn write_column(message: &mut Message, diagnostic: &Diagnostic) -> Result<(), AllocError>
     requires { IsWithin diagnostic.now }
-    ensures { OnOk result (Writes message.old message.new (column_text diagnostic.now.shown.items diagnostic.now.span)) }
+    ensures { OnOk result (Writes message.old message.new
+        (column_text diagnostic.now.shown.items diagnostic.now.span)) }
 {
     match diagnostic.span {
         Some(span) => {
@@ -163,7 +164,10 @@ pub(crate) fn write_place_line(
     parts: &Parts,
 ) -> Result<(), AllocError>
     requires { IsWithin parts.now.diagnostic }
-    ensures { OnOk result (Writes message.old message.new (place_line margin.now.bytes.items name.now parts.now.line (alongside_text parts.now.diagnostic.shown.items parts.now.diagnostic.span parts.now.place.bytes.items))) }
+    ensures { OnOk result (Writes message.old message.new
+        (place_line margin.now.bytes.items name.now parts.now.line
+        (alongside_text parts.now.diagnostic.shown.items parts.now.diagnostic.span
+        parts.now.place.bytes.items))) }
 {
     message.append(margin)?;
     message.say("--> ")?;

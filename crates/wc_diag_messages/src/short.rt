@@ -24,7 +24,8 @@ fn write_position(message: &mut Message, parts: &Parts) -> Result<(), AllocError
 
 /// Writes what is wrong, and after it what to write instead, if that is known.
 fn write_helped(message: &mut Message, parts: &Parts) -> Result<(), AllocError>
-    ensures { OnOk result (Writes message.old message.new (helped_text parts.now.reported.bytes.items parts.now.advice.bytes.items)) }
+    ensures { OnOk result (Writes message.old message.new
+        (helped_text parts.now.reported.bytes.items parts.now.advice.bytes.items)) }
 {
     message.append(&parts.reported)?;
     message.say_before("; help: ", &parts.advice)

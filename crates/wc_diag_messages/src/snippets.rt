@@ -108,7 +108,8 @@ fn marks_under(
 
 /// Writes a line that has no number.
 fn write_bar(message: &mut Message, margin: &Message, text: &Message) -> Result<(), AllocError>
-    ensures { OnOk result (Writes message.old message.new (bar_line margin.now.bytes.items text.now.bytes.items)) }
+    ensures { OnOk result
+        (Writes message.old message.new (bar_line margin.now.bytes.items text.now.bytes.items)) }
 {
     message.append(margin)?;
     message.say(" |")?;
@@ -134,7 +135,9 @@ pub(crate) fn write_snippet(
     parts: &Parts,
 ) -> Result<(), AllocError>
     requires { margin.now.bytes.items ≡ margin_text parts.now.line }
-    ensures { OnOk result (Writes message.old message.new (snippet_text parts.now.line parts.now.diagnostic.shown.items parts.now.diagnostic.span parts.now.expected.bytes.items)) }
+    ensures { OnOk result (Writes message.old message.new
+        (snippet_text parts.now.line parts.now.diagnostic.shown.items parts.now.diagnostic.span
+        parts.now.expected.bytes.items)) }
 {
     let line = &parts.diagnostic.shown;
     if line.is_empty() {

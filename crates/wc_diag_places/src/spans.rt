@@ -146,9 +146,11 @@ fn found_in<'a, 't>(
     tokens: &'t [Token<'a>],
     number: u16,
 ) -> Result<Found<'a, 't>, Fault>
-    ensures operand_tokens { IfOk result (λ found. IsOperandOf number tokens.now found.operand_tokens.now) }
+    ensures operand_tokens { IfOk result
+        (λ found. IsOperandOf number tokens.now found.operand_tokens.now) }
     ensures argument { IfOk result (λ found. (scope : Scope) → IsScope tables.now unit scope
-        → is_listed tokens.now ≡ true → IsArgument scope number tokens.now found.operand_tokens.now) }
+        → is_listed tokens.now ≡ true → IsArgument scope number tokens.now
+        found.operand_tokens.now) }
 {
     if !is_listed(tokens) {
         return Ok(match number {
@@ -218,7 +220,8 @@ fn span_of_found(
     place: u32,
     found: Found<'_, '_>,
 ) -> RefusalSpan
-    ensures { PointsTo number tokens.now (on_line tokens.now found.entry.operand_tokens.now) result }
+    ensures { PointsTo number tokens.now
+        (on_line tokens.now found.entry.operand_tokens.now) result }
 {
     let found = on_line(tokens, found);
     let first = first_line(spanned_source, number, tokens, place).max(found.first);

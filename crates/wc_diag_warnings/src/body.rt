@@ -87,7 +87,8 @@ fn warn_event<'a>(
     event: &Event<'a>,
     number: Option<u8>,
 ) -> Result<(), Fault>
-    ensures added { OnOk result (Warns warnings.old.items warnings.new.items (caution number event.now.line (address_of (event_view event.now).doing))) }
+    ensures added { OnOk result (Warns warnings.old.items warnings.new.items
+        (caution number event.now.line (address_of (event_view event.now).doing))) }
     ensures memory { IsOkUnless result Fault.Memory }
 {
     match number {
@@ -148,7 +149,8 @@ pub(crate) fn warn_body<'a>(
     kind: UnitKind,
     events: &[Event<'a>],
 ) -> Result<(), Fault>
-    ensures added { OnOk result (Warns warnings.old.items warnings.new.items (body_cautions kind (events_view events.now))) }
+    ensures added { OnOk result (Warns warnings.old.items warnings.new.items
+        (body_cautions kind (events_view events.now))) }
     ensures memory { IsOkUnless result Fault.Memory }
 {
     let started = edges(alloc, Asked::StartedLine, events)?;

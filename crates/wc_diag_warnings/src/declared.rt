@@ -93,7 +93,8 @@ pub(crate) fn warn<'a>(
     line: u32,
     name: &'a [u8],
 ) -> Result<(), Fault>
-    ensures added { OnOk result (Warns warnings.old.items warnings.new.items (caution (Some number) line (name_of name.now))) }
+    ensures added { OnOk result (Warns warnings.old.items warnings.new.items
+        (caution (Some number) line (name_of name.now))) }
     ensures memory { IsOkUnless result Fault.Memory }
 {
     match warnings.push(Warning { number, line, name }) {
@@ -110,7 +111,8 @@ fn warn_name<'a>(
     word: Word<'a>,
     uses: &Uses<'_>,
 ) -> Result<(), Fault>
-    ensures added { OnOk result (Warns warnings.old.items warnings.new.items (variable_cautions kind (uses_view uses.now) (variable_view declaration.now word.entry))) }
+    ensures added { OnOk result (Warns warnings.old.items warnings.new.items
+        (variable_cautions kind (uses_view uses.now) (variable_view declaration.now word.entry))) }
     ensures memory { IsOkUnless result Fault.Memory }
 {
     match number_of(kind, declaration, word, uses) {
@@ -126,7 +128,9 @@ fn warn_declaration<'a>(
     declaration: &Decl<'a>,
     uses: &Uses<'_>,
 ) -> Result<(), Fault>
-    ensures added { OnOk result (Warns warnings.old.items warnings.new.items (declared_cautions kind (uses_view uses.now) (declared_by (declaration_view declaration.now)))) }
+    ensures added { OnOk result (Warns warnings.old.items warnings.new.items
+        (declared_cautions kind (uses_view uses.now)
+        (declared_by (declaration_view declaration.now)))) }
     ensures memory { IsOkUnless result Fault.Memory }
 {
     for word in &declaration.names {
@@ -141,7 +145,9 @@ pub(crate) fn warn_declared<'a>(
     unit: &Unit<'a>,
     uses: &Uses<'_>,
 ) -> Result<(), Fault>
-    ensures added { OnOk result (Warns warnings.old.items warnings.new.items (declared_cautions unit.now.kind (uses_view uses.now) (variables_of (unit_view unit.now)))) }
+    ensures added { OnOk result (Warns warnings.old.items warnings.new.items
+        (declared_cautions unit.now.kind (uses_view uses.now)
+        (variables_of (unit_view unit.now)))) }
     ensures memory { IsOkUnless result Fault.Memory }
 {
     for declaration in &unit.declarations {

@@ -21,7 +21,9 @@ fn warn_names<'a>(
     unit: &Unit<'a>,
     events: &[Event<'a>],
 ) -> Result<(), Fault>
-    ensures added { OnOk result (Warns warnings.old.items warnings.new.items (declared_cautions unit.now.kind (used_in (events_view events.now)) (variables_of (unit_view unit.now)))) }
+    ensures added { OnOk result (Warns warnings.old.items warnings.new.items
+        (declared_cautions unit.now.kind (used_in (events_view events.now))
+        (variables_of (unit_view unit.now)))) }
     ensures memory { IsOkUnless result Fault.Memory }
 {
     let mut uses = unused(alloc);
@@ -35,7 +37,8 @@ fn warn_unit<'a>(
     warnings: &mut Vec<Warning<'a>>,
     unit: &Unit<'a>,
 ) -> Result<(), Fault>
-    ensures added { OnOk result (Warns warnings.old.items warnings.new.items (unit_cautions (unit_view unit.now))) }
+    ensures added { OnOk result
+        (Warns warnings.old.items warnings.new.items (unit_cautions (unit_view unit.now))) }
     ensures memory { IsOkUnless result Fault.Memory }
 {
     let events = events_of(alloc, &unit.body)?;

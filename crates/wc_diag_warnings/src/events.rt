@@ -12,7 +12,8 @@ use wc_model::{Argument, Direction, Fault, Instr, Line, Operand, Storing, Word};
 
 /// Adds an event.
 fn put<'a>(events: &mut Vec<Event<'a>>, line: u32, deed: Deed<'a>) -> Result<(), Fault>
-    ensures added { OnOk result (Adds events.old.items events.new.items (at line (deed_view deed.entry) ∷ [])) }
+    ensures added { OnOk result
+        (Adds events.old.items events.new.items (at line (deed_view deed.entry) ∷ [])) }
     ensures memory { IsOkUnless result Fault.Memory }
 {
     match events.push(Event { line, deed }) {
@@ -38,7 +39,8 @@ fn put_argument<'a>(
     instance: &'a [u8],
     argument: &Argument<'a>,
 ) -> Result<(), Fault>
-    ensures added { OnOk result (Adds events.old.items events.new.items (argument_events line (name_of instance.now) (assignment_view argument.now))) }
+    ensures added { OnOk result (Adds events.old.items events.new.items
+        (argument_events line (name_of instance.now) (assignment_view argument.now))) }
     ensures memory { IsOkUnless result Fault.Memory }
 {
     match argument.direction {
@@ -58,7 +60,9 @@ fn put_arguments<'a>(
     instance: &'a [u8],
     arguments: &[Argument<'a>],
 ) -> Result<(), Fault>
-    ensures added { OnOk result (Adds events.old.items events.new.items (flat_map (argument_events line (name_of instance.now)) (map assignment_view arguments.now))) }
+    ensures added { OnOk result (Adds events.old.items events.new.items
+        (flat_map (argument_events line (name_of instance.now))
+        (map assignment_view arguments.now))) }
     ensures memory { IsOkUnless result Fault.Memory }
 {
     for argument in arguments {
@@ -69,7 +73,8 @@ fn put_arguments<'a>(
 
 /// Adds the beginning of an instruction, and its one deed if it has one.
 fn put_step<'a>(events: &mut Vec<Event<'a>>, line: u32, deed: Option<Deed<'a>>) -> Result<(), Fault>
-    ensures added { OnOk result (Adds events.old.items events.new.items (at line Begins ∷ deed_events line deed.entry)) }
+    ensures added { OnOk result
+        (Adds events.old.items events.new.items (at line Begins ∷ deed_events line deed.entry)) }
     ensures memory { IsOkUnless result Fault.Memory }
 {
     put(events, line, Deed::Begin)?;
@@ -81,7 +86,8 @@ fn put_step<'a>(events: &mut Vec<Event<'a>>, line: u32, deed: Option<Deed<'a>>) 
 
 /// Adds the label of a line, if it has one.
 fn put_label<'a>(events: &mut Vec<Event<'a>>, label: Option<Word<'a>>) -> Result<(), Fault>
-    ensures added { OnOk result (Adds events.old.items events.new.items (label_events (option_map word_view label.entry))) }
+    ensures added { OnOk result
+        (Adds events.old.items events.new.items (label_events (option_map word_view label.entry))) }
     ensures memory { IsOkUnless result Fault.Memory }
 {
     match label {
@@ -97,7 +103,9 @@ fn put_call<'a>(
     instance: &'a [u8],
     arguments: &[Argument<'a>],
 ) -> Result<(), Fault>
-    ensures added { OnOk result (Adds events.old.items events.new.items (at line Begins ∷ call_events line (name_of instance.now) (map assignment_view arguments.now))) }
+    ensures added { OnOk result (Adds events.old.items events.new.items
+        (at line Begins ∷ call_events line (name_of instance.now)
+        (map assignment_view arguments.now))) }
     ensures memory { IsOkUnless result Fault.Memory }
 {
     put_step(events, line, Some(Deed::Call(instance)))?;
@@ -133,7 +141,8 @@ fn put_line<'a>(events: &mut Vec<Event<'a>>, line: &Line<'a>) -> Result<(), Faul
 /// Adds the events of an instruction, and of the lines in its parenthesis.
 #[cycle(putting)]
 fn put_instr<'a>(events: &mut Vec<Event<'a>>, instr: &Instr<'a>) -> Result<(), Fault>
-    ensures added { OnOk result (Adds events.old.items events.new.items (line_events (instr_view instr.now))) }
+    ensures added { OnOk result
+        (Adds events.old.items events.new.items (line_events (instr_view instr.now))) }
     ensures memory { IsOkUnless result Fault.Memory }
 {
     match instr {
@@ -177,7 +186,8 @@ fn put_instr<'a>(events: &mut Vec<Event<'a>>, instr: &Instr<'a>) -> Result<(), F
 /// Adds the events of lines, in text order.
 #[cycle(putting)]
 fn put_lines<'a>(events: &mut Vec<Event<'a>>, lines: &[Line<'a>]) -> Result<(), Fault>
-    ensures added { OnOk result (Adds events.old.items events.new.items (events_of (lines_view lines.now))) }
+    ensures added { OnOk result
+        (Adds events.old.items events.new.items (events_of (lines_view lines.now))) }
     ensures memory { IsOkUnless result Fault.Memory }
 {
     for line in lines {

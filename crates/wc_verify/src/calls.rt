@@ -96,7 +96,8 @@ pub fn validate_argument<'a>(
         → Validates
         (first_broken
         (argument_checks scope line (members_of scope.before type)
-        (record { before = before; item = assignment_view argument.now; following = following }) ++ rest))
+        (record { before = before; item = assignment_view argument.now; following = following }) ++
+        rest))
         (first_broken rest) result }
     ensures held { OnOk result
         ((before : List Assignment) → HoldsNames names.old before

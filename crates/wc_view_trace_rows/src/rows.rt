@@ -67,7 +67,8 @@ fn put_output(text: &mut Vec<u8>, output: &BlockOutput, number: Option<i32>) -> 
 /// Puts the outputs of the standard block that an item has called, after its last call.
 fn put_last_outputs(text: &mut Vec<u8>, item: &Item) -> Result<(), Fault>
     ensures { Puts text.old text.new result
-        (outputs_shown item.now.seen.line item.now.is_last_call (item.now.first ∷ item.now.second ∷ [])) }
+        (outputs_shown item.now.seen.line item.now.is_last_call
+        (item.now.first ∷ item.now.second ∷ [])) }
 {
     let (first, second) = match item.seen.line {
         Code::Standard { block, .. } if item.is_last_call => outputs_of(block),
