@@ -93,12 +93,10 @@ pub fn validate_argument<'a>(
     ensures validated { (scope : Scope) (type : VariableType) (before following : List Assignment)
         (rest : List Check) → IsScope tables.now unit scope
         → numbered_type scope.before type ≡ Some declared → HoldsNames names.old before
-        → Validates
-        (first_broken
+        → Validates (first_broken
         (argument_checks scope line (members_of scope.before type)
-        (record { before = before; item = assignment_view argument.now; following = following }) ++
-        rest))
-        (first_broken rest) result }
+        (record { before = before; item = assignment_view argument.now; following = following })
+        ++ rest)) (first_broken rest) result }
     ensures held { OnOk result
         ((before : List Assignment) → HoldsNames names.old before
         → HoldsNames names.new (assignment_view argument.now ∷ before)) }
