@@ -46,13 +46,12 @@ fn is_given(line: &[Token<'_>]) -> bool {
 }
 
 /// A `=`, `<` or `>` in place of something else, by the tokens before it.
-fn mistaken_sign(tokens: &[Token<'_>], byte: u8, rest: &[u8]) -> Option<Mistake> {
+fn mistaken_sign(tokens: &[Token<'_>], byte: u8) -> Option<Mistake> {
     let before = last_line(tokens);
     let has_colon = before.iter().any(|token| token.shape == Shape::Colon);
     mistake_among! {
         (mistaken_statement(text_of(before.first())), byte);
         (Some(Mistake { case: Case::Loop, .. }), _) => Worded "this looks like Structured Text: there are no loops; do one pass of the loop in each scan: LD n, LT 10, JMPCN done; its lines; LD n, ADD 1, ST n; `done:` goes on with an LD";
-        _ if rest.starts_with(b"= >") => Worded "an output is read with => without a space, such as Q => a";
         (Some(_), b'=') => Worded "this looks like Structured Text: for IF a = 5 write LD a, EQ 5, JMPCN skip; `skip:` is the END_IF";
         (Some(_), _) => Worded "this looks like Structured Text: for IF w >= 1000 write LD w, GE 1000, JMPCN skip; `skip:` is the END_IF";
         _ if before.is_empty() => Worded says "is not an operator", "this looks like Siemens STL (AWL): `=` is ST, ==I EQ, <>I NE, >I GT, <I LT, >=I GE and <=I LE, each comparison with its operand in place of the L before it: L 5 and ==I together are EQ 5; U or O is LD at the start and after each `=`, S or R, else AND or OR";
@@ -118,7 +117,7 @@ pub fn mistaken_byte(
     case: Case,
 ) -> Option<Mistake> {
     match case {
-        Case::Byte(byte @ (b'=' | b'<' | b'>')) => mistaken_sign(before, byte, rest),
+        Case::Byte(byte @ (b'=' | b'<' | b'>')) => mistaken_sign(before, byte),
         Case::Byte(b'\'' | b'"') => mistaken_quote(before, start, rest),
         Case::Byte(_) => foreign_byte(last_line(before), rest),
         _ => None,
