@@ -1,6 +1,6 @@
 use std::alloc::Global;
 use wc_built_in::{Keyword, elementary_type, keyword_named};
-use wc_diag_mistakes::{Refused, Said, words};
+use wc_diag_mistakes::{Refused, Said, block_with, words};
 use wc_diag_stops::{
     difference, first_word, following, is_among, is_near, last_line, text_of, without_line_ends,
 };
@@ -131,13 +131,14 @@ pub(crate) fn instance_advice(refused: &Refused<'_, '_>) -> Said {
 pub(crate) fn called_advice(refused: &Refused<'_, '_>) -> Said {
     let name = words(refused.offending())?;
     let label = near_label(refused.units, name.as_bytes(), refused.span.start);
+    let block = block_with(text_of(refused.after().get(1))).unwrap_or("TON");
     Some(match label {
         Some(label) if is_word(label.as_bytes(), name.as_bytes()) => {
             format!(in refused.alloc;
                 "`{label}` is a label: jump to it with JMPC {label}, or make its lines a FUNCTION_BLOCK, and call an instance"
             )
         }
-        _ => format!(in refused.alloc; "declare the instance in VAR, such as {name} : TON;"),
+        _ => format!(in refused.alloc; "declare the instance in VAR, such as {name} : {block};"),
     })
 }
 

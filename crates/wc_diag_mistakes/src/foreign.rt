@@ -43,25 +43,26 @@ const FRAMES: [Row; 2] = rows! {
 };
 
 /// Words with which other tools begin a unit.
-const UNITS: [Row; 2] = rows! {
+const UNITS: [Row; 3] = rows! {
     b"type end_type struct end_struct" => Worded says "is not supported", "delete TYPE .. END_TYPE: values are BOOL, DINT or TIME; for an enumeration use a DINT with 0, 1, 2, for a structure one variable for each part";
+    b";" => Worded "delete this `;`: no unit ends with one, and a comment is (* .. *)";
     b"organization_block function_block_end data_block begin network" => Worded "this looks like Siemens STL (AWL): write PROGRAM P in place of ORGANIZATION_BLOCK and BEGIN, and END_PROGRAM at the end";
 };
 
 /// Words in the place of an operator; the inputs of standard blocks the standard also writes as operators.
 const OPERATORS: [Row; 3] = rows! {
     b"cd" => DownCounter "";
-    b"network title begin nop bld" => Worded "delete this line, or make it a comment, such as (* NETWORK 1 *)";
+    b"network title begin nop bld rem" => Worded "delete this line, or make it a comment, such as (* NETWORK 1 *)";
     b"cu pv in pt clk s1 r1" => Worded says "is an input of a block, not an operator", "set an input in CAL, such as CAL c(CU := a): a store alone does not call the block";
 };
 
 /// Operators of other tools and languages, with what to write for each. Without these a name that is spelled almost as one of them, and does
 /// something else, would be suggested.
-const OTHERS: [Row; 40] = rows! {
-    b"ldi ldnot" => OtherOperator "did you mean `LDN`?";
-    b"ani andi and_not" => OtherOperator "did you mean `ANDN`?";
+const OTHERS: [Row; 43] = rows! {
+    b"ldi ldnot strn" => OtherOperator "did you mean `LDN`?";
+    b"ani andi and_not andnot" => OtherOperator "did you mean `ANDN`?";
     b"adn" => OtherOperator "did you mean `ANDN`, or `AND`?";
-    b"ori or_not" => OtherOperator "did you mean `ORN`?";
+    b"ori or_not ornot" => OtherOperator "did you mean `ORN`?";
     b"nand" => OtherOperator "write AND and its operand, and NOT on the next line";
     b"nor" => OtherOperator "write OR and its operand, and NOT on the next line";
     b"xnor" => OtherOperator "write XOR and its operand, and NOT on the next line";
@@ -84,6 +85,9 @@ const OTHERS: [Row; 40] = rows! {
     b"lte leq" => OtherOperator "did you mean `LE`?";
     b"neq nq" => OtherOperator "did you mean `NE`?";
     b"minus" => OtherOperator "did you mean `SUB`?";
+    b"plus" => OtherOperator "did you mean `ADD`?";
+    b"str" => OtherOperator "did you mean `LD`?";
+    b"cmp" => OtherOperator "to compare write GT, GE, EQ, NE, LE or LT and the operand";
     b"var_in var_out" => OtherOperator "declarations are between VAR_INPUT, VAR_OUTPUT or VAR and END_VAR";
     b"inc" => OtherOperator "write LD n, on the next line ADD 1, on the next ST n";
     b"dec" => OtherOperator "write LD n, on the next line SUB 1, on the next ST n";
@@ -148,9 +152,11 @@ fn mistaken_conversion(word: &[u8]) -> Option<Mistake> {
     }
 }
 
-/// A standard function, or a conversion; nothing if a word is neither.
+/// A standard function, a conversion, or a block that is left out; nothing if a word is none.
 pub(crate) fn mistaken_function(word: &[u8]) -> Option<Mistake> {
-    row_of(&FUNCTIONS, word).or(mistaken_conversion(word))
+    row_of(&FUNCTIONS, word)
+        .or(row_of(&TYPES, word).filter(|_| is_among(b"f_trig ctd ctud", word)))
+        .or(mistaken_conversion(word))
 }
 
 /// A word of the standard that this language leaves out.

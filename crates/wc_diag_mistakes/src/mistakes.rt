@@ -7,19 +7,20 @@ use crate::unreached::{block_line, follows_leaving, is_unreached};
 use wc_built_in::{Keyword, elementary_type, keyword_named, standard_block};
 use wc_diag_stops::{
     following, is_among, is_bare_duration, is_digit, is_line_end, is_near, is_operator, is_shape,
-    mistaken_byte, mistaken_duration, mistaken_number, mistaken_statement, operator_on,
-    text_before, text_of,
+    last_line, mistaken_byte, mistaken_duration, mistaken_number, mistaken_statement, operator_on,
+    text_before, text_of, without_line_ends,
 };
 use wc_diag_texts::{Case, Expected, Mistake, mistake_among};
 use wc_lexer::{Shape, Token};
-use wc_model::{Kind, UnitKind, is_word};
+use wc_model::{Kind, StandardBlock, UnitKind, is_word};
 
 /// A word in the place of an operator that is known, or by the token after it.
 fn mistaken_start(refused: &Refused<'_, '_>) -> Option<Mistake> {
     let word = refused.token();
     mistake_among! {
         (keyword_named(word), refused.next().map(|token| token.shape));
-        (Some(Keyword::SectionStart(_) | Keyword::SectionEnd), _) => SectionWord "";
+        (Some(Keyword::SectionStart(_)), _) => SectionWord "";
+        (Some(Keyword::SectionEnd), _) => Worded says "ends no section of declarations", "delete it if the section above is closed already; if not, write VAR above its declarations";
         (Some(Keyword::UnitStart(UnitKind::FunctionBlock)), _) if refused.is_in_program() => Worded says "begins a unit, and the one above is still open", "move this block above the PROGRAM, which is the last unit and ends with END_PROGRAM";
         (Some(Keyword::UnitStart(_)), _) if refused.is_in_program() => Worded says "begins a unit, and the one above is still open", "a file has one PROGRAM: make one of them a FUNCTION_BLOCK above the other, and call an instance with CAL";
         (Some(Keyword::UnitStart(_)), _) => Worded says "begins a unit, and the one above is still open", "close the unit above with END_FUNCTION_BLOCK";
@@ -37,39 +38,39 @@ fn mistaken_operator(refused: &Refused<'_, '_>) -> Mistake {
     if matches!(keyword_named(word), Some(Keyword::Kept)) {
         return left_out(word);
     }
-    let known = mistaken_start(refused)
-        .or(mistaken_statement(word))
-        .or(mistaken_function(word));
-    let mistake = match known {
-        Some(mistake) => mistake,
-        None if is_shape(refused.next(), Shape::Opening) => Mistake::of(Case::InstanceCall),
-        None => mistaken_name(word),
-    };
-    if matches!(mistake.case, Case::NoOperator | Case::OtherOperator) && is_label(refused) {
-        return Mistake::of(Case::LabelWithoutColon);
-    }
-    mistake
+    let is_opened = is_shape(refused.next(), Shape::Opening);
+    let is_call = is_opened && is_above(refused, word);
+    let known = mistaken_start(refused).or(mistaken_statement(word));
+    let mistake = known
+        .or(mistaken_function(word))
+        .unwrap_or(mistaken_name(word));
+    Mistake::of(match mistake.case {
+        Case::NoOperator | Case::OtherOperator if is_label(refused) => Case::LabelWithoutColon,
+        Case::NoOperator if is_opened => Case::InstanceCall,
+        Case::OtherOperator | Case::StatementList | Case::Function if is_call => Case::InstanceCall,
+        _ => return mistake,
+    })
+}
+
+/// Whether a line above has a word, which may then be a name.
+fn is_above(refused: &Refused<'_, '_>, word: &[u8]) -> bool {
+    let mut tokens = refused.before().iter();
+    tokens.any(|token| token.line < refused.line() && is_word(token.text, word))
 }
 
 /// Whether a word may be a label: a jump above leads to it, and nothing is after it on its line, an operator or a `;`.
 fn is_label(refused: &Refused<'_, '_>) -> bool {
-    let is_whole = match refused.after().first() {
-        Some(token) => is_line_end(token)
-            || is_operator(token.text)
-            || token.shape == Shape::Semicolon,
-        None => true,
-    };
+    let next = refused.after().first();
+    let is_end = is_shape(next, Shape::LineEnd) || is_shape(next, Shape::Semicolon);
+    let is_whole = next.is_none() || is_end || is_operator(text_of(next));
     is_whole && has_jump(refused.before(), refused.token())
 }
 
 /// Whether some tokens have a jump to a label.
 fn has_jump(tokens: &[Token<'_>], label: &[u8]) -> bool {
-    tokens.windows(2).any(|pair| match pair {
-        [operator, target] => {
-            matches!(keyword_named(operator.text), Some(Keyword::Jump(_)))
-                && target.text.eq_ignore_ascii_case(label)
-        }
-        _ => false,
+    tokens.windows(2).any(|pair| {
+        is_word(label, text_of(pair.last()))
+            && matches!(keyword_named(text_of(pair.first())), Some(Keyword::Jump(_)))
     })
 }
 
@@ -82,10 +83,12 @@ fn mistaken_before(refused: &Refused<'_, '_>) -> Option<Mistake> {
         return Some(left_out(before));
     }
     let is_opened = matches!(line, [.., opening, _] if opening.shape == Shape::Opening);
+    let is_taken = matches!(line, [.., arrow, _] if arrow.shape == Shape::Arrow);
     mistake_among! {
         (expected, word);
         (Expected::LineEnd | Expected::PointOrLineEnd, Some(Keyword::Not)) => NegatedOperand "";
         (Expected::LineEnd | Expected::PointOrLineEnd, Some(Keyword::Load(_))) if is_opened => Worded "the operand is right after the `(`, without LD, such as AND( a";
+        (Expected::CommaPointOrClosing | Expected::CommaOrClosing, Some(Keyword::Not)) if is_taken => Worded "negate an output below the call: LDN t.Q, and on the next line ST a";
         (Expected::CommaPointOrClosing | Expected::CommaOrClosing, Some(Keyword::Not)) => Worded "negate the value before the call: LDN a, ST b, and pass b";
         (Expected::CommaOrColon, _) if is_among(b"end input output", before) && is_shape(refused.tokens.get(refused.index), Shape::Identifier) && !is_type(refused.token()) => Worded "END_VAR, VAR_INPUT and VAR_OUTPUT are one word each, with an underscore";
         (Expected::CommaOrColon, _)
@@ -102,14 +105,16 @@ fn mistaken_in_unit(token: &[u8], next: Option<&Token<'_>>, expected: Expected) 
         (Expected::UnitName, _, _) => Worded "write a name after the word, such as PROGRAM Main";
         (Expected::Operand, Some(b'('), _) => Worded "only AND, OR, XOR, ADD, SUB, MUL and comparisons take a parenthesis: begin with LD and its operand";
         (Expected::LineEnd | Expected::PointOrLineEnd | Expected::OperandOrLineEnd, Some(b')'), _) => Worded "the `)` needs a line of its own";
+        (Expected::FormalOrClosing, Some(b'('), _) => Worded "a call has one pair of parentheses, such as CAL t(IN := a)";
         (Expected::Formal, Some(b')'), _) => Worded "delete the comma before this `)`: a comma is only between two inputs or outputs";
         (Expected::FormalOrClosing | Expected::Formal | Expected::AssignOrArrow, _, _) => Worded "name each input of the block, such as CAL e(CLK := a) of an R_TRIG, CAL t(IN := a, PT := T#1s) of a TON";
-        (Expected::OpeningOrLineEnd, Some(b'A'..=b'Z' | b'a'..=b'z' | b'%'), _) => Worded "put the inputs of the call in parentheses, each with its name, such as CAL t(IN := a, PT := T#1s) of a TON";
+        (Expected::OpeningOrLineEnd, Some(b'A'..=b'Z' | b'a'..=b'z' | b'%' | b','), _) => Worded "put the inputs of the call in parentheses, each with its name, such as CAL t(IN := a, PT := T#1s) of a TON";
         (Expected::CommaPointOrClosing | Expected::CommaOrClosing, Some(_), _)
             if is_shape(next, Shape::Assign) || is_shape(next, Shape::Arrow) || token.starts_with(b";") => Worded "separate the parameters with commas, such as CAL t(IN := a, PT := T#1s)";
         (Expected::CommaPointOrClosing | Expected::CommaOrClosing, Some(_), _) => Worded "an input takes a variable, an address, a field or a literal: compute and store the value before the call";
         (Expected::CommaOrColon, Some(b';'), _) => Worded "a declaration names a type, such as d, e : DINT;";
         (Expected::Name | Expected::TypeName | Expected::Literal, Some(b';'), _) => Declaration "";
+        (Expected::NameOrEndVar, Some(b';'), _) => Worded "delete this `;`: each declaration ends with one, and a comment is (* .. *)";
         (Expected::Literal, _, _) => Worded "an initial value is one literal, such as TRUE, 500 or T#5s; an address is read in the lines of the PROGRAM, or passed in a CAL";
         (_, Some(b';'), _) => Worded "an instruction ends with its line, without a semicolon; a comment is (* .. *)";
         (Expected::InstructionOrLineEnd, _, _) if is_type(token) => Worded "declarations go between VAR and END_VAR, before the first instruction";
@@ -119,7 +124,8 @@ fn mistaken_in_unit(token: &[u8], next: Option<&Token<'_>>, expected: Expected) 
         (Expected::LineEnd, Some(b'.'), _) => Worded "a name has one point at most: what a block has inside is read by its VAR_OUTPUT";
         (Expected::LineEnd | Expected::PointOrLineEnd, Some(b'+' | b'-'), _) => Worded "an operand is computed in a parenthesis: for GE n + 20 write GE( n, then ADD 20, then `)`; for LD n + 20 write LD n, and ADD 20 on the next line";
         (Expected::LineEnd | Expected::PointOrLineEnd, Some(b'A'..=b'Z' | b'a'..=b'z' | b'%'), None) => Worded "an operator has one operand, and each instruction a line of its own";
-        (Expected::Instruction | Expected::InstructionOrLineEnd, Some(b'%'), _) => Assignment "";
+        (Expected::Instruction | Expected::InstructionOrLineEnd, Some(b'%'), _) if is_shape(next, Shape::Assign) => Assignment "";
+        (Expected::Instruction | Expected::InstructionOrLineEnd, Some(b'%'), _) => Worded "write an operator before the address, such as LD or ST";
         (Expected::NameOrEndVar | Expected::CommaOrColon | Expected::Name | Expected::TypeName | Expected::AssignOrSemicolon | Expected::Semicolon, _, word)
             if !matches!(word, Some(Keyword::Kept)) => Declaration "";
         (Expected::Instruction | Expected::InstructionOrLineEnd, Some(b'('), _) => Worded "write the `(` on the line of its CAL, such as CAL t(IN := TRUE)";
@@ -162,6 +168,8 @@ fn mistaken_after(before: &[Token<'_>], token: &[u8], expected: Expected) -> Opt
         (Expected::LineEnd, Some(Keyword::Return(_)), Some(b'A'..=b'Z' | b'a'..=b'z' | b'_')) => Worded "RET has no operand: for a condition write LD and the operand on the line above, and RETC alone";
         (Expected::OpeningOrLineEnd, _, Some(b'.')) => Worded "CAL names the instance alone, and its inputs are in the list, such as CAL t(IN := a)";
         (Expected::Operand, _, Some(b'(')) if is_unnamed => Worded "delete the parenthesis: an input or output takes one value, such as IN := a";
+        (Expected::Operand, Some(Keyword::Store(_)), Some(b'(')) => Worded "a target has no parentheses, such as ST a";
+        (Expected::Operand, Some(Keyword::Load(true)), Some(b'(')) => Worded "for LDN( a, then OR b, then `)` write LD a, then OR b, then NOT; LDN (a) is LDN a";
         (Expected::Operand, _, Some(b',' | b')')) if is_unnamed => Worded "leave out an input or output that is not used, such as CAL t(IN := a)";
     }
 }
@@ -179,23 +187,32 @@ fn mistaken_first(refused: &Refused<'_, '_>) -> Option<Mistake> {
 /// A mistake that an unexpected token shows by its line.
 fn mistaken_on_line(refused: &Refused<'_, '_>) -> Option<Mistake> {
     let (line, before) = (refused.line_before(), text_of(refused.previous()));
-    let begins_unit = matches!(
-        keyword_named(text_of(line.first())),
-        Some(Keyword::UnitStart(_))
-    );
+    let first = keyword_named(operator_on(line));
+    let begins_unit = matches!(first, Some(Keyword::UnitStart(_)));
     let is_address = before.starts_with(b"%") && !before.contains(&b'.');
+    let is_unopened = !line.iter().any(|token| token.shape == Shape::Opening);
     let is_duration = before.starts_with(b"T#") || before.starts_with(b"t#");
     let follows_number = is_digit(before.first()) && keyword_named(refused.token()).is_none();
     mistake_among! {
         (refused.span.expected, refused.token().first());
+        (Expected::FormalOrClosing | Expected::AssignOrArrow, _) if matches!(line, [_, name, ..] if matches!(mistaken_function(name.text), Some(Mistake { case: Case::Function, .. })) && !is_above(refused, name.text)) => Worded "CAL calls an instance that VAR declares, and there are no functions: write lines in its place, such as LD a, ST y, LT b, JMPCN done; LD b, ST y; `done:` LD y for the larger of a and b";
+        (Expected::OpeningOrLineEnd, _) if is_type(before) || block_line(refused.tokens, before).is_some() => Worded "a call names the instance alone, without its type, such as CAL t(IN := a)";
+        (Expected::OpeningOrLineEnd | Expected::LineEnd, _) if is_among(b"c cn", before) && matches!(line, [_, _]) && matches!(first, Some(Keyword::Jump(_) | Keyword::Call(_))) => Worded "an operator is one word, such as CALC or JMPCN";
+        (Expected::InstructionOrLineEnd, _) if is_type(refused.token()) && matches!(refused.before(), [.., word, colon, _, _, _] if colon.shape == Shape::Colon && matches!(keyword_named(word.text), Some(Keyword::SectionStart(_)))) => Worded "delete the colon after the VAR, VAR_INPUT or VAR_OUTPUT above";
+        (Expected::Instruction | Expected::InstructionOrLineEnd, Some(b'(')) if !begins_unit && !matches!(keyword_named(operator_on(last_line(without_line_ends(refused.before())))), Some(Keyword::Call(_))) => Worded "a parenthesis opens on the line of its operator, such as AND( a; at the start begin with LD and its operand, without a parenthesis";
+        (Expected::OperandOrOpening, Some(b'\n')) if is_shape(refused.next(), Shape::Opening) => Worded "write the `(` on the line of its operator, such as AND( a";
+        (Expected::LineEnd, Some(b'.')) if is_shape(line.last(), Shape::Closing) || keyword_named(before).is_some() => Worded "a point is only between an instance and its field: delete it, or write LD t.Q on the line below a call";
+        (Expected::LineEnd, Some(b')')) if is_shape(line.last(), Shape::Closing) && line.len() > 1 => Worded "delete this `)`: the list of the call is closed already";
+        (Expected::LineEnd | Expected::PointOrLineEnd, _) if is_unopened && matches!(keyword_named(refused.token()), Some(Keyword::Apply(_))) => Worded "each operator has a line of its own, with its operand: AND b, and on the next line OR c";
+        (Expected::LineEnd, _) if matches!(before, [b'%']) => Worded "write an address without a space, such as %IX0.0";
         _ if is_duration && is_among(b"d h m s ms", refused.token()) => Worded "write the units of a duration without spaces, such as T#1m30s";
         (Expected::LineEnd, Some(b'0'..=b'9' | b'A'..=b'Z' | b'a'..=b'z')) if follows_number => Worded "a number is digits alone, without spaces: 5 000 is 5_000, and 5 kg is 5000 if weights have 3 decimals";
         (Expected::AssignOrSemicolon | Expected::Semicolon, _) if refused.begins_line() => Worded "the declaration above has no `;` at its end";
-        (Expected::LineEnd | Expected::Semicolon, _) if is_decimal_comma(refused) && is_address => Worded "an address has a point, such as %IX0.0";
-        (Expected::LineEnd | Expected::Semicolon, _) if is_decimal_comma(refused) => Worded "numbers are integers, without a decimal comma: write 1,5 kg as 1500, if weights have 3 decimals";
+        (Expected::LineEnd | Expected::Semicolon, _) if is_decimal_comma(refused) && is_address && !matches!(before.get(2), Some(b'D' | b'd')) => Worded "an address has a point, such as %IX0.0";
+        (Expected::LineEnd | Expected::Semicolon, _) if is_decimal_comma(refused) && matches!(before.first(), Some(b'0'..=b'9' | b'+' | b'-')) => Worded "numbers are integers, without a decimal comma: write 1,5 kg as 1500, if weights have 3 decimals";
         (Expected::Instruction | Expected::InstructionOrLineEnd, Some(b'(')) if begins_unit => Worded "delete the parentheses: inputs and outputs of a FUNCTION_BLOCK are declared in VAR_INPUT and VAR_OUTPUT";
         (Expected::LineEnd | Expected::PointOrLineEnd | Expected::OperandOrLineEnd, Some(b')'))
-            if line.iter().any(|token| is_shape(Some(token), Shape::Opening)) => Worded "the `)` needs a line of its own; for one operand write no parenthesis, such as AND a";
+            if !is_unopened => Worded "the `)` needs a line of its own; for one operand write no parenthesis, such as AND a";
     }
 }
 
@@ -244,7 +261,8 @@ fn mistaken_address(address: &[u8]) -> Option<Mistake> {
         (address.get(1), address.get(2));
         (Some(b'm' | b'M'), _) => Worded "there are no %M addresses: declare a variable in VAR";
         (_, Some(b'd' | b'D')) => Worded "numbers are %ID0 (gross), %ID1 (net), %ID2 (tare) and %QD0 to %QD3";
-        (_, Some(b'w' | b'W' | b'b' | b'B' | b'l' | b'L')) => Worded "there are no 16-bit words: use %ID0 (gross), %ID1 (net), %ID2 (tare) or %QD0 to %QD3";
+        (_, Some(b'b' | b'B')) => Worded "there are no bytes: use bits, such as %IX0.0 and %QX0.0, or the numbers %ID0 (gross), %ID1 (net), %ID2 (tare) and %QD0 to %QD3";
+        (_, Some(b'w' | b'W' | b'l' | b'L')) => Worded "there are no 16-bit words: use %ID0 (gross), %ID1 (net), %ID2 (tare) or %QD0 to %QD3";
         _ if address.starts_with(b"%") => Worded "bits are %IX0.0 to %IX0.15, %IX1.0 to %IX1.5 and %QX0.0 to %QX0.15: bit 0 of a second output byte is %QX0.8";
     }
 }
@@ -298,7 +316,12 @@ fn mistaken_undeclared(refused: &Refused<'_, '_>) -> Option<Mistake> {
     mistake_among! {
         (name.first(), is_number);
         _ if is_declared(refused, name) => Plain "another unit declares it, and each unit sees its own variables alone: pass it as an input or output of the block";
+        _ if refused.is_called() && refused.units.iter().any(|unit| is_word(unit.name.text, name)) => Worded "a PROGRAM is not called, and runs in every scan: delete this line, or make a FUNCTION_BLOCK of the lines to call, and call an instance";
         _ if block_line(refused.tokens, name).is_some() => Plain "a FUNCTION_BLOCK has no value: its results are stored to its VAR_OUTPUT, and read of an instance, such as v.q";
+        _ if is_among(b"on off high low yes no ture treu tru flase fasle fals", name) => Plain "a BOOL is TRUE or FALSE; a name is declared in VAR, VAR_INPUT or VAR_OUTPUT of this unit";
+        _ if is_among(b"gross net tare stable", name) => Plain "in the PROGRAM %ID0 is the gross weight, %ID1 net, %ID2 tare, and %IX1.0 is stable; a name is declared in VAR, VAR_INPUT or VAR_OUTPUT of this unit";
+        _ if matches!(name, [b'i' | b'I' | b'q' | b'Q', b'd' | b'D' | b'x' | b'X', b'0'..=b'9', ..]) => Plain "in the PROGRAM an address begins with `%`, such as %ID1, %QD0 or %IX0.1; a name is declared in VAR, VAR_INPUT or VAR_OUTPUT of this unit";
+        (Some(b'k' | b'K'), true) if refused.span.formal.is_some() => Worded "write a number alone, such as 500 for K500";
         (Some(b'k' | b'K'), true) => Plain "write a number alone, such as 500 for K500";
         (Some(b't' | b'c' | b'T' | b'C'), true) => Plain "a timer or counter is an instance: declare T1 : TON; or C1 : CTU; in VAR, call it with CAL, and load T1.Q or C1.Q";
         (Some(b'a' | b'e' | b'i' | b'm' | b'q' | b'x' | b'y' | b'A' | b'E' | b'I' | b'M' | b'Q' | b'X' | b'Y'), true) => Plain "inputs are %IX0.0 to %IX0.15, outputs %QX0.0 to %QX0.15; variables are declared in VAR, VAR_INPUT and VAR_OUTPUT of this unit";
@@ -324,6 +347,7 @@ fn mistaken_use(refused: &Refused<'_, '_>) -> Option<Mistake> {
         403 if is_unreached(refused.tokens, refused.line()) => Unreached says "there is no current result, since this line is never reached", "make the JMP or RET above conditional (JMPC, JMPCN, RETC), give this line a label to which a line above jumps, or delete it";
         406 if span.first != 0 => LabelAbove says "is the label of a line above this jump", "jumps only go forward, and the whole program runs again in each scan without one: to wait, jump ahead over the lines that wait: JMPC done; the lines; `done:`; to repeat lines write them once for each pass, or do one pass in each scan: LD n, LT 10, JMPCN done; the lines; LD n, ADD 1, ST n (n keeps its value between scans: set it to 0 only to start again); `done:` goes on with an LD";
         406 if keyword_named(token).is_some() => Worded "a label is not a reserved word: to leave the unit write RET, RETC or RETCN in place of the jump";
+        409 if matches!(refused.span.case, Case::NotOfBlock(StandardBlock::Ctu)) && is_word(b"CD", refused.offending()) => DownCounter "";
         408 if is_variable && !matches!(span.case, Case::Deferred) => Worded "there is no division by a variable: divide by a literal other than 0, such as DIV 10; to compare a quotient, MUL the other side instead; for a quotient set rest and q to start, the dividend and 0, and then subtract once in each scan: LD b, LE 0, JMPC done; LD rest, LT b, JMPC done; LD rest, SUB b, ST rest; LD q, ADD 1, ST q; `done:` goes on with an LD";
     }
 }
@@ -332,6 +356,8 @@ fn mistaken_use(refused: &Refused<'_, '_>) -> Option<Mistake> {
 pub fn mistake_at(refused: &Refused<'_, '_>, case: Case) -> Mistake {
     let (token, before) = (refused.token(), refused.before());
     let rest = following(refused.lexeme, token.len());
+    let called = mistaken_function(token).map(|found| found.worded(201));
+    let called = called.filter(|_| refused.is_called());
     let found = match (refused.number, refused.span.expected) {
         (101, _) => mistaken_byte(before, refused.span.start, refused.lexeme, case),
         (105, _) => mistaken_number(before, refused.span.start, (token, rest), case),
@@ -347,7 +373,7 @@ pub fn mistake_at(refused: &Refused<'_, '_>, case: Case) -> Mistake {
         (304, _) => mistaken_address(token),
         (308, _) => mistaken_block(refused),
         (402, _) => mistaken_kind(refused),
-        (401, _) if matches!(case, Case::Plain) => mistaken_undeclared(refused),
+        (401, _) if matches!(case, Case::Plain) => mistaken_undeclared(refused).or(called),
         (404, _) => mistaken_reset(refused).or(mistaken_target(refused)),
         _ => mistaken_use(refused),
     };

@@ -1,6 +1,6 @@
 use crate::refused::Refused;
 use wc_built_in::{Keyword, keyword_named, standard_block};
-use wc_diag_stops::{last_line, without_line_ends};
+use wc_diag_stops::{is_digit, last_line, without_line_ends};
 use wc_diag_texts::{Case, Mistake, mistake_among};
 use wc_lexer::Token;
 use wc_model::{Condition, Kind, Operator, StandardBlock, Storing, is_word};
@@ -146,6 +146,7 @@ fn mistaken_without_operator(refused: &Refused<'_, '_>, before: Option<Kind>) ->
         (Case::Unpassed(_, Kind::Time), _, _) if !is_passed => Worded "read it to a TIME variable, such as ET => elapsed; a TIME cannot be converted to a number";
         (Case::Instance, _, _) if refused.sets() => Worded "name one of its inputs, such as x.S1 of an SR, or set them in its CAL";
         (Case::Untaken(Kind::Dint), _, _) if is_bit(refused.token()) => TruthLiteral "";
+        (Case::Untaken(Kind::Dint), _, _) if family_of(refused.operator()) == Family::Logic && is_digit(refused.token().first()) => Worded "AND, OR and XOR take BOOLs, not the bits of a number: bit 3 of an n that is not negative is LD n, DIV 8, MOD 2, EQ 1";
         (Case::Unlike(Kind::Bool) | Case::Result, _, _) if follows_bit(refused.before()) => TruthLiteral "";
         (Case::Closing, Some(Kind::Dint), Some(Kind::Bool)) => Worded "compare the number before the `)`, such as GE 500: a comparison gives a BOOL";
         (Case::Closing, Some(Kind::Time), Some(Kind::Bool)) => Worded "compare the time before the `)`, such as GE T#500ms: a comparison gives a BOOL";
@@ -159,6 +160,7 @@ pub(crate) fn mistaken_reset(refused: &Refused<'_, '_>) -> Option<Mistake> {
         block.filter(|_| refused.span.formal.is_none());
         Some(StandardBlock::Ton) => Worded "a TON runs while IN is TRUE at its call, and is reset by FALSE: LD a, ANDN reset, ST run, CAL t(IN := run, PT := T#1s)";
         Some(StandardBlock::Tof | StandardBlock::Tp) => Worded "the call of a TOF or TP sets IN and PT, and its time ends it: for an earlier end write LD t.Q, ANDN reset";
+        Some(StandardBlock::Sr | StandardBlock::Rs) => Worded "its call sets and resets it: CAL l(S1 := a, R := b) of an SR, CAL l(S := a, R1 := b) of an RS";
         Some(StandardBlock::Ctu) => Worded "a CTU counts, and is reset to a CV of 0, at its call: CAL c(CU := a, R := b, PV := 3)";
     }
 }

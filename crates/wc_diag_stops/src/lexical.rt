@@ -41,7 +41,7 @@ fn is_of_call(line: &[Token<'_>]) -> bool {
 fn is_given(line: &[Token<'_>]) -> bool {
     line.iter()
         .rev()
-        .take_while(|token| !matches!(token.shape, Shape::Comma | Shape::Opening))
+        .take_while(|token| !is_among(b", ( ;", token.text))
         .any(|token| matches!(token.shape, Shape::Assign))
 }
 
@@ -73,6 +73,8 @@ fn mistaken_quote(before: &[Token<'_>], start: usize, rest: &[u8]) -> Option<Mis
         rest.first();
         Some(b'\'') if is_digit(text_before(before, start).last()) && is_digit(rest.get(1)) => Worded "write the digits together, or with underscores, such as 1_000";
         Some(b'"') if is_closed => Worded "write a name without quotation marks, such as LD start; there are no strings";
+        _ if is_duration(following(rest, 1)) => Worded "write a duration without quotation marks, such as T#1s";
+        _ if last_line(before).len() != 1 && !is_of_call(last_line(before)) && !is_given(last_line(before)) => Worded "there are no strings; a comment is (* .. *)";
         Some(_) => Worded "this language has no strings: use a DINT with a number for each text, such as 1";
     }
 }
@@ -87,11 +89,13 @@ fn foreign_byte(before: &[Token<'_>], rest: &[u8]) -> Option<Mistake> {
     mistake_among! {
         rest;
         [b'[', b'A'..=b'Z' | b'a'..=b'z', ..] if is_of_call(before) && before.len() == 2 => Worded "the list of a call is in parentheses, such as CAL t(IN := a)";
+        [b'[', ..] if is_operator(text_of(before.last())) => Worded "a parenthesis is ( and ), such as AND( a; an operand alone has none";
         [b'[' | b']', ..] => Worded "this language has no arrays: declare one variable for each element, such as a0, a1";
         [b'{' | b'}', ..] => Worded "delete it: this language has no pragmas; a comment is (* .. *)";
         [b'/', b'/', ..] => Worded "a comment is (* .. *)";
         [b'*' | b'/', ..] if is_given(before) => Worded "after `:=` comes one value: write the product or quotient itself, or compute it on lines above, such as LD a, MUL b, ST c, and take c";
         [b'*', ..] if is_duration(text_of(before.last())) => Worded "a TIME cannot be multiplied: write the product, such as T#15s";
+        [b'/', ..] if is_operator(text_of(before.last())) => Worded "to negate an operand write ANDN, ORN, XORN, LDN or STN";
         [b'/', ..] => Worded "to divide write DIV; a comment is (* .. *)";
         [b'*', ..] => Worded "to multiply write MUL; a comment is (* .. *)";
         [b'#', b'A'..=b'Z' | b'a'..=b'z' | b'_', ..] => Worded "write the name without the #; a # belongs to a literal, such as 16#FF or T#5s";
@@ -99,6 +103,7 @@ fn foreign_byte(before: &[Token<'_>], rest: &[u8]) -> Option<Mistake> {
         [b'\r', ..] => Worded "save the file with line ends of Windows (CR LF) or Unix (LF)";
         [0, ..] => Worded "save the text as ASCII, or as UTF-8 without a byte order mark";
         [0xc2, 0xa0, ..] => NoBreakSpace says "a no-break space (U+00A0) is not allowed here", "write a space in its place";
+        [0xe2, 0x89, 0xa0 | 0xa4 | 0xa5, ..] => Worded "to compare write GT, GE, EQ, NE, LE or LT";
         [0xe2, 0x80, 0x90..=0x95, ..] | [0xe2, 0x88, 0x92, ..] => Worded "a minus sign is that of the keyboard, such as -5; comments may have any";
         [128..=255, ..] => Worded "names have the letters A to Z and a to z, digits and underscores; comments may have any";
     }
@@ -150,6 +155,9 @@ pub fn mistaken_number(
     let is_foreign_duration = is_among(b"s5t s5time ltime lt", first_word(token));
     mistake_among! {
         (case, keyword_named(operator_on(line)));
+        (Case::SignAlone, Some(Keyword::Load(_) | Keyword::Apply(_) | Keyword::Store(_))) if matches!(token, [b'-']) && rest.starts_with(b">") => Worded "a field has a point, such as t.Q; to store write ST on the next line, such as ST %QX0.0";
+        (Case::SignAlone, _) if matches!(token, [b'-']) && rest.starts_with(b"-") => Worded "a comment is (* .. *)";
+        _ if is_duration(text_before(tokens, start)) => Worded "write a sum of durations as one, such as T#1s500ms; compute one with a variable on lines above, and store it";
         _ if is_name(text_before(tokens, start)) => SignAlone "a name has letters, digits and underscores alone, such as start_button; a sign is right before its digits";
         (Case::SignAlone, _) if token.starts_with(b"-") && rest.starts_with(b">") => Worded "an output is read with =>, such as Q => a";
         (Case::SignAlone, _) if is_given(line) => SignAlone "after `:=` comes one value: write the sum itself, or compute it on lines above, such as LD a, ADD b, ST c, and take c";
@@ -157,10 +165,13 @@ pub fn mistaken_number(
         (Case::WithPoint, _) if token.windows(2).any(|pair| pair.starts_with(b"..")) => Worded says "is a range, and there are no ranges", "leave the range out: a DINT is -2147483648 to 2147483647";
         (Case::WithPoint, _) if is_among(b"mul div mod", before) => Worded "write a factor with whole numbers: for MUL 0.5 write MUL 1, and DIV 2 on the next line";
         (Case::WithPoint, _) if is_foreign_address(before, token) => Worded says "is not a number, and not an address with the letter before it", "this looks like Siemens STL (AWL): E 0.0 is %IX0.0, A 4.0 an output such as %QX0.0; U is LD at the start and after each `=`, S or R, else AND (UN: LDN, ANDN); `=` is ST";
+        (Case::WithPoint, _) if is_among(b"%ix %qx", before) && !is_digit(token.first()) => Worded "an address has no sign, such as %IX0.1";
         (Case::WithPoint, _) if is_among(b"%ix %qx", before) => Worded "write an address without a space, such as %IX0.0";
+        (Case::WithPoint, _) if token.ends_with(b".0") => Worded "numbers are integers: write 10.0 as 10, and 2.0 kg as 2000, if weights have 3 decimals";
         (Case::NoNumber, _) if is_bare_duration(token) && is_duration(before) => Worded "write the units of a duration without spaces, such as T#1m30s";
         (Case::NoNumber | Case::WithBase, _) if is_foreign_duration || is_bare_duration(token) => Worded "a duration begins with T#, such as T#500ms";
         (Case::WithBase, _) if matches!(token.first(), Some(b'+' | b'-')) => Worded "a number with a base has no sign: write -16#14 as -20";
+        (Case::WithBase, _) if token.starts_with(b"10#") => Worded "write a decimal number without 10#, such as 500";
         (Case::WithBase, _) if token.starts_with(b"BOOL") || token.starts_with(b"bool") => Worded says "is not a literal of this language", "a BOOL is TRUE, FALSE, BOOL#0 or BOOL#1";
         (Case::NoNumber, _) if token.iter().any(|byte| byte.is_ascii_alphabetic()) => Worded "a name begins with a letter, such as a1; a number has digits alone: write 0xFF as 16#FF, 5e3 as 5000, and 10 kg as 10000 if weights have 3 decimals";
         (Case::WithBase, _) if token.first().is_some_and(|byte| byte.is_ascii_alphabetic()) => Worded says "is not a literal of this language", "write the number without its type, such as 5";
@@ -169,16 +180,9 @@ pub fn mistaken_number(
 
 /// Whether a word is an operator.
 pub fn is_operator(word: &[u8]) -> bool {
-    matches!(
-        keyword_named(word),
-        Some(
-            Keyword::Load(_)
-                | Keyword::Store(_)
-                | Keyword::Apply(_)
-                | Keyword::Not
-                | Keyword::Jump(_)
-                | Keyword::Call(_)
-                | Keyword::Return(_)
-        )
-    )
+    match keyword_named(word) {
+        Some(Keyword::Load(_) | Keyword::Store(_) | Keyword::Apply(_) | Keyword::Not) => true,
+        Some(Keyword::Jump(_) | Keyword::Call(_) | Keyword::Return(_)) => true,
+        _ => false,
+    }
 }

@@ -275,7 +275,7 @@ fn body_entry(number: u16) -> Option<&'static Entry>
             mended "PROGRAM P" "VAR n : DINT; END_VAR" "LD n" "GE 10" "JMPC done" "LD n" "ADD 1" "ST n" "done: LD n" "ST %QD0" "END_PROGRAM";
         407 "verify": "the label is used twice in this body" quoted "is the label of two lines of this unit"
             at "the line of the second label", "PROGRAM P / L: / L: / END_PROGRAM" => 3,
-            help "choose another label; letter case makes no difference",
+            help "choose another label for one of the two, also in each jump that leads to it; letter case makes no difference",
             wrong "PROGRAM P" "LD %IX0.0" "JMPCN skip" "S %QX0.0" "skip: LD %IX0.1" "JMPCN skip" "R %QX0.0" "skip:" "END_PROGRAM"
             why "a jump to it would have two places to go to" rule "7.7"
             mended "PROGRAM P" "LD %IX0.0" "JMPCN stop" "S %QX0.0" "stop: LD %IX0.1" "JMPCN done" "R %QX0.0" "done:" "END_PROGRAM";

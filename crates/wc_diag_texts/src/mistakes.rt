@@ -132,7 +132,7 @@ fn declared_words(number: u16, case: Case) -> Words {
         401..=409, Case::NotOfBlock(StandardBlock::RTrig) => "", "R_TRIG has the input CLK (:=) and the output Q (=>)";
         401..=409, Case::NotOfBlock(StandardBlock::Sr) => "", "SR has the inputs S1 and R (:=) and the output Q1 (=>)";
         401..=409, Case::NotOfBlock(StandardBlock::Rs) => "", "RS has the inputs S and R1 (:=) and the output Q1 (=>)";
-        302, Case::DownCounter => "", counting_down!();
+        302 | 409, Case::DownCounter => "", counting_down!();
         306, Case::Variable => "is one variable more than the 256 that a unit may have", "";
         401, Case::Field => "is not an input or output of a declared instance", "before the dot comes an instance that VAR declares, after it an output, such as t.Q; there are no global variables";
         401, Case::BlockType => "is the name of a type, not of an instance", "";
