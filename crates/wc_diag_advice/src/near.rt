@@ -89,13 +89,8 @@ fn near_in_declaration<'a>(declaration: &Decl<'a>, name: &[u8], wanted: Wanted) 
 }
 
 /// The name that the unit around a place declares and that is wanted: of two the later one.
-fn near_in_unit<'a>(
-    units: &[Unit<'a>],
-    name: &[u8],
-    place: usize,
-    wanted: Wanted,
-) -> Option<&'a str> {
-    let mut declarations = unit_at(units, place)?.declarations.iter().rev();
+fn near_in_unit<'a>(units: &[Unit<'a>], name: &[u8], at: usize, wanted: Wanted) -> Option<&'a str> {
+    let mut declarations = unit_at(units, at)?.declarations.iter().rev();
     declarations.find_map(|declaration| near_in_declaration(declaration, name, wanted))
 }
 

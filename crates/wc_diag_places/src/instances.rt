@@ -15,15 +15,11 @@ fn type_of<'a>(source: &Source<'a>, unit: usize, name: &[u8]) -> Option<Word<'a>
 }
 
 /// The instance that a slice of an instruction refers to: that of a field, or of the call.
-fn instance_in<'a>(
-    tokens: &[Token<'a>],
-    operand_tokens: &[Token<'a>],
-    case: Case,
-) -> Option<Token<'a>> {
+fn instance_in<'a>(tokens: &[Token<'a>], operand: &[Token<'a>], case: Case) -> Option<Token<'a>> {
     match case {
-        Case::Field | Case::Instance => operand_tokens.first().copied(),
+        Case::Field | Case::Instance => operand.first().copied(),
         _ if is_listed(tokens) => tokens.get(1).copied(),
-        _ if operand_tokens.len() > 1 => operand_tokens.first().copied(),
+        _ if operand.len() > 1 => operand.first().copied(),
         _ => None,
     }
 }

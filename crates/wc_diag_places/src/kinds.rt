@@ -67,25 +67,20 @@ fn is_instance(tables: &Tables<'_>, unit: usize, name: &[u8]) -> bool {
 }
 
 /// What does not fit in an instruction without a list whose kinds are refused.
-pub fn unfit(
-    tables: &Tables<'_>,
-    unit: usize,
-    tokens: &[Token<'_>],
-    operand: &[Token<'_>],
-) -> Case {
+pub fn unfit(tables: &Tables<'_>, unit: usize, tokens: &[Token<'_>], term: &[Token<'_>]) -> Case {
     let Some(token) = tokens.first() else {
         return Case::Result;
     };
     if is_closing(token) {
         return Case::Closing;
     }
-    let kind = entity_in(tables, unit, operand).and_then(|entity| entity.kind);
+    let kind = entity_in(tables, unit, term).and_then(|entity| entity.kind);
     match (operation_of(*token), kind) {
-        (Some(Operation::Operates(_)), None) if operand_in(operand).is_some() => Case::Instance,
+        (Some(Operation::Operates(_)), None) if operand_in(term).is_some() => Case::Instance,
         (Some(Operation::Operates(operating)), Some(kind)) if !opens(tokens) => {
-            unfit_operand(operating, kind, is_bit(operand))
+            unfit_operand(operating, kind, is_bit(term))
         }
-        (Some(Operation::Calls(_)), _) => match operand.first() {
+        (Some(Operation::Calls(_)), _) => match term.first() {
             Some(name) if !is_instance(tables, unit, name.text) => Case::NoInstance,
             _ => Case::Result,
         },

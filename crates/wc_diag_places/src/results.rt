@@ -34,14 +34,9 @@ fn reaches(line: &Line<'_>, place: u32) -> bool {
 }
 
 /// The result that an operand makes at a place.
-fn result_of(
-    tables: &Tables<'_>,
-    unit: usize,
-    operand: &Operand<'_>,
-    place: u32,
-) -> Option<ResultKind> {
-    let kind = tables.entity(unit, operand)?.kind?;
-    Some(ResultKind { kind, line: place })
+fn result_of(tables: &Tables<'_>, unit: usize, term: &Operand<'_>, at: u32) -> Option<ResultKind> {
+    let kind = tables.entity(unit, term)?.kind?;
+    Some(ResultKind { kind, line: at })
 }
 
 /// Whether a line leaves for a label, or the body, whatever the result is.

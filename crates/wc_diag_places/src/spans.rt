@@ -80,19 +80,14 @@ fn span_at(
 }
 
 /// The line of the first of two that have the name at a place; 0: there are no two.
-fn first_line(
-    spanned_source: &SpannedSource<'_>,
-    number: u16,
-    tokens: &[Token<'_>],
-    place: u32,
-) -> u32 {
+fn first_line(spanned: &SpannedSource<'_>, number: u16, tokens: &[Token<'_>], place: u32) -> u32 {
     // A jump names its label after the operator.
     let index = usize::from(number == 406);
     let Some(name) = tokens.get(index) else {
         return 0;
     };
-    match first_of_two(&spanned_source.source, number, name.text, place) {
-        Some(first) => line_at(tokens_from(&spanned_source.tokens, first).first()),
+    match first_of_two(&spanned.source, number, name.text, place) {
+        Some(first) => line_at(tokens_from(&spanned.tokens, first).first()),
         None => 0,
     }
 }

@@ -47,24 +47,17 @@ pub(crate) fn case_of_capacity(source: &Source<'_>, place: u32) -> Case {
 }
 
 /// Where the first of two is that have the name at a place: units or variables (301), labels (407), the label of a jump (406).
-pub(crate) fn first_of_two(
-    source: &Source<'_>,
-    number: u16,
-    name: &[u8],
-    place: u32,
-) -> Option<u32> {
-    let unit = source.units.get(unit_at(source, place))?;
+pub(crate) fn first_of_two(source: &Source<'_>, number: u16, name: &[u8], at: u32) -> Option<u32> {
+    let unit = source.units.get(unit_at(source, at))?;
     let (mut units, mut lines) = (source.units.iter(), unit.body.iter());
     let mut declarations = unit.declarations.iter();
     match number {
-        301 if unit.name.line == place => {
-            units.find_map(|unit| place_before(&unit.name, name, place))
-        }
+        301 if unit.name.line == at => { units.find_map(|unit| place_before(&unit.name, name, at)) }
         301 => declarations.find_map(|declaration| {
             let mut names = declaration.names.iter();
-            names.find_map(|word| place_before(word, name, place))
+            names.find_map(|word| place_before(word, name, at))
         }),
-        406 | 407 => lines.find_map(|line| place_before(line.label.as_ref()?, name, place)),
+        406 | 407 => lines.find_map(|line| place_before(line.label.as_ref()?, name, at)),
         _ => None,
     }
 }

@@ -110,15 +110,10 @@ fn foreign_byte(before: &[Token<'_>], rest: &[u8]) -> Option<Mistake> {
 }
 
 /// A mistake of a byte that is not allowed at a place: these tokens are before it, and `rest` begins with it.
-pub fn mistaken_byte(
-    before: &[Token<'_>],
-    start: usize,
-    rest: &[u8],
-    case: Case,
-) -> Option<Mistake> {
+pub fn mistaken_byte(before: &[Token<'_>], at: usize, rest: &[u8], case: Case) -> Option<Mistake> {
     match case {
         Case::Byte(byte @ (b'=' | b'<' | b'>')) => mistaken_sign(before, byte),
-        Case::Byte(b'\'' | b'"') => mistaken_quote(before, start, rest),
+        Case::Byte(b'\'' | b'"') => mistaken_quote(before, at, rest),
         Case::Byte(_) => foreign_byte(last_line(before), rest),
         _ => None,
     }
