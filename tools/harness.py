@@ -18,7 +18,7 @@ from pathlib import Path
 TOP = Path(__file__).resolve().parent.parent
 CRATES = TOP / "crates"
 # what is built: the program, the one that runs a job over both stores of a machine, and the library for C
-PROGRAM = __import__("pathlib").Path(__import__("os").environ["WC"]) if "WC" in __import__("os").environ else CRATES / "wc" / "out" / "wc"
+PROGRAM = CRATES / "wc" / "out" / "wc"
 BOTH_STORES = CRATES / "wc_tests_both_stores" / "out" / "wc_tests_both_stores"
 LIBRARY = CRATES / "narbeddo" / "out" / "libnarbeddo.a"
 ARM_LIBRARY = LIBRARY.with_name("libnarbeddo-aarch64.a")
