@@ -58,7 +58,7 @@ const OPERATORS: [Row; 3] = rows! {
 
 /// Operators of other tools and languages, with what to write for each. Without these a name that is spelled almost as one of them, and does
 /// something else, would be suggested.
-const OTHERS: [Row; 43] = rows! {
+const OTHERS: [Row; 44] = rows! {
     b"ldi ldnot strn" => OtherOperator "did you mean `LDN`?";
     b"ani andi and_not andnot" => OtherOperator "did you mean `ANDN`?";
     b"adn" => OtherOperator "did you mean `ANDN`, or `AND`?";
@@ -91,12 +91,13 @@ const OTHERS: [Row; 43] = rows! {
     b"var_in var_out" => OtherOperator "declarations are between VAR_INPUT, VAR_OUTPUT or VAR and END_VAR";
     b"inc" => OtherOperator "write LD n, on the next line ADD 1, on the next ST n";
     b"dec" => OtherOperator "write LD n, on the next line SUB 1, on the next ST n";
-    b"bea beu return" => OtherOperator "did you mean `RET`?";
+    b"bea beu" => OtherOperator "did you mean `RET`?";
+    b"return" => OtherOperator "RET ends the body always, RETC if the result is TRUE, RETCN if it is FALSE";
     b"beb bec" => OtherOperator "did you mean `RETC`?";
     b"cpl inv" => OtherOperator "did you mean `NOT`?";
     b"mps mrd mpp" => OtherOperator "ST the result to a BOOL, and load it again with LD";
-    b"anb" => OtherOperator "write AND( and the operand in place of the LD that begins the block, and `)` in place of this line";
-    b"orb" => OtherOperator "write OR( and the operand in place of the LD that begins the block, and `)` in place of this line";
+    b"anb andld" => OtherOperator "write AND( and the operand in place of the LD that begins the block, and `)` in place of this line";
+    b"orb orld" => OtherOperator "write OR( and the operand in place of the LD that begins the block, and `)` in place of this line";
     b"ldp andp orp fp pls" => OtherOperator "an edge is found by a block: declare e : R_TRIG; in VAR, and write CAL e(CLK := a); e.Q is TRUE for one scan";
     b"ldf andf orf fn plf" => OtherOperator "for a falling edge call R_TRIG with the negated input: LDN a, then ST b, then CAL e(CLK := b); e.Q is TRUE for one scan";
     b"stc stcn ldc ldcn sc scn rc rcn" => OtherOperator "only JMP, CAL and RET have a C: for others write JMPCN skip on the line above, and `skip:` with an LD below; S and R act only on TRUE";

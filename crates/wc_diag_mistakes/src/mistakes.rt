@@ -86,6 +86,7 @@ fn mistaken_before(refused: &Refused<'_, '_>) -> Option<Mistake> {
     let is_taken = matches!(line, [.., arrow, _] if arrow.shape == Shape::Arrow);
     mistake_among! {
         (expected, word);
+        (Expected::LineEnd, Some(Keyword::Not)) if is_shape(refused.tokens.get(refused.index), Shape::Opening) => Worded "NOT takes no operand: write the lines of the parenthesis alone, from LD on, and NOT on the line below them";
         (Expected::LineEnd | Expected::PointOrLineEnd, Some(Keyword::Not)) => NegatedOperand "";
         (Expected::LineEnd | Expected::PointOrLineEnd, Some(Keyword::Load(_))) if is_opened => Worded "the operand is right after the `(`, without LD, such as AND( a";
         (Expected::CommaPointOrClosing | Expected::CommaOrClosing, Some(Keyword::Not)) if is_taken => Worded "negate an output below the call: LDN t.Q, and on the next line ST a";
@@ -103,7 +104,7 @@ fn mistaken_in_unit(token: &[u8], next: Option<&Token<'_>>, expected: Expected) 
         (expected, token.first(), keyword_named(token));
         (Expected::Field, Some(b'0'..=b'9'), _) => NoAddress "an address begins with `%`, such as %IX0.0; a DINT has no bits: bit 3 of an n that is not negative is LD n, DIV 8, MOD 2, EQ 1";
         (Expected::UnitName, _, _) => Worded "write a name after the word, such as PROGRAM Main";
-        (Expected::Operand, Some(b'('), _) => Worded "only AND, OR, XOR, ADD, SUB, MUL and comparisons take a parenthesis: begin with LD and its operand";
+        (Expected::Operand, Some(b'('), _) => Worded "only AND, OR, XOR, ADD, SUB, MUL and comparisons take a parenthesis: begin with LD and its operand, and delete the `)` that belongs to this `(`";
         (Expected::LineEnd | Expected::PointOrLineEnd | Expected::OperandOrLineEnd, Some(b')'), _) => Worded "the `)` needs a line of its own";
         (Expected::FormalOrClosing, Some(b'('), _) => Worded "a call has one pair of parentheses, such as CAL t(IN := a)";
         (Expected::Formal, Some(b')'), _) => Worded "delete the comma before this `)`: a comma is only between two inputs or outputs";
@@ -115,6 +116,7 @@ fn mistaken_in_unit(token: &[u8], next: Option<&Token<'_>>, expected: Expected) 
         (Expected::CommaOrColon, Some(b';'), _) => Worded "a declaration names a type, such as d, e : DINT;";
         (Expected::Name | Expected::TypeName | Expected::Literal, Some(b';'), _) => Declaration "";
         (Expected::NameOrEndVar, Some(b';'), _) => Worded "delete this `;`: each declaration ends with one, and a comment is (* .. *)";
+        (Expected::Literal, Some(b'('), _) => Worded "an initial value is one literal without parentheses, such as TRUE or T#5s; an instance has none: its inputs are in its CAL, such as CAL t(IN := a, PT := T#2s)";
         (Expected::Literal, _, _) => Worded "an initial value is one literal, such as TRUE, 500 or T#5s; an address is read in the lines of the PROGRAM, or passed in a CAL";
         (_, Some(b';'), _) => Worded "an instruction ends with its line, without a semicolon; a comment is (* .. *)";
         (Expected::InstructionOrLineEnd, _, _) if is_type(token) => Worded "declarations go between VAR and END_VAR, before the first instruction";
@@ -202,7 +204,10 @@ fn mistaken_on_line(refused: &Refused<'_, '_>) -> Option<Mistake> {
         (Expected::Instruction | Expected::InstructionOrLineEnd, Some(b'(')) if !begins_unit && !matches!(keyword_named(operator_on(last_line(without_line_ends(refused.before())))), Some(Keyword::Call(_))) => Worded "a parenthesis opens on the line of its operator, such as AND( a; at the start begin with LD and its operand, without a parenthesis";
         (Expected::OperandOrOpening, Some(b'\n')) if is_shape(refused.next(), Shape::Opening) => Worded "write the `(` on the line of its operator, such as AND( a";
         (Expected::LineEnd, Some(b'.')) if is_shape(line.last(), Shape::Closing) || keyword_named(before).is_some() => Worded "a point is only between an instance and its field: delete it, or write LD t.Q on the line below a call";
+        (Expected::LineEnd, _) if is_shape(line.last(), Shape::Closing) && is_shape(refused.next(), Shape::Arrow) => Worded "outputs are in the parentheses of the call too, such as CAL t(IN := a, Q => b)";
         (Expected::LineEnd, Some(b')')) if is_shape(line.last(), Shape::Closing) && line.len() > 1 => Worded "delete this `)`: the list of the call is closed already";
+        (Expected::LineEnd | Expected::PointOrLineEnd, _) if is_unopened && is_among(b"gt ge eq ne le lt", refused.token()) && matches!(first, Some(Keyword::Apply(_))) => Worded "compare in a parenthesis: AND( w, then GT 5000, then `)`, each on a line of its own";
+        (Expected::LineEnd | Expected::PointOrLineEnd, _) if is_unopened && is_among(b"or orn xor xorn", operator_on(line)) && is_among(b"and andn", refused.token()) => Worded "lines are worked from top to bottom: for OR of b AND c write OR( b, then AND c, then `)`, each on a line of its own";
         (Expected::LineEnd | Expected::PointOrLineEnd, _) if is_unopened && matches!(keyword_named(refused.token()), Some(Keyword::Apply(_))) => Worded "each operator has a line of its own, with its operand: AND b, and on the next line OR c";
         (Expected::LineEnd, _) if matches!(before, [b'%']) => Worded "write an address without a space, such as %IX0.0";
         _ if is_duration && is_among(b"d h m s ms", refused.token()) => Worded "write the units of a duration without spaces, such as T#1m30s";
@@ -272,7 +277,7 @@ fn mistaken_target(refused: &Refused<'_, '_>) -> Option<Mistake> {
     let target = refused.token();
     mistake_among! {
         (target.first(), keyword_named(target));
-        (Some(b'%'), _) if matches!(target.get(2), Some(b'd' | b'D')) => Worded "inputs are only read: store a number to an output, such as %QD0, or to a variable";
+        (Some(b'%'), _) if matches!(target.get(2), Some(b'd' | b'D')) => Worded "inputs are only read: store a number to an output, such as %QD0, or to a variable; a program cannot set zero or a tare";
         (Some(b'%'), _) => Worded "inputs are only read: store to an output, such as %QX0.0, or to a variable";
         (Some(b'0'..=b'9' | b'+' | b'-'), _) => LiteralTarget "";
         (_, Some(Keyword::Truth(_))) => LiteralTarget "";
@@ -318,6 +323,7 @@ fn mistaken_undeclared(refused: &Refused<'_, '_>) -> Option<Mistake> {
         _ if is_declared(refused, name) => Plain "another unit declares it, and each unit sees its own variables alone: pass it as an input or output of the block";
         _ if refused.is_called() && refused.units.iter().any(|unit| is_word(unit.name.text, name)) => Worded "a PROGRAM is not called, and runs in every scan: delete this line, or make a FUNCTION_BLOCK of the lines to call, and call an instance";
         _ if block_line(refused.tokens, name).is_some() => Plain "a FUNCTION_BLOCK has no value: its results are stored to its VAR_OUTPUT, and read of an instance, such as v.q";
+        _ if is_operator(name) => Worded "this is an operator: an operand is a variable, an address or a literal; to join two results write the second one in a parenthesis, such as AND( a, then OR b, then `)`";
         _ if is_among(b"on off high low yes no ture treu tru flase fasle fals", name) => Plain "a BOOL is TRUE or FALSE; a name is declared in VAR, VAR_INPUT or VAR_OUTPUT of this unit";
         _ if is_among(b"gross net tare stable", name) => Plain "in the PROGRAM %ID0 is the gross weight, %ID1 net, %ID2 tare, and %IX1.0 is stable; a name is declared in VAR, VAR_INPUT or VAR_OUTPUT of this unit";
         _ if matches!(name, [b'i' | b'I' | b'q' | b'Q', b'd' | b'D' | b'x' | b'X', b'0'..=b'9', ..]) => Plain "in the PROGRAM an address begins with `%`, such as %ID1, %QD0 or %IX0.1; a name is declared in VAR, VAR_INPUT or VAR_OUTPUT of this unit";
@@ -340,6 +346,7 @@ fn mistaken_use(refused: &Refused<'_, '_>) -> Option<Mistake> {
     mistake_among! {
         refused.number;
         205 if is_shape(refused.next(), Shape::Colon) => Worded "a jump cannot lead into a parenthesis: delete the label, or close the parenthesis above it";
+        205 if matches!(keyword_named(token), Some(Keyword::Jump(_) | Keyword::Return(_))) => Worded "close the parenthesis before it with a `)` on a line of its own, or move it, with an LD of its condition, above the LD that begins the expression";
         205 if matches!(keyword_named(token), Some(Keyword::Call(_))) => Worded "move the call, and the lines that set its inputs, above the LD that begins the expression, and read its output in the parenthesis, such as AND t.Q";
         403 if is_conditional(token) => Worded says "needs a BOOL, and there is no current result", "load the condition with LD first, or use CAL, JMP or RET without the C";
         403 if is_left => AtLabel says "the current result is undefined: the paths to this label bring different types, or no value", "make the JMP or RET above conditional (JMPC, JMPCN, RETC), jump to this label from a line above, or delete this line";
@@ -348,7 +355,7 @@ fn mistaken_use(refused: &Refused<'_, '_>) -> Option<Mistake> {
         406 if span.first != 0 => LabelAbove says "is the label of a line above this jump", "jumps only go forward, and the whole program runs again in each scan without one: to wait, jump ahead over the lines that wait: JMPC done; the lines; `done:`; to repeat lines write them once for each pass, or do one pass in each scan: LD n, LT 10, JMPCN done; the lines; LD n, ADD 1, ST n (n keeps its value between scans: set it to 0 only to start again); `done:` goes on with an LD";
         406 if keyword_named(token).is_some() => Worded "a label is not a reserved word: to leave the unit write RET, RETC or RETCN in place of the jump";
         409 if matches!(refused.span.case, Case::NotOfBlock(StandardBlock::Ctu)) && is_word(b"CD", refused.offending()) => DownCounter "";
-        408 if is_variable && !matches!(span.case, Case::Deferred) => Worded "there is no division by a variable: divide by a literal other than 0, such as DIV 10; to compare a quotient, MUL the other side instead; for a quotient set rest and q to start, the dividend and 0, and then subtract once in each scan: LD b, LE 0, JMPC done; LD rest, LT b, JMPC done; LD rest, SUB b, ST rest; LD q, ADD 1, ST q; `done:` goes on with an LD";
+        408 if is_variable || matches!(span.case, Case::Deferred) => Worded "there is no division by a variable, and DIV and MOD take no parenthesis: divide by a literal other than 0, such as DIV 10; to compare a quotient, MUL the other side instead; for a quotient set rest and q to start, the dividend and 0, and then subtract once in each scan: LD b, LE 0, JMPC done; LD rest, LT b, JMPC done; LD rest, SUB b, ST rest; LD q, ADD 1, ST q; `done:` goes on with an LD";
     }
 }
 

@@ -114,7 +114,7 @@ fn mistaken_operand(case: Case, family: Family, before: Option<Kind>) -> Option<
         (Case::Unlike(_), Family::Multiply, Some(Kind::Time)) => MultipliedTime "";
         (Case::Unlike(_), Family::Divide, Some(Kind::Time)) => DividedTime "";
         (Case::Unlike(_), _, Some(Kind::Bool)) => Worded "store a BOOL to a BOOL variable or to an output bit, such as ST %QX0.0";
-        (Case::Unlike(Kind::Bool), Family::Store | Family::StoreNegated | Family::Set, Some(Kind::Dint)) => Worded "store it to a DINT, such as %QD0, or compare it first, such as GE 500, to get a BOOL";
+        (Case::Unlike(Kind::Bool), Family::Store | Family::StoreNegated | Family::Set, Some(Kind::Dint)) => Worded "store it to a DINT, such as %QD0, or compare it first, such as GE 500, to get a BOOL; a CAL leaves the result as it was: load the output that you want";
         (Case::Unlike(Kind::Bool), Family::Store | Family::StoreNegated | Family::Set, Some(Kind::Time)) => Worded "store it to a TIME, or compare it first, such as GE T#500ms, to get a BOOL";
         (Case::Unlike(_), Family::Store | Family::StoreNegated | Family::Set, Some(Kind::Time)) => StoredTimeToNumber "";
         (Case::Unlike(_), Family::Store | Family::StoreNegated | Family::Set, Some(Kind::Dint)) => Worded "a number cannot be converted to a TIME: load a duration, such as LD T#500ms, or store to a DINT";
@@ -146,7 +146,7 @@ fn mistaken_without_operator(refused: &Refused<'_, '_>, before: Option<Kind>) ->
         (Case::Unpassed(_, Kind::Time), _, _) if !is_passed => Worded "read it to a TIME variable, such as ET => elapsed; a TIME cannot be converted to a number";
         (Case::Instance, _, _) if refused.sets() => Worded "name one of its inputs, such as x.S1 of an SR, or set them in its CAL";
         (Case::Untaken(Kind::Dint), _, _) if is_bit(refused.token()) => TruthLiteral "";
-        (Case::Untaken(Kind::Dint), _, _) if family_of(refused.operator()) == Family::Logic && is_digit(refused.token().first()) => Worded "AND, OR and XOR take BOOLs, not the bits of a number: bit 3 of an n that is not negative is LD n, DIV 8, MOD 2, EQ 1";
+        (Case::Untaken(Kind::Dint), _, _) if family_of(refused.operator()) == Family::Logic && is_digit(refused.token().first()) => Worded "AND, OR and XOR take BOOLs, not the bits of a number: bit 3 of an n that is not negative is LD n, DIV 8, MOD 2, EQ 1, and its lowest 3 bits (AND 16#7) are MOD 8";
         (Case::Unlike(Kind::Bool) | Case::Result, _, _) if follows_bit(refused.before()) => TruthLiteral "";
         (Case::Closing, Some(Kind::Dint), Some(Kind::Bool)) => Worded "compare the number before the `)`, such as GE 500: a comparison gives a BOOL";
         (Case::Closing, Some(Kind::Time), Some(Kind::Bool)) => Worded "compare the time before the `)`, such as GE T#500ms: a comparison gives a BOOL";
