@@ -8,7 +8,5 @@ mod following;
 mod further;
 mod logical_lines;
 mod marks;
-#[cfg(test)]
-mod tests;
 
 pub use further::{Further, LineFault};
