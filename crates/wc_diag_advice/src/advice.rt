@@ -67,12 +67,7 @@ fn undeclared_advice(refused: &Refused<'_, '_>) -> Said {
 pub fn advice_at(refused: &Refused<'_, '_>, mistake: Mistake) -> Said {
     match (refused.number, mistake.case) {
         (201, Case::NoOperator) => operator_advice(refused),
-        (201, Case::NoUnit) => {
-            likely(
-                refused,
-                near_word("PROGRAM FUNCTION_BLOCK", refused.token()),
-            )
-        }
+        (201, Case::NoUnit) => likely(refused, near_word("PROGRAM FUNCTION_BLOCK", refused.token())),
         (201, Case::OpenSection) => section_advice(refused),
         (201, Case::NoAddress) => address_advice(refused),
         (302, Case::Plain) => type_advice(refused),
@@ -80,9 +75,8 @@ pub fn advice_at(refused: &Refused<'_, '_>, mistake: Mistake) -> Said {
         (401, Case::BlockType) => instance_advice(refused),
         (403, Case::AtLabel) => path_advice(refused),
         (406, Case::Plain) => label_advice(refused),
-        (401, Case::Field) | (409, Case::NotOfBlock(_) | Case::NotOfOwnBlock) => {
-            name_advice(refused)
-        }
+        (401, Case::Field) => name_advice(refused),
+        (409, Case::NotOfBlock(_) | Case::NotOfOwnBlock) => name_advice(refused),
         _ => None,
     }
 }

@@ -1,3 +1,4 @@
+use crate::members::block_named;
 use crate::near::{Wanted, likely, near_name};
 use std::alloc::AllocError;
 use wc_built_in::{standard_block, variable_at};
@@ -17,7 +18,7 @@ pub(crate) fn point_advice(refused: &Refused<'_, '_>) -> Said {
     if let Some(near) = instance.or(near_name(refused, name.as_bytes(), Wanted::Instance)) {
         return Some(format!(in alloc; "did you mean `{near}.{field}`?"));
     }
-    if standard_block(name.as_bytes()).is_some() {
+    if standard_block(name.as_bytes()).is_some() || block_named(refused, name).is_some() {
         return Some(format!(in alloc;
             "{name} is a type: declare an instance in VAR, such as v : {name}; and write v.{field}"
         ));

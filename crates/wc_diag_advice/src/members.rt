@@ -31,7 +31,7 @@ fn is_near_member(member: &[u8], name: &[u8]) -> bool {
 }
 
 /// The block of the text that has that name.
-fn block_named<'a, 't>(refused: &Refused<'a, 't>, block: &str) -> Option<&'t Unit<'a>> {
+pub(crate) fn block_named<'a, 't>(refused: &Refused<'a, 't>, block: &str) -> Option<&'t Unit<'a>> {
     let mut units = refused.units.iter();
     units.find(|unit| unit.name.text.eq_ignore_ascii_case(block.as_bytes()))
 }
@@ -86,8 +86,10 @@ pub(crate) fn member_advice(
         return format!(in refused.alloc; "{block} has {inputs} and {outputs}");
     };
     let said = hint_of(409, Case::NotOfBlock(standard)).unwrap_or("");
+    // by the names of the inputs of SR and RS it is not known which of the two is meant
+    let is_sure = !is_input || !matches!(standard, StandardBlock::Sr | StandardBlock::Rs);
     let mut members = members_of(standard, is_input).iter();
-    let near = members.find(|member| is_near_member(member.as_bytes(), name));
+    let near = members.find(|member| is_sure && is_near_member(member.as_bytes(), name));
     match (near, words(instance)) {
         (None, _) => format!(in refused.alloc; "{said}"),
         (Some(near), None) => format!(in refused.alloc; "did you mean `{near}`? {said}"),

@@ -32,12 +32,9 @@ pub(crate) fn likely(refused: &Refused<'_, '_>, near: Option<&str>) -> Said {
 /// What to write for a word that begins a line and is neither an operator nor a keyword: one that it may be a misspelling of.
 pub(crate) fn operator_advice(refused: &Refused<'_, '_>) -> Said {
     let word = refused.token();
-    let end = if refused.is_in_program() {
-        "END_PROGRAM"
-    } else {
-        "END_FUNCTION_BLOCK"
-    };
-    if is_near(end.as_bytes(), word) || is_among(b"END BE", word) {
+    let is_program = refused.is_in_program();
+    let end = if is_program { "END_PROGRAM" } else { "END_FUNCTION_BLOCK" };
+    if is_near(end.as_bytes(), word) {
         return likely(refused, Some(end));
     }
     match near_word(OPERATORS, word) {
@@ -106,20 +103,12 @@ pub(crate) fn near_name<'a>(
 /// What to write for the name of a block in place of that of an instance: the one of the unit, or one to declare.
 pub(crate) fn instance_advice(refused: &Refused<'_, '_>) -> Said {
     let block = words(refused.offending())?;
-    Some(
-        match near_name(refused, block.as_bytes(), Wanted::InstanceOf) {
-            Some(instance) => {
-                format!(in refused.alloc;
-                    "did you mean `{instance}`, which is an instance of {block}?"
-                )
-            }
-            None => {
-                format!(in refused.alloc;
-                    "declare an instance in VAR, such as v : {block}; and call that: CAL v(..)"
-                )
-            }
-        },
-    )
+    let Some(instance) = near_name(refused, block.as_bytes(), Wanted::InstanceOf) else {
+        return Some(format!(in refused.alloc;
+            "declare an instance in VAR, such as v : {block}; and call that: CAL v(..)"
+        ));
+    };
+    Some(format!(in refused.alloc; "did you mean `{instance}`, which is an instance of {block}?"))
 }
 
 /// What to write for what is called and not declared: a label, or an instance.
@@ -133,7 +122,9 @@ pub(crate) fn called_advice(refused: &Refused<'_, '_>) -> Said {
                 "`{label}` is a label: jump to it with JMPC {label}, or make its lines a FUNCTION_BLOCK, and call an instance"
             )
         }
-        _ => format!(in refused.alloc; "declare the instance in VAR, such as {name} : {block};"),
+        _ => format!(in refused.alloc;
+            "declare the instance in VAR, such as {name} : {block}; to call lines of your own make them a FUNCTION_BLOCK above, and {name} an instance of it"
+        ),
     })
 }
 
@@ -142,11 +133,8 @@ pub(crate) fn called_advice(refused: &Refused<'_, '_>) -> Said {
 pub fn watched_advice(alloc: Global, units: &[Unit<'_>], name: &[u8]) -> Said {
     let word = first_word(name);
     let rest = str::from_utf8(following(name, word.len())).unwrap_or("");
-    let wanted = if word.len() < name.len() {
-        Wanted::Instance
-    } else {
-        Wanted::Value
-    };
+    let has_field = word.len() < name.len();
+    let wanted = if has_field { Wanted::Instance } else { Wanted::Value };
     let near = near_in_unit(units, word, usize::MAX, wanted)?;
     Some(format!(in alloc; "did you mean `{near}{rest}`?"))
 }
@@ -155,11 +143,7 @@ pub fn watched_advice(alloc: Global, units: &[Unit<'_>], name: &[u8]) -> Said {
 fn near_label<'a>(units: &[Unit<'a>], name: &[u8], place: usize) -> Option<&'a str> {
     let lines = unit_at(units, place)?.body.iter();
     let mut labels = lines.filter_map(|line| line.label);
-    words(
-        labels
-            .find(|label| label.line as usize > place && is_near(label.text, name))?
-            .text,
-    )
+    words(labels.find(|label| label.line as usize > place && is_near(label.text, name))?.text)
 }
 
 /// What to write for a label that no line of the body has: a near one, or a line of its own.
@@ -181,11 +165,6 @@ pub(crate) fn type_advice(refused: &Refused<'_, '_>) -> Said {
     let (name, place) = (refused.token(), refused.span.start);
     let mut units = refused.units.iter();
     let unit = units.find(|unit| unit.line as usize <= place && is_near(unit.name.text, name));
-    match unit {
-        Some(unit) => likely(refused, words(unit.name.text)),
-        None => likely(
-            refused,
-            near_word("BOOL DINT TIME R_TRIG SR RS CTU TON TOF TP", name),
-        ),
-    }
+    let own = unit.and_then(|unit| words(unit.name.text));
+    likely(refused, own.or(near_word("BOOL DINT TIME R_TRIG SR RS CTU TON TOF TP", name)))
 }

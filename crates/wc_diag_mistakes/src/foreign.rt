@@ -13,12 +13,13 @@ macro_rules! rows {
 }
 
 /// Standard functions.
-const FUNCTIONS: [Row; 7] = rows! {
+const FUNCTIONS: [Row; 8] = rows! {
     b"limit" => Function "for LIMIT(lo, x, hi) write LD x, ST y, GT hi, JMPCN low; LD hi, ST y; `low:` LD y, LT lo, JMPCN done; LD lo, ST y; `done:` LD y";
     b"max" => Function "for MAX(a, b) write LD a, ST y, LT b, JMPCN done; LD b, ST y; `done:` LD y";
     b"min" => Function "for MIN(a, b) write LD a, ST y, GT b, JMPCN done; LD b, ST y; `done:` LD y";
-    b"neg" => Function "the negative of a number is LD 0, and on the next line SUB and the number";
-    b"sel mux" => Function "for SEL(g, a, b) write LD a, ST y; LD g, JMPCN done; LD b, ST y; `done:` LD y";
+    b"neg negi negd" => Function "the negative of a number is LD 0, and on the next line SUB and the number";
+    b"mux" => Function "for MUX(k, a, b, c) write LD a, ST y; LD k, EQ 1, JMPCN next; LD b, ST y; `next:` LD k, EQ 2, JMPCN done; LD c, ST y; `done:` LD y";
+    b"sel" => Function "for SEL(g, a, b) write LD a, ST y; LD g, JMPCN done; LD b, ST y; `done:` LD y";
     b"move" => Function "leave MOVE out: LD loads the value, ST on the next line names where it goes";
     b"abs sqrt expt exp ln log sin cos tan asin acos atan shl shr rol ror len left right mid concat insert find trunc"
         => Function "compute it with ADD, SUB, MUL, DIV, MOD and comparisons, or in a FUNCTION_BLOCK";
@@ -50,15 +51,18 @@ const UNITS: [Row; 3] = rows! {
 };
 
 /// Words in the place of an operator; the inputs of standard blocks the standard also writes as operators.
-const OPERATORS: [Row; 3] = rows! {
+const OPERATORS: [Row; 6] = rows! {
+    b"end be" => Worded "a PROGRAM ends with END_PROGRAM, a FUNCTION_BLOCK with END_FUNCTION_BLOCK: if that is below, delete this line";
     b"cd" => DownCounter "";
-    b"network title begin nop bld rem" => Worded "delete this line, or make it a comment, such as (* NETWORK 1 *)";
+    b"network title begin nop bld rem" => Worded "leave this out, or make it a comment, such as (* NETWORK 1 *); a label may be alone on its line";
+    b"method end_method action end_action property end_property" => Worded says "is not supported", "there are no methods and actions: make the lines a FUNCTION_BLOCK of their own above this unit, or jump over them: LD a, JMPCN skip; the lines; `skip:`";
+    b"extends implements" => Worded says "is not supported", "a block has nothing after its name: declare an instance of the other block in VAR, and call it with CAL";
     b"cu pv in pt clk s1 r1" => Worded says "is an input of a block, not an operator", "set an input in CAL, such as CAL c(CU := a): a store alone does not call the block";
 };
 
 /// Operators of other tools and languages, with what to write for each. Without these a name that is spelled almost as one of them, and does
 /// something else, would be suggested.
-const OTHERS: [Row; 44] = rows! {
+const OTHERS: [Row; 47] = rows! {
     b"ldi ldnot strn" => OtherOperator "did you mean `LDN`?";
     b"ani andi and_not andnot" => OtherOperator "did you mean `ANDN`?";
     b"adn" => OtherOperator "did you mean `ANDN`, or `AND`?";
@@ -74,11 +78,11 @@ const OTHERS: [Row; 44] = rows! {
     b"uc" => OtherOperator "did you mean `CAL`?";
     b"cc" => OtherOperator "did you mean `CALC`?";
     b"set otl" => OtherOperator "did you mean `S`? It needs an operand; for SET alone write LD TRUE";
-    b"rst res otu" => OtherOperator "did you mean `R`?";
+    b"rst res otu" => OtherOperator "did you mean `R`, of a BOOL? A CTU is reset in its call, such as CAL c(CU := a, R := b); a number is set to 0 by LD 0 and ST";
     b"clr" => OtherOperator "write LD FALSE";
     b"sn rn" => OtherOperator "S and R have no N: negate the result with NOT on the line before";
-    b"out ote" => OtherOperator "did you mean `ST`?";
-    b"mov" => OtherOperator "LD loads the value, ST on the next line names where it goes";
+    b"out ote" => OtherOperator "did you mean `ST`, to a BOOL? A timer or counter is a block: declare t : TON; or c : CTU; in VAR, and write CAL t(IN := a, PT := T#1s) or CAL c(CU := a, R := b, PV := 10)";
+    b"mov" => OtherOperator "write LD and the value, and on the next line ST and where it goes; on a condition write JMPCN skip above them, and `skip:` goes on with an LD";
     b"gtn gen eqn nen ltn" => OtherOperator "comparisons have no N: write the comparison without it, and NOT on the next line";
     b"gte geq" => OtherOperator "did you mean `GE`?";
     b"les lss" => OtherOperator "did you mean `LT`?";
@@ -87,33 +91,37 @@ const OTHERS: [Row; 44] = rows! {
     b"minus" => OtherOperator "did you mean `SUB`?";
     b"plus" => OtherOperator "did you mean `ADD`?";
     b"str" => OtherOperator "did you mean `LD`?";
-    b"cmp" => OtherOperator "to compare write GT, GE, EQ, NE, LE or LT and the operand";
-    b"var_in var_out" => OtherOperator "declarations are between VAR_INPUT, VAR_OUTPUT or VAR and END_VAR";
-    b"inc" => OtherOperator "write LD n, on the next line ADD 1, on the next ST n";
-    b"dec" => OtherOperator "write LD n, on the next line SUB 1, on the next ST n";
+    b"cmp" => OtherOperator "to compare n with 5 write LD n, and on the next line GT 5 (or GE, EQ, NE, LE, LT)";
+    b"var_in var_out var_stat var_inst" => OtherOperator "declarations are between VAR_INPUT, VAR_OUTPUT or VAR and END_VAR";
+    b"inc dec" => OtherOperator "for INC n write LD n, ADD 1, ST n, and for DEC n SUB 1 in their middle; on a condition write JMPCN skip above them, and `skip:` goes on with an LD";
     b"bea beu" => OtherOperator "did you mean `RET`?";
     b"return" => OtherOperator "RET ends the body always, RETC if the result is TRUE, RETCN if it is FALSE";
     b"beb bec" => OtherOperator "did you mean `RETC`?";
     b"cpl inv" => OtherOperator "did you mean `NOT`?";
-    b"mps mrd mpp" => OtherOperator "ST the result to a BOOL, and load it again with LD";
+    b"mps" => OtherOperator "write ST and a BOOL of your own here, and load that in place of the MRD and MPP below";
+    b"mrd mpp" => OtherOperator "write LD and the BOOL to which the result is stored in place of the MPS above";
+    b"invi invd" => OtherOperator "the bits of a number n all turned are LD -1, and on the next line SUB n";
+    b"mc mcr il ilc" => OtherOperator "there is no master control: ST the condition to a BOOL of your own above, and AND that to each result before its ST; JMPCN would leave the outputs as they are";
+    b"keep" => OtherOperator "a latch is a block: declare l : RS; in VAR, and write CAL l(S := a, R1 := b, Q1 => c): the reset wins";
     b"anb andld" => OtherOperator "write AND( and the operand in place of the LD that begins the block, and `)` in place of this line";
     b"orb orld" => OtherOperator "write OR( and the operand in place of the LD that begins the block, and `)` in place of this line";
     b"ldp andp orp fp pls" => OtherOperator "an edge is found by a block: declare e : R_TRIG; in VAR, and write CAL e(CLK := a); e.Q is TRUE for one scan";
-    b"ldf andf orf fn plf" => OtherOperator "for a falling edge call R_TRIG with the negated input: LDN a, then ST b, then CAL e(CLK := b); e.Q is TRUE for one scan";
+    b"ldf andf orf fn plf" => OtherOperator "for a falling edge of a, declare was and f as BOOL, and write LDN a, AND was, ST f; LD a, ST was: f is TRUE for one scan";
     b"stc stcn ldc ldcn sc scn rc rcn" => OtherOperator "only JMP, CAL and RET have a C: for others write JMPCN skip on the line above, and `skip:` with an LD below; S and R act only on TRUE";
-    b"zv zr fr" => OtherOperator "a counter is a block: declare c : CTU; in VAR, and write CAL c(CU := a, R := b, PV := 10); c.Q is its output; a CTU only counts up";
+    b"zv zr fr cnt cntr ctr" => OtherOperator "a counter is a block: declare c : CTU; in VAR, and write CAL c(CU := a, R := b, PV := 10); c.Q is its output; a CTU only counts up";
     b"se sd si sp sa sf sv ss tim" => OtherOperator "a timer is a block: declare t : TON; in VAR for an on-delay (SD, German SE), t : TOF; for an off-delay (SF, German SA) or t : TP; for a pulse that runs on when a falls (SE, German SV), and write CAL t(IN := a, PT := T#1s); t.Q is its output; for a pulse that ends when a falls (SP, German SI) take a TON, and LD a, ANDN t.Q is the output";
 };
 
 /// Types that this language does not have, and words that begin one.
-const TYPES: [Row; 7] = rows! {
+const TYPES: [Row; 8] = rows! {
     b"int sint uint usint udint lint ulint byte word dword lword" => Worded "use DINT, the only integer type (32 bits, signed); single bits are BOOLs";
     b"real lreal" => Worded "numbers are integers: use DINT, and count in a smaller unit";
     b"timer tonr" => Worded "timers are TON, TOF and TP; none keeps its time while IN is FALSE";
     b"counter" => Worded "a counter is a CTU, which counts up";
     b"string wstring char date tod time_of_day dt date_and_time array struct pointer" => Worded "the types are BOOL, DINT and TIME: there are no strings, dates, arrays and structures";
     b"f_trig" => Worded "for a falling edge call R_TRIG with the negated input: LDN a, then ST b, then CAL e(CLK := b)";
-    b"ctd ctud" => DownCounter "";
+    b"ctd" => DownCounter "";
+    b"ctud" => Worded "count in n : DINT, with up and down as R_TRIG: CAL up(CLK := a), CAL down(CLK := b); LD up.Q, JMPCN next; LD n, ADD 1, ST n; `next:` LD down.Q, JMPCN skip; LD n, SUB 1, ST n; `skip:` LD n, GE 10 is QU; LD n, LE 0 is QD; LD 0, ST n resets";
 };
 
 /// Fields of standard blocks, by the block that has them.
@@ -145,7 +153,7 @@ fn mistaken_conversion(word: &[u8]) -> Option<Mistake> {
     let mut others = "date ring char bcd_ _bcd".split(' ');
     mistake_among! {
         word;
-        _ if has_part(word, b"bool") => Function "with n : DINT write LD 0, ST n; LD a, JMPCN skip; LD 1, ST n; `skip:` LD n is 1 while a is TRUE, otherwise 0; a number gives a BOOL by a comparison, such as NE 0";
+        _ if has_part(word, b"bool") => Function "a number gives a BOOL by a comparison, such as NE 0; for 1 or 0 of a BOOL a, with k : DINT, write LD 0, ST k; LD a, JMPCN skip; LD 1, ST k; `skip:` LD k";
         _ if has_part(word, b"_to_time") => Function "a number cannot be converted to a TIME: write a duration, such as LD T#500ms";
         _ if has_part(word, b"time") => Conversion "";
         _ if others.any(|other| has_part(word, other.as_bytes())) => Function "the types are BOOL, DINT and TIME: there are no strings, dates and BCD numbers to convert";

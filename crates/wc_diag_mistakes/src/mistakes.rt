@@ -87,6 +87,8 @@ fn mistaken_before(refused: &Refused<'_, '_>) -> Option<Mistake> {
     mistake_among! {
         (expected, word);
         (Expected::LineEnd, Some(Keyword::Not)) if is_shape(refused.tokens.get(refused.index), Shape::Opening) => Worded "NOT takes no operand: write the lines of the parenthesis alone, from LD on, and NOT on the line below them";
+        (Expected::LineEnd | Expected::PointOrLineEnd, Some(Keyword::Not)) if is_opened => Worded "write the `(` at the end of its line, such as AND(, and on the next line LDN and the operand";
+        (Expected::LineEnd | Expected::PointOrLineEnd, Some(Keyword::Apply(_))) => Worded "an operator is no operand: write AND( n, then LE 2000, then `)`, each on a line of its own";
         (Expected::LineEnd | Expected::PointOrLineEnd, Some(Keyword::Not)) => NegatedOperand "";
         (Expected::LineEnd | Expected::PointOrLineEnd, Some(Keyword::Load(_))) if is_opened => Worded "the operand is right after the `(`, without LD, such as AND( a";
         (Expected::CommaPointOrClosing | Expected::CommaOrClosing, Some(Keyword::Not)) if is_taken => Worded "negate an output below the call: LDN t.Q, and on the next line ST a";
@@ -102,7 +104,7 @@ fn mistaken_before(refused: &Refused<'_, '_>) -> Option<Mistake> {
 fn mistaken_in_unit(token: &[u8], next: Option<&Token<'_>>, expected: Expected) -> Option<Mistake> {
     mistake_among! {
         (expected, token.first(), keyword_named(token));
-        (Expected::Field, Some(b'0'..=b'9'), _) => NoAddress "an address begins with `%`, such as %IX0.0; a DINT has no bits: bit 3 of an n that is not negative is LD n, DIV 8, MOD 2, EQ 1";
+        (Expected::Field, Some(b'0'..=b'9'), _) => NoAddress "an address begins with `%`, such as %IX0.0 for I0.0 or E0.0, %QX0.0 for Q0.0 or A0.0; there are no flags, such as M0.0: declare a BOOL in VAR; bit 3 of a DINT n that is not negative is LD n, DIV 8, MOD 2, EQ 1";
         (Expected::UnitName, _, _) => Worded "write a name after the word, such as PROGRAM Main";
         (Expected::Operand, Some(b'('), _) => Worded "only AND, OR, XOR, ADD, SUB, MUL and comparisons take a parenthesis: begin with LD and its operand, and delete the `)` that belongs to this `(`";
         (Expected::LineEnd | Expected::PointOrLineEnd | Expected::OperandOrLineEnd, Some(b')'), _) => Worded "the `)` needs a line of its own";
@@ -113,18 +115,26 @@ fn mistaken_in_unit(token: &[u8], next: Option<&Token<'_>>, expected: Expected) 
         (Expected::CommaPointOrClosing | Expected::CommaOrClosing, Some(_), _)
             if is_shape(next, Shape::Assign) || is_shape(next, Shape::Arrow) || token.starts_with(b";") => Worded "separate the parameters with commas, such as CAL t(IN := a, PT := T#1s)";
         (Expected::CommaPointOrClosing | Expected::CommaOrClosing, Some(_), _) => Worded "an input takes a variable, an address, a field or a literal: compute and store the value before the call";
+        (Expected::CommaOrColon, Some(b'+' | b'-'), _) => Worded "a name has letters, digits and underscores alone, such as valve_1";
+        (Expected::TypeName, Some(b'('), _) => Worded "the types are BOOL, DINT and TIME: for an enumeration write DINT, and 0, 1, 2 in place of its names, such as EQ 1";
+        (Expected::AssignOrSemicolon, Some(b'.'), _) => Worded "a type has no point: write TON for Standard.TON";
+        (Expected::AssignOrSemicolon, _, _) if is_among(b"r_edge f_edge", token) => Worded "an edge is found by a block: declare a : BOOL; and e : R_TRIG; and write CAL e(CLK := a); e.Q is TRUE for one scan";
         (Expected::CommaOrColon, Some(b';'), _) => Worded "a declaration names a type, such as d, e : DINT;";
+        (Expected::Semicolon, Some(b','), _) => Worded "a declaration has one initial value for all its names: for two values write two, such as x : DINT := 5; y : DINT := 7;";
         (Expected::Name | Expected::TypeName | Expected::Literal, Some(b';'), _) => Declaration "";
         (Expected::NameOrEndVar, Some(b';'), _) => Worded "delete this `;`: each declaration ends with one, and a comment is (* .. *)";
         (Expected::Literal, Some(b'('), _) => Worded "an initial value is one literal without parentheses, such as TRUE or T#5s; an instance has none: its inputs are in its CAL, such as CAL t(IN := a, PT := T#2s)";
         (Expected::Literal, _, _) => Worded "an initial value is one literal, such as TRUE, 500 or T#5s; an address is read in the lines of the PROGRAM, or passed in a CAL";
         (_, Some(b';'), _) => Worded "an instruction ends with its line, without a semicolon; a comment is (* .. *)";
+        (Expected::InstructionOrLineEnd, _, Some(Keyword::UnitEnd(_))) => Worded "a label may be alone on its line: write this word on the next line";
         (Expected::InstructionOrLineEnd, _, _) if is_type(token) => Worded "declarations go between VAR and END_VAR, before the first instruction";
-        (Expected::LineEnd | Expected::PointOrLineEnd, Some(b','), _) => Worded "write each instruction on a line of its own, without commas; an operator has one operand";
+        (Expected::LineEnd | Expected::PointOrLineEnd, Some(b','), _) if is_operator(text_of(next)) => Worded "write each instruction on a line of its own, without commas";
+        (Expected::LineEnd | Expected::PointOrLineEnd, Some(b','), _) => Worded "an operator has one operand, on a line of its own, and works on the current result: a + b is LD a, then ADD b; a > b is LD a, then GT b; ADD a, then ADD b adds both to the result above";
         (Expected::LineEnd | Expected::PointOrLineEnd, _, Some(Keyword::Load(_) | Keyword::Store(_) | Keyword::Jump(_) | Keyword::Call(_) | Keyword::Return(_))) => Worded "write each instruction on a line of its own";
+        (Expected::LineEnd | Expected::PointOrLineEnd, Some(b'&'), _) => Worded "each operator has a line of its own, with its operand: & b on the next line";
         (Expected::LineEnd | Expected::PointOrLineEnd, _, Some(Keyword::Apply(_))) => Worded "each operator has a line of its own: AND( a, then OR b, then `)`";
-        (Expected::LineEnd, Some(b'.'), _) => Worded "a name has one point at most: what a block has inside is read by its VAR_OUTPUT";
-        (Expected::LineEnd | Expected::PointOrLineEnd, Some(b'+' | b'-'), _) => Worded "an operand is computed in a parenthesis: for GE n + 20 write GE( n, then ADD 20, then `)`; for LD n + 20 write LD n, and ADD 20 on the next line";
+        (Expected::LineEnd, Some(b'.'), _) => Worded "a name has one point at most: what a block has inside is read by its VAR_OUTPUT; there are no data blocks: declare the variable in VAR";
+        (Expected::LineEnd | Expected::PointOrLineEnd, Some(b'+' | b'-'), _) => Worded "a name has no sign: write n_20 for a name n-20; to compute write LD n, and ADD 20 on the next line, for LD n + 20, and GE( n, then ADD 20, then `)` for GE n + 20";
         (Expected::LineEnd | Expected::PointOrLineEnd, Some(b'A'..=b'Z' | b'a'..=b'z' | b'%'), None) => Worded "an operator has one operand, and each instruction a line of its own";
         (Expected::Instruction | Expected::InstructionOrLineEnd, Some(b'%'), _) if is_shape(next, Shape::Assign) => Assignment "";
         (Expected::Instruction | Expected::InstructionOrLineEnd, Some(b'%'), _) => Worded "write an operator before the address, such as LD or ST";
@@ -148,6 +158,7 @@ fn mistaken_token(refused: &Refused<'_, '_>) -> Mistake {
     match mistaken_in_unit(token, refused.next(), expected) {
         Some(mistake) => mistake,
         None if matches!(keyword_named(token), Some(Keyword::Kept)) => left_out(token),
+        None if matches!(expected, Expected::InstructionOrLineEnd) => mistaken_operator(refused),
         None => Mistake::of(Case::Unknown),
     }
 }
@@ -155,7 +166,7 @@ fn mistaken_token(refused: &Refused<'_, '_>) -> Mistake {
 /// Whether a token is a comma between two digits.
 fn is_decimal_comma(refused: &Refused<'_, '_>) -> bool {
     refused.token().starts_with(b",")
-        && is_digit(text_of(refused.after().first()).first())
+        && refused.after().first().is_some_and(|token| is_digit(token.text.first()) && token.start as usize == refused.span.start.saturating_add(1))
         && is_digit(text_before(refused.before(), refused.span.start).last())
 }
 
@@ -168,6 +179,7 @@ fn mistaken_after(before: &[Token<'_>], token: &[u8], expected: Expected) -> Opt
         (Expected::Label, _, _) => Worded "a jump names a label without parentheses, which begins with a letter, such as JMPC done; `done:` begins a line below";
         (Expected::LineEnd, Some(Keyword::Jump(_)), Some(b':')) => Worded "write the label here without its colon, such as JMPC done; the line to which it leads begins with `done:`";
         (Expected::LineEnd, Some(Keyword::Return(_)), Some(b'A'..=b'Z' | b'a'..=b'z' | b'_')) => Worded "RET has no operand: for a condition write LD and the operand on the line above, and RETC alone";
+        (Expected::Operand | Expected::OperandOrOpening, _, Some(b'&')) => Worded "write a number alone, such as 500 for &500";
         (Expected::OpeningOrLineEnd, _, Some(b'.')) => Worded "CAL names the instance alone, and its inputs are in the list, such as CAL t(IN := a)";
         (Expected::Operand, _, Some(b'(')) if is_unnamed => Worded "delete the parenthesis: an input or output takes one value, such as IN := a";
         (Expected::Operand, Some(Keyword::Store(_)), Some(b'(')) => Worded "a target has no parentheses, such as ST a";
@@ -203,6 +215,9 @@ fn mistaken_on_line(refused: &Refused<'_, '_>) -> Option<Mistake> {
         (Expected::InstructionOrLineEnd, _) if is_type(refused.token()) && matches!(refused.before(), [.., word, colon, _, _, _] if colon.shape == Shape::Colon && matches!(keyword_named(word.text), Some(Keyword::SectionStart(_)))) => Worded "delete the colon after the VAR, VAR_INPUT or VAR_OUTPUT above";
         (Expected::Instruction | Expected::InstructionOrLineEnd, Some(b'(')) if !begins_unit && !matches!(keyword_named(operator_on(last_line(without_line_ends(refused.before())))), Some(Keyword::Call(_))) => Worded "a parenthesis opens on the line of its operator, such as AND( a; at the start begin with LD and its operand, without a parenthesis";
         (Expected::OperandOrOpening, Some(b'\n')) if is_shape(refused.next(), Shape::Opening) => Worded "write the `(` on the line of its operator, such as AND( a";
+        (Expected::OperandOrOpening, Some(b'\n')) if matches!(first, Some(Keyword::Apply(_))) => Worded "write the operand on this line, and no LD of it above: LD n, then GE 5000; to join the result of lines below write OR( and the operand of their LD, and `)` on a line of its own below them";
+        (Expected::LineEnd | Expected::PointOrLineEnd, Some(b'(')) if mistaken_function(before).is_some() && !is_above(refused, before) => Worded "there are no functions: write lines in its place, such as LD a, ST y, LT b, JMPCN done; LD b, ST y; `done:` LD y for the larger of a and b";
+        (Expected::Instruction, Some(b':')) if begins_unit => Worded "a unit has no type: delete this `:` and the type; what a FUNCTION_BLOCK gives is declared in VAR_OUTPUT";
         (Expected::LineEnd, Some(b'.')) if is_shape(line.last(), Shape::Closing) || keyword_named(before).is_some() => Worded "a point is only between an instance and its field: delete it, or write LD t.Q on the line below a call";
         (Expected::LineEnd, _) if is_shape(line.last(), Shape::Closing) && is_shape(refused.next(), Shape::Arrow) => Worded "outputs are in the parentheses of the call too, such as CAL t(IN := a, Q => b)";
         (Expected::LineEnd, Some(b')')) if is_shape(line.last(), Shape::Closing) && line.len() > 1 => Worded "delete this `)`: the list of the call is closed already";
@@ -223,13 +238,10 @@ fn mistaken_on_line(refused: &Refused<'_, '_>) -> Option<Mistake> {
 
 /// A mistake that an unexpected token shows by where it is, and else by itself.
 fn mistaken_at(refused: &Refused<'_, '_>) -> Mistake {
-    match mistaken_first(refused)
+    mistaken_first(refused)
         .or(mistaken_before(refused))
         .or(mistaken_on_line(refused))
-    {
-        Some(mistake) => mistake,
-        None => mistaken_token(refused),
-    }
+        .unwrap_or(mistaken_token(refused))
 }
 
 /// A mistake of a unit that is not closed or not alone, or of a list that is not closed.
@@ -268,7 +280,7 @@ fn mistaken_address(address: &[u8]) -> Option<Mistake> {
         (_, Some(b'd' | b'D')) => Worded "numbers are %ID0 (gross), %ID1 (net), %ID2 (tare) and %QD0 to %QD3";
         (_, Some(b'b' | b'B')) => Worded "there are no bytes: use bits, such as %IX0.0 and %QX0.0, or the numbers %ID0 (gross), %ID1 (net), %ID2 (tare) and %QD0 to %QD3";
         (_, Some(b'w' | b'W' | b'l' | b'L')) => Worded "there are no 16-bit words: use %ID0 (gross), %ID1 (net), %ID2 (tare) or %QD0 to %QD3";
-        _ if address.starts_with(b"%") => Worded "bits are %IX0.0 to %IX0.15, %IX1.0 to %IX1.5 and %QX0.0 to %QX0.15: bit 0 of a second output byte is %QX0.8";
+        _ if address.starts_with(b"%") => Worded "bits are %IX0.0 to %IX0.15 and %IX1.0 to %IX1.5 (inputs, also called E) and %QX0.0 to %QX0.15 (outputs, also called A): bit 0 of a second output byte is %QX0.8";
     }
 }
 
@@ -320,11 +332,12 @@ fn mistaken_undeclared(refused: &Refused<'_, '_>) -> Option<Mistake> {
     let is_number = !rest.is_empty() && rest.iter().all(|byte| byte.is_ascii_digit());
     mistake_among! {
         (name.first(), is_number);
-        _ if is_declared(refused, name) => Plain "another unit declares it, and each unit sees its own variables alone: pass it as an input or output of the block";
+        _ if is_declared(refused, name) => Plain "another unit declares it, and each unit sees its own variables alone: read an output of an instance, such as v.q, and pass a value to an input in the call";
         _ if refused.is_called() && refused.units.iter().any(|unit| is_word(unit.name.text, name)) => Worded "a PROGRAM is not called, and runs in every scan: delete this line, or make a FUNCTION_BLOCK of the lines to call, and call an instance";
         _ if block_line(refused.tokens, name).is_some() => Plain "a FUNCTION_BLOCK has no value: its results are stored to its VAR_OUTPUT, and read of an instance, such as v.q";
         _ if is_operator(name) => Worded "this is an operator: an operand is a variable, an address or a literal; to join two results write the second one in a parenthesis, such as AND( a, then OR b, then `)`";
         _ if is_among(b"on off high low yes no ture treu tru flase fasle fals", name) => Plain "a BOOL is TRUE or FALSE; a name is declared in VAR, VAR_INPUT or VAR_OUTPUT of this unit";
+        _ if is_among(b"firstscan first_scan firstcycle first_cycle p_first_cycle p_first sm0_1 m8002 initpulse", name) => Plain "no address is TRUE in the first scan alone: declare first : BOOL := TRUE; in VAR, read that, and write LD FALSE, ST first on the last lines";
         _ if is_among(b"gross net tare stable", name) => Plain "in the PROGRAM %ID0 is the gross weight, %ID1 net, %ID2 tare, and %IX1.0 is stable; a name is declared in VAR, VAR_INPUT or VAR_OUTPUT of this unit";
         _ if matches!(name, [b'i' | b'I' | b'q' | b'Q', b'd' | b'D' | b'x' | b'X', b'0'..=b'9', ..]) => Plain "in the PROGRAM an address begins with `%`, such as %ID1, %QD0 or %IX0.1; a name is declared in VAR, VAR_INPUT or VAR_OUTPUT of this unit";
         (Some(b'k' | b'K'), true) if refused.span.formal.is_some() => Worded "write a number alone, such as 500 for K500";
@@ -355,7 +368,7 @@ fn mistaken_use(refused: &Refused<'_, '_>) -> Option<Mistake> {
         406 if span.first != 0 => LabelAbove says "is the label of a line above this jump", "jumps only go forward, and the whole program runs again in each scan without one: to wait, jump ahead over the lines that wait: JMPC done; the lines; `done:`; to repeat lines write them once for each pass, or do one pass in each scan: LD n, LT 10, JMPCN done; the lines; LD n, ADD 1, ST n (n keeps its value between scans: set it to 0 only to start again); `done:` goes on with an LD";
         406 if keyword_named(token).is_some() => Worded "a label is not a reserved word: to leave the unit write RET, RETC or RETCN in place of the jump";
         409 if matches!(refused.span.case, Case::NotOfBlock(StandardBlock::Ctu)) && is_word(b"CD", refused.offending()) => DownCounter "";
-        408 if is_variable || matches!(span.case, Case::Deferred) => Worded "there is no division by a variable, and DIV and MOD take no parenthesis: divide by a literal other than 0, such as DIV 10; to compare a quotient, MUL the other side instead; for a quotient set rest and q to start, the dividend and 0, and then subtract once in each scan: LD b, LE 0, JMPC done; LD rest, LT b, JMPC done; LD rest, SUB b, ST rest; LD q, ADD 1, ST q; `done:` goes on with an LD";
+        408 if is_variable => Worded "there is no division by a variable, and DIV and MOD take no parenthesis: divide by a literal other than 0, such as DIV 10; to compare a quotient, MUL the other side instead; for a quotient set rest and q to start, the dividend and 0, and then subtract once in each scan: LD b, LE 0, JMPC done; LD rest, LT b, JMPC done; LD rest, SUB b, ST rest; LD q, ADD 1, ST q; `done:` goes on with an LD";
     }
 }
 

@@ -58,12 +58,8 @@ pub(crate) fn family_of(word: &[u8]) -> Family {
 
 /// Whether a word is an instruction that asks for a condition.
 pub(crate) fn is_conditional(word: &[u8]) -> bool {
-    match keyword_named(word) {
-        Some(Keyword::Jump(condition) | Keyword::Call(condition) | Keyword::Return(condition)) => {
-            condition != Condition::Always
-        }
-        _ => false,
-    }
+    matches!(keyword_named(word), Some(Keyword::Jump(when) | Keyword::Call(when) | Keyword::Return(when))
+        if when != Condition::Always)
 }
 
 /// The types that operators take, in words, if not every type is taken.
@@ -96,11 +92,12 @@ fn mistaken_operand(case: Case, family: Family, before: Option<Kind>) -> Option<
     mistake_among! {
         (case, family, before);
         (Case::Untaken(Kind::Time), Family::Negate, _) => Worded "load the time with LD; its negative is LD T#0s, then SUB and the time";
-        (Case::Untaken(_), Family::Negate, _) => Worded "load the number with LD; its negative is LD 0, then SUB and the number";
+        (Case::Untaken(_), Family::Negate, _) => Worded "load the number with LD; whether it is 0 is LD n, then EQ 0, and its negative is LD 0, then SUB n";
         (Case::Untaken(_), Family::StoreNegated, _) => Worded "STN stores a negated BOOL to a BOOL, such as STN %QX0.0; for the negative of a number LD 0, SUB the number, and ST";
         (Case::Untaken(_), Family::Set, _) => Worded "declare it as BOOL; or to store a number on a condition write LD a, JMPCN skip; LD 5, ST n; `skip:` goes on with an LD";
         (Case::Untaken(_), Family::Order, _) => Worded "compare with a number or a duration, such as GE 500, and AND the BOOL on the next line";
         (Case::Untaken(Kind::Bool), _, _) => CountedBool "";
+        (Case::Untaken(Kind::Time), Family::Divide, _) => DividedTime "";
         (Case::Untaken(_), Family::Multiply | Family::Divide, _) => Worded "a TIME cannot be multiplied: load the product, such as LD T#5s, and store it to a TIME variable; for milliseconds as a number use DINTs only, such as MUL 1000";
         (Case::Untaken(Kind::Dint), _, _) => Worded "compare the number in a parenthesis of this operator: for OR n and GE 500 write OR( n, then GE 500, then `)`";
         (Case::Untaken(Kind::Time), _, _) => Worded "compare the time in a parenthesis of this operator: for AND t.ET and GE T#1s write AND( t.ET, then GE T#1s, then `)`";
@@ -114,10 +111,10 @@ fn mistaken_operand(case: Case, family: Family, before: Option<Kind>) -> Option<
         (Case::Unlike(_), Family::Multiply, Some(Kind::Time)) => MultipliedTime "";
         (Case::Unlike(_), Family::Divide, Some(Kind::Time)) => DividedTime "";
         (Case::Unlike(_), _, Some(Kind::Bool)) => Worded "store a BOOL to a BOOL variable or to an output bit, such as ST %QX0.0";
-        (Case::Unlike(Kind::Bool), Family::Store | Family::StoreNegated | Family::Set, Some(Kind::Dint)) => Worded "store it to a DINT, such as %QD0, or compare it first, such as GE 500, to get a BOOL; a CAL leaves the result as it was: load the output that you want";
-        (Case::Unlike(Kind::Bool), Family::Store | Family::StoreNegated | Family::Set, Some(Kind::Time)) => Worded "store it to a TIME, or compare it first, such as GE T#500ms, to get a BOOL";
-        (Case::Unlike(_), Family::Store | Family::StoreNegated | Family::Set, Some(Kind::Time)) => StoredTimeToNumber "";
-        (Case::Unlike(_), Family::Store | Family::StoreNegated | Family::Set, Some(Kind::Dint)) => Worded "a number cannot be converted to a TIME: load a duration, such as LD T#500ms, or store to a DINT";
+        (Case::Unlike(Kind::Bool), Family::Store, Some(Kind::Dint)) => Worded "store it to a DINT, such as %QD0, or compare it first, such as GE 500, to get a BOOL; a CAL leaves the result as it was: load the output that you want";
+        (Case::Unlike(Kind::Bool), Family::Store, Some(Kind::Time)) => Worded "store it to a TIME, or compare it first, such as GE T#500ms, to get a BOOL";
+        (Case::Unlike(_), Family::Store, Some(Kind::Time)) => StoredTimeToNumber "";
+        (Case::Unlike(_), Family::Store, Some(Kind::Dint)) => Worded "a number cannot be converted to a TIME: load a duration, such as LD T#500ms, or store to a DINT";
         (Case::Unlike(_), _, Some(Kind::Time)) => ComparedTime "";
         (Case::Unlike(_), _, Some(Kind::Dint)) => ComparedNumber "";
     }
@@ -148,6 +145,7 @@ fn mistaken_without_operator(refused: &Refused<'_, '_>, before: Option<Kind>) ->
         (Case::Untaken(Kind::Dint), _, _) if is_bit(refused.token()) => TruthLiteral "";
         (Case::Untaken(Kind::Dint), _, _) if family_of(refused.operator()) == Family::Logic && is_digit(refused.token().first()) => Worded "AND, OR and XOR take BOOLs, not the bits of a number: bit 3 of an n that is not negative is LD n, DIV 8, MOD 2, EQ 1, and its lowest 3 bits (AND 16#7) are MOD 8";
         (Case::Unlike(Kind::Bool) | Case::Result, _, _) if follows_bit(refused.before()) => TruthLiteral "";
+        (Case::Result, Some(Kind::Dint), _) if is_word(b"NOT", refused.token()) => Worded "NOT takes a BOOL: compare the number first, such as NE 0; the negative of n is LD 0, then SUB n, and its bits all turned are LD -1, then SUB n";
         (Case::Closing, Some(Kind::Dint), Some(Kind::Bool)) => Worded "compare the number before the `)`, such as GE 500: a comparison gives a BOOL";
         (Case::Closing, Some(Kind::Time), Some(Kind::Bool)) => Worded "compare the time before the `)`, such as GE T#500ms: a comparison gives a BOOL";
     }
@@ -159,7 +157,7 @@ pub(crate) fn mistaken_reset(refused: &Refused<'_, '_>) -> Option<Mistake> {
     mistake_among! {
         block.filter(|_| refused.span.formal.is_none());
         Some(StandardBlock::Ton) => Worded "a TON runs while IN is TRUE at its call, and is reset by FALSE: LD a, ANDN reset, ST run, CAL t(IN := run, PT := T#1s)";
-        Some(StandardBlock::Tof | StandardBlock::Tp) => Worded "the call of a TOF or TP sets IN and PT, and its time ends it: for an earlier end write LD t.Q, ANDN reset";
+        Some(StandardBlock::Tof | StandardBlock::Tp) => Worded "its time ends a TOF or TP; a call with PT := T#0s ends a TP at once; LD t.Q, ANDN reset hides its Q while reset is TRUE";
         Some(StandardBlock::Sr | StandardBlock::Rs) => Worded "its call sets and resets it: CAL l(S1 := a, R := b) of an SR, CAL l(S := a, R1 := b) of an RS";
         Some(StandardBlock::Ctu) => Worded "a CTU counts, and is reset to a CV of 0, at its call: CAL c(CU := a, R := b, PV := 3)";
     }

@@ -23,7 +23,7 @@ pub fn text_before<'a>(before: &[Token<'a>], start: usize) -> &'a [u8] {
 pub fn mistaken_statement(word: &[u8]) -> Option<Mistake> {
     mistake_among! {
         word;
-        _ if is_among(b"if elsif else end_if", word) => Worded "this looks like Structured Text: for IF a write LD a, JMPCN skip; `skip:` is the END_IF";
+        _ if is_among(b"if elsif else end_if", word) => Worded "this looks like Structured Text: for IF a write LD a, JMPCN skip; `skip:` is the END_IF; with an ELSE, JMP done and `skip:` are the ELSE, and `done:` the END_IF";
         _ if is_among(b"for end_for while end_while repeat until", word) => Loop "this looks like Structured Text: there are no loops; write the lines once for each pass, or do one pass in each scan: LD n, LT 10, JMPCN done; the lines; LD n, ADD 1, ST n; `done:` goes on with an LD";
         _ if is_among(b"case end_case", word) => Worded "this looks like Structured Text: for each value write LD mode, EQ 1, JMPCN next1, its lines, JMP done; `next1:` begins the next value or ELSE; `done:` replaces END_CASE";
     }
@@ -45,8 +45,14 @@ fn is_given(line: &[Token<'_>]) -> bool {
         .any(|token| matches!(token.shape, Shape::Assign))
 }
 
-/// A `=`, `<` or `>` in place of something else, by the tokens before it.
-fn mistaken_sign(tokens: &[Token<'_>], byte: u8) -> Option<Mistake> {
+/// Whether signs of a comparison begin a text, and a number is after them.
+fn compares_number(text: &[u8]) -> bool {
+    let mut others = text.iter().skip_while(|byte| matches!(byte, b'=' | b'<' | b'>' | b' '));
+    matches!(others.next(), Some(b'0'..=b'9' | b'-'))
+}
+
+/// A `=`, `<` or `>` in place of something else, by the tokens before it and what begins with it.
+fn mistaken_sign(tokens: &[Token<'_>], byte: u8, rest: &[u8]) -> Option<Mistake> {
     let before = last_line(tokens);
     let has_colon = before.iter().any(|token| token.shape == Shape::Colon);
     mistake_among! {
@@ -54,8 +60,10 @@ fn mistaken_sign(tokens: &[Token<'_>], byte: u8) -> Option<Mistake> {
         (Some(Mistake { case: Case::Loop, .. }), _) => Worded "this looks like Structured Text: there are no loops; do one pass of the loop in each scan: LD n, LT 10, JMPCN done; its lines; LD n, ADD 1, ST n; `done:` goes on with an LD";
         (Some(_), b'=') => Worded "this looks like Structured Text: for IF a = 5 write LD a, EQ 5, JMPCN skip; `skip:` is the END_IF";
         (Some(_), _) => Worded "this looks like Structured Text: for IF w >= 1000 write LD w, GE 1000, JMPCN skip; `skip:` is the END_IF";
+        _ if before.is_empty() && compares_number(rest) => Worded says "is not an operator", "comparisons are words with an operand: GT, GE, LT, LE, EQ and NE, such as GE 5000";
         _ if before.is_empty() => Worded says "is not an operator", "this looks like Siemens STL (AWL): `=` is ST, ==I EQ, <>I NE, >I GT, <I LT, >=I GE and <=I LE, each comparison with its operand in place of the L before it: L 5 and ==I together are EQ 5; U or O is LD at the start and after each `=`, S or R, else AND or OR";
-        _ if is_given(before) => Worded "after `:=` comes one value: compare on lines above, such as LD a, GT b, ST c, and take c";
+        _ if is_given(before) => Worded "after `:=` comes one value: in place of c := a > b write LD a, GT b, ST c, each on a line of its own; in a call pass c then";
+        (None, b'=') if before.len() > 1 && is_among(b"s r", text_of(before.last())) => Worded "for a S= b write LD b, and on the next line S a; for a R= b LD b, and R a";
         (None, b'=') if is_of_call(before) && before.len() > 1 => Worded "an input is passed with `:=`, such as IN := a";
         (None, b'=') if has_colon => Worded "an initial value is written with `:=`, such as a : DINT := 5;";
         (None, b'=') => Worded "to store write ST, to compare EQ, NE, GT, GE, LT or LE; a call has `:=`, and a declaration is a : DINT := 5;";
@@ -93,13 +101,15 @@ fn foreign_byte(before: &[Token<'_>], rest: &[u8]) -> Option<Mistake> {
         [b'[' | b']', ..] => Worded "this language has no arrays: declare one variable for each element, such as a0, a1";
         [b'{' | b'}', ..] => Worded "delete it: this language has no pragmas; a comment is (* .. *)";
         [b'/', b'/', ..] => Worded "a comment is (* .. *)";
-        [b'*' | b'/', ..] if is_given(before) => Worded "after `:=` comes one value: write the product or quotient itself, or compute it on lines above, such as LD a, MUL b, ST c, and take c";
+        [b'*', ..] if before.iter().any(|token| is_among(b"at", token.text)) => Worded "leave out AT, and use a whole address in the lines of the PROGRAM, such as LD %IX0.0 or ST %QX0.0";
+        [b'*' | b'/', ..] if is_given(before) => Worded "after `:=` comes one value: in place of c := a * b write LD a, MUL b, ST c, each on a line of its own; in a call pass c then; an initial value is the product itself";
         [b'*', ..] if is_duration(text_of(before.last())) => Worded "a TIME cannot be multiplied: write the product, such as T#15s";
         [b'/', ..] if is_operator(text_of(before.last())) => Worded "to negate an operand write ANDN, ORN, XORN, LDN or STN";
         [b'/', ..] => Worded "to divide write DIV; a comment is (* .. *)";
         [b'*', ..] => Worded "to multiply write MUL; a comment is (* .. *)";
         [b'#', b'A'..=b'Z' | b'a'..=b'z' | b'_', ..] => Worded "write the name without the #; a # belongs to a literal, such as 16#FF or T#5s";
-        [b'#', ..] => Worded "a # belongs to a literal, such as 16#FF or T#5s";
+        [b'#', ..] => Worded "write a decimal number alone, such as 500 for #500; a # belongs to a literal, such as 16#FF or T#5s";
+        [b'@', b'A'..=b'Z' | b'a'..=b'z', ..] => Worded "no operator has an @: to do lines once at a rising edge declare e : R_TRIG in VAR, and write CAL e(CLK := a); LD e.Q, JMPCN skip; the lines; `skip:` goes on with an LD";
         [b'\r', ..] => Worded "save the file with line ends of Windows (CR LF) or Unix (LF)";
         [0, ..] => Worded "save the text as ASCII, or as UTF-8 without a byte order mark";
         [0xc2, 0xa0, ..] => NoBreakSpace says "a no-break space (U+00A0) is not allowed here", "write a space in its place";
@@ -112,7 +122,7 @@ fn foreign_byte(before: &[Token<'_>], rest: &[u8]) -> Option<Mistake> {
 /// A mistake of a byte that is not allowed at a place: these tokens are before it, and `rest` begins with it.
 pub fn mistaken_byte(before: &[Token<'_>], at: usize, rest: &[u8], case: Case) -> Option<Mistake> {
     match case {
-        Case::Byte(byte @ (b'=' | b'<' | b'>')) => mistaken_sign(before, byte),
+        Case::Byte(byte @ (b'=' | b'<' | b'>')) => mistaken_sign(before, byte, rest),
         Case::Byte(b'\'' | b'"') => mistaken_quote(before, at, rest),
         Case::Byte(_) => foreign_byte(last_line(before), rest),
         _ => None,
@@ -155,7 +165,7 @@ pub fn mistaken_number(
         _ if is_duration(text_before(tokens, start)) => Worded "write a sum of durations as one, such as T#1s500ms; compute one with a variable on lines above, and store it";
         _ if is_name(text_before(tokens, start)) => SignAlone "a name has letters, digits and underscores alone, such as start_button; a sign is right before its digits";
         (Case::SignAlone, _) if token.starts_with(b"-") && rest.starts_with(b">") => Worded "an output is read with =>, such as Q => a";
-        (Case::SignAlone, _) if is_given(line) => SignAlone "after `:=` comes one value: write the sum itself, or compute it on lines above, such as LD a, ADD b, ST c, and take c";
+        (Case::SignAlone, _) if is_given(line) => SignAlone "after `:=` comes one value: in place of c := a + b write LD a, ADD b, ST c, each on a line of its own; in a call pass c then; an initial value is the sum itself";
         (Case::SignAlone, Some(Keyword::Apply(_))) if line.len() > 1 => SignAlone "an operand is computed in a parenthesis: for GE n + 20 write GE( n, then ADD 20, then `)`";
         (Case::WithPoint, _) if token.windows(2).any(|pair| pair.starts_with(b"..")) => Worded says "is a range, and there are no ranges", "leave the range out: a DINT is -2147483648 to 2147483647";
         (Case::WithPoint, _) if is_among(b"mul div mod", before) => Worded "write a factor with whole numbers: for MUL 0.5 write MUL 1, and DIV 2 on the next line";

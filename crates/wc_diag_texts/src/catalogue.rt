@@ -246,7 +246,7 @@ fn body_entry(number: u16) -> Option<&'static Entry>
             mended "PROGRAM P" "VAR full : BOOL; END_VAR" "LD %IX0.0" "ST full" "LD full" "ST %QX0.0" "END_PROGRAM";
         402 "verify": "the types do not match"
             at "the line of the instruction, or of the )", "PROGRAM P / LDN 1 / END_PROGRAM" => 2,
-            help "a comparison gives a BOOL, such as GE 500; ST takes a variable of the type of the current result",
+            help "begin with LD to go on with another value; a comparison gives a BOOL, such as GE 500; ST takes a variable of the type of the current result",
             wrong "PROGRAM P" "LD %ID1" "AND %IX1.5" "ST %QX0.0" "END_PROGRAM"
             why "nothing is converted: a weight is a number, and only a comparison makes a BOOL of it" rule "6"
             mended "PROGRAM P" "LD %ID1" "GE 500" "AND %IX1.5" "ST %QX0.0" "END_PROGRAM";

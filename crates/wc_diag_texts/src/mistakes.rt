@@ -101,7 +101,7 @@ fn reading_words(number: u16, case: Case) -> Words {
         201, Case::Closing => "", "the `)` needs a line of its own";
         201, Case::NoUnit => "", "begin with PROGRAM and a name; then come VAR .. END_VAR, the instructions and END_PROGRAM";
         201, Case::AfterProgram => "", "nothing is allowed after the END_PROGRAM of the program";
-        201, Case::NegatedOperand => "", "to negate the operand write ANDN, ORN, XORN, LDN or STN; NOT alone negates the result";
+        201, Case::NegatedOperand => "", "to negate the operand write ANDN, ORN, XORN, LDN or STN; NOT alone negates the result, and JMPCN jumps if it is FALSE";
         201, Case::LabelWithoutColon => "", "a label ends with a colon, such as skip:";
         201, Case::InstanceCall => "", "a call begins with CAL, such as CAL t(IN := a, PT := T#1s)";
         201, Case::StatementList => "", "this looks like Siemens STL (AWL): U, A or O is LD at the start and after each `=`, S or R, else AND or OR (UN: LDN, ANDN), X is XOR, L is LD; `=` and T are ST; +I is ADD, >=I is GE";
@@ -112,11 +112,11 @@ fn reading_words(number: u16, case: Case) -> Words {
         201, Case::Conversion => NO_FUNCTION, counting_seconds!("there are no conversions: compare a TIME with a TIME, such as GE T#15s");
         201, Case::DownCounter => "", counting_down!();
         201, Case::OpenSection => "", "close the section of declarations with END_VAR before the first instruction";
-        201, Case::LeftOut => "is not supported", "write a FUNCTION_BLOCK .. END_FUNCTION_BLOCK with a VAR_OUTPUT, ST the result to that, and call an instance with CAL";
+        201, Case::LeftOut => "is not supported", "write a FUNCTION_BLOCK (one word, with no type after its name) .. END_FUNCTION_BLOCK with a VAR_OUTPUT, ST the result to that, and call an instance with CAL";
         201, Case::LineEnd => "the line cannot end here", "";
         203, Case::UnitWord => "there is a unit after the PROGRAM", "";
         206, Case::Closing => "no parenthesis is open here", "delete this `)`, or write an opening one above, such as AND( a";
-        206, _ => "", "write `)` on a line of its own after the last operand, above the ST that takes the result";
+        206, _ => "", "write `)` on a line of its own after the last operand that belongs inside, at the latest above the ST that takes the result";
         208, Case::UnitWord => "there are more than 64 units", "";
     }
 }
@@ -130,17 +130,17 @@ fn declared_words(number: u16, case: Case) -> Words {
         401..=409, Case::NotOfBlock(StandardBlock::Tp) => "", "TP has the inputs IN and PT (:=) and the outputs Q and ET (=>)";
         401..=409, Case::NotOfBlock(StandardBlock::Ctu) => "", "CTU has the inputs CU, R and PV (:=) and the outputs Q and CV (=>)";
         401..=409, Case::NotOfBlock(StandardBlock::RTrig) => "", "R_TRIG has the input CLK (:=) and the output Q (=>)";
-        401..=409, Case::NotOfBlock(StandardBlock::Sr) => "", "SR has the inputs S1 and R (:=) and the output Q1 (=>)";
-        401..=409, Case::NotOfBlock(StandardBlock::Rs) => "", "RS has the inputs S and R1 (:=) and the output Q1 (=>)";
+        401..=409, Case::NotOfBlock(StandardBlock::Sr) => "", "SR has the inputs S1 and R (:=), of which S1 wins, and the output Q1 (=>); RS has S and R1, of which R1 wins";
+        401..=409, Case::NotOfBlock(StandardBlock::Rs) => "", "RS has the inputs S and R1 (:=), of which R1 wins, and the output Q1 (=>); SR has S1 and R, of which S1 wins";
         302 | 409, Case::DownCounter => "", counting_down!();
         306, Case::Variable => "is one variable more than the 256 that a unit may have", "";
-        401, Case::Field => "is not an input or output of a declared instance", "before the dot comes an instance that VAR declares, after it an output, such as t.Q; there are no global variables";
+        401, Case::Field => "is not an input or output of a declared instance", "";
         401, Case::BlockType => "is the name of a type, not of an instance", "";
         403, Case::Plain => "there is no current result", "begin with LD: no line that leads here has loaded a value";
         404, Case::LiteralTarget => "", "the target is a variable or an output, such as ST a, or Q => a in a call; LD loads the value";
         404, _ => "", "an input is set by the caller: copy it to a variable in VAR, and change the copy";
         405, _ => "", "store the value of an input in a variable of your own, pass that, and read it; of a block of the text declare in VAR_OUTPUT what is to be read";
-        408, Case::Deferred => "takes no parenthesis", "DIV and MOD take an integer literal, such as DIV 10; DIV( and MOD( do not exist";
+        408, Case::Deferred => "takes no parenthesis", "";
         409, Case::InputArrow => "is an input of this block, and `=>` reads an output", "an input is passed with :=, such as IN := a";
         409, Case::OutputAssigned => "is an output of this block, and `:=` passes an input", "an output is read with =>, such as Q => a";
     }
@@ -156,7 +156,7 @@ fn kind_words(number: u16, case: Case) -> Words {
         402, Case::StoredTimeToNumber => "", counting_seconds!("a TIME cannot be converted: store it to a TIME variable");
         402, Case::ComparedNumber => "", "compare the number first, such as NE 0 or GE 500: a comparison gives a BOOL; to use the number below, ST it before the comparison and LD it again";
         402, Case::ComparedTime => "", "compare the time first, such as GE T#500ms: a comparison gives a BOOL; to use the time below, ST it before the comparison and LD it again";
-        402, Case::CountedBool => "", "a BOOL cannot be converted to a number: with n : DINT write LD 0, ST n; LD a, JMPCN skip; LD 1, ST n; `skip:` LD n is 1 while a is TRUE, otherwise 0; to count pulses write CAL c(CU := a), with c : CTU, and LD c.CV";
+        402, Case::CountedBool => "", "a BOOL cannot be converted to a number: begin with LD to go on with a number; to add 1 to n if a is TRUE write LD a, JMPCN skip; LD n, ADD 1, ST n; `skip:` goes on with an LD; to count pulses write CAL c(CU := a), with c : CTU, and LD c.CV; for 1 or 0, with k : DINT, write LD 0, ST k; LD a, JMPCN done; LD 1, ST k; `done:` LD k";
         402, Case::OrderedBool => "", "BOOLs have no GT, GE, LE or LT: for a second comparison of n write AND( n, then LE 900, then `)`; for another one begin with LD and its number";
         402, Case::MultipliedTime => "", "a TIME cannot be multiplied: write the product as a duration, such as T#15s, or ADD the time several times";
         402, Case::DividedTime => "", counting_seconds!("a TIME cannot be divided: compare it, such as GE T#15s");
