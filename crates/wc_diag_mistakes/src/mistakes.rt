@@ -60,18 +60,15 @@ fn is_above(refused: &Refused<'_, '_>, word: &[u8]) -> bool {
 
 /// Whether a word may be a label: a jump above leads to it, and nothing is after it on its line, an operator or a `;`.
 fn is_label(refused: &Refused<'_, '_>) -> bool {
-    let next = refused.after().first();
+    let (label, next) = (refused.token(), refused.after().first());
     let is_end = is_shape(next, Shape::LineEnd) || is_shape(next, Shape::Semicolon);
     let is_whole = next.is_none() || is_end || is_operator(text_of(next));
-    is_whole && has_jump(refused.before(), refused.token())
-}
-
-/// Whether some tokens have a jump to a label.
-fn has_jump(tokens: &[Token<'_>], label: &[u8]) -> bool {
-    tokens.windows(2).any(|pair| {
-        is_word(label, text_of(pair.last()))
-            && matches!(keyword_named(text_of(pair.first())), Some(Keyword::Jump(_)))
-    })
+    let mut pairs = refused.before().windows(2);
+    is_whole
+        && pairs.any(|pair| {
+            is_word(label, text_of(pair.last()))
+                && matches!(keyword_named(text_of(pair.first())), Some(Keyword::Jump(_)))
+        })
 }
 
 /// A mistake that the words before an unexpected token show.
@@ -163,10 +160,11 @@ fn mistaken_token(refused: &Refused<'_, '_>) -> Mistake {
     }
 }
 
-/// Whether a token is a comma between two digits.
+/// Whether a token is a comma between two digits, without spaces.
 fn is_decimal_comma(refused: &Refused<'_, '_>) -> bool {
+    let (next, place) = (refused.after().first(), refused.span.start.saturating_add(1));
     refused.token().starts_with(b",")
-        && refused.after().first().is_some_and(|token| is_digit(token.text.first()) && token.start as usize == refused.span.start.saturating_add(1))
+        && next.is_some_and(|it| is_digit(it.text.first()) && it.start as usize == place)
         && is_digit(text_before(refused.before(), refused.span.start).last())
 }
 

@@ -58,8 +58,11 @@ pub(crate) fn family_of(word: &[u8]) -> Family {
 
 /// Whether a word is an instruction that asks for a condition.
 pub(crate) fn is_conditional(word: &[u8]) -> bool {
-    matches!(keyword_named(word), Some(Keyword::Jump(when) | Keyword::Call(when) | Keyword::Return(when))
-        if when != Condition::Always)
+    matches!(
+        keyword_named(word),
+        Some(Keyword::Jump(when) | Keyword::Call(when) | Keyword::Return(when))
+            if when != Condition::Always
+    )
 }
 
 /// The types that operators take, in words, if not every type is taken.
