@@ -3,8 +3,7 @@ ghost use Rattle.wc_diag_further.specs.Mended.{IsMended, blank_of};
 
 use crate::marks::{Mark, Marks};
 
-/// Bytes of a text that are taken out: the first of them, counted from 0, their number, the lines of the first and the last, and what
-/// they are.
+/// Bytes that are taken out: the first, counted from 0, their number, the lines of the first and the last, and what they are.
 #[derive(Clone, Copy)]
 pub(crate) struct Blank {
     pub(crate) start: usize,

@@ -69,15 +69,49 @@ impl<'a> TakenOut<'a> {
             token.shape == Shape::Identifier && self.names.get(&Key { text: token.text }).is_some()
         })
     }
+
+    /// Takes each instruction with one of these names among its operands.
+    fn take_named(&mut self, lines: &[LogicalLine<'a, '_>]) -> Result<(), AllocError> {
+        for line in lines.iter().filter(|line| line.region == Region::Body) {
+            let some = line.after_label();
+            if self.is_named(some.get(1..).unwrap_or(&[])) {
+                self.take(some, 0, Mark::Taken)?;
+            }
+        }
+        Ok(())
+    }
 }
 
 /// Those of the tokens of a logical line that are on these lines of the text.
 fn on_lines<'a, 't>(some: &'t [Token<'a>], first: u32, last: u32) -> &'t [Token<'a>] {
-    slice(
-        some,
-        above(some, first),
-        above(some, last.saturating_add(1)),
-    )
+    let end = above(some, last.saturating_add(1));
+    slice(some, above(some, first), end)
+}
+
+/// Takes each parenthesis that is not closed out of an instruction, with the word before it and the rest of its line. Of a fault on
+/// another line nothing is taken out, but it is known.
+fn take_unpaired<'a>(
+    taken: &mut TakenOut<'a>,
+    some: &[Token<'a>],
+    faulty: Faulty<'_>,
+) -> Result<(), AllocError> {
+    let number = faulty.line.unwrap_or(0);
+    taken.take(on_lines(some, number, number), usize::MAX, Mark::Taken)?;
+    let (mut closings, mut end) = (0_usize, some.len());
+    for (index, token) in some.iter().enumerate().rev() {
+        match token.shape {
+            Shape::LineEnd => end = index,
+            Shape::Closing => closings = closings.saturating_add(1),
+            Shape::Opening if closings > 0 => closings = closings.saturating_sub(1),
+            Shape::Opening => {
+                let start = index.saturating_sub(1);
+                taken.take(slice(some, start, end), 0, Mark::Unpaired)?;
+                end = start;
+            }
+            _ => {}
+        }
+    }
+    Ok(())
 }
 
 /// What is taken out of an instruction, and the parenthesis that ends it, if it is taken out alone: of one in parentheses a line inside,
@@ -103,7 +137,6 @@ fn parts_of<'a, 't>(
     match faulty.number {
         201 if !line.is_closed => (here, none),
         201 if is_framed && is_shape(closing.first(), Shape::Closing) => (here, closing),
-        204..=207 if !line.is_closed => (on_lines(some, 0, line.first), none),
         204..=207 => (some, none),
         _ if is_inner => (here, none),
         _ => (some, none),
@@ -127,6 +160,9 @@ fn take_instruction<'a>(
         return taken.take(label, 0, Mark::Unlabelled);
     }
     let is_call = matches!(word, Some(Keyword::Call(_)));
+    if !line.is_closed && !is_call && faulty.number != 201 {
+        return take_unpaired(taken, line.after_label(), faulty);
+    }
     let (part, closing) = parts_of(line, faulty, is_call);
     let is_lone = part.len() == line.after_label().len() && line.is_closed && faulty.line.is_some();
     let is_aside = match word {
@@ -134,20 +170,15 @@ fn take_instruction<'a>(
         Some(Keyword::Call(condition)) => condition == Condition::Always,
         _ => false,
     };
-    let is_unpaired = !line.is_closed && !is_call && faulty.number != 201;
-    let is_word = is_shape(part.first(), Shape::Identifier);
     // a word that is no operator may be a label whose colon is missing
     if faulty.number < 300 && is_lone && !is_operator(text_of(part.first())) {
         taken.keep_names(part.get(..1).unwrap_or(&[]))?;
     }
-    let mark = if faulty.number == 206 || is_unpaired {
-        Mark::Unpaired
-    } else if faulty.number < 300 && !is_word {
-        Mark::Unlabelled
-    } else if is_lone && is_aside {
-        Mark::Aside
-    } else {
-        Mark::Taken
+    let mark = match faulty.number {
+        206 => Mark::Unpaired,
+        0..=299 if !is_shape(part.first(), Shape::Identifier) => Mark::Unlabelled,
+        _ if is_lone && is_aside => Mark::Aside,
+        _ => Mark::Taken,
     };
     taken.take(part, 0, mark)?;
     taken.take(closing, 0, mark)
@@ -202,6 +233,9 @@ fn take_faulty<'a>(
     let is_cut = faulty.line.is_some();
     let is_here = faulty.is_on(line.first, line.last);
     let is_before = is_cut && faulty.number < 300 && faulty.is_on(line.first, next);
+    if !is_here && !is_before {
+        return Ok(false);
+    }
     let word = text_of(line.all.first());
     // an instruction or a section outside all units lacks the head of its unit
     let is_inside = is_cut && !taken.is_framed
@@ -238,24 +272,19 @@ pub(crate) fn taken_out(
     let mut taken = TakenOut {
         blanks: Vec::new(alloc),
         names: IndexMap::new(alloc),
-        is_framed: lines.iter().all(|line| line.region != Region::Lost),
+        is_framed: !lines.last().is_some_and(|line| line.region == Region::Lost),
     };
     for (index, line) in lines.iter().enumerate() {
-        let next = lines
-            .get(index.saturating_add(1))
-            .map_or(line.last, |next| next.first);
-        if take_faulty(&mut taken, line, next, faulty)? {
+        let next = lines.get(index.saturating_add(1)).unwrap_or(line);
+        if take_faulty(&mut taken, line, next.first, faulty)? {
             break;
         }
     }
     if taken.blanks.is_empty() && faulty.line.is_some() {
         return Ok(None);
     }
-    for line in lines {
-        let some = line.after_label();
-        if line.region == Region::Body && taken.is_named(some.get(1..).unwrap_or(&[])) {
-            taken.take(some, 0, Mark::Taken)?;
-        }
+    if !taken.names.is_empty() {
+        taken.take_named(lines)?;
     }
     Ok(Some(taken.blanks))
 }

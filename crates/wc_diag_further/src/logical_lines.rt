@@ -53,11 +53,6 @@ pub(crate) fn has(some: &[Token<'_>], shape: Shape) -> bool {
     some.iter().any(|token| token.shape == shape)
 }
 
-/// The meaning of a token that is a word.
-pub(crate) fn meaning(token: Option<&Token<'_>>) -> Option<Keyword> {
-    keyword_named(text_of(token))
-}
-
 impl<'a, 't> LogicalLine<'a, 't> {
     /// Whether it has a label.
     pub(crate) fn has_label(&self) -> bool {
@@ -74,7 +69,7 @@ impl<'a, 't> LogicalLine<'a, 't> {
 
     /// The meaning of its first word after its label.
     pub(crate) fn operator(&self) -> Option<Keyword> {
-        meaning(self.after_label().first())
+        keyword_named(text_of(self.after_label().first()))
     }
 }
 
@@ -88,7 +83,7 @@ pub(crate) fn is_foreign_section(word: &[u8]) -> bool {
 fn is_inside(line: &[Token<'_>]) -> bool {
     let (word, last) = (text_of(line.first()), text_of(line.last()));
     let (start, end) = (word.get(..3).unwrap_or(&[]), last.get(4..7).unwrap_or(&[]));
-    matches!(meaning(line.first()), Some(Keyword::Kept)) && !end.eq_ignore_ascii_case(start)
+    matches!(keyword_named(word), Some(Keyword::Kept)) && !end.eq_ignore_ascii_case(start)
 }
 
 /// The lines that are cut so far, and the one that begins at a token.
@@ -106,14 +101,15 @@ impl<'a, 't> Cutter<'a, 't> {
     fn end(&mut self, to: usize) -> Result<(), AllocError> {
         let all = slice(self.tokens, self.from, to);
         if let (Some(first), Some(last)) = (all.first(), all.last()) {
-            let is_section = self.region == Region::Section;
-            let is_ended = has(all, Shape::Semicolon);
             self.lines.push(LogicalLine {
                 region: self.region,
                 all,
                 first: first.line,
                 last: last.line,
-                is_closed: is_section && is_ended || !is_section && self.open == 0,
+                is_closed: match self.region {
+                    Region::Section => has(all, Shape::Semicolon),
+                    _ => self.open == 0,
+                },
             })?;
         }
         self.from = to;
@@ -123,24 +119,26 @@ impl<'a, 't> Cutter<'a, 't> {
 
     /// Where a word of a unit or a section can be, where it is and where what follows is; nothing if there is another token, or a label.
     fn frame_at(&self, index: usize) -> Option<(Region, Region, Region)> {
-        let token = self.tokens.get(index);
+        let word = text_of(self.tokens.get(index));
+        // all such words begin with one of these
+        let keyword = match word.first() {
+            Some(b'E' | b'e' | b'F' | b'f' | b'P' | b'p' | b'V' | b'v') => keyword_named(word),
+            _ => return None,
+        };
         let is_first = self.region == Region::Body && self.from == index;
         let start = (Region::Body, Region::Edge, Region::Section);
-        let frame = match meaning(token) {
+        let frame = match keyword {
             Some(Keyword::UnitStart(_)) => (Region::Outside, Region::Head, Region::Body),
             Some(Keyword::UnitEnd(_)) => (Region::Body, Region::Head, Region::Outside),
             Some(Keyword::SectionEnd) => (Region::Section, Region::Edge, Region::Body),
             Some(Keyword::SectionStart(_)) => start,
-            _ if is_first && is_foreign_section(text_of(token)) => start,
+            _ if is_first && is_foreign_section(word) => start,
             _ => return None,
         };
         let is_inside = self.region == Region::Outside && frame.1 == Region::Edge;
         let is_label = is_shape(self.tokens.get(index.saturating_add(1)), Shape::Colon);
-        if is_inside || is_label || self.region == Region::Lost {
-            None
-        } else {
-            Some(frame)
-        }
+        let is_other = is_inside || is_label || self.region == Region::Lost;
+        if is_other { None } else { Some(frame) }
     }
 
     /// Whether a line end ends the line: not before the semicolon of a declaration, nor inside parentheses.
@@ -153,31 +151,31 @@ impl<'a, 't> Cutter<'a, 't> {
         }
     }
 
-    /// Takes a token. A word of a unit or a section ends the line before it, and what follows is in another part.
-    fn take(&mut self, index: usize) -> Result<(), AllocError> {
-        let (token, after) = (self.tokens.get(index), index.saturating_add(1));
+    /// Takes a token of that shape. A word of a unit or a section ends the line before it, and what follows is in another part.
+    fn take(&mut self, index: usize, shape: Shape) -> Result<(), AllocError> {
+        let after = index.saturating_add(1);
         if let Some((at, own, then)) = self.frame_at(index) {
             self.end(index)?;
             if self.region != at {
                 self.region = Region::Lost;
                 return Ok(());
             }
-            let is_kept = matches!(meaning(self.tokens.get(after)), Some(Keyword::Kept));
-            let more = if at == Region::Outside || is_kept {
-                1
-            } else {
-                0
-            };
+            let next = keyword_named(text_of(self.tokens.get(after)));
+            let is_long = at == Region::Outside || matches!(next, Some(Keyword::Kept));
+            let length = if is_long { 2 } else { 1 };
             self.region = own;
-            self.end(after.saturating_add(more))?;
+            self.end(index.saturating_add(length))?;
             self.region = then;
-        } else if is_shape(token, Shape::Opening) {
-            self.open = self.open.saturating_add(1);
-        } else if is_shape(token, Shape::Closing) {
-            self.open = self.open.saturating_sub(1);
-        } else if is_shape(token, Shape::LineEnd) && self.ends_at(index) {
-            self.end(index)?;
-            self.from = self.from.max(after);
+            return Ok(());
+        }
+        match shape {
+            Shape::Opening => self.open = self.open.saturating_add(1),
+            Shape::Closing => self.open = self.open.saturating_sub(1),
+            Shape::LineEnd if self.ends_at(index) => {
+                self.end(index)?;
+                self.from = self.from.max(after);
+            }
+            _ => {}
         }
         Ok(())
     }
@@ -195,8 +193,8 @@ pub(crate) fn logical_lines<'a, 't>(
         from: 0,
         open: 0,
     };
-    for index in 0..tokens.len() {
-        cutter.take(index)?;
+    for (index, token) in tokens.iter().enumerate() {
+        cutter.take(index, token.shape)?;
     }
     cutter.end(tokens.len())?;
     Ok(cutter.lines)
