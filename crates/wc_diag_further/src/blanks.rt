@@ -3,18 +3,13 @@ ghost use Rattle.wc_diag_further.specs.Mended.{IsMended, blank_of};
 
 use crate::marks::{Mark, Marks};
 
-/// Bytes of a text that are taken out.
+/// Bytes that are taken out: the first, counted from 0, their number, the lines of the first and the last, and what they are.
 #[derive(Clone, Copy)]
 pub(crate) struct Blank {
-    /// The first of them, counted from 0.
     pub(crate) start: usize,
-    /// Their number.
     pub(crate) length: usize,
-    /// The line of the first, counted from 1.
     pub(crate) first: u32,
-    /// The line of the last.
     pub(crate) last: u32,
-    /// What they are.
     pub(crate) mark: Mark,
 }
 

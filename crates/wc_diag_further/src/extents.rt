@@ -1,27 +1,20 @@
 use crate::blanks::Blank;
-use crate::logical_lines::{LogicalLine, Region};
+use crate::logical_lines::{LogicalLine, Region, above, before, has, is_foreign_section, slice};
 use crate::marks::{Mark, Marks};
 use indexmap::IndexMap;
 use std::alloc::{AllocError, Global};
-use wc_built_in::{Keyword, keyword_named};
+use wc_built_in::{Keyword, is_reserved};
 use wc_diag_stops::{is_operator, is_shape, text_of};
 use wc_lexer::{Shape, Token};
+use wc_model::Condition;
 use wc_names::Key;
 
-/// The tokens that are taken out of a line, and those of its names that are then unknown.
-#[derive(Clone, Copy)]
-struct Extent {
-    from: usize,
-    to: usize,
-    names: usize,
-    mark: Mark,
-}
-
-/// What is taken out of a text.
+/// What is taken out of a text, the names that are then unknown, and whether each unit and each section begins and ends.
 #[derive(Drop)]
 struct TakenOut<'a> {
     blanks: Vec<Blank>,
     names: IndexMap<Key<'a>, bool>,
+    is_framed: bool,
 }
 
 /// Which lines a fault is on: one, or those that are marked.
@@ -37,246 +30,261 @@ impl<'m> Faulty<'m> {
     fn is_on(&self, first: u32, last: u32) -> bool {
         match self.line {
             Some(line) => first <= line && line <= last,
-            None => self.marks.any_uncut(first, last),
+            None => self.marks.has(first, last, Mark::Uncut),
         }
     }
-
-    /// Whether the text was not read.
-    fn is_unread(&self) -> bool {
-        self.number < 300
-    }
-}
-
-/// The token after the last one on a line of the text, of those of a logical line.
-fn end_on(tokens: &[Token<'_>], line: &LogicalLine, number: u32) -> usize {
-    let rest = tokens.get(line.from..line.to).unwrap_or(&[]);
-    let count = rest.iter().take_while(|token| token.line <= number).count();
-    line.from.saturating_add(count)
-}
-
-/// Whether a line of a body is a declaration, so that the word of its section is missing.
-fn is_declaration(tokens: &[Token<'_>], line: &LogicalLine) -> bool {
-    is_shape(tokens.get(line.to.saturating_sub(1)), Shape::Semicolon)
-        && (line.has_label(tokens)
-            || is_shape(tokens.get(line.from.saturating_add(1)), Shape::Comma))
-}
-
-/// Whether a line calls a block: its list may be open to the end of the text.
-fn calls(tokens: &[Token<'_>], line: &LogicalLine) -> bool {
-    let first = tokens.get(line.after_label(tokens));
-    matches!(keyword_named(text_of(first)), Some(Keyword::Call(_)))
-}
-
-/// Whether what is taken out may have a label whose name is not seen: it has a colon, or does not begin with a word.
-fn may_have_label(tokens: &[Token<'_>]) -> bool {
-    !is_shape(tokens.first(), Shape::Identifier)
-        || tokens.iter().any(|token| token.shape == Shape::Colon)
-}
-
-/// What is taken out of a line of a body: the label stays, if it can.
-fn extent_in_body(tokens: &[Token<'_>], line: &LogicalLine, faulty: Faulty<'_>) -> Option<Extent> {
-    if faulty.is_unread() && is_declaration(tokens, line)
-        || !line.is_closed && !calls(tokens, line)
-    {
-        return None;
-    }
-    let to = match faulty.line {
-        Some(number) if !line.is_closed => end_on(tokens, line, number),
-        _ => line.to,
-    };
-    let (from, after) = (line.from, line.after_label(tokens));
-    let rest = tokens.get(after..to).unwrap_or(&[]);
-    let mark = if faulty.is_unread() && may_have_label(rest) {
-        Mark::Unlabelled
-    } else {
-        Mark::Taken
-    };
-    // a word that is no operator may be a label whose colon is missing
-    let is_word = faulty.is_unread() && after == from && !is_operator(text_of(tokens.get(from)));
-    Some(match faulty.number {
-        307 | 407 if after > from => Extent {
-            from,
-            to: after,
-            names: 1,
-            mark: Mark::Unlabelled,
-        },
-        _ => Extent {
-            from: after,
-            to,
-            names: if is_word { 1 } else { 0 },
-            mark,
-        },
-    })
-}
-
-/// What is taken out of a declaration, with the names in it. A section that is not ended goes on with instructions.
-fn extent_in_section(
-    tokens: &[Token<'_>],
-    line: &LogicalLine,
-    faulty: Faulty<'_>,
-) -> Option<Extent> {
-    let next = tokens.get(line.from.saturating_add(1));
-    let is_declaration = is_shape(next, Shape::Colon) || is_shape(next, Shape::Comma);
-    if is_operator(text_of(tokens.get(line.from))) && !is_declaration {
-        return None;
-    }
-    Some(Extent {
-        from: line.from,
-        to: line.to,
-        names: line.to.saturating_sub(line.from),
-        mark: if matches!(faulty.number, 302 | 303 | 308) {
-            Mark::Taken
-        } else {
-            Mark::Unnamed
-        },
-    })
 }
 
 impl<'a> TakenOut<'a> {
-    /// Takes tokens out.
-    fn take(&mut self, tokens: &[Token<'a>], extent: Extent) -> Result<(), AllocError> {
-        let some = tokens.get(extent.from..extent.to).unwrap_or(&[]);
+    /// Takes tokens out, but for the first bytes. With a colon there may be a label among them.
+    fn take(&mut self, some: &[Token<'a>], skipped: usize, mark: Mark) -> Result<(), AllocError> {
         let (Some(first), Some(last)) = (some.first(), some.last()) else {
             return Ok(());
         };
-        let (start, end) = (first.start as usize, last.start as usize);
+        let start = (first.start as usize).saturating_add(skipped);
+        let is_labelled = mark == Mark::Taken && has(some, Shape::Colon);
         self.blanks.push(Blank {
             start,
-            length: end.saturating_sub(start).saturating_add(last.text.len()),
+            length: (last.start as usize)
+                .saturating_add(last.text.len())
+                .saturating_sub(start),
             first: first.line,
             last: last.line,
-            mark: extent.mark,
+            mark: if is_labelled { Mark::Unlabelled } else { mark },
         })?;
         Ok(())
     }
 
     /// Keeps the names among some tokens.
-    fn keep_names(&mut self, tokens: &[Token<'a>]) -> Result<(), AllocError> {
-        for token in tokens {
-            if token.shape == Shape::Identifier {
-                self.names.insert(Key { text: token.text }, true)?;
-            }
+    fn keep_names(&mut self, some: &[Token<'a>]) -> Result<(), AllocError> {
+        for token in some.iter().filter(|token| token.shape == Shape::Identifier) {
+            self.names.insert(Key { text: token.text }, true)?;
         }
         Ok(())
     }
 
-    /// Whether one of these names is in some tokens.
-    fn is_named(&self, tokens: &[Token<'a>]) -> bool {
-        tokens.iter().any(|token| {
+    /// Whether one of these names is among some tokens.
+    fn is_named(&self, some: &[Token<'a>]) -> bool {
+        some.iter().any(|token| {
             token.shape == Shape::Identifier && self.names.get(&Key { text: token.text }).is_some()
         })
     }
-}
 
-/// Whether a section begins and ends on the line of the text that this word of it is on.
-fn is_on_one_line(tokens: &[Token<'_>], lines: &[LogicalLine], edge: &LogicalLine) -> bool {
-    let (place, _) = edge.span(tokens);
-    lines.iter().any(|line| {
-        line.region == Region::Edge && line.from != edge.from && line.span(tokens).0 == place
-    })
-}
-
-/// Takes a line with a fault out: false if what follows could not be read then.
-fn take_faulty<'a>(
-    taken: &mut TakenOut<'a>,
-    tokens: &[Token<'a>],
-    line: &LogicalLine,
-    faulty: Faulty<'_>,
-) -> Result<bool, AllocError> {
-    let extent = match line.region {
-        Region::Section => extent_in_section(tokens, line, faulty),
-        Region::Body => extent_in_body(tokens, line, faulty),
-        // an instruction outside all units lacks the head of its unit
-        Region::Outside if !is_operator(text_of(tokens.get(line.from))) => Some(Extent {
-            from: line.from,
-            to: line.to,
-            names: 0,
-            mark: Mark::Taken,
-        }),
-        _ => None,
-    };
-    let Some(extent) = extent else {
-        return Ok(false);
-    };
-    taken.take(tokens, extent)?;
-    let names = extent.from..extent.from.saturating_add(extent.names);
-    taken.keep_names(tokens.get(names).unwrap_or(&[]))?;
-    Ok(true)
-}
-
-/// Takes a line out if a fault is on it: false if what follows could not be read then. A declaration that is not ended is refused
-/// at what follows it.
-fn take_at<'a>(
-    taken: &mut TakenOut<'a>,
-    tokens: &[Token<'a>],
-    lines: &[LogicalLine],
-    index: usize,
-    faulty: Faulty<'_>,
-) -> Result<bool, AllocError> {
-    let Some(line) = lines.get(index) else {
-        return Ok(true);
-    };
-    let (first, last) = line.span(tokens);
-    let is_open = line.region == Region::Section
-        && !line.is_closed
-        && faulty.is_unread()
-        && faulty.line.is_some();
-    if line.region == Region::Edge && faulty.is_on(first, last) {
-        return Ok(
-            !faulty.is_unread() || is_on_one_line(tokens, lines, line) || !taken.blanks.is_empty(),
-        );
+    /// Takes each instruction with one of these names among its operands.
+    fn take_named(&mut self, lines: &[LogicalLine<'a, '_>]) -> Result<(), AllocError> {
+        for line in lines.iter().filter(|line| line.region == Region::Body) {
+            let some = line.after_label();
+            if self.is_named(some.get(1..).unwrap_or(&[])) {
+                self.take(some, 0, Mark::Taken)?;
+            }
+        }
+        Ok(())
     }
-    if !is_open && !faulty.is_on(first, last) {
-        return Ok(true);
-    }
-    take_faulty(taken, tokens, line, faulty)
 }
 
-/// Takes an instruction out if one of the unknown names is among its operands. Its label stays.
-fn take_named<'a>(
+/// Those of the tokens of a logical line that are on these lines of the text.
+fn on_lines<'a, 't>(some: &'t [Token<'a>], first: u32, last: u32) -> &'t [Token<'a>] {
+    let end = above(some, last.saturating_add(1));
+    slice(some, above(some, first), end)
+}
+
+/// Takes each parenthesis that is not closed out of an instruction, with the word before it and the rest of its line. Of a fault on
+/// another line nothing is taken out, but it is known.
+fn take_unpaired<'a>(
     taken: &mut TakenOut<'a>,
-    tokens: &[Token<'a>],
-    line: &LogicalLine,
+    some: &[Token<'a>],
+    faulty: Faulty<'_>,
 ) -> Result<(), AllocError> {
-    let from = line.after_label(tokens);
-    let operands = from.saturating_add(1)..line.to;
-    let is_named = taken.is_named(tokens.get(operands).unwrap_or(&[]));
-    if line.region != Region::Body || !is_named {
+    let number = faulty.line.unwrap_or(0);
+    taken.take(on_lines(some, number, number), usize::MAX, Mark::Taken)?;
+    let (mut closings, mut end) = (0_usize, some.len());
+    for (index, token) in some.iter().enumerate().rev() {
+        match token.shape {
+            Shape::LineEnd => end = index,
+            Shape::Closing => closings = closings.saturating_add(1),
+            Shape::Opening if closings > 0 => closings = closings.saturating_sub(1),
+            Shape::Opening => {
+                let start = index.saturating_sub(1);
+                taken.take(slice(some, start, end), 0, Mark::Unpaired)?;
+                end = start;
+            }
+            _ => {}
+        }
+    }
+    Ok(())
+}
+
+/// What is taken out of an instruction, and the parenthesis that ends it, if it is taken out alone: of one in parentheses a line inside,
+/// or the lines that open and close it. A list that is not closed is taken out up to the fault.
+fn parts_of<'a, 't>(
+    line: &LogicalLine<'a, 't>,
+    faulty: Faulty<'_>,
+    is_call: bool,
+) -> (&'t [Token<'a>], &'t [Token<'a>]) {
+    let some = line.after_label();
+    let none = slice(some, 0, 0);
+    let Some(number) = faulty.line else {
+        return (some, none);
+    };
+    if is_call {
+        let end = if line.is_closed { line.last } else { number };
+        return (on_lines(some, 0, end), none);
+    }
+    let here = on_lines(some, number, number);
+    let closing = on_lines(some, line.last, line.last);
+    let is_inner = line.first < number && !has(here, Shape::Opening) && !has(here, Shape::Closing);
+    let is_framed = line.first == number && number < line.last;
+    match faulty.number {
+        201 if !line.is_closed => (here, none),
+        201 if is_framed && is_shape(closing.first(), Shape::Closing) => (here, closing),
+        204..=207 => (some, none),
+        _ if is_inner => (here, none),
+        _ => (some, none),
+    }
+}
+
+/// Takes an instruction with a fault out, without its label, if it can stay. Nothing is taken out of a declaration outside all sections.
+fn take_instruction<'a>(
+    taken: &mut TakenOut<'a>,
+    line: &LogicalLine<'a, '_>,
+    faulty: Faulty<'_>,
+) -> Result<(), AllocError> {
+    let (all, word) = (line.all, line.operator());
+    let is_typed = line.has_label() || is_shape(all.get(1), Shape::Comma);
+    if faulty.number < 300 && is_typed && is_shape(all.last(), Shape::Semicolon) {
         return Ok(());
     }
-    taken.take(
-        tokens,
-        Extent {
-            from,
-            to: line.to,
-            names: 0,
-            mark: Mark::Taken,
-        },
-    )
+    if matches!(faulty.number, 307 | 407) && line.has_label() {
+        let label = all.get(..2).unwrap_or(&[]);
+        taken.keep_names(label)?;
+        return taken.take(label, 0, Mark::Unlabelled);
+    }
+    let is_call = matches!(word, Some(Keyword::Call(_)));
+    if !line.is_closed && !is_call && faulty.number != 201 {
+        return take_unpaired(taken, line.after_label(), faulty);
+    }
+    let (part, closing) = parts_of(line, faulty, is_call);
+    let is_lone = part.len() == line.after_label().len() && line.is_closed && faulty.line.is_some();
+    let is_aside = match word {
+        Some(Keyword::Store(_)) => !matches!(faulty.number, 402 | 403 | 404),
+        Some(Keyword::Call(condition)) => condition == Condition::Always,
+        _ => false,
+    };
+    // a word that is no operator may be a label whose colon is missing
+    if faulty.number < 300 && is_lone && !is_operator(text_of(part.first())) {
+        taken.keep_names(part.get(..1).unwrap_or(&[]))?;
+    }
+    let mark = match faulty.number {
+        206 => Mark::Unpaired,
+        0..=299 if !is_shape(part.first(), Shape::Identifier) => Mark::Unlabelled,
+        _ if is_lone && is_aside => Mark::Aside,
+        _ => Mark::Taken,
+    };
+    taken.take(part, 0, mark)?;
+    taken.take(closing, 0, mark)
 }
 
-/// What is taken out of a text with these tokens, so that it is read on: each line with a fault, and each instruction with a name
-/// that is unknown then; nothing if what follows could not be read.
-pub(crate) fn taken_out<'a>(
+/// Whether the names of a declaration that can't be read are seen: each is a word before a comma or a colon.
+fn shows_names(some: &[Token<'_>]) -> bool {
+    has(some, Shape::Colon)
+        && some.iter().enumerate().all(|(index, token)| {
+            let next = some.get(index.saturating_add(1));
+            let is_last = is_shape(next, Shape::Colon) || is_shape(next, Shape::Comma);
+            let is_name = token.shape == Shape::Identifier && !is_reserved(token.text);
+            is_name || index > 0 && (!is_last || token.shape == Shape::Address)
+        })
+}
+
+/// Takes a declaration with a fault out, or at first its initial value alone. Nothing is taken out of an instruction in a section.
+fn take_declaration<'a>(
+    taken: &mut TakenOut<'a>,
+    line: &LogicalLine<'a, '_>,
+    faulty: Faulty<'_>,
+) -> Result<(), AllocError> {
+    let some = line.all;
+    let is_named = is_shape(some.get(1), Shape::Colon) || is_shape(some.get(1), Shape::Comma);
+    if is_operator(text_of(some.first())) && !is_named {
+        return Ok(());
+    }
+    let (from, to) = (before(some, Shape::Assign), before(some, Shape::Semicolon));
+    let is_cut = faulty.line.is_some();
+    let least = if is_cut { Mark::Aside } else { Mark::Unnamed };
+    let was_taken = faulty.marks.any(line.first, line.last, least);
+    let is_alone = line.first == line.last && from < to && to.saturating_add(1) == some.len();
+    if matches!(faulty.number, 201 | 303) && is_alone && !was_taken {
+        return taken.take(some.get(from..to).unwrap_or(&[]), 0, Mark::Aside);
+    }
+    let is_sure = match faulty.number {
+        201 => is_cut && !was_taken && shows_names(some),
+        number => number != 307,
+    };
+    taken.keep_names(some)?;
+    taken.take(some, 0, if is_sure { Mark::Taken } else { Mark::Unnamed })
+}
+
+/// Takes a line out if a fault is on it, before the line of the text that the next one begins on: whether it is the beginning of a
+/// section, which is refused at what follows it, as a declaration that is not ended.
+fn take_faulty<'a>(
+    taken: &mut TakenOut<'a>,
+    line: &LogicalLine<'a, '_>,
+    next: u32,
+    faulty: Faulty<'_>,
+) -> Result<bool, AllocError> {
+    let is_cut = faulty.line.is_some();
+    let is_here = faulty.is_on(line.first, line.last);
+    let is_before = is_cut && faulty.number < 300 && faulty.is_on(line.first, next);
+    if !is_here && !is_before {
+        return Ok(false);
+    }
+    let word = text_of(line.all.first());
+    // an instruction or a section outside all units lacks the head of its unit
+    let is_inside = is_cut && !taken.is_framed
+        || is_operator(word)
+        || matches!(line.operator(), Some(Keyword::SectionStart(_)));
+    match line.region {
+        Region::Edge if is_before && (line.all.len() > 1 || is_foreign_section(word)) => {
+            // VAR stays
+            taken.take(line.all, 3, Mark::Taken)?;
+            return Ok(true);
+        }
+        Region::Section if is_here || is_before && !line.is_closed => {
+            take_declaration(taken, line, faulty)?
+        }
+        Region::Body if is_here => take_instruction(taken, line, faulty)?,
+        Region::Outside if faulty.is_on(line.first, line.first) && !is_inside => {
+            if is_cut && is_foreign_section(word) {
+                taken.keep_names(line.all)?;
+            }
+            taken.take(line.all, 0, Mark::Taken)?
+        }
+        _ => {}
+    }
+    Ok(false)
+}
+
+/// What is taken out of a text with these lines, so that it is read on: each with a fault, and each instruction with a name that is
+/// unknown then; nothing if what follows could not be read.
+pub(crate) fn taken_out(
     alloc: Global,
-    tokens: &[Token<'a>],
-    lines: &[LogicalLine],
+    lines: &[LogicalLine<'_, '_>],
     faulty: Faulty<'_>,
 ) -> Result<Option<Vec<Blank>>, AllocError> {
     let mut taken = TakenOut {
         blanks: Vec::new(alloc),
         names: IndexMap::new(alloc),
+        is_framed: !lines.last().is_some_and(|line| line.region == Region::Lost),
     };
-    for index in 0..lines.len() {
-        if !take_at(&mut taken, tokens, lines, index, faulty)? {
-            return Ok(None);
+    for (index, line) in lines.iter().enumerate() {
+        let next = lines.get(index.saturating_add(1)).unwrap_or(line);
+        if take_faulty(&mut taken, line, next.first, faulty)? {
+            break;
         }
     }
     if taken.blanks.is_empty() && faulty.line.is_some() {
         return Ok(None);
     }
-    for line in lines {
-        take_named(&mut taken, tokens, line)?;
+    if !taken.names.is_empty() {
+        taken.take_named(lines)?;
     }
     Ok(Some(taken.blanks))
 }

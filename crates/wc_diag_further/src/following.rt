@@ -1,101 +1,66 @@
-use crate::logical_lines::{LogicalLine, Region};
+use crate::logical_lines::{LogicalLine, Region, above};
 use crate::marks::{Mark, Marks};
-use wc_built_in::{Keyword, keyword_named};
-use wc_diag_stops::text_of;
+use wc_built_in::Keyword;
+use wc_diag_stops::is_shape;
 use wc_lexer::{Shape, Token};
+use wc_model::Condition;
 
-/// What is known of the current result on the way through a body.
-#[derive(Clone, Copy)]
-struct Known {
-    /// The last line of the text that was passed.
-    above: u32,
-    /// Whether something was taken out of this body.
-    is_broken: bool,
-    /// Whether the current result may depend on that.
-    is_unsure: bool,
-}
-
-/// Whether a line loads a result, whatever was before.
-fn loads(tokens: &[Token<'_>], line: &LogicalLine) -> bool {
-    let first = tokens.get(line.after_label(tokens));
-    matches!(keyword_named(text_of(first)), Some(Keyword::Load(_)))
-}
-
-/// What is known at the instruction of a line.
-fn known_at(tokens: &[Token<'_>], broken: &Marks, line: &LogicalLine, known: Known) -> Known {
-    let (_, last) = line.span(tokens);
-    if line.region != Region::Body {
-        return Known {
-            above: last,
-            is_broken: false,
-            is_unsure: false,
-        };
-    }
-    let is_here = broken.any(known.above.saturating_add(1), last, Mark::Taken);
-    let is_broken = known.is_broken || is_here;
-    let may_differ = known.is_unsure || is_here || is_broken && line.has_label(tokens);
-    Known {
-        above: last,
-        is_broken,
-        is_unsure: may_differ && !loads(tokens, line),
-    }
-}
-
-/// Whether the current result at a line of the text may depend on what was taken out above.
-fn is_result_unsure(
-    tokens: &[Token<'_>],
-    lines: &[LogicalLine],
-    broken: &Marks,
-    number: u32,
-) -> bool {
-    let mut known = Known {
-        above: 0,
-        is_broken: false,
-        is_unsure: false,
-    };
+/// Whether the current result at a line of the text may depend on what was taken out above. A call asks for none.
+fn is_result_unsure(lines: &[LogicalLine<'_, '_>], broken: &Marks, number: u32) -> bool {
+    let (mut passed, mut is_broken, mut is_unsure) = (0_u32, false, false);
     for line in lines {
-        known = known_at(tokens, broken, line, known);
-        if known.above >= number {
-            return known.is_unsure;
+        let is_body = line.region == Region::Body;
+        let is_here = is_body && broken.any(passed.saturating_add(1), line.last, Mark::Taken);
+        let word = line.operator();
+        is_broken = is_body && is_broken || is_here;
+        is_unsure = is_unsure || is_here || is_broken && line.has_label();
+        is_unsure = is_unsure && is_body && !matches!(word, Some(Keyword::Load(_)));
+        passed = line.last;
+        if passed >= number {
+            return is_unsure && !matches!(word, Some(Keyword::Call(Condition::Always)));
         }
     }
     false
 }
 
 /// The last line of the unit that a line of the text is in.
-fn end_of_unit(tokens: &[Token<'_>], lines: &[LogicalLine], number: u32) -> u32 {
-    for line in lines {
-        let (first, _) = line.span(tokens);
-        if first > number && line.region == Region::Head {
-            return first;
-        }
-    }
-    u32::MAX
+fn end_of_unit(lines: &[LogicalLine<'_, '_>], number: u32) -> u32 {
+    let mut heads = lines.iter().filter(|line| line.region == Region::Head);
+    heads
+        .find(|line| line.first > number)
+        .map_or(u32::MAX, |line| line.first)
 }
 
-/// Whether a line of the text has inputs or outputs of a call, whose own line above was taken out.
+/// Whether a line of the text begins with an input or an output of a call, which was taken out above.
 fn goes_on(tokens: &[Token<'_>], broken: &Marks, number: u32) -> bool {
-    let above = number.saturating_sub(1);
-    broken.any(above, above, Mark::Taken)
-        && tokens.iter().any(|token| {
-            token.line == number && matches!(token.shape, Shape::Assign | Shape::Arrow)
-        })
+    let second = tokens.get(above(tokens, number).saturating_add(1));
+    let last = number.saturating_sub(1);
+    is_shape(second, Shape::Arrow) && broken.any(0, last, Mark::Aside)
+        || is_shape(second, Shape::Assign) && broken.any(last, last, Mark::Aside)
 }
 
 /// Whether a refusal may only follow from what was taken out: a result, a name, a label, a call or a parenthesis that was there.
 pub(crate) fn may_follow(
     tokens: &[Token<'_>],
-    lines: &[LogicalLine],
+    lines: &[LogicalLine<'_, '_>],
     broken: &Marks,
     number: u16,
     line: u32,
 ) -> bool {
+    let is_unnamed = broken.any(0, u32::MAX, Mark::Uncut);
+    let mut changed = lines
+        .iter()
+        .filter(|line| broken.any(line.first, line.last, Mark::Aside));
     match number {
-        201 => goes_on(tokens, broken, line),
-        206 => broken.any(0, u32::MAX, Mark::Taken),
-        401 | 409 => broken.any(0, u32::MAX, Mark::Uncut),
-        402 | 403 => is_result_unsure(tokens, lines, broken, line),
-        406 => broken.any(line, end_of_unit(tokens, lines, line), Mark::Unlabelled),
+        201 => broken.any(line, line, Mark::Aside) || goes_on(tokens, broken, line),
+        206 => broken.any(0, u32::MAX, Mark::Aside),
+        204 | 205 | 207 => changed.any(|it| it.first <= line && line <= it.last),
+        401 => is_unnamed,
+        402 | 403 => {
+            broken.has(0, u32::MAX, Mark::Unpaired) || is_result_unsure(lines, broken, line)
+        }
+        406 => broken.any(line, end_of_unit(lines, line), Mark::Unlabelled),
+        409 => is_unnamed || changed.any(|it| it.region == Region::Edge),
         _ => false,
     }
 }

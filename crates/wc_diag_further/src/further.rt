@@ -47,13 +47,6 @@ pub struct Further {
     blanks: Option<Vec<Blank>>,
 }
 
-/// What is to be taken out for a fault, and whether the fault is one of its own.
-#[derive(Drop)]
-struct Mending {
-    blanks: Vec<Blank>,
-    is_own: bool,
-}
-
 /// How a text is refused; nothing if it is accepted. The error is out of memory.
 fn refusal_of(alloc: Global, text: &[u8]) -> Result<Option<LineFault>, AllocError>
     ensures refused { IfOk result
@@ -70,82 +63,62 @@ fn refusal_of(alloc: Global, text: &[u8]) -> Result<Option<LineFault>, AllocErro
     }
 }
 
-/// The slice at which a text cannot be cut into tokens; nothing if there is none that can be taken out.
-fn malformed(alloc: Global, text: &[u8], fault: LineFault) -> Result<Option<Blank>, AllocError> {
-    if !matches!(fault.number, 101 | 104 | 105 | 106) {
-        return Ok(None);
-    }
-    match tokens_or_stop(alloc, text) {
-        Err(stop) if stop.fault == Fault::Memory => Err(AllocError),
-        Err(stop) => Ok(Some(Blank {
-            start: stop.start as usize,
-            length: stop.length as usize,
-            first: fault.line,
-            last: fault.line,
-            mark: Mark::Uncut,
-        })),
-        Ok(_) => Ok(None),
-    }
-}
-
-/// What is to be taken out of lines with faults; nothing if the text cannot be read on then.
-fn mending_of_lines(
+/// The slice at which a text cannot be cut into tokens; nothing if the rest is not read on without it.
+fn malformed(
     alloc: Global,
     text: &[u8],
-    broken: &Marks,
     fault: LineFault,
-    is_uncut: bool,
-) -> Result<Option<Mending>, AllocError> {
-    let tokens = match tokens(alloc, text) {
-        Ok(tokens) => tokens,
-        Err(Fault::Memory) => return Err(AllocError),
-        Err(Fault::Refused { .. }) => return Ok(None),
-    };
-    let cut = logical_lines(alloc, &tokens)?;
-    let (number, line, lines) = (fault.number, fault.line, &cut.lines);
-    if (is_uncut || number < 300) && !cut.is_framed {
-        return Ok(None);
-    }
-    let is_known = is_uncut || broken.any(line, line, Mark::Taken);
-    let faulty = Faulty {
-        number: if is_uncut { 201 } else { number },
-        line: if is_uncut { None } else { Some(line) },
-        marks: broken,
-    };
-    match taken_out(alloc, &tokens, lines, faulty)? {
-        Some(blanks) => Ok(Some(Mending {
-            blanks,
-            is_own: !is_known && !may_follow(&tokens, lines, broken, number, line),
-        })),
-        None => Ok(None),
+) -> Result<Option<Vec<Blank>>, AllocError> {
+    match tokens_or_stop(alloc, text) {
+        Err(stop) if stop.fault == Fault::Memory => Err(AllocError),
+        Err(stop) if !matches!(fault.number, 102 | 103 | 107) => {
+            let mut blanks = Vec::new(alloc);
+            blanks.push(Blank {
+                start: stop.start as usize,
+                length: stop.length as usize,
+                first: fault.line,
+                last: fault.line,
+                mark: Mark::Uncut,
+            })?;
+            Ok(Some(blanks))
+        }
+        _ => Ok(None),
     }
 }
 
-/// What is to be taken out for a fault; nothing if the text cannot be read on then. Lines that could not be cut are taken out
-/// once all of the text can be.
+/// What is to be taken out for a fault, nothing if the text cannot be read on then; and whether the fault is one of its own. Lines
+/// that could not be cut are taken out once all of the text can be.
 fn mending_of(
     alloc: Global,
     text: &[u8],
     broken: &Marks,
     fault: LineFault,
     is_uncut: bool,
-) -> Result<Option<Mending>, AllocError> {
-    // Of what is too long, or without an end, nothing can be taken out.
-    if matches!(fault.number, 202 | 203 | 208 | 306 | 411) {
-        return Ok(None);
+) -> Result<(Option<Vec<Blank>>, bool), AllocError> {
+    let (number, line) = (fault.number, fault.line);
+    if number < 200 {
+        let blanks = malformed(alloc, text, fault)?;
+        return Ok((blanks, !broken.any(line, line, Mark::Taken)));
     }
-    if fault.number >= 200 {
-        return mending_of_lines(alloc, text, broken, fault, is_uncut);
+    // what is too long, or a unit that has no head or no end
+    if matches!(number, 202 | 203 | 208 | 306 | 411) {
+        return Ok((None, number > 203));
     }
-    let Some(slice) = malformed(alloc, text, fault)? else {
-        return Ok(None);
+    let tokens = match tokens(alloc, text) {
+        Ok(tokens) => tokens,
+        Err(Fault::Memory) => return Err(AllocError),
+        Err(Fault::Refused { .. }) => Vec::new(alloc),
     };
-    let mut blanks = Vec::new(alloc);
-    blanks.push(slice)?;
-    Ok(Some(Mending {
-        blanks,
-        is_own: !broken.any(fault.line, fault.line, Mark::Taken),
-    }))
+    let lines = logical_lines(alloc, &tokens)?;
+    let faulty = Faulty {
+        number: if is_uncut { 201 } else { number },
+        line: if is_uncut { None } else { Some(line) },
+        marks: broken,
+    };
+    let blanks = taken_out(alloc, &lines, faulty)?;
+    let is_known = is_uncut || blanks.is_none() || broken.any(line, line, Mark::Taken);
+    let is_own = !is_known && !may_follow(&tokens, &lines, broken, number, line);
+    Ok((blanks, is_own))
 }
 
 impl Further {
@@ -156,10 +129,7 @@ impl Further {
         let mut kept = Vec::new(alloc);
         kept.extend_from_slice(text)?;
         let broken = Marks::new(alloc, text)?;
-        let blanks = match mending_of(alloc, text, &broken, fault, false)? {
-            Some(mending) => Some(mending.blanks),
-            None => None,
-        };
+        let (blanks, _) = mending_of(alloc, text, &broken, fault, false)?;
         Ok(Further {
             text: kept,
             broken,
@@ -188,13 +158,9 @@ impl Further {
         let Some(fault) = refusal_of(alloc, &self.text)? else {
             return Ok(Step::End);
         };
-        let mending = mending_of(alloc, &self.text, &self.broken, fault, self.is_uncut)?;
+        let (blanks, is_own) = mending_of(alloc, &self.text, &self.broken, fault, self.is_uncut)?;
         self.is_uncut = fault.number < 200;
-        let Some(mending) = mending else {
-            return Ok(Step::End);
-        };
-        let is_own = mending.is_own;
-        self.blanks = Some(mending.blanks);
+        self.blanks = blanks;
         Ok(if is_own {
             Step::Refused(fault)
         } else {

@@ -1,110 +1,113 @@
 use std::alloc::{AllocError, Global};
 use wc_built_in::{Keyword, keyword_named};
-use wc_diag_stops::is_shape;
+use wc_diag_stops::{is_shape, text_of};
 use wc_lexer::{Shape, Token};
 
 /// In which part of a text a line is.
 #[derive(Clone, Copy, PartialEq, Eq)]
 pub(crate) enum Region {
-    /// Outside all units.
+    /// Outside all units; a section or a function there is one line.
     Outside,
     /// It is the head or the end of a unit.
     Head,
-    /// It is the word that begins a section, or END_VAR.
+    /// It is the words that begin a section, or END_VAR.
     Edge,
     /// In a section: it is a declaration.
     Section,
     /// In the body of a unit: it is an instruction, with its label.
     Body,
+    /// After the word of a unit or a section that can't be there.
+    Lost,
 }
 
-/// An instruction or a declaration, however many lines of the text it has: a range of tokens.
+/// An instruction or a declaration, however many lines of the text it has: where it is, its tokens, the first and the last of these
+/// lines, and whether all of its parentheses are closed; of a declaration, whether it has a semicolon.
 #[derive(Clone, Copy)]
-pub(crate) struct LogicalLine {
-    /// Where it is.
+pub(crate) struct LogicalLine<'a, 't> {
     pub(crate) region: Region,
-    /// Its first token.
-    pub(crate) from: usize,
-    /// The token after its last one.
-    pub(crate) to: usize,
-    /// Whether all of its parentheses are closed; of a declaration, whether it has a semicolon.
+    pub(crate) all: &'t [Token<'a>],
+    pub(crate) first: u32,
+    pub(crate) last: u32,
     pub(crate) is_closed: bool,
 }
 
-impl LogicalLine {
-    /// The first and the last line of the text that it has.
-    pub(crate) fn span(&self, tokens: &[Token<'_>]) -> (u32, u32) {
-        let first = tokens.get(self.from);
-        let last = tokens.get(self.to.saturating_sub(1));
-        match (first, last) {
-            (Some(first), Some(last)) => (first.line, last.line),
-            _ => (0, 0),
-        }
-    }
+/// The number of tokens before the first one of that shape; that of all if there is none.
+pub(crate) fn before(some: &[Token<'_>], shape: Shape) -> usize {
+    some.iter().take_while(|token| token.shape != shape).count()
+}
 
+/// The tokens from an index up to another one.
+pub(crate) fn slice<'a, 't>(some: &'t [Token<'a>], from: usize, to: usize) -> &'t [Token<'a>] {
+    let (prefix, _) = some.split_at(to.min(some.len()));
+    let (_, rest) = prefix.split_at(from.min(prefix.len()));
+    rest
+}
+
+/// The number of tokens above a line of the text.
+pub(crate) fn above(some: &[Token<'_>], line: u32) -> usize {
+    some.iter().take_while(|token| token.line < line).count()
+}
+
+/// Whether a token of that shape is among these.
+pub(crate) fn has(some: &[Token<'_>], shape: Shape) -> bool {
+    some.iter().any(|token| token.shape == shape)
+}
+
+impl<'a, 't> LogicalLine<'a, 't> {
     /// Whether it has a label.
-    pub(crate) fn has_label(&self, tokens: &[Token<'_>]) -> bool {
+    pub(crate) fn has_label(&self) -> bool {
         self.region == Region::Body
-            && is_shape(tokens.get(self.from), Shape::Identifier)
-            && is_shape(tokens.get(self.from.saturating_add(1)), Shape::Colon)
+            && is_shape(self.all.first(), Shape::Identifier)
+            && is_shape(self.all.get(1), Shape::Colon)
     }
 
-    /// Its first token after its label.
-    pub(crate) fn after_label(&self, tokens: &[Token<'_>]) -> usize {
-        if self.has_label(tokens) {
-            self.from.saturating_add(2)
-        } else {
-            self.from
-        }
+    /// Its tokens after its label.
+    pub(crate) fn after_label(&self) -> &'t [Token<'a>] {
+        let label = if self.has_label() { 2 } else { 0 };
+        slice(self.all, label, self.all.len())
+    }
+
+    /// The meaning of its first word after its label.
+    pub(crate) fn operator(&self) -> Option<Keyword> {
+        keyword_named(text_of(self.after_label().first()))
     }
 }
 
-/// The word at a token that begins or ends a unit or a section; nothing if there is another token, or a label.
-fn frame_word(tokens: &[Token<'_>], index: usize) -> Option<Keyword> {
-    let token = tokens.get(index)?;
-    if token.shape != Shape::Identifier
-        || is_shape(tokens.get(index.saturating_add(1)), Shape::Colon)
-    {
-        return None;
-    }
-    match keyword_named(token.text)? {
-        Keyword::UnitStart(kind) => Some(Keyword::UnitStart(kind)),
-        Keyword::UnitEnd(kind) => Some(Keyword::UnitEnd(kind)),
-        Keyword::SectionStart(section) => Some(Keyword::SectionStart(section)),
-        Keyword::SectionEnd => Some(Keyword::SectionEnd),
-        _ => None,
-    }
+/// Whether a word begins a section that this language does not have, as VAR_TEMP.
+pub(crate) fn is_foreign_section(word: &[u8]) -> bool {
+    matches!(word, [b'V' | b'v', b'A' | b'a', b'R' | b'r', b'_', ..])
+        && !matches!(keyword_named(word), Some(Keyword::SectionStart(_)))
 }
 
-/// The lines of a text.
-#[derive(Drop)]
-pub(crate) struct LogicalLines {
-    /// These lines, in text order.
-    pub(crate) lines: Vec<LogicalLine>,
-    /// Whether each unit and each section has its beginning and its end.
-    pub(crate) is_framed: bool,
+/// Whether a line outside all units goes on: it begins with FUNCTION or the word of a section, and its END is not there yet.
+fn is_inside(line: &[Token<'_>]) -> bool {
+    let (word, last) = (text_of(line.first()), text_of(line.last()));
+    let (start, end) = (word.get(..3).unwrap_or(&[]), last.get(4..7).unwrap_or(&[]));
+    matches!(keyword_named(word), Some(Keyword::Kept)) && !end.eq_ignore_ascii_case(start)
 }
 
 /// The lines that are cut so far, and the one that begins at a token.
 #[derive(Drop)]
-struct Cutter {
-    cut: LogicalLines,
+struct Cutter<'a, 't> {
+    tokens: &'t [Token<'a>],
+    lines: Vec<LogicalLine<'a, 't>>,
     region: Region,
     from: usize,
     open: usize,
 }
 
-impl Cutter {
+impl<'a, 't> Cutter<'a, 't> {
     /// Ends the line before a token. One without tokens is none.
-    fn end(&mut self, tokens: &[Token<'_>], to: usize) -> Result<(), AllocError> {
-        if self.from < to {
-            let line = tokens.get(self.from..to).unwrap_or(&[]);
-            self.cut.lines.push(LogicalLine {
+    fn end(&mut self, to: usize) -> Result<(), AllocError> {
+        let all = slice(self.tokens, self.from, to);
+        if let (Some(first), Some(last)) = (all.first(), all.last()) {
+            self.lines.push(LogicalLine {
                 region: self.region,
-                from: self.from,
-                to,
+                all,
+                first: first.line,
+                last: last.line,
                 is_closed: match self.region {
-                    Region::Section => line.iter().any(|token| token.shape == Shape::Semicolon),
+                    Region::Section => has(all, Shape::Semicolon),
                     _ => self.open == 0,
                 },
             })?;
@@ -114,62 +117,63 @@ impl Cutter {
         Ok(())
     }
 
-    /// Whether the word of a frame can be here.
-    fn suits(&self, word: Keyword) -> bool {
-        match word {
-            Keyword::UnitStart(_) => self.region == Region::Outside,
-            Keyword::SectionEnd => self.region == Region::Section,
-            _ => self.region == Region::Body,
-        }
-    }
-
-    /// Takes the word of a frame: it ends the line before it, and what follows is in another part.
-    fn take_word(
-        &mut self,
-        tokens: &[Token<'_>],
-        index: usize,
-        word: Keyword,
-    ) -> Result<(), AllocError> {
-        let (own, length, then) = match word {
-            Keyword::SectionStart(_) => (Region::Edge, 1, Region::Section),
-            Keyword::SectionEnd => (Region::Edge, 1, Region::Body),
-            Keyword::UnitStart(_) => (Region::Head, 2, Region::Body),
-            _ => (Region::Head, 1, Region::Outside),
+    /// Where a word of a unit or a section can be, where it is and where what follows is; nothing if there is another token, or a label.
+    fn frame_at(&self, index: usize) -> Option<(Region, Region, Region)> {
+        let word = text_of(self.tokens.get(index));
+        // all such words begin with one of these
+        let keyword = match word.first() {
+            Some(b'E' | b'e' | b'F' | b'f' | b'P' | b'p' | b'V' | b'v') => keyword_named(word),
+            _ => return None,
         };
-        self.cut.is_framed = self.cut.is_framed && self.suits(word);
-        self.end(tokens, index)?;
-        self.region = own;
-        self.end(tokens, index.saturating_add(length))?;
-        self.region = then;
-        Ok(())
+        let is_first = self.region == Region::Body && self.from == index;
+        let start = (Region::Body, Region::Edge, Region::Section);
+        let frame = match keyword {
+            Some(Keyword::UnitStart(_)) => (Region::Outside, Region::Head, Region::Body),
+            Some(Keyword::UnitEnd(_)) => (Region::Body, Region::Head, Region::Outside),
+            Some(Keyword::SectionEnd) => (Region::Section, Region::Edge, Region::Body),
+            Some(Keyword::SectionStart(_)) => start,
+            _ if is_first && is_foreign_section(word) => start,
+            _ => return None,
+        };
+        let is_inside = self.region == Region::Outside && frame.1 == Region::Edge;
+        let is_label = is_shape(self.tokens.get(index.saturating_add(1)), Shape::Colon);
+        let is_other = is_inside || is_label || self.region == Region::Lost;
+        if is_other { None } else { Some(frame) }
     }
 
     /// Whether a line end ends the line: not before the semicolon of a declaration, nor inside parentheses.
-    fn ends_at(&self, tokens: &[Token<'_>], index: usize) -> bool {
-        let line = tokens.get(self.from..index).unwrap_or(&[]);
+    fn ends_at(&self, index: usize) -> bool {
+        let line = slice(self.tokens, self.from, index);
         match self.region {
-            Region::Section => {
-                line.is_empty() || line.iter().any(|token| token.shape == Shape::Semicolon)
-            }
+            Region::Section => line.is_empty() || has(line, Shape::Semicolon),
+            Region::Outside => !is_inside(line),
             _ => self.open == 0,
         }
     }
 
-    /// Takes a token.
-    fn take(&mut self, tokens: &[Token<'_>], index: usize) -> Result<(), AllocError> {
-        if let Some(word) = frame_word(tokens, index) {
-            return self.take_word(tokens, index, word);
+    /// Takes a token of that shape. A word of a unit or a section ends the line before it, and what follows is in another part.
+    fn take(&mut self, index: usize, shape: Shape) -> Result<(), AllocError> {
+        let after = index.saturating_add(1);
+        if let Some((at, own, then)) = self.frame_at(index) {
+            self.end(index)?;
+            if self.region != at {
+                self.region = Region::Lost;
+                return Ok(());
+            }
+            let next = keyword_named(text_of(self.tokens.get(after)));
+            let is_long = at == Region::Outside || matches!(next, Some(Keyword::Kept));
+            let length = if is_long { 2 } else { 1 };
+            self.region = own;
+            self.end(index.saturating_add(length))?;
+            self.region = then;
+            return Ok(());
         }
-        match tokens.get(index) {
-            Some(token) if token.shape == Shape::Opening => {
-                self.open = self.open.saturating_add(1)
-            }
-            Some(token) if token.shape == Shape::Closing => {
-                self.open = self.open.saturating_sub(1)
-            }
-            Some(token) if token.shape == Shape::LineEnd && self.ends_at(tokens, index) => {
-                self.end(tokens, index)?;
-                self.from = self.from.max(index.saturating_add(1));
+        match shape {
+            Shape::Opening => self.open = self.open.saturating_add(1),
+            Shape::Closing => self.open = self.open.saturating_sub(1),
+            Shape::LineEnd if self.ends_at(index) => {
+                self.end(index)?;
+                self.from = self.from.max(after);
             }
             _ => {}
         }
@@ -178,22 +182,20 @@ impl Cutter {
 }
 
 /// The lines of a text with these tokens.
-pub(crate) fn logical_lines(
+pub(crate) fn logical_lines<'a, 't>(
     alloc: Global,
-    tokens: &[Token<'_>],
-) -> Result<LogicalLines, AllocError> {
+    tokens: &'t [Token<'a>],
+) -> Result<Vec<LogicalLine<'a, 't>>, AllocError> {
     let mut cutter = Cutter {
-        cut: LogicalLines {
-            lines: Vec::new(alloc),
-            is_framed: true,
-        },
+        tokens,
+        lines: Vec::new(alloc),
         region: Region::Outside,
         from: 0,
         open: 0,
     };
-    for index in 0..tokens.len() {
-        cutter.take(tokens, index)?;
+    for (index, token) in tokens.iter().enumerate() {
+        cutter.take(index, token.shape)?;
     }
-    cutter.end(tokens, tokens.len())?;
-    Ok(cutter.cut)
+    cutter.end(tokens.len())?;
+    Ok(cutter.lines)
 }

@@ -5,10 +5,14 @@ use std::alloc::{AllocError, Global};
 pub(crate) enum Mark {
     /// Nothing.
     None,
+    /// What leaves the current result as it is: a store, a call, or an initial value.
+    Aside,
     /// An instruction or a declaration.
     Taken,
     /// A line of a body that may have had a label.
     Unlabelled,
+    /// A parenthesis whose other one is not found.
+    Unpaired,
     /// Malformed slices, so far; what else is on the line is still there.
     Uncut,
     /// A declaration whose names may be others than they seem to be.
@@ -30,21 +34,17 @@ impl Marks {
         Ok(Marks { lines })
     }
 
-    /// Marks a line, counted from 1, if it has no greater mark, or one of malformed slices.
-    fn set(&mut self, line: u32, mark: Mark) {
-        if let Some(found) = self.lines.get_mut(line as usize) {
-            *found = if *found == Mark::Uncut {
-                mark
-            } else {
-                mark.max(*found)
-            };
-        }
-    }
-
-    /// Marks these lines.
+    /// Marks these lines, counted from 1, if they have no greater mark, or one of malformed slices.
     pub(crate) fn set_all(&mut self, first: u32, last: u32, mark: Mark) {
         for line in first..last.saturating_add(1) {
-            self.set(line, mark);
+            if let Some(found) = self.lines.get_mut(line as usize) {
+                let least = if *found == Mark::Uncut {
+                    Mark::None
+                } else {
+                    *found
+                };
+                *found = mark.max(least);
+            }
         }
     }
 
@@ -54,11 +54,9 @@ impl Marks {
         self.lines.get(first as usize..end).unwrap_or(&[])
     }
 
-    /// Whether one of these lines has malformed slices, and what else is on it is still there.
-    pub(crate) fn any_uncut(&self, first: u32, last: u32) -> bool {
-        self.between(first, last)
-            .iter()
-            .any(|found| *found == Mark::Uncut)
+    /// Whether one of these lines has that mark.
+    pub(crate) fn has(&self, first: u32, last: u32, mark: Mark) -> bool {
+        self.between(first, last).iter().any(|found| *found == mark)
     }
 
     /// Whether one of these lines has that mark or a greater one.
