@@ -67,7 +67,10 @@ fn undeclared_advice(refused: &Refused<'_, '_>) -> Said {
 pub fn advice_at(refused: &Refused<'_, '_>, mistake: Mistake) -> Said {
     match (refused.number, mistake.case) {
         (201, Case::NoOperator) => operator_advice(refused),
-        (201, Case::NoUnit) => likely(refused, near_word("PROGRAM FUNCTION_BLOCK", refused.token())),
+        (201, Case::NoUnit) => likely(
+            refused,
+            near_word("PROGRAM FUNCTION_BLOCK", refused.token()),
+        ),
         (201, Case::OpenSection) => section_advice(refused),
         (201, Case::NoAddress) => address_advice(refused),
         (302, Case::Plain) => type_advice(refused),

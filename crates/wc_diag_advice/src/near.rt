@@ -32,8 +32,11 @@ pub(crate) fn likely(refused: &Refused<'_, '_>, near: Option<&str>) -> Said {
 /// What to write for a word that begins a line and is neither an operator nor a keyword: one that it may be a misspelling of.
 pub(crate) fn operator_advice(refused: &Refused<'_, '_>) -> Said {
     let word = refused.token();
-    let is_program = refused.is_in_program();
-    let end = if is_program { "END_PROGRAM" } else { "END_FUNCTION_BLOCK" };
+    let end = if refused.is_in_program() {
+        "END_PROGRAM"
+    } else {
+        "END_FUNCTION_BLOCK"
+    };
     if is_near(end.as_bytes(), word) {
         return likely(refused, Some(end));
     }
@@ -133,8 +136,11 @@ pub(crate) fn called_advice(refused: &Refused<'_, '_>) -> Said {
 pub fn watched_advice(alloc: Global, units: &[Unit<'_>], name: &[u8]) -> Said {
     let word = first_word(name);
     let rest = str::from_utf8(following(name, word.len())).unwrap_or("");
-    let has_field = word.len() < name.len();
-    let wanted = if has_field { Wanted::Instance } else { Wanted::Value };
+    let wanted = if word.len() < name.len() {
+        Wanted::Instance
+    } else {
+        Wanted::Value
+    };
     let near = near_in_unit(units, word, usize::MAX, wanted)?;
     Some(format!(in alloc; "did you mean `{near}{rest}`?"))
 }
@@ -143,7 +149,8 @@ pub fn watched_advice(alloc: Global, units: &[Unit<'_>], name: &[u8]) -> Said {
 fn near_label<'a>(units: &[Unit<'a>], name: &[u8], place: usize) -> Option<&'a str> {
     let lines = unit_at(units, place)?.body.iter();
     let mut labels = lines.filter_map(|line| line.label);
-    words(labels.find(|label| label.line as usize > place && is_near(label.text, name))?.text)
+    let label = labels.find(|label| label.line as usize > place && is_near(label.text, name))?;
+    words(label.text)
 }
 
 /// What to write for a label that no line of the body has: a near one, or a line of its own.
@@ -166,5 +173,6 @@ pub(crate) fn type_advice(refused: &Refused<'_, '_>) -> Said {
     let mut units = refused.units.iter();
     let unit = units.find(|unit| unit.line as usize <= place && is_near(unit.name.text, name));
     let own = unit.and_then(|unit| words(unit.name.text));
-    likely(refused, own.or(near_word("BOOL DINT TIME R_TRIG SR RS CTU TON TOF TP", name)))
+    let known = near_word("BOOL DINT TIME R_TRIG SR RS CTU TON TOF TP", name);
+    likely(refused, own.or(known))
 }

@@ -53,7 +53,11 @@ fn closing_said(refused: &Refused<'_, '_>) -> Said {
 fn unpassed_said(refused: &Refused<'_, '_>, kind: Kind, wanted: Kind) -> Said {
     let (name, block) = (refused.word_at(refused.span.formal)?, refused.block()?);
     let (kind, formal) = (name_of(kind), name_of(wanted));
-    let what = if refused.span.is_passed { "input" } else { "output" };
+    let what = if refused.span.is_passed {
+        "input"
+    } else {
+        "output"
+    };
     Some(format!(in refused.alloc; "is a {kind}, but the {what} {name} of {block} is a {formal}"))
 }
 

@@ -3,7 +3,7 @@ use wc_diag_stops::is_among;
 use wc_diag_texts::{Case, Mistake, mistake_among};
 
 /// Words with spaces between, and the mistake that each of them is.
-type Row = (&'static [u8], Mistake);
+pub(crate) type Row = (&'static [u8], Mistake);
 
 /// Rows of words, each with its mistake.
 macro_rules! rows {
@@ -28,7 +28,7 @@ const FUNCTIONS: [Row; 8] = rows! {
 /// Words of the standard that this language leaves out.
 const LEFT_OUT: [Row; 8] = rows! {
     b"end_function" => Worded "a PROGRAM ends with END_PROGRAM, a FUNCTION_BLOCK with END_FUNCTION_BLOCK";
-    b"at" => Worded "leave out AT and use the address itself (LD %IX0.0, ST %QX0.0); or copy inputs to variables on the first lines, and variables to outputs on the last";
+    b"at" => Worded "leave out this declaration, and use the address itself (LD %IX0.0, ST %QX0.0); or leave out AT and its address, and copy inputs to variables on the first lines, and variables to outputs on the last";
     b"var_global var_external" => Worded "declare the variable in VAR of the PROGRAM, and pass it to blocks as an input or output";
     b"var_in_out" => Worded "declare a VAR_INPUT and a VAR_OUTPUT, and name the variable at both in the CAL; an input cannot be written: copy it to the output first";
     b"var_temp" => Worded "declare the variable in VAR, and store to it before you load it";
@@ -113,7 +113,7 @@ const OTHERS: [Row; 47] = rows! {
 };
 
 /// Types that this language does not have, and words that begin one.
-const TYPES: [Row; 8] = rows! {
+pub(crate) const TYPES: [Row; 8] = rows! {
     b"int sint uint usint udint lint ulint byte word dword lword" => Worded "use DINT, the only integer type (32 bits, signed); single bits are BOOLs";
     b"real lreal" => Worded "numbers are integers: use DINT, and count in a smaller unit";
     b"timer tonr" => Worded "timers are TON, TOF and TP; none keeps its time while IN is FALSE";
@@ -134,7 +134,7 @@ const FIELDS: [(&str, &str); 5] = [
 ];
 
 /// The mistake that a word is by one of these rows.
-fn row_of(rows: &[Row], word: &[u8]) -> Option<Mistake> {
+pub(crate) fn row_of(rows: &[Row], word: &[u8]) -> Option<Mistake> {
     let (_, mistake) = rows.iter().find(|(words, _)| is_among(words, word))?;
     Some(*mistake)
 }
@@ -196,15 +196,9 @@ pub(crate) fn mistaken_name(word: &[u8]) -> Mistake {
     }
 }
 
-/// A type that this language does not have.
-pub(crate) fn foreign_type(word: &[u8]) -> Option<Mistake> {
-    row_of(&TYPES, word)
-}
-
 /// The standard block that has a field of that name; nothing if none has, or if that is not sure.
 pub fn block_with(field: &[u8]) -> Option<&'static str> {
-    let (_, block) = FIELDS
-        .iter()
-        .find(|(fields, _)| is_among(fields.as_bytes(), field))?;
+    let mut rows = FIELDS.iter();
+    let (_, block) = rows.find(|(fields, _)| is_among(fields.as_bytes(), field))?;
     Some(*block)
 }

@@ -1,5 +1,5 @@
 use crate::foreign::{
-    foreign_type, is_type, left_out, mistaken_function, mistaken_name, mistaken_unit,
+    TYPES, is_type, left_out, mistaken_function, mistaken_name, mistaken_unit, row_of,
 };
 use crate::refused::Refused;
 use crate::types::{is_conditional, mistaken_kind, mistaken_reset};
@@ -162,10 +162,12 @@ fn mistaken_token(refused: &Refused<'_, '_>) -> Mistake {
 
 /// Whether a token is a comma between two digits, without spaces.
 fn is_decimal_comma(refused: &Refused<'_, '_>) -> bool {
-    let (next, place) = (refused.after().first(), refused.span.start.saturating_add(1));
+    let place = refused.span.start;
     refused.token().starts_with(b",")
-        && next.is_some_and(|it| is_digit(it.text.first()) && it.start as usize == place)
-        && is_digit(text_before(refused.before(), refused.span.start).last())
+        && refused.after().first().is_some_and(|next| {
+            is_digit(next.text.first()) && next.start as usize == place.saturating_add(1)
+        })
+        && is_digit(text_before(refused.before(), place).last())
 }
 
 /// A mistake in an instruction by what is before a token on its line.
@@ -227,7 +229,7 @@ fn mistaken_on_line(refused: &Refused<'_, '_>) -> Option<Mistake> {
         (Expected::LineEnd, Some(b'0'..=b'9' | b'A'..=b'Z' | b'a'..=b'z')) if follows_number => Worded "a number is digits alone, without spaces: 5 000 is 5_000, and 5 kg is 5000 if weights have 3 decimals";
         (Expected::AssignOrSemicolon | Expected::Semicolon, _) if refused.begins_line() => Worded "the declaration above has no `;` at its end";
         (Expected::LineEnd | Expected::Semicolon, _) if is_decimal_comma(refused) && is_address && !matches!(before.get(2), Some(b'D' | b'd')) => Worded "an address has a point, such as %IX0.0";
-        (Expected::LineEnd | Expected::Semicolon, _) if is_decimal_comma(refused) && matches!(before.first(), Some(b'0'..=b'9' | b'+' | b'-')) => Worded "numbers are integers, without a decimal comma: write 1,5 kg as 1500, if weights have 3 decimals";
+        (Expected::LineEnd | Expected::Semicolon, _) if is_decimal_comma(refused) && matches!(before.first(), Some(b'0'..=b'9' | b'+' | b'-')) => Worded "a number has no comma: write 25,000 as 25000, and 1,5 kg as 1500, if weights have 3 decimals";
         (Expected::Instruction | Expected::InstructionOrLineEnd, Some(b'(')) if begins_unit => Worded "delete the parentheses: inputs and outputs of a FUNCTION_BLOCK are declared in VAR_INPUT and VAR_OUTPUT";
         (Expected::LineEnd | Expected::PointOrLineEnd | Expected::OperandOrLineEnd, Some(b')'))
             if !is_unopened => Worded "the `)` needs a line of its own; for one operand write no parenthesis, such as AND a";
@@ -366,7 +368,7 @@ fn mistaken_use(refused: &Refused<'_, '_>) -> Option<Mistake> {
         406 if span.first != 0 => LabelAbove says "is the label of a line above this jump", "jumps only go forward, and the whole program runs again in each scan without one: to wait, jump ahead over the lines that wait: JMPC done; the lines; `done:`; to repeat lines write them once for each pass, or do one pass in each scan: LD n, LT 10, JMPCN done; the lines; LD n, ADD 1, ST n (n keeps its value between scans: set it to 0 only to start again); `done:` goes on with an LD";
         406 if keyword_named(token).is_some() => Worded "a label is not a reserved word: to leave the unit write RET, RETC or RETCN in place of the jump";
         409 if matches!(refused.span.case, Case::NotOfBlock(StandardBlock::Ctu)) && is_word(b"CD", refused.offending()) => DownCounter "";
-        408 if is_variable => Worded "there is no division by a variable, and DIV and MOD take no parenthesis: divide by a literal other than 0, such as DIV 10; to compare a quotient, MUL the other side instead; for a quotient set rest and q to start, the dividend and 0, and then subtract once in each scan: LD b, LE 0, JMPC done; LD rest, LT b, JMPC done; LD rest, SUB b, ST rest; LD q, ADD 1, ST q; `done:` goes on with an LD";
+        408 if is_variable => Worded "there is no division by a variable, and DIV and MOD take no parenthesis: divide by a literal other than 0, such as DIV 10; to compare a quotient, MUL the other side instead; for a quotient of positive numbers write LD a, ST rest; LD 0, ST q in the scan that starts it alone, and in each scan LD b, LE 0, JMPC done; LD rest, LT b, JMPC done; LD rest, SUB b, ST rest; LD q, ADD 1, ST q; `done:` goes on with an LD: q is the quotient once rest is below b";
     }
 }
 
@@ -386,7 +388,7 @@ pub fn mistake_at(refused: &Refused<'_, '_>, case: Case) -> Mistake {
         }
         (201, _) => Some(mistaken_at(refused)),
         (202 | 203, _) => mistaken_unit_end(refused),
-        (302, _) => mistaken_type(refused).or(foreign_type(token)),
+        (302, _) => mistaken_type(refused).or(row_of(&TYPES, token)),
         (303, _) => mistaken_value(before),
         (304, _) => mistaken_address(token),
         (308, _) => mistaken_block(refused),

@@ -45,12 +45,6 @@ fn is_given(line: &[Token<'_>]) -> bool {
         .any(|token| matches!(token.shape, Shape::Assign))
 }
 
-/// Whether signs of a comparison begin a text, and a number is after them.
-fn compares_number(text: &[u8]) -> bool {
-    let mut others = text.iter().skip_while(|byte| matches!(byte, b'=' | b'<' | b'>' | b' '));
-    matches!(others.next(), Some(b'0'..=b'9' | b'-'))
-}
-
 /// A `=`, `<` or `>` in place of something else, by the tokens before it and what begins with it.
 fn mistaken_sign(tokens: &[Token<'_>], byte: u8, rest: &[u8]) -> Option<Mistake> {
     let before = last_line(tokens);
@@ -60,7 +54,7 @@ fn mistaken_sign(tokens: &[Token<'_>], byte: u8, rest: &[u8]) -> Option<Mistake>
         (Some(Mistake { case: Case::Loop, .. }), _) => Worded "this looks like Structured Text: there are no loops; do one pass of the loop in each scan: LD n, LT 10, JMPCN done; its lines; LD n, ADD 1, ST n; `done:` goes on with an LD";
         (Some(_), b'=') => Worded "this looks like Structured Text: for IF a = 5 write LD a, EQ 5, JMPCN skip; `skip:` is the END_IF";
         (Some(_), _) => Worded "this looks like Structured Text: for IF w >= 1000 write LD w, GE 1000, JMPCN skip; `skip:` is the END_IF";
-        _ if before.is_empty() && compares_number(rest) => Worded says "is not an operator", "comparisons are words with an operand: GT, GE, LT, LE, EQ and NE, such as GE 5000";
+        _ if before.is_empty() && is_digit(rest.iter().find(|byte| !b"=<> -".contains(byte))) => Worded says "is not an operator", "comparisons are words with an operand: GT, GE, LT, LE, EQ and NE, such as GE 5000";
         _ if before.is_empty() => Worded says "is not an operator", "this looks like Siemens STL (AWL): `=` is ST, ==I EQ, <>I NE, >I GT, <I LT, >=I GE and <=I LE, each comparison with its operand in place of the L before it: L 5 and ==I together are EQ 5; U or O is LD at the start and after each `=`, S or R, else AND or OR";
         _ if is_given(before) => Worded "after `:=` comes one value: in place of c := a > b write LD a, GT b, ST c, each on a line of its own; in a call pass c then";
         (None, b'=') if before.len() > 1 && is_among(b"s r", text_of(before.last())) => Worded "for a S= b write LD b, and on the next line S a; for a R= b LD b, and R a";
@@ -139,11 +133,6 @@ pub fn mistaken_duration(token: &[u8], rest: &[u8]) -> Option<Mistake> {
     }
 }
 
-/// Whether a token is an address as STL has it: a number, a point and a number, after the letter of an area.
-fn is_foreign_address(before: &[u8], token: &[u8]) -> bool {
-    is_among(b"e a i q m", before) && token.len() < 8 && token.contains(&b'.')
-}
-
 /// Whether a token is a word that is not reserved.
 fn is_name(text: &[u8]) -> bool {
     matches!(text.first(), Some(b'A'..=b'Z' | b'a'..=b'z')) && keyword_named(text).is_none()
@@ -169,7 +158,7 @@ pub fn mistaken_number(
         (Case::SignAlone, Some(Keyword::Apply(_))) if line.len() > 1 => SignAlone "an operand is computed in a parenthesis: for GE n + 20 write GE( n, then ADD 20, then `)`";
         (Case::WithPoint, _) if token.windows(2).any(|pair| pair.starts_with(b"..")) => Worded says "is a range, and there are no ranges", "leave the range out: a DINT is -2147483648 to 2147483647";
         (Case::WithPoint, _) if is_among(b"mul div mod", before) => Worded "write a factor with whole numbers: for MUL 0.5 write MUL 1, and DIV 2 on the next line";
-        (Case::WithPoint, _) if is_foreign_address(before, token) => Worded says "is not a number, and not an address with the letter before it", "this looks like Siemens STL (AWL): E 0.0 is %IX0.0, A 4.0 an output such as %QX0.0; U is LD at the start and after each `=`, S or R, else AND (UN: LDN, ANDN); `=` is ST";
+        (Case::WithPoint, _) if is_among(b"e a i q m", before) && token.len() < 8 => Worded says "is not a number, and not an address with the letter before it", "this looks like Siemens STL (AWL): E 0.0 is %IX0.0, A 4.0 an output such as %QX0.0; U is LD at the start and after each `=`, S or R, else AND (UN: LDN, ANDN); `=` is ST";
         (Case::WithPoint, _) if is_among(b"%ix %qx", before) && !is_digit(token.first()) => Worded "an address has no sign, such as %IX0.1";
         (Case::WithPoint, _) if is_among(b"%ix %qx", before) => Worded "write an address without a space, such as %IX0.0";
         (Case::WithPoint, _) if token.ends_with(b".0") => Worded "numbers are integers: write 10.0 as 10, and 2.0 kg as 2000, if weights have 3 decimals";

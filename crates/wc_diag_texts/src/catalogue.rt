@@ -81,7 +81,7 @@ fn token_entry(number: u16) -> Option<&'static Entry>
             why "a comment goes on over line ends to its *), so all that is below would be left out" rule "2.1"
             mended "PROGRAM P" "LD %IX0.0 (* start *)" "ST %QX0.0" "END_PROGRAM";
         103 "tokens": "comments cannot be nested"
-            at "the line of the outer (*", "(*(*" => 1, help "delete the inner (* and *), or close the comment with *) before the next one opens",
+            at "the line of the outer (*", "(*(*" => 1, help "a comment ends at the first *): delete the inner (* and *), or write the outer *) that is missing above the inner (*",
             wrong "PROGRAM P" "(* LD %IX0.1 (* stop *) *)" "LD %IX0.0" "ST %QX0.0" "END_PROGRAM"
             why "the first *) would end the outer comment too, and what follows it would be read as program" rule "2.1"
             mended "PROGRAM P" "(* LD %IX0.1, stop *)" "LD %IX0.0" "ST %QX0.0" "END_PROGRAM";
