@@ -45,8 +45,8 @@ fn is_given(line: &[Token<'_>]) -> bool {
         .any(|token| matches!(token.shape, Shape::Assign))
 }
 
-/// A `=`, `<` or `>` in place of something else, by the tokens before it and what begins with it.
-fn mistaken_sign(tokens: &[Token<'_>], byte: u8, rest: &[u8]) -> Option<Mistake> {
+/// A `=`, `<` or `>` in place of something else, by the tokens before it.
+fn mistaken_sign(tokens: &[Token<'_>], byte: u8) -> Option<Mistake> {
     let before = last_line(tokens);
     let has_colon = before.iter().any(|token| token.shape == Shape::Colon);
     mistake_among! {
@@ -54,8 +54,7 @@ fn mistaken_sign(tokens: &[Token<'_>], byte: u8, rest: &[u8]) -> Option<Mistake>
         (Some(Mistake { case: Case::Loop, .. }), _) => Worded "this looks like Structured Text: there are no loops; do one pass of the loop in each scan: LD n, LT 10, JMPCN done; its lines; LD n, ADD 1, ST n; `done:` goes on with an LD";
         (Some(_), b'=') => Worded "this looks like Structured Text: for IF a = 5 write LD a, EQ 5, JMPCN skip; `skip:` is the END_IF";
         (Some(_), _) => Worded "this looks like Structured Text: for IF w >= 1000 write LD w, GE 1000, JMPCN skip; `skip:` is the END_IF";
-        _ if before.is_empty() && is_digit(rest.iter().find(|byte| !b"=<> -".contains(byte))) => Worded says "is not an operator", "comparisons are words with an operand: GT, GE, LT, LE, EQ and NE, such as GE 5000";
-        _ if before.is_empty() => Worded says "is not an operator", "this looks like Siemens STL (AWL): `=` is ST, ==I EQ, <>I NE, >I GT, <I LT, >=I GE and <=I LE, each comparison with its operand in place of the L before it: L 5 and ==I together are EQ 5; U or O is LD at the start and after each `=`, S or R, else AND or OR";
+        _ if before.is_empty() => Worded says "is not an operator", "to compare write GT, GE, EQ, NE, LE or LT and the operand, such as GE 5000; in Siemens STL (AWL) `=` is ST, ==I EQ, <>I NE, >I GT, <I LT, >=I GE and <=I LE, each comparison with its operand in place of the L before it: L 5 and ==I together are EQ 5; U or O is LD at the start and after each `=`, S or R, else AND or OR";
         _ if is_given(before) => Worded "after `:=` comes one value: in place of c := a > b write LD a, GT b, ST c, each on a line of its own; in a call pass c then";
         (None, b'=') if before.len() > 1 && is_among(b"s r", text_of(before.last())) => Worded "for a S= b write LD b, and on the next line S a; for a R= b LD b, and R a";
         (None, b'=') if is_of_call(before) && before.len() > 1 => Worded "an input is passed with `:=`, such as IN := a";
@@ -116,7 +115,7 @@ fn foreign_byte(before: &[Token<'_>], rest: &[u8]) -> Option<Mistake> {
 /// A mistake of a byte that is not allowed at a place: these tokens are before it, and `rest` begins with it.
 pub fn mistaken_byte(before: &[Token<'_>], at: usize, rest: &[u8], case: Case) -> Option<Mistake> {
     match case {
-        Case::Byte(byte @ (b'=' | b'<' | b'>')) => mistaken_sign(before, byte, rest),
+        Case::Byte(byte @ (b'=' | b'<' | b'>')) => mistaken_sign(before, byte),
         Case::Byte(b'\'' | b'"') => mistaken_quote(before, at, rest),
         Case::Byte(_) => foreign_byte(last_line(before), rest),
         _ => None,
