@@ -248,7 +248,8 @@ fn take_faulty<'a>(
             return Ok(true);
         }
         Region::Section if is_here || is_before && !line.is_closed => {
-            take_declaration(taken, line, faulty)?
+            take_declaration(taken, line, faulty)?;
+            return Ok(!is_here);
         }
         Region::Body if is_here => take_instruction(taken, line, faulty)?,
         Region::Outside if faulty.is_on(line.first, line.first) && !is_inside => {
@@ -275,7 +276,13 @@ pub(crate) fn taken_out(
         is_framed: !lines.last().is_some_and(|line| line.region == Region::Lost),
     };
     for (index, line) in lines.iter().enumerate() {
-        let next = lines.get(index.saturating_add(1)).unwrap_or(line);
+        // after the last declaration, if it is not ended, END_VAR may be read as its type
+        let after = if line.region == Region::Section && !line.is_closed {
+            2
+        } else {
+            1
+        };
+        let next = lines.get(index.saturating_add(after)).unwrap_or(line);
         if take_faulty(&mut taken, line, next.first, faulty)? {
             break;
         }
