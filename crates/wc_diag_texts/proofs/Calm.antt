@@ -1,12 +1,12 @@
 -- If no character of two texts acts on a terminal, none does of both together.
-use Rattle.std.proofs.Common.{◌≡◌, ◌∙◌, ◌<◌, ◌≤◌, ◌&&◌, ◌||◌, not, nat_lt, Bool, true, false, if◌then◌else◌, List, [], ◌∷◌, ℕ, ◌++◌, get_or, refl, ap, arith}
+use Rattle.std.proofs.Common.{◌≡◌, ◌<◌, ◌≤◌, ◌&&◌, ◌||◌, not, nat_lt, Bool, true, List, [], ◌∷◌, ℕ, ◌++◌, get_or, refl, ap, arith}
 use Rattle.std.proofs.lemmas.Bool.{and_parts}
 use Rattle.std.proofs.lemmas.Bool.Decides.{nat_tests}
 use Rattle.std.proofs.lemmas.Str.{IsCharBoundary-start, IsUtf8-from_is_utf8}
 use Rattle.std.specs.Str.{is_utf8}
 use Rattle.wc_diag_texts.specs.Plain.{acts, acts_nowhere, is_calm, is_control, passes}
 use Rattle.wc_diag_texts.proofs.ActingBytes.{begin_not, no_fourth, no_second, no_third}
-use Rattle.wc_diag_texts.specs.Acting.{acting_by, acting_length}
+use Rattle.wc_diag_texts.specs.Acting.{acting_length}
 
 -- no character ends with a byte with which another begins, so more text after a character makes it no other
 before_more : (byte : ℕ) (bytes more : List ℕ) → (128 ≤ get_or more 0 0 → 192 ≤ get_or more 0 0) → acting_length (byte ∷ bytes) ≡ 0 → acting_length (byte ∷ (bytes ++ more)) ≡ 0
@@ -18,9 +18,6 @@ before_more byte (second ∷ third ∷ fourth ∷ rest) more begins none = none
 silent : (n : ℕ) → not (nat_lt 0 n) ≡ true → n ≡ 0
 silent n e = grind (arith, nat_tests)
 
-both : (a b : Bool) → a ≡ true → b ≡ true → (a && b) ≡ true
-both a b e f = rw (e, f) refl
-
 begins_character : (more : List ℕ) → is_utf8 more ≡ true → 128 ≤ get_or more 0 0 → 192 ≤ get_or more 0 0
 begins_character [] text high = absurd (omega arith)
 begins_character (byte ∷ bytes) text high = (IsCharBoundary-start (byte ∷ bytes) (IsUtf8-from_is_utf8 (byte ∷ bytes) text)).1 (omega arith) high
@@ -30,29 +27,20 @@ calm_joined [] more first second text = second
 calm_joined (byte ∷ bytes) more first second text =
     let parts = and_parts (not (acts (byte ∷ bytes))) (acts_nowhere bytes) first in
     let none = before_more byte bytes more (begins_character more text) (silent (acting_length (byte ∷ bytes)) parts.0) in
-    both (not (acts (byte ∷ (bytes ++ more)))) (acts_nowhere (bytes ++ more)) (ap (λ n. not (nat_lt 0 n)) none) (calm_joined bytes more parts.1 second text)
-
--- what was there, with more of the same or as it was
-pub calm_kept : (b : Bool) (old more new : List ℕ) → new ≡ (if b then old ++ more else old) → acts_nowhere old ≡ true → acts_nowhere more ≡ true → is_utf8 more ≡ true → acts_nowhere new ≡ true
-calm_kept true old more new e first second text = ap acts_nowhere e ∙ calm_joined old more first second text
-calm_kept false old more new e first second text = ap acts_nowhere e ∙ first
+    λ i. not (nat_lt 0 (none i)) && calm_joined bytes more parts.1 second text i
 
 -- a byte of ASCII
 pub ascii_is_calm : (byte : ℕ) → byte < 128 → acts_nowhere (byte ∷ []) ≡ true
-ascii_is_calm byte less =
-    let none : acting_by byte 0 0 0 ≡ 0 = no_second byte 0 0 0 refl in
-    both (not (acts (byte ∷ []))) true (ap (λ n. not (nat_lt 0 n)) none) refl
+ascii_is_calm byte less = ap (λ n. not (nat_lt 0 n) && true) (no_second byte 0 0 0 refl)
 
 no_act : (control other rest : Bool) → (not (control || other) && rest) ≡ true → not other ≡ true
-no_act true other rest e = absurd (cc)
-no_act false true rest e = absurd (cc)
-no_act false false rest e = refl
+no_act control other rest e = grind arith
 
 calm_is_silent : (bytes : List ℕ) → is_calm bytes ≡ true → acts_nowhere bytes ≡ true
 calm_is_silent [] e = refl
 calm_is_silent (byte ∷ bytes) e =
-    both (not (acts (byte ∷ bytes))) (acts_nowhere bytes) (no_act (is_control byte) (acts (byte ∷ bytes)) (is_calm bytes) e)
-    (calm_is_silent bytes (and_parts (not (is_control byte || acts (byte ∷ bytes))) (is_calm bytes) e).1)
+    let rest = (and_parts (not (is_control byte || acts (byte ∷ bytes))) (is_calm bytes) e).1 in
+    λ i. no_act (is_control byte) (acts (byte ∷ bytes)) (is_calm bytes) e i && calm_is_silent bytes rest i
 
 -- what passes
 pub passing_is_calm : (bytes : List ℕ) → passes bytes ≡ true → acts_nowhere bytes ≡ true

@@ -1,10 +1,9 @@
 -- Bytes as they are shown on one line.
-use Rattle.std.proofs.Common.{◌≡◌, ◌∙◌, ◌==◌, ◌&&◌, ◌||◌, ◌<◌, not, Bool, true, false, if◌then◌else◌, List, [], ◌∷◌, ℕ, ◌++◌, refl, sym, ap, Result, Ok, Err, OnOk}
+use Rattle.std.proofs.Common.{◌≡◌, ◌∙◌, ◌==◌, ◌&&◌, ◌||◌, ◌<◌, not, Bool, true, List, [], ◌∷◌, ℕ, ◌++◌, refl, sym, ap, arith, Result, Ok, Err, OnOk}
 use Rattle.std.proofs.lemmas.Bool.{and_parts}
 use Rattle.std.proofs.lemmas.List.{append-nil, flat_map_more}
 use Rattle.std.proofs.lemmas.Str.{IsUtf8-append, IsUtf8-from_ascii, IsUtf8-from_is_utf8, is_utf8-from_IsUtf8}
 use Rattle.std.proofs.lemmas.Str.Ascii.{IsAscii-cons, IsAscii-nil}
-use Rattle.std.proofs.lemmas.List.Folds.{list_all-append}
 use Rattle.std.specs.List.{list_all}
 use Rattle.std.specs.Str.{is_utf8}
 use Rattle.wc_diag_texts.specs.Plain.{IsShown, acts, is_calm, is_control, is_plain, passes, shown_text}
@@ -28,30 +27,18 @@ pub passing_is_text : (bytes : List ℕ) → passes bytes ≡ true → is_utf8 b
 passing_is_text bytes e = (and_parts (is_calm bytes) (is_utf8 bytes) e).1
 
 plain_if_calm : (control other rest feed : Bool) → (not (control || other) && rest) ≡ true → (feed || not control) ≡ true
-plain_if_calm true other rest feed e = absurd (cc)
-plain_if_calm false true rest feed e = absurd (cc)
-plain_if_calm false false rest true e = refl
-plain_if_calm false false rest false e = refl
+plain_if_calm control other rest feed e = grind arith
 
 calm_is_plain : (bytes : List ℕ) → is_calm bytes ≡ true → list_all is_plain bytes ≡ true
 calm_is_plain [] e = refl
 calm_is_plain (byte ∷ bytes) e =
-    let first : is_plain byte ≡ true = plain_if_calm (is_control byte) (acts (byte ∷ bytes)) (is_calm bytes) (byte == 10) e in
-    let more : list_all is_plain bytes ≡ true = calm_is_plain bytes (and_parts (not (is_control byte || acts (byte ∷ bytes))) (is_calm bytes) e).1 in
-    rw (first, more) refl
+    let rest = (and_parts (not (is_control byte || acts (byte ∷ bytes))) (is_calm bytes) e).1 in
+    λ i. plain_if_calm (is_control byte) (acts (byte ∷ bytes)) (is_calm bytes) (byte == 10) e i && calm_is_plain bytes rest i
 
 pub passing_is_plain : (bytes : List ℕ) → passes bytes ≡ true → list_all is_plain bytes ≡ true
 passing_is_plain bytes e = calm_is_plain bytes (and_parts (is_calm bytes) (is_utf8 bytes) e).0
 
--- what was there, with more of the same or as it was
-pub text_kept : (b : Bool) (old more new : List ℕ) → new ≡ (if b then old ++ more else old) → is_utf8 old ≡ true → is_utf8 more ≡ true → is_utf8 new ≡ true
-text_kept true old more new e f g = ap is_utf8 e ∙ text_joined old more f g
-text_kept false old more new e f g = ap is_utf8 e ∙ f
-
-pub plain_kept : (b : Bool) (old more new : List ℕ) → new ≡ (if b then old ++ more else old) → list_all is_plain old ≡ true → list_all is_plain more ≡ true → list_all is_plain new ≡ true
-plain_kept true old more new e f g = ap (list_all is_plain) e ∙ list_all-append is_plain old more ∙ (λ i. f i && g i)
-plain_kept false old more new e f g = ap (list_all is_plain) e ∙ f
-
+-- a byte of ASCII, and nothing
 pub ascii_is_text : (byte : ℕ) → byte < 128 → is_utf8 (byte ∷ []) ≡ true
 ascii_is_text byte less = is_utf8-from_IsUtf8 (byte ∷ []) (IsUtf8-from_ascii (byte ∷ []) (IsAscii-cons byte [] less IsAscii-nil))
 

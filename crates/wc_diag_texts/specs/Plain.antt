@@ -1,8 +1,8 @@
 -- What a message may hold: characters that a terminal only shows. (The profile's own; the characters are those of Unicode in UTF-8.)
 use Rattle.std.specs.Prelude.{◌≡◌, ◌<◌, ℕ, ◌+◌, ◌/◌, ◌%◌, Bool, true, false, not, ◌==◌, ◌||◌, ◌&&◌, nat_le, nat_lt, if◌then◌else◌, List, [], ◌∷◌, ◌++◌, count_by, map, take}
-use Rattle.std.specs.List.{flat_map}
+use Rattle.std.specs.List.{AllByRecursion, flat_map}
 use Rattle.std.specs.Str.{is_utf8}
-use Rattle.wc_diag_texts.specs.Acting.{acting_length}
+use Rattle.wc_diag_texts.specs.Acting.{acting_length, continues}
 
 -- a control character of ASCII
 abbrev pub is_control : ℕ → Bool
@@ -11,9 +11,6 @@ is_control byte = nat_lt byte 32 || byte == 127
 -- a line feed, or a byte that is no control character of ASCII
 abbrev pub is_plain : ℕ → Bool
 is_plain byte = byte == 10 || not (is_control byte)
-
-abbrev pub is_within : ℕ → ℕ → ℕ → Bool
-is_within first last byte = nat_le first byte && nat_le byte last
 
 -- these bytes begin a character above ASCII on which a terminal or an editor acts, or which is not seen
 abbrev pub acts : List ℕ → Bool
@@ -67,11 +64,8 @@ abbrev pub IsShown : List ℕ → Type 0
 IsShown bytes = (texts : List (List ℕ)) × (bytes ≡ flat_map shown_text texts)
 
 -- the number of characters of a UTF-8 text: of its bytes that begin one
-abbrev pub is_further : ℕ → Bool
-is_further byte = is_within 128 191 byte
-
 abbrev pub characters : List ℕ → ℕ
-characters bytes = count_by (λ byte. not (is_further byte)) bytes
+characters bytes = count_by (λ byte. not (continues byte)) bytes
 
 -- the column of a place of a line, counted from 1: in characters, if the line is UTF-8, else in bytes
 abbrev pub column_of : List ℕ → ℕ → ℕ
@@ -84,8 +78,7 @@ words_after mark (byte ∷ rest) = mark ++ (byte ∷ rest)
 
 -- no byte is a control of ASCII, a line feed least of all
 abbrev pub HasNoControls : List ℕ → Type 0
-HasNoControls [] = Unit {0}
-HasNoControls (byte ∷ bytes) = (31 < byte) × HasNoControls bytes
+HasNoControls bytes = AllByRecursion (λ byte. 31 < byte) bytes
 
 -- these bytes are one line with its line feed
 pub record IsOneLine (bytes : List ℕ) : Type 0 where
