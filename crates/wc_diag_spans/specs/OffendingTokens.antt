@@ -1,6 +1,5 @@
 -- The offending slice on a line of a program's text.
 use Rattle.std.specs.Prelude.{◌≡◌, ◌≤◌, ◌<◌, ℕ, List, Some, IfSome, length, min}
-use Rattle.wc_diag_stops.specs.Slices.{IsAt}
 use Rattle.wc_diag_spans.specs.Lines.{column_at}
 use Rattle.wc_diag_spans.specs.declared.diagnostic.Diagnostic.{Diagnostic}
 use Rattle.wc_diag_spans.specs.declared.diagnostic.Span.{Span}
@@ -8,7 +7,7 @@ use Rattle.wc_diag_spans.specs.declared.refusal.Part.{Part}
 use Rattle.wc_diag_spans.specs.declared.refusal.Part.TheVariants.{Job, Plate, Program, Next, Log}
 use Rattle.wc_model.specs.declared.fault.Fault.TheVariants.{Refused}
 use Rattle.wc_diag_places.specs.LaterSpans.{IsLaterSpan}
-use Rattle.wc_diag_stops.specs.ReadingSpans.{StopsReading}
+use Rattle.wc_diag_stops.specs.ReadingSpans.{IsAt, StopsReading}
 use Rattle.wc_diag_texts.specs.declared.expected.Expected.{Expected}
 
 -- the reader stops there with the fault of that number on that line: the slice begins after `column`

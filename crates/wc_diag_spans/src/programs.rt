@@ -1,8 +1,7 @@
 ghost use Rattle.std.specs.Prelude.{◌≡◌, ◌≤◌, ◌<◌, IfOk, IfSome, None, OnOk, Some};
 ghost use Rattle.wc_diag_spans.specs.Lines.{column_at};
-ghost use Rattle.wc_diag_stops.specs.Slices.{IsAt};
 ghost use Rattle.wc_diag_spans.specs.OffendingTokens.{HasLaterSpan, HasStop};
-ghost use Rattle.wc_diag_stops.specs.ReadingSpans.{AreReadByPlaces};
+ghost use Rattle.wc_diag_stops.specs.ReadingSpans.{AreReadByPlaces, IsAt};
 ghost use Rattle.wc_model.specs.Language.Views.{text_view};
 
 use crate::diagnostic::Diagnostic;

@@ -22,8 +22,7 @@ use Rattle.wc_reader.proofs.ReadTexts.{needs_memory}
 use Rattle.wc_reader.specs.Reported.{ReportsReading}
 use Rattle.wc_text_short_lines.proofs.WalkSteps.{walk_reports}
 use Rattle.wc_text_short_lines.specs.Walks.{walk}
-use Rattle.wc_diag_stops.proofs.StopSteps.{walk_stops}
-use Rattle.wc_diag_stops.specs.Allowed.{allowed, allowed_with}
+use Rattle.wc_diag_stops.specs.Allowed.{allowed_with}
 use Rattle.wc_diag_stops.specs.ReadingSpans.{AreReadByPlaces, AreThoseRead, IsReadByPlaces, StopsReading, place_mark, place_marks}
 use Rattle.wc_diag_stops.specs.Stopping.{IsAllowedAs, IsRaisedWith, IsOffendingAt, IsStopAt, ReadsText, ReportsRaised}
 use Rattle.wc_diag_texts.specs.declared.expected.Expected.{Expected}
@@ -51,7 +50,7 @@ span bytes tokens number place there stop short cut m p =
       first = subst (IsFirstReadingFault (place_marks tokens) (length bytes) m.raised.fault) (sym m.place_is)
           (refused_is_first (place_marks tokens) (length bytes) m.raised (sym (walk_reports at_first (place_marks tokens) (length bytes)) ∙ m.reported_is));
       line_is = refl;
-      expected_is = p.expected_is ∙ ap (allowed_with number) (m.expected_is ∙ ap allowed (walk_stops at_first (place_marks tokens) (length bytes)));
+      expected_is = p.expected_is ∙ ap (allowed_with number) m.expected_is;
       start_is = p.start_is;
       count_is = p.length_is;
     }))
@@ -73,14 +72,6 @@ stops_raised bytes tokens spanned_source after fault there stop short cut m e t 
     raised_by_places bytes tokens fault there stop short cut (subst (λ marks. ReportsRaised (walk at_first marks (length bytes)) fault there) m t)
     (λ memory. placed_some spanned_source tokens m (some memory)) (subst (λ xs. IsStopAt bytes xs fault there stop) e is)
 
--- a text in which nothing is found
-pub read_by_places : (bytes : List ℕ) (tokens spanned_source : List Token) → length bytes ≤ most_bytes → IsCut bytes (map token_view tokens) → marks_of spanned_source ≡ place_marks tokens
-    → ReadsText (walk at_first (marks_of spanned_source) (length bytes)) → IsReadByPlaces bytes
-read_by_places bytes tokens spanned_source short cut m r =
-    let e : reading at_first (marks_of spanned_source) (length bytes) ≡ Ok r.text = sym (walk_reports at_first (marks_of spanned_source) (length bytes)) ∙ r.reported_is in
-    let k = read_is_spelled (place_marks tokens) (length bytes) r.text (subst (λ marks. reading at_first marks (length bytes) ≡ Ok r.text) m e) in
-    record { short = short; tokens = tokens; cut = cut; text = r.text; spelled = k.0; within_limits = k.1 }
-
 -- what is read in them
 pub read_as : (bytes : List ℕ) (tokens spanned_source after : List Token) (text : Text) → length bytes ≤ most_bytes → IsCut bytes (map token_view tokens) → marks_of spanned_source ≡ place_marks tokens
     → after ≡ tokens → (walk at_first (marks_of spanned_source) (length bytes)).reported ≡ Ok text → AreReadByPlaces bytes after text
@@ -88,6 +79,11 @@ read_as bytes tokens spanned_source after text short cut m same reported =
     let e : reading at_first (marks_of spanned_source) (length bytes) ≡ Ok text = sym (walk_reports at_first (marks_of spanned_source) (length bytes)) ∙ reported in
     let k = read_is_spelled (place_marks tokens) (length bytes) text (subst (λ marks. reading at_first marks (length bytes) ≡ Ok text) m e) in
     subst (λ xs. AreReadByPlaces bytes xs text) (sym same) (record { short = short; cut = cut; spelled = k.0; within_limits = k.1 })
+
+-- a text in which nothing is found
+pub read_by_places : (bytes : List ℕ) (tokens spanned_source : List Token) → length bytes ≤ most_bytes → IsCut bytes (map token_view tokens) → marks_of spanned_source ≡ place_marks tokens
+    → ReadsText (walk at_first (marks_of spanned_source) (length bytes)) → IsReadByPlaces bytes
+read_by_places bytes tokens spanned_source short cut m r = (tokens, r.text, read_as bytes tokens spanned_source tokens r.text short cut m refl r.reported_is)
 
 -- what is read or not
 pub read_result : (bytes : List ℕ) (tokens spanned_source after : List Token) (result : Result Source Fault) → length bytes ≤ most_bytes → IsCut bytes (map token_view tokens)

@@ -1,9 +1,9 @@
 -- What could come where a text can't go on: what the walk moves on with from its state. (The
 -- profile's own.)
 use Rattle.std.specs.Prelude.{◌==◌, ℕ, List, [], ◌∷◌, if◌then◌else◌}
-use Rattle.wc_laws_grammar.specs.LineMoves.{OperandOf, OfStep, OfOpening, OfArgument, InList, AtFirst, AtNext, AtAssign, AtValue, AtEnd, LineState, Start, Worded, Labelled, Operated, Jumped, Called, Instanced, Listing, Bracketed, Named, Pointed, Stepped, BracketedWith, Ended}
+use Rattle.wc_laws_grammar.specs.LineMoves.{OperandOf, OfArgument, InList, AtFirst, AtNext, AtAssign, AtValue, AtEnd, LineState, Start, Worded, Labelled, Operated, Jumped, Called, Instanced, Listing, Bracketed, Named, Pointed}
 use Rattle.wc_laws_grammar.specs.Moves.{InDeclaration, Undeclared, AfterNames, AfterComma, AfterColon, AfterType, AfterAssign, AfterValue, State, Outside, Unnamed, Declaring, AtLine, OnLine, Closed, has_program}
-use Rattle.wc_laws_grammar.specs.Words.{Operating, Loads, Stores, Applies}
+use Rattle.wc_laws_grammar.specs.Words.{Operating, Applies}
 use Rattle.wc_model.specs.Text.Positions.{Opening}
 use Rattle.wc_diag_texts.specs.declared.expected.Expected.{Expected}
 use Rattle.wc_diag_texts.specs.declared.expected.Expected.TheVariants as expected
@@ -29,14 +29,12 @@ allowed_in_list AtEnd = expected.CommaOrClosing
 -- after an operator that takes an operand
 abbrev pub allowed_after_operator : Operating → Expected
 allowed_after_operator (Applies operator) = expected.OperandOrOpening
-allowed_after_operator (Loads negated) = expected.Operand
-allowed_after_operator (Stores storing) = expected.Operand
+allowed_after_operator _ = expected.Operand
 
 -- after a name in the place of an operand
 abbrev pub allowed_after_name : OperandOf → Expected
-allowed_after_name (OfStep operating) = expected.PointOrLineEnd
-allowed_after_name (OfOpening operator) = expected.PointOrLineEnd
 allowed_after_name (OfArgument call input) = expected.CommaPointOrClosing
+allowed_after_name _ = expected.PointOrLineEnd
 
 -- on a line
 abbrev pub allowed_on_line : LineState → Expected
@@ -51,9 +49,7 @@ allowed_on_line (Listing started call item) = allowed_in_list item
 allowed_on_line (Bracketed started operator) = expected.OperandOrLineEnd
 allowed_on_line (Named started place name) = allowed_after_name place
 allowed_on_line (Pointed started place name) = expected.Field
-allowed_on_line (Stepped started step) = expected.LineEnd
-allowed_on_line (BracketedWith started operator operand) = expected.LineEnd
-allowed_on_line (Ended line_shape) = expected.LineEnd
+allowed_on_line _ = expected.LineEnd
 
 -- at the start of a line of a body, in these parentheses
 abbrev pub allowed_at_line : List Opening → Expected

@@ -2,5 +2,4 @@ pub mod Allowed
 pub mod Listed
 pub mod ReadingSpans
 pub mod Stopping
-pub mod Slices
 pub mod Words

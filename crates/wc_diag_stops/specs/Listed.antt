@@ -1,10 +1,10 @@
 -- Which tokens the sentence about an unexpected token lists, and that this list is exact. (The profile's own.)
 use Rattle.std.specs.Prelude.{◌≡◌, ⊤, ◌⊎◌, ◌||◌, ℕ, Bool, true, false, Some, None, is_some}
 use Rattle.wc_laws_grammar.specs.LineMoves.{Start, Ended}
-use Rattle.wc_laws_grammar.specs.Moves.{State, OnLine, fault_at, move, is_colon, is_identifier}
+use Rattle.wc_laws_grammar.specs.Moves.{State, OnLine, fault_at, move, is_identifier}
 use Rattle.wc_laws_grammar.specs.Words.{found, literal_of, operation_of, unit_kinds}
 use Rattle.wc_model.specs.Language.Names.{name_of}
-use Rattle.wc_model.specs.Text.Marks.{Symbol, Identifier, Whole, Duration, Truth, Direct, OpeningBracket, ClosingBracket, Comma, Semicolon, Point, Assign, Arrow, LineEnd}
+use Rattle.wc_model.specs.Text.Marks.{Symbol, Identifier, Whole, Duration, Truth, Direct, OpeningBracket, ClosingBracket, Comma, Colon, Semicolon, Point, Assign, Arrow, LineEnd}
 use Rattle.wc_diag_stops.specs.Allowed.{allowed}
 use Rattle.wc_diag_texts.specs.declared.expected.Expected.{Expected}
 use Rattle.wc_diag_texts.specs.declared.expected.Expected.TheVariants as expected
@@ -27,73 +27,42 @@ is_operand _ = false
 abbrev pub is_operator : Symbol → Bool
 is_operator symbol = is_some (operation_of symbol)
 
--- an operator or a label
-abbrev pub is_instruction : Symbol → Bool
-is_instruction symbol = is_identifier symbol || is_operator symbol
+-- the symbol is that one, which says nothing more
+abbrev pub is_mark : (mark symbol : Symbol) → Bool
+is_mark Comma Comma = true
+is_mark Colon Colon = true
+is_mark Semicolon Semicolon = true
+is_mark Assign Assign = true
+is_mark Arrow Arrow = true
+is_mark Point Point = true
+is_mark OpeningBracket OpeningBracket = true
+is_mark ClosingBracket ClosingBracket = true
+is_mark LineEnd LineEnd = true
+is_mark _ _ = false
 
--- single tokens
-abbrev pub is_comma : Symbol → Bool
-is_comma Comma = true
-is_comma _ = false
-
-abbrev pub is_semicolon : Symbol → Bool
-is_semicolon Semicolon = true
-is_semicolon _ = false
-
-abbrev pub is_assign : Symbol → Bool
-is_assign Assign = true
-is_assign _ = false
-
-abbrev pub is_arrow : Symbol → Bool
-is_arrow Arrow = true
-is_arrow _ = false
-
-abbrev pub is_point : Symbol → Bool
-is_point Point = true
-is_point _ = false
-
-abbrev pub is_opening : Symbol → Bool
-is_opening OpeningBracket = true
-is_opening _ = false
-
-abbrev pub is_closing : Symbol → Bool
-is_closing ClosingBracket = true
-is_closing _ = false
-
-abbrev pub is_end : Symbol → Bool
-is_end LineEnd = true
-is_end _ = false
-
--- the sentence lists the token
+-- the sentence lists the token; where it is not said here, a name alone
 abbrev pub lists : Expected → Symbol → Bool
 lists expected.Nothing symbol = false
-lists expected.LabelColon symbol = is_colon symbol
+lists expected.LabelColon symbol = is_mark Colon symbol
 lists expected.UnitWord symbol = is_unit_word symbol
-lists expected.UnitName symbol = is_identifier symbol
-lists expected.NameOrEndVar symbol = is_identifier symbol
-lists expected.CommaOrColon symbol = is_comma symbol || is_colon symbol
-lists expected.Name symbol = is_identifier symbol
-lists expected.TypeName symbol = is_identifier symbol
-lists expected.AssignOrSemicolon symbol = is_assign symbol || is_semicolon symbol
+lists expected.CommaOrColon symbol = is_mark Comma symbol || is_mark Colon symbol
+lists expected.AssignOrSemicolon symbol = is_mark Assign symbol || is_mark Semicolon symbol
 lists expected.Literal symbol = is_some (literal_of symbol)
-lists expected.Semicolon symbol = is_semicolon symbol
-lists expected.Instruction symbol = is_instruction symbol
-lists expected.InstructionOrClosing symbol = is_operator symbol || is_closing symbol
-lists expected.InstructionOrLineEnd symbol = is_operator symbol || is_end symbol
+lists expected.Semicolon symbol = is_mark Semicolon symbol
+lists expected.Instruction symbol = is_identifier symbol || is_operator symbol
+lists expected.InstructionOrClosing symbol = is_operator symbol || is_mark ClosingBracket symbol
+lists expected.InstructionOrLineEnd symbol = is_operator symbol || is_mark LineEnd symbol
 lists expected.Operand symbol = is_operand symbol
-lists expected.OperandOrOpening symbol = is_operand symbol || is_opening symbol
-lists expected.OperandOrLineEnd symbol = is_operand symbol || is_end symbol
-lists expected.Label symbol = is_identifier symbol
-lists expected.Instance symbol = is_identifier symbol
-lists expected.LineEnd symbol = is_end symbol
-lists expected.OpeningOrLineEnd symbol = is_opening symbol || is_end symbol
-lists expected.PointOrLineEnd symbol = is_point symbol || is_end symbol
-lists expected.Field symbol = is_identifier symbol
-lists expected.FormalOrClosing symbol = is_identifier symbol || is_closing symbol
-lists expected.Formal symbol = is_identifier symbol
-lists expected.AssignOrArrow symbol = is_assign symbol || is_arrow symbol
-lists expected.CommaOrClosing symbol = is_comma symbol || is_closing symbol
-lists expected.CommaPointOrClosing symbol = is_comma symbol || (is_point symbol || is_closing symbol)
+lists expected.OperandOrOpening symbol = is_operand symbol || is_mark OpeningBracket symbol
+lists expected.OperandOrLineEnd symbol = is_operand symbol || is_mark LineEnd symbol
+lists expected.LineEnd symbol = is_mark LineEnd symbol
+lists expected.OpeningOrLineEnd symbol = is_mark OpeningBracket symbol || is_mark LineEnd symbol
+lists expected.PointOrLineEnd symbol = is_mark Point symbol || is_mark LineEnd symbol
+lists expected.FormalOrClosing symbol = is_identifier symbol || is_mark ClosingBracket symbol
+lists expected.AssignOrArrow symbol = is_mark Assign symbol || is_mark Arrow symbol
+lists expected.CommaOrClosing symbol = is_mark Comma symbol || is_mark ClosingBracket symbol
+lists expected.CommaPointOrClosing symbol = is_mark Comma symbol || (is_mark Point symbol || is_mark ClosingBracket symbol)
+lists _ symbol = is_identifier symbol
 
 -- a walk stops before a line or on it, never at the start of one that it is on, nor on one that has ended
 abbrev pub IsStop : State → Type 0

@@ -1,8 +1,8 @@
 -- Where the first fault of a text that has tokens is. (The profile's own.)
-use Rattle.std.specs.Prelude.{◌≡◌, ◌==◌, ◌||◌, ℕ, Bool, codes, ◌-◌, ◌≤◌, false, List, [], ◌∷◌, find, if◌then◌else◌, length, map, min, nat_lt, slice_get, take, Option, Some, None, ◌⊎◌}
+use Rattle.std.specs.Prelude.{◌≡◌, ◌==◌, ◌||◌, ℕ, Bool, codes, ◌-◌, ◌≤◌, List, [], drop, find, if◌then◌else◌, length, map, min, nat_lt, slice_get, take, Option, Some, None, ◌⊎◌}
 use Rattle.std.specs.List.{prefix_len}
 use Rattle.std.specs.Option.{option_map_or}
-use Rattle.wc_laws_grammar.specs.Moves.{State, at_first, colon_next, fault_at, move}
+use Rattle.wc_laws_grammar.specs.Moves.{at_first}
 use Rattle.wc_lexer.specs.Refusals.{NeedsMemory}
 use Rattle.wc_lexer.specs.Spans.{IsTokenSpan}
 use Rattle.wc_lexer.specs.Views.{shape_view, token_view}
@@ -18,6 +18,7 @@ use Rattle.wc_model.specs.Text.Tokens.{IsCut, most_bytes}
 use Rattle.wc_model.specs.Language.Tree.{Text}
 use Rattle.wc_model.specs.declared.fault.Fault.{Fault}
 use Rattle.wc_model.specs.declared.fault.Fault.TheVariants.{Memory, Refused}
+use Rattle.wc_text_short_lines.specs.Walks.{walk}
 use Rattle.wc_diag_stops.specs.Allowed.{allowed, allowed_with}
 use Rattle.wc_diag_texts.specs.declared.expected.Expected.{Expected}
 use Rattle.wc_diag_texts.specs.declared.expected.Expected.TheVariants.{CommaOrColon, LabelColon}
@@ -30,18 +31,6 @@ place_mark token = record { symbol = symbol_of (shape_view token.shape) token.te
 -- the tokens with their places for their lines
 abbrev pub place_marks : List Token → List Mark
 place_marks tokens = map place_mark tokens
-
--- where the walk over some tokens stops: the state that refuses a token, or that after the last one
-abbrev pub state_at_stop : State → List Mark → State
-state_at_stop state [] = state
-state_at_stop state (mark ∷ marks) =
-    elim (fault_at state mark.symbol mark.line (colon_next marks false)) as (λ _. State) [
-      | Some raised ↦ state
-      | None ↦ elim (move state mark.symbol mark.line (colon_next marks false)) as (λ _. State) [
-        | Some next ↦ state_at_stop next marks
-        | None ↦ state
-      ]
-    ]
 
 -- the token that starts at that byte
 abbrev pub token_at : List Token → ℕ → Option Token
@@ -87,6 +76,10 @@ start_of found end = option_map_or (λ token. token.start) found end
 abbrev pub length_of : Option Token → ℕ
 length_of found = option_map_or (λ token. length token.text.now) found 0
 
+-- this slice is in the text, from that place on
+abbrev pub IsAt : List ℕ → ℕ → List ℕ → Type 0
+IsAt text place bytes_at = take (length bytes_at) (drop place text) ≡ bytes_at
+
 -- The first fault of a text that has tokens, with its slice: the token whose line is reported, or at the
 -- text's end no token. If that token is unexpected and only a colon could be there, the slice
 -- is the word before it.
@@ -99,7 +92,7 @@ pub record IsReadingSpan (bytes : List ℕ) (number line start count : ℕ) (exp
   pub number_is : number ≡ number_of fault
   pub first : IsFirstReadingFault (place_marks tokens) (length bytes) fault place
   pub line_is : line ≡ line_of (token_at tokens place) (last_line bytes)
-  pub expected_is : expected ≡ allowed_with number (allowed (state_at_stop at_first (place_marks tokens)))
+  pub expected_is : expected ≡ allowed_with number (allowed (walk at_first (place_marks tokens) (length bytes)).state)
   pub start_is : start ≡ start_of (offending_at tokens place expected) (length bytes)
   pub count_is : count ≡ length_of (offending_at tokens place expected)
 
@@ -109,21 +102,16 @@ StopsReading bytes Memory start count expected = NeedsMemory bytes
 StopsReading bytes (Refused number place) start count expected =
     IsTokenSpan bytes number place start count ⊎ IsReadingSpan bytes number place start count expected
 
--- the bytes are short enough and are cut into tokens, which spell a text within the limits
-pub record IsReadByPlaces (bytes : List ℕ) : Type 0 where
-  pub short : length bytes ≤ most_bytes
-  pub tokens : List Token
-  pub cut : IsCut bytes (map token_view tokens)
-  pub text : Text
-  pub spelled : Spells (place_marks tokens) text
-  pub within_limits : IsWithinLimits text
-
 -- the tokens of bytes that are short enough spell this text with their places for their lines
 pub record AreReadByPlaces (bytes : List ℕ) (tokens : List Token) (text : Text) : Type 0 where
   pub short : length bytes ≤ most_bytes
   pub cut : IsCut bytes (map token_view tokens)
   pub spelled : Spells (place_marks tokens) text
   pub within_limits : IsWithinLimits text
+
+-- the bytes are short enough and are cut into tokens, which spell a text within the limits
+abbrev pub IsReadByPlaces : List ℕ → Type 0
+IsReadByPlaces bytes = (tokens : List Token) × (text : Text) × AreReadByPlaces bytes tokens text
 
 -- The tokens before the place at which bytes can't be cut further; or none.
 abbrev pub AreBefore : List ℕ → ℕ → List Token → Type 0

@@ -1,5 +1,5 @@
 ghost use Rattle.std.specs.Prelude.{◌≡◌, length, min, take, drop};
-ghost use Rattle.wc_diag_stops.specs.Slices.{IsAt};
+ghost use Rattle.wc_diag_stops.specs.ReadingSpans.{IsAt};
 
 /// What comes after that number of bytes.
 pub fn following(text: &[u8], start: usize) -> &[u8]
