@@ -1,92 +1,29 @@
 -- What a name means has a value of its kind in a store of the text, and a number.
-use Rattle.std.proofs.Common.{◌≡◌, ℕ, ◌+◌, List, [], ◌∷◌, Bool, true, false, cond, Option, Some, None, refl, ap, ◌∙◌}
+use Rattle.std.proofs.Common.{◌≡◌, ℕ, ◌+◌, List, [], ◌∷◌, Bool, true, false, cond, Option, Some, None, Result, Ok, Err, refl, ap, ◌∙◌}
 use Rattle.std.specs.Prelude.{◌&&◌, if◌then◌else◌, not, reverse, is_some, option_and_then, option_map}
 use Rattle.std.specs.List.{position_from}
 use Rattle.wc_text_flat.specs.Contents.{number_in}
 use Rattle.wc_model.specs.Language.CarriedPlaces.{frame_of_reversed, frame_of_text}
 use Rattle.wc_model.specs.Language.Frames.{content_number, place_number}
+use Rattle.wc_model.specs.Language.Reasons.{Reason, NoSuchPlace}
 use Rattle.wc_model.specs.Language.Scans.{initial_of, initial_of_reversed}
 use Rattle.wc_model.specs.Language.Scopes.{kind_of}
 use Rattle.wc_model.specs.Language.Store.{Location, Content, Plain, Moment, Phase, Store, program_frame, same_place, store_of}
 use Rattle.wc_model.specs.Language.Tree.{ProgramUnit, Text}
-use Rattle.wc_model.specs.declared.kind.Kind.{Kind}
 use Rattle.wc_model.specs.declared.value.Value.{Value}
-use Rattle.wc_model.specs.declared.value.Value.TheVariants.{Bool as Truth, Dint, Time}
+use Rattle.wc_laws_language.proofs.Places.{value_there}
 use Rattle.wc_laws_language.specs.Typing.{SameSlots, slot_of}
 use Rattle.wc_text_variables.specs.Numbered.{variable_at_location, variable_named, numbered_variable}
 use Rattle.wc_text_variables.specs.Names.{if_readable, is_hidden, is_value, is_readable, named_location, place_named}
 use Rattle.wc_text_variables.specs.declared.variables.NamedVariable.{NamedVariable}
 
--- a name that means something: its place, the value that is there at first, and the number of the place
-pub record Means (text : Text) (name : List ℕ) (variable : NamedVariable) : Type 0 where
-  pub place : Location
-  pub is : named_location text name ≡ Some place
-  pub number : place_number (frame_of_text text) place ≡ Some variable.place.0
-  pub first : Value
-  pub there : initial_of text place ≡ Some (Plain first)
-  pub kind : kind_of first ≡ variable.kind
+-- a place with a value holds it
+holds : (content : Option Content) (value : Value)
+    → (elim content as (λ x. Result Value Reason) [ Some c ↦ elim c [ Plain v ↦ Ok v | Moment m ↦ Err NoSuchPlace | Phase p ↦ Err NoSuchPlace ] | None ↦ Err NoSuchPlace ]) ≡ Ok value → content ≡ Some (Plain value)
+holds (Some (Plain v)) value e = let same : v ≡ value = cc in ap (λ w. Some (Plain w)) same
+holds content value e = cc
 
-pub means : (text : Text) (name : List ℕ) (variable : NamedVariable) → variable_named text name ≡ Some variable → Means text name variable
-means text name variable e = by (named_location text name) refl e
-  where
-    at : (place : Location) (n : Option ℕ) (content : Option Content) → named_location text name ≡ Some place → place_number (frame_of_text text) place ≡ n → initial_of text place ≡ content
-        → numbered_variable n content ≡ Some variable → Means text name variable
-    at place None content is number there f = absurd (cc (f))
-    at place (Some n) None is number there f = absurd (cc (f))
-    at place (Some n) (Some (Moment moment)) is number there f = absurd (cc (f))
-    at place (Some n) (Some (Phase phase)) is number there f = absurd (cc (f))
-    at place (Some n) (Some (Plain value)) is number there f =
-        let same : record { place = record { 0 = n }; kind = kind_of value } ≡ variable = cc in record {
-          place = place;
-          is = is;
-          number = number ∙ ap (λ (w : NamedVariable). Some w.place.0) same;
-          first = value;
-          there = there;
-          kind = ap (λ (w : NamedVariable). w.kind) same;
-        }
-
-    by : (place : Option Location) → named_location text name ≡ place → option_and_then (variable_at_location text) place ≡ Some variable → Means text name variable
-    by None is f = absurd (cc (f))
-    by (Some place) is f = at place (place_number (frame_of_text text) place) (initial_of text place) is refl refl f
-
--- so the store has a value of that kind at the place
-pub record Holds (store : Store) (place : Location) (kind : Kind) : Type 0 where
-  pub value : Value
-  pub there : store place ≡ Some (Plain value)
-  pub kind_is : kind_of value ≡ kind
-
-same_kinds : (a b : Value) → slot_of (Plain a) ≡ slot_of (Plain b) → kind_of a ≡ kind_of b
-same_kinds (Truth a) (Truth b) e = refl
-same_kinds (Dint a) (Dint b) e = refl
-same_kinds (Time a) (Time b) e = refl
-same_kinds (Truth a) (Dint b) e = absurd (cc (e))
-same_kinds (Truth a) (Time b) e = absurd (cc (e))
-same_kinds (Dint a) (Truth b) e = absurd (cc (e))
-same_kinds (Dint a) (Time b) e = absurd (cc (e))
-same_kinds (Time a) (Truth b) e = absurd (cc (e))
-same_kinds (Time a) (Dint b) e = absurd (cc (e))
-
-pub holds : (text : Text) (store : Store) (place : Location) (first : Value) → SameSlots (initial_of text) store → initial_of text place ≡ Some (Plain first)
-    → Holds store place (kind_of first)
-holds text store place first slots there = by (store place) refl (slots place ∙ ap (option_map slot_of) there)
-  where
-    by : (content : Option Content) → store place ≡ content → option_map slot_of content ≡ Some (slot_of (Plain first)) → Holds store place (kind_of first)
-    by None is e = absurd (cc (e))
-    by (Some (Plain value)) is e = record { value = value; there = is; kind_is = same_kinds value first (let f : slot_of (Plain value) ≡ slot_of (Plain first) = cc in f) }
-    by (Some (Moment moment)) is e = moment_no first e
-      where
-        moment_no : (v : Value) → Some (slot_of (Moment moment)) ≡ Some (slot_of (Plain v)) → Holds store place (kind_of first)
-        moment_no (Truth b) f = absurd (cc (f))
-        moment_no (Dint d) f = absurd (cc (f))
-        moment_no (Time t) f = absurd (cc (f))
-    by (Some (Phase phase)) is e = phase_no first e
-      where
-        phase_no : (v : Value) → Some (slot_of (Phase phase)) ≡ Some (slot_of (Plain v)) → Holds store place (kind_of first)
-        phase_no (Truth b) f = absurd (cc (f))
-        phase_no (Dint d) f = absurd (cc (f))
-        phase_no (Time t) f = absurd (cc (f))
-
--- the number at the place is that of the value
+-- a name that means something: its place with its number, and the value there, of which it is the number
 pub record Reads (text : Text) (store : Store) (name : List ℕ) (variable : NamedVariable) : Type 0 where
   pub place : Location
   pub is : named_location text name ≡ Some place
@@ -98,17 +35,27 @@ pub record Reads (text : Text) (store : Store) (name : List ℕ) (variable : Nam
 
 pub reads : (text : Text) (store : Store) (name : List ℕ) (variable : NamedVariable) → SameSlots (initial_of text) store → variable_named text name ≡ Some variable
     → Reads text store name variable
-reads text store name variable slots e =
-    let m : Means text name variable = means text name variable e in
-    let h : Holds store m.place (kind_of m.first) = holds text store m.place m.first slots m.there in record {
-      place = m.place;
-      is = m.is;
-      number = m.number;
-      value = h.value;
-      there = h.there;
-      kind = h.kind_is ∙ m.kind;
-      held = ap (option_map content_number) h.there;
-    }
+reads text store name variable slots e = by (named_location text name) refl e
+  where
+    at : (place : Location) (content : Option Content) (n : Option ℕ) → named_location text name ≡ Some place → initial_of text place ≡ content → place_number (frame_of_text text) place ≡ n
+        → numbered_variable content n ≡ Some variable → Reads text store name variable
+    at place (Some (Plain first)) (Some n) is there number f =
+        let same : record { place = record { 0 = n }; kind = kind_of first } ≡ variable = cc in
+        let value = value_there store place (kind_of first) (slots place ∙ ap (option_map slot_of) there) in
+        let held = holds (store place) value.0 value.1 in record {
+          place = place;
+          is = is;
+          number = number ∙ ap (λ (w : NamedVariable). Some w.place.0) same;
+          value = value.0;
+          there = held;
+          kind = value.2 ∙ ap (λ (w : NamedVariable). w.kind) same;
+          held = ap (option_map content_number) held;
+        }
+    at place content n is there number f = absurd (cc (f))
+
+    by : (place : Option Location) → named_location text name ≡ place → option_and_then (variable_at_location text) place ≡ Some variable → Reads text store name variable
+    by None is f = absurd (cc (f))
+    by (Some place) is f = at place (initial_of text place) (place_number (frame_of_text text) place) is refl refl f
 
 -- what a store holds has a number
 numbered : (entries : List (Location × Content)) (place : Location) (content : Content) (i : ℕ) → store_of entries place ≡ Some content
@@ -132,12 +79,8 @@ watchable : (text : Text) (place : Location) → is_readable text place ≡ true
 watchable text place e = by (initial_of text place) refl e
   where
     by : (content : Option Content) → initial_of text place ≡ content → (is_value content && not (is_hidden text place)) ≡ true → is_some (variable_at_location text place) ≡ true
-    by None there f = absurd (cc (f))
-    by (Some (Moment moment)) there f = absurd (cc (f))
-    by (Some (Phase phase)) there f = absurd (cc (f))
-    by (Some (Plain value)) there f =
-        let n = numbered_in (reverse text) place (Plain value) there in
-        ap (λ (k : Option ℕ). is_some (numbered_variable k (initial_of text place))) n.1 ∙ ap (λ (c : Option Content). is_some (numbered_variable (Some n.0) c)) there
+    by (Some (Plain value)) there f = let n = numbered_in (reverse text) place (Plain value) there in (λ i. is_some (numbered_variable (there i) (n.1 i)))
+    by content there f = absurd (cc (f))
 
 -- a name is watched exactly if it means something
 pub known : (text : Text) (name : List ℕ) → is_some (variable_named text name) ≡ is_some (named_location text name)

@@ -2,12 +2,12 @@
 use Rattle.std.specs.Prelude.{ℕ, ◌==◌, Bool, true, false, not, ◌&&◌, List, [], ◌∷◌, map, reverse, Option, Some, None, option_map, option_and_then, if◌then◌else◌}
 use Rattle.std.specs.List.{slice_split}
 use Rattle.std.specs.Option.{is_none}
-use Rattle.wc_model.specs.Language.Declarations.{VariableType, Elementary, Standard, Block, block_named, member_named, standard_members}
+use Rattle.wc_model.specs.Language.Declarations.{VariableType, Standard, Block, block_named, member_named, standard_members}
 use Rattle.wc_model.specs.Language.DirectVariables.{variable_at}
 use Rattle.wc_model.specs.Language.Names.{Name, name_of}
 use Rattle.wc_model.specs.Language.Scans.{initial_of}
 use Rattle.wc_model.specs.Language.Scopes.{type_of}
-use Rattle.wc_model.specs.Language.Store.{Location, Direct, Path, Content, Plain, Moment, Phase}
+use Rattle.wc_model.specs.Language.Store.{Location, Direct, Path, Content, Plain}
 use Rattle.wc_model.specs.Language.Tree.{ProgramUnit, Text}
 use Rattle.wc_model.specs.declared.block.StandardBlock.{StandardBlock}
 
@@ -30,30 +30,23 @@ is_hidden_field block [] = false
 is_hidden_field block (field ∷ names) = is_none (member_named (standard_members block) field)
 
 abbrev pub is_hidden_by : (List ProgramUnit → ProgramUnit → Bool) → List ProgramUnit → Option VariableType → List Name → Bool
-is_hidden_by onward before None names = false
-is_hidden_by onward before (Some (Elementary kind)) names = false
 is_hidden_by onward before (Some (Standard block)) names = is_hidden_field block names
 is_hidden_by onward before (Some (Block block)) names = elim (block_named before block) [ Some found ↦ onward found.1 found.0 | None ↦ false ]
+is_hidden_by onward before type names = false
 
 abbrev pub is_hidden_from : List Name → List ProgramUnit → ProgramUnit → Bool
 is_hidden_from [] before unit = false
 is_hidden_from (name ∷ names) before unit = is_hidden_by (is_hidden_from names) before (type_of (record { before = before; unit = unit }) name) names
 
 -- so from the program, which is the last unit of a text
-abbrev pub is_hidden_reversed : List ProgramUnit → List Name → Bool
-is_hidden_reversed [] names = false
-is_hidden_reversed (program ∷ before) names = is_hidden_from names before program
-
 abbrev pub is_hidden : Text → Location → Bool
 is_hidden text (Direct v) = false
-is_hidden text (Path names) = is_hidden_reversed (reverse text) names
+is_hidden text (Path names) = elim (reverse text) [ program ∷ before ↦ is_hidden_from names before program | [] ↦ false ]
 
 -- a BOOL, a DINT or a TIME; what a timer keeps for itself is not a value
 abbrev pub is_value : Option Content → Bool
-is_value None = false
 is_value (Some (Plain value)) = true
-is_value (Some (Moment moment)) = false
-is_value (Some (Phase phase)) = false
+is_value content = false
 
 -- the text's program has a value at the place, and texts can name it
 abbrev pub is_readable : Text → Location → Bool

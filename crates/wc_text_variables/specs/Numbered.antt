@@ -6,28 +6,16 @@ use Rattle.wc_model.specs.Language.Scans.{initial_of}
 use Rattle.wc_model.specs.Language.Scopes.{kind_of}
 use Rattle.wc_model.specs.Language.Store.{Location, Content, Plain}
 use Rattle.wc_model.specs.Language.Tree.{Text}
-use Rattle.wc_model.specs.declared.kind.Kind.{Kind}
-use Rattle.wc_model.specs.declared.kind.Kind.TheVariants as kinds
-use Rattle.wc_model.specs.declared.kind.SlotKind.{SlotKind}
-use Rattle.wc_model.specs.declared.kind.SlotKind.TheVariants as slots
 use Rattle.wc_text_variables.specs.Names.{named_location}
 use Rattle.wc_text_variables.specs.declared.variables.NamedVariable.{NamedVariable}
 
--- the kind of the values that a place holds
-abbrev pub value_kind : SlotKind → Option Kind
-value_kind slots.Bool = Some kinds.Bool
-value_kind slots.Dint = Some kinds.Dint
-value_kind slots.Time = Some kinds.Time
-value_kind slots.Moment = None
-value_kind slots.Phase = None
-
--- a value by the number of its place, and its kind
-abbrev pub numbered_variable : Option ℕ → Option Content → Option NamedVariable
-numbered_variable (Some n) (Some (Plain value)) = Some (record { place = record { 0 = n }; kind = kind_of value })
-numbered_variable number content = None
+-- a value by its kind, and the number of its place
+abbrev pub numbered_variable : Option Content → Option ℕ → Option NamedVariable
+numbered_variable (Some (Plain value)) (Some n) = Some (record { place = record { 0 = n }; kind = kind_of value })
+numbered_variable content number = None
 
 abbrev pub variable_at_location : Text → Location → Option NamedVariable
-variable_at_location text place = numbered_variable (place_number (frame_of_text text) place) (initial_of text place)
+variable_at_location text place = numbered_variable (initial_of text place) (place_number (frame_of_text text) place)
 
 -- what a name means in a text, by the number of its place
 abbrev pub variable_named : Text → List ℕ → Option NamedVariable

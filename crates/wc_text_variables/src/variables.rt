@@ -1,6 +1,6 @@
 ghost use Rattle.std.specs.Prelude.{◌≡◌, IfOk, IsOkUnless, Option, drop, map, option_and_then, slice_get};
 ghost use Rattle.std.specs.Option.{is_none};
-ghost use Rattle.wc_built_in.specs.Fields.{is_named};
+ghost use Rattle.wc_built_in.specs.Fields.{is_named, value_kind};
 ghost use Rattle.wc_model.specs.Language.Declarations.{member_named, standard_members};
 ghost use Rattle.wc_model.specs.Language.Frames.{location_of};
 ghost use Rattle.wc_model.specs.Language.Names.{name_of};
@@ -11,7 +11,7 @@ ghost use Rattle.wc_model.specs.Language.Views.{text_view};
 ghost use Rattle.wc_names.specs.Numbered.{IsUnit, numbered_type};
 ghost use Rattle.wc_names.specs.RepresentsText.{AreTables};
 ghost use Rattle.wc_text_variables.specs.Names.{is_hidden, is_hidden_field};
-ghost use Rattle.wc_text_variables.specs.Numbered.{value_kind, variable_at_location, variable_named};
+ghost use Rattle.wc_text_variables.specs.Numbered.{variable_at_location, variable_named};
 
 use crate::names::{is_address, parts_of};
 use std::alloc::Global;

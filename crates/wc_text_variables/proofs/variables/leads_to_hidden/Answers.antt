@@ -1,16 +1,34 @@
-use Rattle.std.proofs.Common.{◌+◌, ◌-◌, ◌∙◌, Bor, List, Some, ap, drop, map, subst, sym}
+use Rattle.std.proofs.Common.{◌≡◌, ◌+◌, ◌-◌, ◌<◌, ◌∙◌, ℕ, Bool, Bor, List, Option, Some, None, ap, drop, get_or, length, map, subst, sym}
 use Rattle.std.proofs.lemmas.List.{drop_all}
+use Rattle.std.specs.Prelude.{option_and_then}
 use Rattle.wc_cost.proofs.WholeTexts.{last_unit}
 use Rattle.wc_model.specs.Language.Names.{Name, name_of}
+use Rattle.wc_model.specs.Language.Scopes.{Scope, type_of}
 use Rattle.wc_model.specs.Language.Store.{Path}
+use Rattle.wc_model.specs.Language.Tree.{Text}
 use Rattle.wc_model.specs.Language.Views.{text_view}
 use Rattle.wc_model.specs.declared.source.Source.{Source}
 use Rattle.wc_names.proofs.Lists.{from_index}
+use Rattle.wc_names.specs.Numbered.{IsUnit, numbered_type}
 use Rattle.wc_names.specs.RepresentsText.{AreTables}
+use Rattle.wc_names.specs.declared.declared_type.DeclaredType.{DeclaredType}
 use Rattle.wc_names.specs.declared.declared_type.DeclaredType.TheVariants as numbered
-use Rattle.wc_text_variables.proofs.Walks.{Walks, at_block, at_end, at_nothing, at_plain, at_standard, from_program}
+use Rattle.wc_names.specs.declared.kept.Tables.{Tables}
+use Rattle.wc_text_variables.proofs.Walks.{Walks, WalksOn, from_program, walk_on}
 use Rattle.wc_text_variables.proofs.variables.leads_to_hidden.Goals as goal
 use Rattle.wc_text_variables.specs.Names.{is_hidden}
+
+-- what the name of that number leads to, whose variable has this type by the tables of the text
+led : {source read : Source} {tables given : Tables} (unit index : ℕ) (names : List (Bor Name)) (name : Bor Name) {whole : Bool} {found : Option DeclaredType} (declared : Option DeclaredType)
+    → read ≡ source → tables ≡ given → AreTables given (text_view read) → index < length names → name ≡ get_or names index name → Walks (text_view source) unit (map (λ name. name_of name.now) (drop index names)) whole
+    → ((text : Text) (scope : Scope) → AreTables tables text → IsUnit text unit scope → found ≡ option_and_then (numbered_type scope.before) (type_of scope (name_of name.now))) → found ≡ declared
+    → WalksOn (text_view source) (map (λ name. name_of name.now) (drop (index + 1) names)) whole declared
+led {source} {read} {tables} {given} unit index names name {whole} {found} declared same kept occur below is walks says typed =
+    let text = text_view source in
+    let here = subst (λ (left : List (Bor Name)). Walks text unit (map (λ name. name_of name.now) left) whole) (from_index names index name below is) walks in
+    let are = subst (λ t. AreTables t text) (sym kept) (subst (λ (s : Source). AreTables given (text_view s)) same occur) in
+    subst (WalksOn text (map (λ name. name_of name.now) (drop (index + 1) names)) whole) (sym (says text here.scope are here.is) ∙ typed)
+    (walk_on text unit (name_of name.now) (map (λ name. name_of name.now) (drop (index + 1) names)) whole here)
 
 pub loop-index-init : goal.loop-index-init
 loop-index-init c =
@@ -19,59 +37,30 @@ loop-index-init c =
     (last_unit text c.units.ensures.sound.read.1.spelled.order c.saturating_sub-unit.result (c.saturating_sub-unit.ensures ∙ ap (λ n. n - 1) c.units.ensures.count))
     (map (λ name. name_of name.now) c.args.names.now)
 
+-- with no name left nothing is hidden
 pub returns-in_default : goal.returns-in_default
 returns-in_default c =
-    let text = text_view c.args.loaded.now.source in
-    let whole = is_hidden text (Path (map (λ name. name_of name.now) c.args.names.now)) in
-    at_end text c.loop-index.unit whole
-    (subst (λ (left : List (Bor Name)). Walks text c.loop-index.unit (map (λ name. name_of name.now) left) whole)
-    (drop_all c.loop-index.index c.args.names.now c.in_default.ensures.lookup.3) c.loop-index.invariant)
+    let whole = is_hidden (text_view c.args.loaded.now.source) (Path (map (λ name. name_of name.now) c.args.names.now)) in
+    (subst (λ (left : List (Bor Name)). Walks (text_view c.args.loaded.now.source) c.loop-index.unit (map (λ name. name_of name.now) left) whole)
+    (drop_all c.loop-index.index c.args.names.now c.in_default.ensures.lookup.3) c.loop-index.invariant).same
 
 pub returns-in-Standard : goal.returns-in-Standard
 returns-in-Standard c =
-    let text = text_view c.args.loaded.now.source in
-    let whole = is_hidden text (Path (map (λ name. name_of name.now) c.args.names.now)) in
-    let left = map (λ name. name_of name.now) (drop (c.loop-index.index + 1) c.args.names.now) in
-    let walks = subst (λ (left : List (Bor Name)). Walks text c.loop-index.unit (map (λ name. name_of name.now) left) whole)
-    (from_index c.args.names.now c.loop-index.index c.in-Some.name.now c.in-Some.ensures.lookup.3.0 c.in-Some.ensures.lookup.1) c.loop-index.invariant in
-    let tables = subst (λ t. AreTables t text) (sym c.tables-tables.ensures.tables)
-    (subst (λ (s : Source). AreTables c.checked.result.now.tables (text_view s)) c.checked.ensures c.tables-tables.ensures.occur) in
     c.is_hidden_at.ensures
-    ∙ at_standard text c.loop-index.unit (name_of c.in-Some.name.now.now) left whole walks c.in-Standard.block
-    (sym (c.in-Some-declared_type.ensures text walks.scope tables walks.is) ∙ ap Some c.in-Standard.is)
+    ∙ led c.loop-index.unit c.loop-index.index c.args.names.now c.in-Some.name.now (Some (numbered.Standard c.in-Standard.block)) c.checked.ensures c.tables-tables.ensures.tables c.tables-tables.ensures.occur
+    c.in-Some.ensures.lookup.3.0 c.in-Some.ensures.lookup.1 c.loop-index.invariant c.in-Some-declared_type.ensures (ap Some c.in-Standard.is)
 
 pub returns-in_default-declared_type : goal.returns-in_default-declared_type
 returns-in_default-declared_type c =
-    let text = text_view c.args.loaded.now.source in
-    let whole = is_hidden text (Path (map (λ name. name_of name.now) c.args.names.now)) in
-    let left = map (λ name. name_of name.now) (drop (c.loop-index.index + 1) c.args.names.now) in
-    let walks = subst (λ (left : List (Bor Name)). Walks text c.loop-index.unit (map (λ name. name_of name.now) left) whole)
-    (from_index c.args.names.now c.loop-index.index c.in-Some.name.now c.in-Some.ensures.lookup.3.0 c.in-Some.ensures.lookup.1) c.loop-index.invariant in
-    let tables = subst (λ t. AreTables t text) (sym c.tables-tables.ensures.tables)
-    (subst (λ (s : Source). AreTables c.checked.result.now.tables (text_view s)) c.checked.ensures c.tables-tables.ensures.occur) in
-    at_nothing text c.loop-index.unit (name_of c.in-Some.name.now.now) left whole walks
-    (sym (c.declared_type.ensures text walks.scope tables walks.is) ∙ c.in_default-declared_type.is)
+    led c.loop-index.unit c.loop-index.index c.args.names.now c.in-Some.name.now None c.checked.ensures c.tables-tables.ensures.tables c.tables-tables.ensures.occur
+    c.in-Some.ensures.lookup.3.0 c.in-Some.ensures.lookup.1 c.loop-index.invariant c.declared_type.ensures c.in_default-declared_type.is
 
 pub returns-in-Elementary : goal.returns-in-Elementary
 returns-in-Elementary c =
-    let text = text_view c.args.loaded.now.source in
-    let whole = is_hidden text (Path (map (λ name. name_of name.now) c.args.names.now)) in
-    let left = map (λ name. name_of name.now) (drop (c.loop-index.index + 1) c.args.names.now) in
-    let walks = subst (λ (left : List (Bor Name)). Walks text c.loop-index.unit (map (λ name. name_of name.now) left) whole)
-    (from_index c.args.names.now c.loop-index.index c.in-Some.name.now c.in-Some.ensures.lookup.3.0 c.in-Some.ensures.lookup.1) c.loop-index.invariant in
-    let tables = subst (λ t. AreTables t text) (sym c.tables-tables.ensures.tables)
-    (subst (λ (s : Source). AreTables c.checked.result.now.tables (text_view s)) c.checked.ensures c.tables-tables.ensures.occur) in
-    at_plain text c.loop-index.unit (name_of c.in-Some.name.now.now) left whole walks c.in-Elementary.field-0
-    (sym (c.in-Some-declared_type.ensures text walks.scope tables walks.is) ∙ ap Some c.in-Elementary.is)
+    led c.loop-index.unit c.loop-index.index c.args.names.now c.in-Some.name.now (Some (numbered.Elementary c.in-Elementary.field-0)) c.checked.ensures c.tables-tables.ensures.tables c.tables-tables.ensures.occur
+    c.in-Some.ensures.lookup.3.0 c.in-Some.ensures.lookup.1 c.loop-index.invariant c.in-Some-declared_type.ensures (ap Some c.in-Elementary.is)
 
 pub loop-index-preserved : goal.loop-index-preserved
 loop-index-preserved c =
-    let text = text_view c.args.loaded.now.source in
-    let whole = is_hidden text (Path (map (λ name. name_of name.now) c.args.names.now)) in
-    let left = map (λ name. name_of name.now) (drop (c.loop-index.index + 1) c.args.names.now) in
-    let walks = subst (λ (left : List (Bor Name)). Walks text c.loop-index.unit (map (λ name. name_of name.now) left) whole)
-    (from_index c.args.names.now c.loop-index.index c.in-Some.name.now c.in-Some.ensures.lookup.3.0 c.in-Some.ensures.lookup.1) c.loop-index.invariant in
-    let tables = subst (λ t. AreTables t text) (sym c.tables-tables.ensures.tables)
-    (subst (λ (s : Source). AreTables c.checked.result.now.tables (text_view s)) c.checked.ensures c.tables-tables.ensures.occur) in
-    at_block text c.loop-index.unit (name_of c.in-Some.name.now.now) left whole walks c.in-Block.block
-    (sym (c.in-Some-declared_type.ensures text walks.scope tables walks.is) ∙ ap Some c.in-Block.is)
+    led c.loop-index.unit c.loop-index.index c.args.names.now c.in-Some.name.now (Some (numbered.Block c.in-Block.block)) c.checked.ensures c.tables-tables.ensures.tables c.tables-tables.ensures.occur
+    c.in-Some.ensures.lookup.3.0 c.in-Some.ensures.lookup.1 c.loop-index.invariant c.in-Some-declared_type.ensures (ap Some c.in-Block.is)

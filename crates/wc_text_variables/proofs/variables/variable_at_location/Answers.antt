@@ -1,11 +1,10 @@
 use Rattle.std.proofs.Common.{None, Some, ap, sym, refl, ◌∙◌, length, ◌-◌}
-use Rattle.std.specs.Option.{option_and_then}
+use Rattle.std.specs.Prelude.{option_and_then, slice_get}
+use Rattle.wc_built_in.specs.Fields.{value_kind}
 use Rattle.wc_cost.proofs.WholeTexts.{last_unit}
 use Rattle.wc_model.specs.Language.Frames.{location_of, place_number}
 use Rattle.wc_model.specs.Language.Views.{text_view}
 use Rattle.wc_text_variables.proofs.Meanings.{numbered, unnumbered}
-use Rattle.wc_text_variables.specs.Numbered.{value_kind}
-use Rattle.std.specs.Prelude.{slice_get}
 use Rattle.wc_text_variables.proofs.variables.variable_at_location.Goals as goal
 
 pub returns-in-None : goal.returns-in-None

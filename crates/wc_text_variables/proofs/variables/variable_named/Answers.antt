@@ -1,7 +1,7 @@
 use Rattle.std.proofs.Common.{◌∙◌, List, Bor, false, sym, ap, true}
 use Rattle.wc_model.specs.Language.Names.{Name}
 use Rattle.wc_model.specs.Language.Views.{text_view}
-use Rattle.wc_text_variables.proofs.Meanings.{by_address, by_hidden, by_open, path_of}
+use Rattle.wc_text_variables.proofs.Meanings.{by_address, by_parts, path_of}
 use Rattle.wc_text_variables.proofs.variables.variable_named.Goals as goal
 use Rattle.wc_text_variables.specs.Numbered.{variable_at_location}
 use Rattle.wc_text_variables.specs.Names.{is_hidden}
@@ -13,7 +13,7 @@ returns-then-is_address-clause-means c =
 pub returns-then-leads_to_hidden-clause-means : goal.returns-then-leads_to_hidden-clause-means
 returns-then-leads_to_hidden-clause-means c =
     let text = text_view c.args.loaded.now.source in
-    by_hidden text c.args.name.now c.in_ok-parts.parts.items (sym c.is_address.ensures ∙ c.if-is_address.false) c.in_ok-parts.ensures.parts
+    by_parts text c.args.name.now c.in_ok-parts.parts.items true (sym c.is_address.ensures ∙ c.if-is_address.false) c.in_ok-parts.ensures.parts
     (ap (λ (parts : List (Bor Name)). is_hidden text (path_of parts)) (sym c.deref.ensures.value) ∙ sym c.leads_to_hidden.ensures ∙ c.if-leads_to_hidden.true)
 
 pub returns-clause-means : goal.returns-clause-means
@@ -21,5 +21,5 @@ returns-clause-means c =
     let text = text_view c.args.loaded.now.source in
     c.variable_at_location-2.ensures
     ∙ ap (λ (parts : List (Bor Name)). variable_at_location text (path_of parts)) c.deref-2.ensures.value
-    ∙ by_open text c.args.name.now c.in_ok-parts.parts.items (sym c.is_address.ensures ∙ c.if-is_address.false) c.in_ok-parts.ensures.parts
+    ∙ by_parts text c.args.name.now c.in_ok-parts.parts.items false (sym c.is_address.ensures ∙ c.if-is_address.false) c.in_ok-parts.ensures.parts
     (ap (λ (parts : List (Bor Name)). is_hidden text (path_of parts)) (sym c.deref.ensures.value) ∙ sym c.leads_to_hidden.ensures ∙ c.if-leads_to_hidden.false)
