@@ -1,8 +1,8 @@
 -- Where names lead in the other text, step by step alongside the one that is gone through.
 use Rattle.std.proofs.Common.{◌≡◌, Bool, true, false, ◌&&◌, List, [], ◌∷◌, map, length, Option, Some, None, option_map, refl, sym, ap, subst, ◌∙◌}
-use Rattle.std.proofs.Math.Bool.{and-true}
+use Rattle.std.proofs.Math.Bool.{and_self, and-true}
 use Rattle.std.proofs.lemmas.List.Folds.{list_all-map}
-use Rattle.std.specs.List.{list_all}
+use Rattle.std.specs.List.{list_all, list_any}
 use Rattle.std.specs.Prelude.{if◌then◌else◌, option_and_then}
 use Rattle.wc_model.specs.Language.Carried.{Lead, ToPlace, ToField, lead_by, lead_from, same_block, same_lead}
 use Rattle.wc_model.specs.Language.Declarations.{Variable, VariableType, Elementary, Standard, Block, block_named, type_named, variable_named}
@@ -40,15 +40,13 @@ not_field (Some (ToField b)) block never = absurd (never b refl)
 
 -- the other lead of one name is that of a place of the kind exactly if the type is the kind
 plain_old : (before : List ProgramUnit) (type : Option VariableType) (kind : Kind) (content : Content) → same_lead (lead_by (lead_from []) before type []) (Some (ToPlace kind)) ≡ has_shape (option_and_then (numbered_type before) type) (Plain kind content)
-plain_old before None kind content = refl
-plain_old before (Some (Elementary k)) kind content = refl
-plain_old before (Some (Standard b)) kind content = refl
 plain_old before (Some (Block name)) kind content = by (block_named before name)
   where
     by : (o : Option (ProgramUnit × List ProgramUnit)) → same_lead (elim o as (λ x. Option Lead) [ Some found ↦ lead_from [] found.1 found.0 | None ↦ None ]) (Some (ToPlace kind))
         ≡ has_shape (option_map (λ found. numbered.Block (length found.1)) o) (Plain kind content)
     by None = refl
     by (Some found) = refl
+plain_old before type kind content = refl
 
 pub plain_kept : (side : Option Scope) (scope : Scope) (name : Name) (kind : Kind) (content : Content) → type_of scope name ≡ Some (Elementary kind) →
     same_lead (side_lead side (name ∷ [])) (lead_from (name ∷ []) scope.before scope.unit) ≡ has_shape (numbered_side side name) (Plain kind content)
@@ -66,8 +64,6 @@ field_old b block field is false e false f = refl
 
 -- the other lead of a field of an instance is that of a field of the same block exactly if the type is the block
 standard_old : (before : List ProgramUnit) (type : Option VariableType) (block : StandardBlock) (field : Name) → is_field block field ≡ true → same_lead (lead_by (lead_from (field ∷ [])) before type (field ∷ [])) (Some (ToField block)) ≡ has_shape (option_and_then (numbered_type before) type) (Instance block)
-standard_old before None block field is = refl
-standard_old before (Some (Elementary k)) block field is = refl
 standard_old before (Some (Standard b)) block field is = field_old b block field is (is_field b field) refl (same_block b block) refl
 standard_old before (Some (Block name)) block field is = by (block_named before name)
   where
@@ -75,6 +71,7 @@ standard_old before (Some (Block name)) block field is = by (block_named before 
         ≡ has_shape (option_map (λ found. numbered.Block (length found.1)) o) (Instance block)
     by None = refl
     by (Some found) = (not_field (lead_from (field ∷ []) found.1 found.0) block (λ b. never_field field found.1 found.0 b)).0
+standard_old before type block field is = refl
 
 field_kept : (side : Option Scope) (scope : Scope) (name : Name) (block : StandardBlock) (field : Name) → type_of scope name ≡ Some (Standard block) → is_field block field ≡ true →
     same_lead (side_lead side (name ∷ field ∷ [])) (lead_from (name ∷ field ∷ []) scope.before scope.unit) ≡ has_shape (numbered_side side name) (Instance block)
@@ -85,45 +82,26 @@ field_kept side scope name block field typed is =
     by None = refl
     by (Some old) = ap (λ l. same_lead l (Some (ToField block))) (lead_is name (field ∷ []) old) ∙ standard_old old.before (type_of old name) block field is
 
--- a test that answers alike for each of some fields
-and-self : (t : Bool) → (t && t) ≡ t
-and-self true = refl
-and-self false = refl
-
-all_alike : {X : Type 0} (p good : X → Bool) (t : Bool) → ((x : X) → good x ≡ true → p x ≡ t) → (xs : List X) → list_all good xs ≡ true → (t && list_all p xs) ≡ t
-all_alike p good t h [] g = and-true t
-all_alike {X} p good t h (x ∷ xs) g = by (good x) refl g (all_alike p good t h xs)
+-- a test that answers alike for each of a block's own fields
+alike : {X : Type 0} (p good : X → Bool) (t : Bool) → ((x : X) → good x ≡ true → p x ≡ t) → (x : X) (xs : List X) → list_all good (x ∷ xs) ≡ true → list_all p (x ∷ xs) ≡ t
+alike p good t h x [] g = and-true (p x) ∙ h x (sym (and-true (good x)) ∙ g)
+alike {X} p good t h x (y ∷ xs) g = by (good x) refl g (alike p good t h y xs)
   where
-    by : (b : Bool) → good x ≡ b → (b && list_all good xs) ≡ true → (list_all good xs ≡ true → (t && list_all p xs) ≡ t) → (t && (p x && list_all p xs)) ≡ t
-    by true is g rest = ap (λ y. t && (y && list_all p xs)) (h x is) ∙ (ap (λ y. t && y) (rest g) ∙ and-self t)
+    by : (b : Bool) → good x ≡ b → (b && list_all good (y ∷ xs)) ≡ true → (list_all good (y ∷ xs) ≡ true → list_all p (y ∷ xs) ≡ t) → (p x && list_all p (y ∷ xs)) ≡ t
+    by true is g rest = (λ i. h x is i && rest g i) ∙ and_self t
     by false is g rest = cc
 
-is_some_list : {X : Type 0} → List X → Bool
-is_some_list [] = false
-is_some_list (x ∷ xs) = true
+some_alike : {X : Type 0} (p good : X → Bool) (t : Bool) → ((x : X) → good x ≡ true → p x ≡ t) → (xs : List X) → list_any good xs ≡ true → list_all good xs ≡ true → list_all p xs ≡ t
+some_alike p good t h [] some g = cc
+some_alike p good t h (x ∷ xs) some g = alike p good t h x xs g
 
-alike : {X : Type 0} (p good : X → Bool) (t : Bool) → ((x : X) → good x ≡ true → p x ≡ t) → (xs : List X) → is_some_list xs ≡ true → list_all good xs ≡ true → list_all p xs ≡ t
-unfolding is_some_list
-alike p good t h [] some g = cc
-alike {X} p good t h (x ∷ xs) some g = by (good x) refl g
-  where
-    by : (b : Bool) → good x ≡ b → (b && list_all good xs) ≡ true → (p x && list_all p xs) ≡ t
-    by true is g = ap (λ y. y && list_all p xs) (h x is) ∙ all_alike p good t h xs g
-    by false is g = cc
-
--- a standard block has fields, each of which is its own
-has_fields : (b : StandardBlock) → is_some_list (standard_fields b) ≡ true
-unfolding is_some_list
-has_fields RTrig = refl
-has_fields other = refl
-
-own_fields : (b : StandardBlock) → list_all (λ f. is_field b f.0) (standard_fields b) ≡ true
-own_fields RTrig = refl
-own_fields other = refl
+fields_alike : (p : Name × Content → Bool) (t : Bool) (block : StandardBlock) → ((f : Name × Content) → is_field block f.0 ≡ true → p f ≡ t) → list_all p (standard_fields block) ≡ t
+fields_alike p t RTrig h = some_alike p (λ f. is_field RTrig f.0) t h (standard_fields RTrig) refl refl
+fields_alike p t other h = some_alike p (λ f. is_field other f.0) t h (standard_fields other) refl refl
 
 pub standard_kept : (side : Option Scope) (scope : Scope) (name : Name) (block : StandardBlock) → type_of scope name ≡ Some (Standard block) →
     list_all (λ path. same_lead (side_lead side path) (lead_from path scope.before scope.unit)) (map (λ (f : Name × Content). name ∷ f.0 ∷ []) (standard_fields block)) ≡ has_shape (numbered_side side name) (Instance block)
 standard_kept side scope name block typed =
     list_all-map (λ path. same_lead (side_lead side path) (lead_from path scope.before scope.unit)) (λ (f : Name × Content). name ∷ f.0 ∷ []) (standard_fields block)
-    ∙ alike (λ (f : Name × Content). same_lead (side_lead side (name ∷ f.0 ∷ [])) (lead_from (name ∷ f.0 ∷ []) scope.before scope.unit)) (λ f. is_field block f.0) (has_shape (numbered_side side name) (Instance block))
-    (λ f is. field_kept side scope name block f.0 typed is) (standard_fields block) (has_fields block) (own_fields block)
+    ∙ fields_alike (λ (f : Name × Content). same_lead (side_lead side (name ∷ f.0 ∷ [])) (lead_from (name ∷ f.0 ∷ []) scope.before scope.unit)) (has_shape (numbered_side side name) (Instance block)) block
+    (λ f is. field_kept side scope name block f.0 typed is)

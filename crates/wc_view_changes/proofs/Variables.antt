@@ -1,9 +1,9 @@
 -- The lines of one declared name, by the type that it has.
-use Rattle.std.proofs.Common.{◌≡◌, ℕ, ◌+◌, ◌<◌, ◌≤◌, Bool, false, List, [], ◌∷◌, ◌++◌, map, length, take, Option, Some, None, Result, Ok, Err, sym, ap, subst, ◌∙◌, arith, is_some, append-nil}
+use Rattle.std.proofs.Common.{◌≡◌, ℕ, ◌<◌, ◌≤◌, Bool, false, List, [], ◌∷◌, ◌++◌, map, length, take, Option, Some, None, sym, ap, subst, ◌∙◌, arith, is_some, append-nil}
 use Rattle.std.proofs.Math.Bool.{and-true}
-use Rattle.std.proofs.lemmas.List.{flat_map_more, take_all}
+use Rattle.std.proofs.lemmas.List.{take_all}
 use Rattle.std.specs.List.{flat_map}
-use Rattle.std.specs.Prelude.{OnOk, option_and_then}
+use Rattle.std.specs.Prelude.{option_and_then}
 use Rattle.wc_model.specs.Language.Declarations.{VariableType, Elementary, Standard, Block, block_named}
 use Rattle.wc_model.specs.Language.Frames.{frame_of}
 use Rattle.wc_model.specs.Language.Names.{Name, name_of}
@@ -19,19 +19,15 @@ use Rattle.wc_model.specs.declared.source.Unit.{Unit as CodeUnit}
 use Rattle.wc_names.specs.Numbered.{numbered_type}
 use Rattle.wc_names.specs.declared.declared_type.DeclaredType.TheVariants as numbered
 use Rattle.wc_names.proofs.Places.{TypeCase, of_block, of_elementary, of_standard, type_case}
+use Rattle.wc_view_changes.specs.ChangeReport.{pass_text}
 use Rattle.wc_view_changes.specs.Shapes.{has_shape}
 use Rattle.wc_view_changes.specs.Shown.{Plain, Instance, Declared, declared_of, inside, seen, shown_by, shown_from, shown_in}
-use Rattle.wc_view_changes.specs.Sides.{IsAt, line_between, lines_between, numbered_side, pass_text, side_after, side_found, variable_lines}
+use Rattle.wc_view_changes.specs.Sides.{IsAt, line_between, lines_between, numbered_side, side_after, side_found, variable_lines}
 use Rattle.wc_view_changes.specs.declared.describing.Pass.{Pass}
 use Rattle.wc_view_changes.proofs.Between.{lines_inside}
 use Rattle.wc_view_changes.proofs.Leads.{plain_kept, standard_kept}
 use Rattle.wc_view_changes.proofs.Nothing.{nothing_shown}
-use Rattle.wc_view_changes.proofs.Units.{CodeBlock, block_at, block_before, code_block}
-
--- what follows from what was done
-pub on_ok : {X E : Type 0} (r : Result X E) (P Q : Type 0) → (P → Q) → OnOk r P → OnOk r Q
-on_ok (Ok x) P Q f h = f h
-on_ok (Err e) P Q f h = h
+use Rattle.wc_view_changes.proofs.Units.{CodeBlock, code_block}
 
 -- the type that a name has, by its number
 pub elementary_type : (before : List ProgramUnit) (type : Option VariableType) (kind : Kind) → Some (numbered.Elementary kind) ≡ option_and_then (numbered_type before) type → type ≡ Some (Elementary kind)
@@ -83,11 +79,10 @@ instance_line pass side before u prefix name initial block typed =
 -- an instance of a block of the text
 pub record Into (source : Source) (unit number : ℕ) (before : List CodeUnit) (u : CodeUnit) (name : Name) : Type 0 where
   pub block : Name
-  pub found : ProgramUnit
-  pub earlier : List ProgramUnit
   pub typed : type_of (seen before u) name ≡ Some (Block block)
-  pub there : block_named (map unit_view before) block ≡ Some (found, earlier)
-  pub code : CodeBlock before block found earlier
+  pub found : ProgramUnit × List ProgramUnit
+  pub there : block_named (map unit_view before) block ≡ Some found
+  pub code : CodeBlock source unit before block found
   pub at : IsAt source number code.earlier code.unit
   pub below : number < unit
 
@@ -99,18 +94,9 @@ into source unit number before u name at e = by (type_case (map unit_view before
     by (of_standard b t d) = absurd (cc)
     by (of_block n g gs t f d) =
         let same : number ≡ length gs = cc in
-        let b = code_block before n g gs f in
-        let l = block_before source unit before u n g gs at b in
-        record {
-          block = n;
-          found = g;
-          earlier = gs;
-          typed = t;
-          there = f;
-          code = b;
-          at = subst (λ k. IsAt source k b.earlier b.unit) (sym same) (block_at source unit before u n g gs at b);
-          below = omega (arith, l, same);
-        }
+        let code = code_block source unit before u n (g, gs) at f in
+        let below : number < unit = omega (arith, code.below, same) in
+        record { block = n; typed = t; found = (g, gs); there = f; code = code; at = subst (λ k. IsAt source k code.earlier code.unit) (sym same) code.at; below = below }
 
 pub block_lines : (source : Source) (unit number : ℕ) (pass : Pass) (side : Option Scope) (before : List CodeUnit) (u : CodeUnit) (prefix name : List ℕ) (initial : Option Initial) (i : Into source unit number before u (name_of name)) →
     lines_between pass (side_after side (name_of name)) i.code.earlier i.code.unit (prefix ++ (name ++ 46 ∷ [])) (declared_of i.code.unit) ≡ variable_lines pass side before u prefix (record { name = name; initial = initial })
@@ -118,9 +104,8 @@ block_lines source unit number pass side before u prefix name initial i =
     let following = side_after side (name_of name) in
     let longer = prefix ++ (name ++ 46 ∷ []) in
     let ss = shown_from i.code.earlier i.code.unit in
-    ap (λ (g : ProgramUnit). flat_map (line_between pass following (record { before = map unit_view i.code.earlier; unit = g }) longer) ss) i.code.unit_is
-    ∙ ap (λ (gs : List ProgramUnit). flat_map (line_between pass following (record { before = gs; unit = i.found }) longer) ss) i.code.earlier_is
-    ∙ sym (lines_inside pass side (seen before u) prefix name i.block i.found i.earlier i.typed i.there ss)
+    ap (λ (found : ProgramUnit × List ProgramUnit). flat_map (line_between pass following (record { before = found.1; unit = found.0 }) longer) ss) i.code.is
+    ∙ sym (lines_inside pass side (seen before u) prefix name i.block i.found.0 i.found.1 i.typed i.there ss)
     ∙ ap (λ xs. flat_map (line_between pass side (seen before u) prefix) (map (inside name) xs)) (sym i.code.shown)
     ∙ ap (λ t. flat_map (line_between pass side (seen before u) prefix) (shown_by (shown_in before) (record { name = name; initial = initial }) t)) (sym i.typed)
 
@@ -133,9 +118,6 @@ passed_lines source unit number pass side before u prefix name initial out i non
     ∙ ap (λ xs. out ++ flat_map (line_between pass side (seen before u) prefix) (map (inside name) xs)) (sym none_shown)
     ∙ ap (λ t. out ++ flat_map (line_between pass side (seen before u) prefix) (shown_by (shown_in before) (record { name = name; initial = initial }) t)) (sym i.typed)
 
--- one part more, and all
-pub one_more : {X : Type 0} (f : X → List ℕ) (start old new : List ℕ) (xs : List X) (i : ℕ) (x : X) → take (i + 1) xs ≡ take i xs ++ x ∷ [] → old ≡ start ++ flat_map f (take i xs) → new ≡ old ++ f x → new ≡ start ++ flat_map f (take (i + 1) xs)
-one_more f start old new xs i x more so now = now ∙ ap (λ o. o ++ f x) so ∙ flat_map_more f start (take i xs) x ∙ ap (λ ys. start ++ flat_map f ys) (sym more)
-
+-- all parts
 pub all_reported : {X : Type 0} (f : X → List ℕ) (start new : List ℕ) (xs : List X) (i : ℕ) → length xs ≤ i → new ≡ start ++ flat_map f (take i xs) → new ≡ start ++ flat_map f xs
 all_reported f start new xs i past so = so ∙ ap (λ ys. start ++ flat_map f ys) (take_all i xs past)

@@ -1,15 +1,14 @@
 -- The lines of a whole text, from its program on.
-use Rattle.std.proofs.Common.{◌≡◌, ℕ, zero, suc, ◌-◌, ◌≤◌, List, [], ◌∷◌, ◌++◌, map, length, reverse, Option, Some, None, refl, sym, ap, ◌∙◌, arith, append_assoc}
+use Rattle.std.proofs.Common.{◌≡◌, ℕ, suc, ◌-◌, ◌≤◌, List, [], ◌∷◌, ◌++◌, map, length, reverse, Option, Some, None, refl, sym, ap, ◌∙◌, arith, append_assoc}
 use Rattle.std.proofs.lemmas.Grind.{reverse_onto, flat_map-append}
 use Rattle.std.proofs.lemmas.List.{append-nil, length-reverse, reverse-reverse}
 use Rattle.std.proofs.lemmas.List.Folds.{flat_map-map}
-use Rattle.std.specs.List.{flat_map}
+use Rattle.std.specs.List.{flat_map, list_all}
 use Rattle.std.specs.Option.{SomeIff}
 use Rattle.wc_cost.proofs.TextUnits.{unit_at}
-use Rattle.wc_model.specs.Language.Carried.{keeps, lead_from, path_lead, same_lead}
+use Rattle.wc_model.specs.Language.Carried.{path_lead, same_lead}
 use Rattle.wc_model.specs.Language.Names.{Name, name_of}
 use Rattle.wc_model.specs.Language.Scopes.{Scope, type_of}
-use Rattle.wc_model.specs.Language.Store.{Path}
 use Rattle.wc_model.specs.Language.Tree.{ProgramUnit, Text}
 use Rattle.wc_model.specs.Language.Views.{text_view, unit_view}
 use Rattle.wc_model.specs.declared.operand.Word.{Word}
@@ -17,11 +16,10 @@ use Rattle.wc_model.specs.declared.source.Decl.{Decl}
 use Rattle.wc_model.specs.declared.source.Source.{Source}
 use Rattle.wc_model.specs.declared.source.Unit.{Unit as CodeUnit}
 use Rattle.wc_names.specs.RepresentsText.{onto}
-use Rattle.wc_view_changes.specs.ChangeReport.{found_in, found_reversed, is_kept, path_text}
-use Rattle.wc_view_changes.specs.Shown.{Declared, Shown, declared_in, declared_of, names_of, paths_of, seen, shown_all, shown_by, shown_from, shown_in, shown_reversed}
-use Rattle.wc_view_changes.specs.Sides.{IsAt, IsSide, declaration_lines, kept_between, line_alongside, line_between, lines_alongside, lines_between, pass_text, program_of, program_reversed, side_found, side_lead, variable_lines}
+use Rattle.wc_view_changes.specs.ChangeReport.{found_in, is_kept, line_alongside, lines_alongside, pass_text, path_text, program_of}
+use Rattle.wc_view_changes.specs.Shown.{Declared, Shown, declared_in, declared_of, names_of, paths_of, seen, shown_by, shown_from, shown_in}
+use Rattle.wc_view_changes.specs.Sides.{IsAt, IsSide, kept_between, line_between, lines_between, side_lead, variable_lines}
 use Rattle.wc_view_changes.specs.declared.describing.Pass.{Pass}
-use Rattle.wc_view_changes.proofs.Between.{all_same}
 use Rattle.wc_view_changes.proofs.Units.{map_onto}
 
 onto_reverse : {X : Type 0} (xs ys : List X) → onto xs ys ≡ reverse xs ++ ys
@@ -47,71 +45,52 @@ program_at source k u before e counted = record {
 }
 
 -- so it is of the old one, if it has a unit
-pub no_side : (text : Text) → length text ≡ 0 → IsSide text None (program_of text)
-no_side [] e = tt
-no_side (unit ∷ text) e = absurd (omega (arith, e))
-
-pub some_side : (text : Text) (k : ℕ) → length text ≡ suc k → IsSide text (Some k) (program_of text)
+some_side : (text : Text) (k : ℕ) → length text ≡ suc k → IsSide text (Some k) (program_of text)
 some_side text k counted = by (reverse text) refl
   where
-    by : (r : List ProgramUnit) → reverse text ≡ r → IsSide text (Some k) (program_reversed r)
-    by [] e = let a : length text ≡ 0 = sym (length-reverse text) ∙ ap length e in absurd (omega (arith, a, counted))
-    by (program ∷ before) e =
-        let a = last_counted text program before e in
-        unit_at text before program [] k (last_of text program before e) (omega (arith, a, counted))
+    by : (r : List ProgramUnit) → reverse text ≡ r → IsSide text (Some k) (elim r as (λ x. Option Scope) [ program ∷ before ↦ Some (record { before = before; unit = program }) | [] ↦ None ])
+    by [] e = absurd (omega (arith, length-reverse text, ap length e, counted))
+    by (program ∷ before) e = unit_at text before program [] k (last_of text program before e) (omega (arith, last_counted text program before e, counted))
 
 -- where names lead from the program
-lead_there : (units : List ProgramUnit) (path : List Name) → path_lead units path ≡ side_lead (program_reversed units) path
+lead_there : (units : List ProgramUnit) (path : List Name)
+    → path_lead units path ≡ side_lead (elim units as (λ x. Option Scope) [ program ∷ before ↦ Some (record { before = before; unit = program }) | [] ↦ None ]) path
 lead_there [] path = refl
 lead_there (program ∷ before) path = refl
 
-found_there : (units : List ProgramUnit) (names : List Name) → found_reversed units names ≡ side_found (program_reversed units) names
-found_there [] names = refl
-found_there (program ∷ before) names = refl
-
 -- the line of a variable of the new program
-line_there : (pass : Pass) (other : Text) (source : Source) (u : CodeUnit) (before : List CodeUnit) → reverse source.units.items ≡ u ∷ before → (s : Shown) → line_alongside pass other (text_view source) s ≡ line_between pass (program_of other) (seen before u) [] s
+line_there : (pass : Pass) (other : Text) (source : Source) (u : CodeUnit) (before : List CodeUnit) → reverse source.units.items ≡ u ∷ before → (s : Shown)
+    → line_alongside pass other (text_view source) s ≡ line_between pass (program_of other) (seen before u) [] s
 line_there pass other source u before e s =
     let turned : reverse (text_view source) ≡ unit_view u ∷ map unit_view before = sym (map_reverse unit_view source.units.items) ∙ ap (map unit_view) e in
     let kept : is_kept other (text_view source) s ≡ kept_between (program_of other) (seen before u) s =
-    all_same (λ path. keeps other (text_view source) (Path path)) (λ path. same_lead (side_lead (program_of other) path) (lead_from path (map unit_view before) (unit_view u)))
-    (λ path. ap (λ l. same_lead l (path_lead (reverse (text_view source)) path)) (lead_there (reverse other) path) ∙ ap (λ units. same_lead (side_lead (program_of other) path) (path_lead units path)) turned) (paths_of s)
-    in
+    λ i. list_all (λ path. same_lead (lead_there (reverse other) path i) (path_lead (turned i) path)) (paths_of s) in
     ap (λ k. pass_text pass k (path_text s) s.shape (found_in other (names_of s))) kept
-    ∙ ap (pass_text pass (kept_between (program_of other) (seen before u) s) (path_text s) s.shape) (found_there (reverse other) (names_of s))
-
-lines_there : (pass : Pass) (other : Text) (source : Source) (u : CodeUnit) (before : List CodeUnit) → reverse source.units.items ≡ u ∷ before → (ss : List Shown) → flat_map (line_alongside pass other (text_view source)) ss ≡ flat_map (line_between pass (program_of other) (seen before u) []) ss
-lines_there pass other source u before e [] = refl
-lines_there pass other source u before e (s ∷ ss) =
-    ap (λ x. x ++ flat_map (line_alongside pass other (text_view source)) ss) (line_there pass other source u before e s)
-    ∙ ap (λ x. line_between pass (program_of other) (seen before u) [] s ++ x) (lines_there pass other source u before e ss)
 
 -- the whole report
 pub report_there : (pass : Pass) (other : Text) (source : Source) (u : CodeUnit) (before : List CodeUnit) → reverse source.units.items ≡ u ∷ before → lines_alongside pass other source ≡ lines_between pass (program_of other) before u [] (declared_of u)
-report_there pass other source u before e = ap (λ units. flat_map (line_alongside pass other (text_view source)) (shown_reversed units)) e ∙ lines_there pass other source u before e (shown_from before u)
+report_there pass other source u before e =
+    ap (λ (units : List CodeUnit). flat_map (line_alongside pass other (text_view source)) (elim units as (λ x. List Shown) [ program ∷ before ↦ shown_from before program | [] ↦ [] ])) e
+    ∙ (λ i. flat_map (λ s. line_there pass other source u before e s i) (shown_from before u))
 
 -- the lines of one declared name more, and of one declaration more
-pub by_names : (pass : Pass) (side : Option Scope) (before : List CodeUnit) (u : CodeUnit) (prefix : List ℕ) (ds : List Declared) → flat_map (variable_lines pass side before u prefix) ds ≡ lines_between pass side before u prefix ds
-by_names pass side before u prefix [] = refl
-by_names pass side before u prefix (d ∷ ds) =
-    let line = line_between pass side (seen before u) prefix in
-    let of_name : List Shown = shown_by (shown_in before) d (type_of (seen before u) (name_of d.name)) in
-    ap (λ x. flat_map line of_name ++ x) (by_names pass side before u prefix ds)
-    ∙ sym (flat_map-append line of_name (shown_all (shown_in before) (seen before u) ds))
+each_of : {X Y Z : Type 0} (f : Y → List Z) (g : X → List Y) (xs : List X) → flat_map (λ x. flat_map f (g x)) xs ≡ flat_map f (flat_map g xs)
+each_of f g [] = refl
+each_of f g (x ∷ xs) = ap (λ ys. flat_map f (g x) ++ ys) (each_of f g xs) ∙ sym (flat_map-append f (g x) (flat_map g xs))
 
-pub by_declarations : (pass : Pass) (side : Option Scope) (before : List CodeUnit) (u : CodeUnit) (prefix : List ℕ) (ds : List Decl) → flat_map (declaration_lines pass side before u prefix) ds ≡ lines_between pass side before u prefix (flat_map declared_in ds)
-by_declarations pass side before u prefix [] = refl
-by_declarations pass side before u prefix (d ∷ ds) =
-    let line = line_between pass side (seen before u) prefix in
-    let all = shown_all (shown_in before) (seen before u) in
-    ap (λ x. flat_map line (all (declared_in d)) ++ x) (by_declarations pass side before u prefix ds)
-    ∙ sym (flat_map-append line (all (declared_in d)) (all (flat_map declared_in ds)))
-    ∙ ap (flat_map line) (sym (flat_map-append (λ (v : Declared). shown_by (shown_in before) v (type_of (seen before u) (name_of v.name))) (declared_in d) (flat_map declared_in ds)))
+module _ (pass : Pass) (side : Option Scope) (before : List CodeUnit) (u : CodeUnit) (prefix : List ℕ) where
+  abbrev of_name : Declared → List Shown
+  of_name v = shown_by (shown_in before) v (type_of (seen before u) (name_of v.name))
 
-pub declaration_reported : (pass : Pass) (side : Option Scope) (before : List CodeUnit) (u : CodeUnit) (prefix : List ℕ) (d : Decl) →
-    flat_map (λ (w : Word). variable_lines pass side before u prefix (record { name = w.text.now; initial = d.initial })) d.names.items ≡ declaration_lines pass side before u prefix d
-declaration_reported pass side before u prefix d =
-    sym (flat_map-map (variable_lines pass side before u prefix) (λ (w : Word). record { name = w.text.now; initial = d.initial }) d.names.items) ∙ by_names pass side before u prefix (declared_in d)
+  pub by_declarations : (ds : List Decl) → flat_map (λ (d : Decl). lines_between pass side before u prefix (declared_in d)) ds ≡ lines_between pass side before u prefix (flat_map declared_in ds)
+  by_declarations ds =
+      each_of (line_between pass side (seen before u) prefix) (λ (d : Decl). flat_map of_name (declared_in d)) ds
+      ∙ ap (flat_map (line_between pass side (seen before u) prefix)) (each_of of_name declared_in ds)
+
+  pub declaration_reported : (d : Decl) → flat_map (λ (w : Word). variable_lines pass side before u prefix (record { name = w.text.now; initial = d.initial })) d.names.items ≡ lines_between pass side before u prefix (declared_in d)
+  declaration_reported d =
+      sym (flat_map-map (variable_lines pass side before u prefix) (λ (w : Word). record { name = w.text.now; initial = d.initial }) d.names.items)
+      ∙ each_of (line_between pass side (seen before u) prefix) of_name (declared_in d)
 
 -- what was reported about the program is reported about the text
 pub reported : (pass : Pass) (other : Text) (source : Source) (program : ℕ) (other_program : Option ℕ) (start new : List ℕ) → length source.units.items ≡ suc program → IsSide other other_program (program_of other) →
@@ -119,7 +98,7 @@ pub reported : (pass : Pass) (other : Text) (source : Source) (program : ℕ) (o
 reported pass other source program other_program start new counted at said = by (reverse source.units.items) refl
   where
     by : (r : List CodeUnit) → reverse source.units.items ≡ r → new ≡ start ++ lines_alongside pass other source
-    by [] e = let a : length source.units.items ≡ 0 = sym (length-reverse source.units.items) ∙ ap length e in absurd (omega (arith, a, counted))
+    by [] e = absurd (omega (arith, length-reverse source.units.items, ap length e, counted))
     by (u ∷ before) e =
         said (program_of other) before u at (program_at source program u before e counted) ∙ ap (λ x. start ++ x) (sym (report_there pass other source u before e))
 
@@ -127,12 +106,13 @@ reported pass other source program other_program start new counted at said = by 
 pub none_reported : (pass : Pass) (other : Text) (source : Source) (out : List ℕ) (n : ℕ) → length source.units.items ≡ n → (1 ≤ n → ⊥) → out ≡ out ++ lines_alongside pass other source
 none_reported pass other source out n counted none = by source.units.items counted
   where
-    by : (units : List CodeUnit) → length units ≡ n → out ≡ out ++ flat_map (line_alongside pass other (text_view source)) (shown_reversed (reverse units))
+    by : (units : List CodeUnit) → length units ≡ n
+        → out ≡ out ++ flat_map (line_alongside pass other (text_view source)) (elim (reverse units) as (λ x. List Shown) [ program ∷ before ↦ shown_from before program | [] ↦ [] ])
     by [] e = sym (append-nil out)
     by (unit ∷ units) e = absurd (none (omega (arith, e)))
 
 -- the number before that of a text's units
 pub other_side : (text : Text) (n : ℕ) (o : Option ℕ) → length text ≡ n → SomeIff o (1 ≤ n) (n - 1) → IsSide text o (program_of text)
-other_side text zero None counted h = no_side text counted
-other_side text (suc n) None counted h = absurd (h (omega arith))
+other_side [] n None counted h = refl
+other_side (unit ∷ text) n None counted h = absurd (h (omega (arith, counted)))
 other_side text n (Some k) counted h = some_side text k (let a : 1 ≤ n = h.0 in let b : k ≡ n - 1 = h.1 in omega (arith, counted, a, b))

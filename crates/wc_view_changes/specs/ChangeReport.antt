@@ -7,8 +7,8 @@ use Rattle.std.specs.Ordering.{int_eq}
 use Rattle.wc_model.specs.Language.Carried.{keeps}
 use Rattle.wc_model.specs.Language.Declarations.{VariableType, Elementary, Standard, Block, block_named, variable_named}
 use Rattle.wc_model.specs.Language.Names.{Name}
-use Rattle.wc_model.specs.Language.Scopes.{type_of}
-use Rattle.wc_model.specs.Language.Store.{Content, Path, Plain as Held, Moment, Phase, first_content}
+use Rattle.wc_model.specs.Language.Scopes.{Scope, type_of}
+use Rattle.wc_model.specs.Language.Store.{Content, Path, Plain as Held, first_content}
 use Rattle.wc_model.specs.Language.Tree.{ProgramUnit, Text}
 use Rattle.wc_model.specs.Language.Views.{text_view}
 use Rattle.wc_model.specs.declared.block.StandardBlock.{StandardBlock}
@@ -18,6 +18,8 @@ use Rattle.wc_model.specs.declared.kind.Kind.TheVariants.{Bool as KindBool, Dint
 use Rattle.wc_model.specs.declared.source.Initial.{Initial}
 use Rattle.wc_model.specs.declared.source.Source.{Source}
 use Rattle.wc_model.specs.declared.value.Value.TheVariants.{Bool as Truth, Dint, Time}
+use Rattle.wc_view_changes.specs.declared.describing.Pass.{Pass}
+use Rattle.wc_view_changes.specs.declared.describing.Pass.TheVariants as pass
 use Rattle.wc_view_changes.specs.Shown.{Shape, Plain, Instance, Shown, names_of, paths_of, shown_of}
 
 -- the types as a text spells them
@@ -41,8 +43,7 @@ content_text (Held (Truth false)) = codes "FALSE"
 content_text (Held (Truth true)) = codes "TRUE"
 content_text (Held (Dint number)) = signed_decimal number
 content_text (Held (Time time)) = codes "T#" ++ (signed_decimal time ++ codes "ms")
-content_text (Moment moment) = []
-content_text (Phase phase) = []
+content_text content = []
 
 -- the type of a variable, and its first value if it has one of its own
 abbrev pub shape_text : Shape → List ℕ
@@ -57,51 +58,43 @@ shape_type (Instance block) = block_text block
 -- What is under names, with its type as it is spelled: what has a line of its own, as a variable of an elementary type and an
 -- instance of a standard block have, or an instance of a block of the text, which has none. (The profile's own.)
 -- A variable of an elementary type has its first value too.
-pub data Found : Type 0 where
-  Line : (type : List ℕ) (first : Option Content) → Found
-  Group : (type : List ℕ) → Found
+pub record Found : Type 0 where
+  pub type : List ℕ
+  pub has_line : Bool
+  pub first : Option Content
 
 -- the first value that is written after a variable of a unit, if one is
 abbrev pub initial_of : ProgramUnit → Name → Option Initial
 initial_of unit name = option_and_then (λ v. v.initial) (variable_named unit name)
 
--- what names lead to in a text, if to anything
-abbrev pub found_by : (List ProgramUnit → ProgramUnit → Option Found) → List ProgramUnit → Option Initial → Option VariableType → List Name → Option Found
-found_by onward before initial None names = None
-found_by onward before initial (Some (Elementary kind)) [] = Some (Line (kind_text kind) (Some (first_content kind initial)))
-found_by onward before initial (Some (Elementary kind)) (name ∷ names) = None
-found_by onward before initial (Some (Standard block)) [] = Some (Line (block_text block) None)
-found_by onward before initial (Some (Standard block)) (name ∷ names) = None
-found_by onward before initial (Some (Block block)) [] = option_map (λ found. Group found.0.spelled) (block_named before block)
-found_by onward before initial (Some (Block block)) (name ∷ names) = elim (block_named before block) [ Some found ↦ onward found.1 found.0 | None ↦ None ]
+-- what has this type
+abbrev pub found_of : List ProgramUnit → Option Initial → Option VariableType → Option Found
+found_of before initial None = None
+found_of before initial (Some (Elementary kind)) = Some (record { type = kind_text kind; has_line = true; first = Some (first_content kind initial) })
+found_of before initial (Some (Standard block)) = Some (record { type = block_text block; has_line = true; first = None })
+found_of before initial (Some (Block block)) = option_map (λ found. record { type = found.0.spelled; has_line = false; first = None }) (block_named before block)
 
-abbrev pub found_from : List Name → List ProgramUnit → ProgramUnit → Option Found
-found_from [] before unit = None
-found_from (name ∷ names) before unit = found_by (found_from names) before (initial_of unit name) (type_of (record { before = before; unit = unit }) name) names
+-- the unit of what has this type, if it is an instance of a block of the text
+abbrev pub unit_of_type : List ProgramUnit → Option VariableType → Option Scope
+unit_of_type before (Some (Block block)) = option_map (λ found. record { before = found.1; unit = found.0 }) (block_named before block)
+unit_of_type before type = None
 
-abbrev pub found_reversed : List ProgramUnit → List Name → Option Found
-found_reversed [] names = None
-found_reversed (program ∷ before) names = found_from names before program
+-- what names lead to from a unit, if to anything
+abbrev pub found_from : List Name → Scope → Option Found
+found_from [] scope = None
+found_from (name ∷ []) scope = found_of scope.before (initial_of scope.unit name) (type_of scope name)
+found_from (name ∷ next ∷ names) scope = option_and_then (found_from (next ∷ names)) (unit_of_type scope.before (type_of scope name))
+
+-- so from the program of a text
+abbrev pub program_of : Text → Option Scope
+program_of text = elim (reverse text) [ program ∷ before ↦ Some (record { before = before; unit = program }) | [] ↦ None ]
 
 abbrev pub found_in : Text → List Name → Option Found
-found_in text names = found_reversed (reverse text) names
-
--- its type
-abbrev pub found_type : Found → List ℕ
-found_type (Line type first) = type
-found_type (Group type) = type
+found_in text names = option_and_then (found_from names) (program_of text)
 
 -- it has a line
 abbrev pub has_line : Option Found → Bool
-has_line None = false
-has_line (Some (Line type first)) = true
-has_line (Some (Group type)) = false
-
--- its first value
-abbrev pub found_first : Option Found → Option Content
-found_first None = None
-found_first (Some (Line type first)) = first
-found_first (Some (Group type)) = None
+has_line found = elim found [ Some f ↦ f.has_line | None ↦ false ]
 
 -- why a variable begins with its first value: the old text has none of its names, or one of another type
 abbrev pub reason_text : Option (List ℕ) → List ℕ
@@ -127,12 +120,6 @@ lost_text false path shape = codes "lost " ++ (path ++ (32 ∷ (shape_type shape
 abbrev pub is_kept : Text → Text → Shown → Bool
 is_kept old new s = list_all (λ path. keeps old new (Path path)) (paths_of s)
 
-abbrev pub line_of : Text → Text → Shown → List ℕ
-line_of old new s = line_text (is_kept old new s) (path_text s) s.shape (option_map found_type (found_in old (names_of s)))
-
-abbrev pub lost_of : Text → Shown → List ℕ
-lost_of new s = lost_text (has_line (found_in new (names_of s))) (path_text s) s.shape
-
 -- two first values are the same
 abbrev pub same_content : Content → Content → Bool
 same_content (Held (Truth true)) (Held (Truth true)) = true
@@ -148,18 +135,26 @@ note_text true path first before = codes "{\"severity\":\"note\",\"variable\":\"
 note_text false path first before = codes "note: a change keeps the value of `" ++ (path ++ (codes "`; its first value, " ++ (content_text first ++ (codes ", is not taken (it was " ++ (content_text before ++ codes ")\n")))))
 
 abbrev pub note_on : Bool → Bool → List ℕ → Shape → Option Content → List ℕ
-note_on as_objects false path shape before = []
-note_on as_objects true path (Instance block) before = []
-note_on as_objects true path (Plain kind first) None = []
 note_on as_objects true path (Plain kind first) (Some before) = elim (same_content first before) [ true ↦ [] | false ↦ note_text as_objects path first before ]
+note_on as_objects kept path shape before = []
 
-abbrev pub note_of : Bool → Text → Text → Shown → List ℕ
-note_of as_objects old new s = note_on as_objects (is_kept old new s) (path_text s) s.shape (found_first (found_in old (names_of s)))
+-- what is reported about a variable, by whose variables are listed
+abbrev pub pass_text : Pass → Bool → List ℕ → Shape → Option Found → List ℕ
+pass_text pass.New kept path shape found = line_text kept path shape (option_map (λ f. f.type) found)
+pass_text pass.Old kept path shape found = lost_text (has_line found) path shape
+pass_text (pass.Notes as_objects) kept path shape found = note_on as_objects kept path shape (option_and_then (λ f. f.first) found)
 
--- the notes on the variables of the new program, in the order of declaration
+-- the lines of the variables of a text next to another, in the order of declaration
+abbrev pub line_alongside : Pass → Text → Text → Shown → List ℕ
+line_alongside pass other text s = pass_text pass (is_kept other text s) (path_text s) s.shape (found_in other (names_of s))
+
+abbrev pub lines_alongside : Pass → Text → Source → List ℕ
+lines_alongside pass other source = flat_map (line_alongside pass other (text_view source)) (shown_of source)
+
+-- the notes on the variables of the new program
 abbrev pub change_notes : Bool → Source → Source → List ℕ
-change_notes as_objects old new = flat_map (note_of as_objects (text_view old) (text_view new)) (shown_of new)
+change_notes as_objects old new = lines_alongside (pass.Notes as_objects) (text_view old) new
 
--- the lines of all variables of the new program, and after them those of the old one that are lost, in the order of declaration
+-- the lines of all variables of the new program, and after them those of the old one that are lost
 abbrev pub change_report : Source → Source → List ℕ
-change_report old new = flat_map (line_of (text_view old) (text_view new)) (shown_of new) ++ flat_map (lost_of (text_view new)) (shown_of old)
+change_report old new = lines_alongside pass.New (text_view old) new ++ lines_alongside pass.Old (text_view new) old

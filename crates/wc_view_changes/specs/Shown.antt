@@ -66,12 +66,8 @@ abbrev pub shown_from : List CodeUnit → CodeUnit → List Shown
 shown_from before unit = shown_all (shown_in before) (seen before unit) (declared_of unit)
 
 -- the variables of a text's program, which is last
-abbrev pub shown_reversed : List CodeUnit → List Shown
-shown_reversed [] = []
-shown_reversed (program ∷ before) = shown_from before program
-
 abbrev pub shown_of : Source → List Shown
-shown_of source = shown_reversed (reverse source.units.items)
+shown_of source = elim (reverse source.units.items) [ program ∷ before ↦ shown_from before program | [] ↦ [] ]
 
 -- the names that lead to a variable, and its places: its own, or each field of the instance
 abbrev pub names_of : Shown → List Name

@@ -1,14 +1,13 @@
-ghost use Rattle.std.specs.Prelude.{◌≡◌, ◌++◌, ◌∷◌, [], List, Option, OnOk, IsOkUnless, option_map};
+ghost use Rattle.std.specs.Prelude.{◌≡◌, ◌++◌, ◌∷◌, [], List, Option, OnOk, IsOkUnless, option_and_then, option_map};
 ghost use Rattle.wc_model.specs.Language.Names.{name_of};
 ghost use Rattle.wc_model.specs.Language.Scopes.{Scope};
 ghost use Rattle.wc_model.specs.Language.Views.{text_view};
 ghost use Rattle.wc_model.specs.declared.source.Initial.{Initial};
 ghost use Rattle.wc_model.specs.declared.source.Unit.{Unit as CodeUnit};
-ghost use Rattle.wc_view_changes.specs.ChangeReport.{found_first, note_on};
-ghost use Rattle.wc_view_changes.specs.Shapes.{shape_view, has_shape};
-ghost use Rattle.wc_view_changes.specs.Shown.{declared_of};
-ghost use Rattle.wc_view_changes.specs.Sides.{IsAt, IsSide, declaration_lines, lines_between, numbered_side, pass_text, side_found, variable_lines};
-ghost use Rattle.wc_view_changes.specs.Puts.{Puts};
+ghost use Rattle.wc_view_changes.specs.ChangeReport.{note_on, pass_text};
+ghost use Rattle.wc_view_changes.specs.Shapes.{Puts, shape_view, has_shape};
+ghost use Rattle.wc_view_changes.specs.Shown.{declared_in, declared_of};
+ghost use Rattle.wc_view_changes.specs.Sides.{IsAt, IsSide, lines_between, numbered_side, side_found, variable_lines};
 
 use crate::lines::{put_first, put_kept, put_lost, put_note};
 use crate::other::{is_line, literal_of, other_literal, other_type, type_text, unit_of};
@@ -79,7 +78,7 @@ fn describe_first(
         → out.new.items ≡ out.old.items
         ++ note_on as_objects (has_shape there.declared (shape_view shape))
         (path.entry.0.now ++ path.entry.1.now) (shape_view shape)
-        (found_first (side_found side (name_of path.entry.1.now ∷ [])))) }
+        (option_and_then (λ f. f.first) (side_found side (name_of path.entry.1.now ∷ [])))) }
     ensures memory { IsOkUnless result Fault.Memory }
 {
     if !is_kept(shape, there.declared) {
@@ -194,7 +193,8 @@ fn describe_declaration(
         → IsSide (text_view texts.entry.other.now.source) units.other side
         → IsAt texts.entry.own.now.source units.unit before u
         → out.new.items ≡ out.old.items
-        ++ declaration_lines texts.entry.pass side before u names.old.items declaration.now) }
+        ++ lines_between texts.entry.pass side before u names.old.items
+        (declared_in declaration.now)) }
     ensures names { OnOk result (names.new.items ≡ names.old.items) }
     ensures memory { IsOkUnless result Fault.Memory }
 {

@@ -8,8 +8,7 @@ ghost use Rattle.wc_model.specs.Language.Scopes.{kind_of};
 ghost use Rattle.wc_model.specs.declared.kind.Kind.{Kind};
 ghost use Rattle.wc_model.specs.declared.value.Value.{Value};
 ghost use Rattle.wc_view_changes.specs.Shown as shown;
-ghost use Rattle.wc_view_changes.specs.Shapes.{shape_view};
-ghost use Rattle.wc_view_changes.specs.Puts.{Puts};
+ghost use Rattle.wc_view_changes.specs.Shapes.{Puts, shape_view};
 
 use crate::shape::{Shape, block_text, kind_text, shape_type};
 use wc_model::{Fault, Kind, Value, put_bytes};

@@ -4,7 +4,7 @@ ghost use Rattle.wc_model.specs.Language.Declarations.{same_name};
 ghost use Rattle.wc_model.specs.Language.Names.{Name, name_of};
 ghost use Rattle.wc_model.specs.Language.Scopes.{Scope};
 ghost use Rattle.wc_model.specs.Language.Views.{text_view, unit_view};
-ghost use Rattle.wc_view_changes.specs.ChangeReport.{found_type, initial_of};
+ghost use Rattle.wc_view_changes.specs.ChangeReport.{initial_of};
 ghost use Rattle.wc_view_changes.specs.Sides.{IsSide, line_numbered, numbered_side, side_found, side_initial, unit_numbered};
 
 use crate::shape::{block_text, kind_text};
@@ -79,7 +79,7 @@ fn declared_text<'o>(other: &Checked<'o>, declared: DeclaredType) -> Option<&'o 
         → IsSide (text_view other.now.source) unit side
         → Some declared ≡ numbered_side side name
         → option_map (λ spelled. spelled.now) result
-        ≡ option_map found_type (side_found side (name ∷ [])) }
+        ≡ option_map (λ f. f.type) (side_found side (name ∷ [])) }
 {
     match declared {
         DeclaredType::Elementary(kind) => Some(kind_text(kind)),
@@ -97,7 +97,7 @@ pub(crate) fn type_text<'o>(other: &Checked<'o>, declared: Option<DeclaredType>)
         → IsSide (text_view other.now.source) unit side
         → declared ≡ numbered_side side name
         → option_map (λ spelled. spelled.now) result
-        ≡ option_map found_type (side_found side (name ∷ [])) }
+        ≡ option_map (λ f. f.type) (side_found side (name ∷ [])) }
 {
     match declared {
         Some(declared) => declared_text(other, declared),

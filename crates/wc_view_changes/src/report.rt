@@ -1,7 +1,6 @@
 ghost use Rattle.std.specs.Prelude.{◌≡◌, ◌++◌, IfOk, IsOkUnless, OnOk};
 ghost use Rattle.wc_model.specs.Language.Views.{text_view};
-ghost use Rattle.wc_view_changes.specs.ChangeReport.{change_notes, change_report};
-ghost use Rattle.wc_view_changes.specs.Sides.{lines_alongside};
+ghost use Rattle.wc_view_changes.specs.ChangeReport.{change_notes, change_report, lines_alongside};
 
 use crate::describing::{Pass, Texts, UnitPair, describe_unit};
 use std::alloc::Global;

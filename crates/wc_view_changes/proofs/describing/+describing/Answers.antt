@@ -1,22 +1,20 @@
-use Rattle.std.proofs.Common.{◌≡◌, ◌++◌, ◌∷◌, [], Some, ap, sym, subst, ◌∙◌, map, arith}
+use Rattle.std.proofs.Common.{◌≡◌, ◌++◌, Some, ap, sym, subst, ◌∙◌, map, arith}
 use Rattle.std.proofs.lemmas.Grind.{common_steps}
 use Rattle.std.specs.List.{flat_map}
-use Rattle.std.specs.Prelude.{slice_get}
 use Rattle.wc_model.specs.Language.Names.{name_of}
 use Rattle.wc_model.specs.Language.Scopes.{type_of}
 use Rattle.wc_model.specs.Language.Store as store
 use Rattle.wc_model.specs.Language.Views.{text_view, unit_view}
 use Rattle.wc_model.specs.declared.operand.Word.{Word}
+use Rattle.wc_model.specs.declared.source.Decl.{Decl}
 use Rattle.wc_model.specs.declared.source.Unit.{Unit as CodeUnit}
-use Rattle.wc_names.proofs.Lists.{got_some}
-use Rattle.wc_names.specs.RepresentsText.{AreTables}
-use Rattle.wc_laws_language.proofs.Places.{Some-same}
-use Rattle.wc_view_changes.specs.Shapes.{has_shape}
-use Rattle.wc_view_changes.specs.Shown.{Plain, Instance, declared_of, seen}
-use Rattle.wc_view_changes.specs.Sides.{IsSide, declaration_lines, lines_between, pass_text, side_after, side_found, unit_numbered, variable_lines}
+use Rattle.wc_names.proofs.HandedOn.{on_ok}
+use Rattle.wc_names.proofs.Lists.{same_found}
+use Rattle.wc_view_changes.specs.Shown.{declared_in, declared_of, seen}
+use Rattle.wc_view_changes.specs.Sides.{IsSide, lines_between, side_after, unit_numbered, variable_lines}
 use Rattle.wc_view_changes.proofs.Between.{side_is}
-use Rattle.wc_view_changes.proofs.Units.{at_there, seen_unit}
-use Rattle.wc_view_changes.proofs.Variables.{all_reported, block_lines, elementary_type, instance_line, into, no_lines, on_ok, passed_lines, plain_line, standard_type}
+use Rattle.wc_view_changes.proofs.Units.{at_there, in_unit}
+use Rattle.wc_view_changes.proofs.Variables.{all_reported, block_lines, elementary_type, instance_line, into, no_lines, passed_lines, plain_line, standard_type}
 use Rattle.wc_view_changes.proofs.Wholes.{by_declarations, declaration_reported}
 use Rattle.wc_view_changes.proofs.describing.+describing.Goals as goal
 use Rattle.wc_view_changes.proofs.describing.+describing.Goals.{describe_variable-then-units-block-via-else-units-block+then-size-eq0, describe_variable-then-units-block-via-then-units-block}
@@ -52,81 +50,61 @@ describe_declaration-returns-clause-lines t c = λ side before u h at.
 pub describe_unit-returns-clause-lines : goal.describe_unit-returns-clause-lines
 describe_unit-returns-clause-lines t c = λ side before u h at.
     let start = c.args.out.now.items in
-    let f = declaration_lines c.args.texts.pass side before u c.args.names.now.items in
-    let found = got_some c.deref.result.now c.args.units.unit c.in-Some.u.now c.in-Some.ensures.lookup.3.0 c.in-Some.ensures.lookup.1 in
+    let f = λ (d : Decl). lines_between c.args.texts.pass side before u c.args.names.now.items (declared_in d) in
     let units : c.deref.result.now ≡ c.args.texts.own.now.source.units.items = c.deref.ensures.value ∙ ap (λ s. s.units.items) c.source.ensures.source in
-    let same : c.in-Some.u.now ≡ u = Some-same u c.in-Some.u.now (sym (at_there c.args.texts.own.now.source c.args.units.unit before u at) ∙ ap (λ xs. slice_get xs c.args.units.unit) (sym units) ∙ found) in
+    let same = same_found c.deref.result.now c.args.texts.own.now.source.units.items c.args.units.unit u c.in-Some.u.now units
+    (at_there c.args.texts.own.now.source c.args.units.unit before u at) c.in-Some.ensures.lookup.3.0 c.in-Some.ensures.lookup.1 in
     all_reported f start c.loop-declaration.out.items c.deref-declaration-items.result.now c.loop-declaration.declaration-index c.loop-declaration-test.false (c.loop-declaration.invariant.lines side before u h at)
     ∙ ap (λ ds. start ++ flat_map f ds) (c.deref-declaration-items.ensures.value ∙ ap (λ (v : CodeUnit). v.declarations.items) same)
     ∙ ap (λ x. start ++ x) (by_declarations c.args.texts.pass side before u c.args.names.now.items u.declarations.items)
 
 pub describe_variable-returns-in_default-clause-lines : goal.describe_variable-returns-in_default-clause-lines
 describe_variable-returns-in_default-clause-lines t c = λ side before u initial h at literal.
-    let source = c.args.texts.own.now.source in
-    let tables = subst (λ ts. AreTables ts (text_view source)) (sym c.tables.ensures.tables) c.tables.ensures.occur in
     no_lines c.args.texts.pass side before u c.args.names.now.items (record { name = c.args.name.now; initial = initial }) c.args.out.now.items
-    (sym (c.in_default.ensures.known (text_view source) (seen before u) tables (seen_unit source c.args.units.unit before u at)))
+    (sym (in_unit c.args.texts.own.now.source c.args.units.unit before u _ _ c.tables.ensures.tables c.tables.ensures.occur at c.in_default.ensures.known))
 
 pub describe_variable-returns-then-units-block-clause-lines : goal.describe_variable-returns-then-units-block-clause-lines
 describe_variable-returns-then-units-block-clause-lines t c = λ side before u initial h at literal.
     let source = c.args.texts.own.now.source in
-    let text = text_view source in
-    let tables = subst (λ ts. AreTables ts text) (sym c.tables.ensures.tables) c.tables.ensures.occur in
-    let i = into source c.args.units.unit c.in-Block.block before u (name_of c.args.name.now) at (ap Some (sym c.in-Block.is) ∙ c.in-Some.ensures.declared text (seen before u) tables (seen_unit source c.args.units.unit before u at)) in
+    let i = into source c.args.units.unit c.in-Block.block before u (name_of c.args.name.now) at
+    (ap Some (sym c.in-Block.is) ∙ in_unit source c.args.units.unit before u _ _ c.tables.ensures.tables c.tables.ensures.occur at c.in-Some.ensures.declared) in
     elim c.then-units-block.branch [
-      | describe_variable-then-units-block-via-then-units-block w ↦ absurd (let l = i.below in let m = w.if-units-block.true in omega (arith, l, m))
+      | describe_variable-then-units-block-via-then-units-block w ↦ absurd (omega (arith, i.below, w.if-units-block.true))
       | describe_variable-then-units-block-via-else-units-block+then-size-eq0 w ↦
           passed_lines source c.args.units.unit c.in-Block.block c.args.texts.pass side before u c.args.names.now.items c.args.name.now initial c.args.out.now.items i
-          (sym (w.size.ensures text (seen i.code.earlier i.code.unit) (subst (λ ts. AreTables ts text) (sym w.tables-else-units-block.ensures.tables) w.tables-else-units-block.ensures.occur)
-          (seen_unit source c.in-Block.block i.code.earlier i.code.unit i.at)) ∙ w.if-size-eq0.true)
+          (sym (in_unit source c.in-Block.block i.code.earlier i.code.unit _ _ w.tables-else-units-block.ensures.tables w.tables-else-units-block.ensures.occur i.at w.size.ensures) ∙ w.if-size-eq0.true)
     ]
 
 pub describe_variable-returns-in-Elementary-clause-lines : goal.describe_variable-returns-in-Elementary-clause-lines
 describe_variable-returns-in-Elementary-clause-lines t c =
-    on_ok c.describe_shape.result _ _
+    on_ok c.describe_shape.result
     (λ w side before u initial h at literal.
     let source = c.args.texts.own.now.source in
-    let text = text_view source in
-    let n = name_of c.args.name.now in
-    let path = c.args.names.now.items ++ c.args.name.now in
-    let start = c.args.out.now.items in
-    let shape = Plain c.in-Elementary.kind (store.Plain c.first_value.result) in
-    let tables = subst (λ ts. AreTables ts text) (sym c.tables.ensures.tables) c.tables.ensures.occur in
-    let typed = elementary_type (map unit_view before) (type_of (seen before u) n) c.in-Elementary.kind (ap Some (sym c.in-Elementary.is) ∙ c.in-Some.ensures.declared text (seen before u) tables (seen_unit source c.args.units.unit before u at)) in
-    w side h (c.other_type.ensures side h)
-    ∙ ap (λ s. start ++ pass_text c.args.texts.pass (has_shape c.other_type.result shape) (s ++ c.args.name.now) shape (side_found side (n ∷ []))) c.as_slice.ensures.value
-    ∙ ap (λ x. start ++ pass_text c.args.texts.pass (has_shape x shape) path shape (side_found side (n ∷ []))) (c.other_type.ensures side h)
-    ∙ ap (λ x. start ++ x) (plain_line c.args.texts.pass side before u c.args.names.now.items c.args.name.now initial c.in-Elementary.kind (store.Plain c.first_value.result) typed (c.first_value.ensures initial literal)))
+    let typed = elementary_type (map unit_view before) (type_of (seen before u) (name_of c.args.name.now)) c.in-Elementary.kind
+    (ap Some (sym c.in-Elementary.is) ∙ in_unit source c.args.units.unit before u _ _ c.tables.ensures.tables c.tables.ensures.occur at c.in-Some.ensures.declared) in
+    (rw (c.as_slice.ensures.value, c.other_type.ensures side h) at (w side h (c.other_type.ensures side h)))
+    ∙ ap (λ x. c.args.out.now.items ++ x) (plain_line c.args.texts.pass side before u c.args.names.now.items c.args.name.now initial c.in-Elementary.kind (store.Plain c.first_value.result) typed (c.first_value.ensures initial literal)))
     c.describe_shape.ensures.line
 
 pub describe_variable-returns-in-Standard-clause-lines : goal.describe_variable-returns-in-Standard-clause-lines
 describe_variable-returns-in-Standard-clause-lines t c =
-    on_ok c.describe_shape-in-Standard.result _ _
+    on_ok c.describe_shape-in-Standard.result
     (λ w side before u initial h at literal.
     let source = c.args.texts.own.now.source in
-    let text = text_view source in
-    let n = name_of c.args.name.now in
-    let path = c.args.names.now.items ++ c.args.name.now in
-    let start = c.args.out.now.items in
-    let shape = Instance c.in-Standard.block in
-    let tables = subst (λ ts. AreTables ts text) (sym c.tables.ensures.tables) c.tables.ensures.occur in
-    let typed = standard_type (map unit_view before) (type_of (seen before u) n) c.in-Standard.block (ap Some (sym c.in-Standard.is) ∙ c.in-Some.ensures.declared text (seen before u) tables (seen_unit source c.args.units.unit before u at)) in
-    w side h (c.other_type.ensures side h)
-    ∙ ap (λ s. start ++ pass_text c.args.texts.pass (has_shape c.other_type.result shape) (s ++ c.args.name.now) shape (side_found side (n ∷ []))) c.as_slice-in-Standard.ensures.value
-    ∙ ap (λ x. start ++ pass_text c.args.texts.pass (has_shape x shape) path shape (side_found side (n ∷ []))) (c.other_type.ensures side h)
-    ∙ ap (λ x. start ++ x) (instance_line c.args.texts.pass side before u c.args.names.now.items c.args.name.now initial c.in-Standard.block typed))
+    let typed = standard_type (map unit_view before) (type_of (seen before u) (name_of c.args.name.now)) c.in-Standard.block
+    (ap Some (sym c.in-Standard.is) ∙ in_unit source c.args.units.unit before u _ _ c.tables.ensures.tables c.tables.ensures.occur at c.in-Some.ensures.declared) in
+    (rw (c.as_slice-in-Standard.ensures.value, c.other_type.ensures side h) at (w side h (c.other_type.ensures side h)))
+    ∙ ap (λ x. c.args.out.now.items ++ x) (instance_line c.args.texts.pass side before u c.args.names.now.items c.args.name.now initial c.in-Standard.block typed))
     c.describe_shape-in-Standard.ensures.line
 
 pub describe_variable-returns-in_ok-describe_unit-in-Block-clause-lines : goal.describe_variable-returns-in_ok-describe_unit-in-Block-clause-lines
 describe_variable-returns-in_ok-describe_unit-in-Block-clause-lines t c = λ side before u initial h at literal.
     let source = c.args.texts.own.now.source in
-    let text = text_view source in
     let n = name_of c.args.name.now in
-    let start = c.args.out.now.items in
     let following = side_after side n in
-    let tables = subst (λ ts. AreTables ts text) (sym c.tables.ensures.tables) c.tables.ensures.occur in
-    let i = into source c.args.units.unit c.in-Block.block before u n at (ap Some (sym c.in-Block.is) ∙ c.in-Some.ensures.declared text (seen before u) tables (seen_unit source c.args.units.unit before u at)) in
-    let old_at = subst (λ k. IsSide (text_view c.args.texts.other.now.source) k following) (sym (c.unit_of.ensures ∙ ap unit_numbered (c.other_type.ensures side h))) (side_is (text_view c.args.texts.other.now.source) c.args.units.other side n h) in
-    c.in_ok-describe_unit-in-Block.ensures.lines following i.code.earlier i.code.unit old_at i.at
-    ∙ ap (λ p. start ++ lines_between c.args.texts.pass following i.code.earlier i.code.unit p (declared_of i.code.unit)) c.in_ok-go_into-in-Block.ensures.0
-    ∙ ap (λ x. start ++ x) (block_lines source c.args.units.unit c.in-Block.block c.args.texts.pass side before u c.args.names.now.items c.args.name.now initial i)
+    let other = text_view c.args.texts.other.now.source in
+    let i = into source c.args.units.unit c.in-Block.block before u n at (ap Some (sym c.in-Block.is) ∙ in_unit source c.args.units.unit before u _ _ c.tables.ensures.tables c.tables.ensures.occur at c.in-Some.ensures.declared) in
+    let there = subst (λ k. IsSide other k following) (sym (c.unit_of.ensures ∙ ap unit_numbered (c.other_type.ensures side h))) (side_is other c.args.units.other side n h) in
+    c.in_ok-describe_unit-in-Block.ensures.lines following i.code.earlier i.code.unit there i.at
+    ∙ ap (λ p. c.args.out.now.items ++ lines_between c.args.texts.pass following i.code.earlier i.code.unit p (declared_of i.code.unit)) c.in_ok-go_into-in-Block.ensures.0
+    ∙ ap (λ x. c.args.out.now.items ++ x) (block_lines source c.args.units.unit c.in-Block.block c.args.texts.pass side before u c.args.names.now.items c.args.name.now initial i)

@@ -3,8 +3,10 @@ use Rattle.std.specs.List.{flat_map}
 use Rattle.wc_model.specs.Language.Scopes.{Scope}
 use Rattle.wc_model.specs.Language.Views.{text_view}
 use Rattle.wc_model.specs.declared.operand.Word.{Word}
+use Rattle.wc_model.specs.declared.source.Decl.{Decl}
 use Rattle.wc_model.specs.declared.source.Unit.{Unit as CodeUnit}
-use Rattle.wc_view_changes.specs.Sides.{IsAt, IsSide, declaration_lines, variable_lines}
+use Rattle.wc_view_changes.specs.Shown.{declared_in}
+use Rattle.wc_view_changes.specs.Sides.{IsAt, IsSide, lines_between, variable_lines}
 use Rattle.wc_view_changes.proofs.describing.+describing.Given as goal
 
 abbrev pub decreases-describe_variable : goal.decreases-describe_variable
@@ -29,5 +31,5 @@ abbrev pub invariant-describe_unit-loop-declaration : goal.invariant-describe_un
 invariant-describe_unit-loop-declaration l = record {
   names : l.names.items ≡ l.fn.names.items;
   lines : (side : Option Scope) (before : List CodeUnit) (u : CodeUnit) → IsSide (text_view l.fn.texts.other.now.source) l.fn.units.other side → IsAt l.fn.texts.own.now.source l.fn.units.unit before u →
-      l.out.items ≡ l.fn.out.items ++ flat_map (declaration_lines l.fn.texts.pass side before u l.fn.names.items) (take l.declaration-index l.declaration-items);
+      l.out.items ≡ l.fn.out.items ++ flat_map (λ (d : Decl). lines_between l.fn.texts.pass side before u l.fn.names.items (declared_in d)) (take l.declaration-index l.declaration-items);
 }

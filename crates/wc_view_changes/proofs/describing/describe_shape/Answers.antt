@@ -1,67 +1,45 @@
-use Rattle.std.proofs.Common.{◌++◌, [], ◌∷◌, None, append-nil, false, option_map, true, ap, sym, ◌∙◌}
+use Rattle.std.proofs.Common.{◌++◌, None, append-nil, false, ap, sym, ◌∙◌}
 use Rattle.wc_model.specs.Language.Names.{name_of}
-use Rattle.wc_view_changes.specs.ChangeReport.{found_type, line_text, lost_text}
-use Rattle.wc_view_changes.specs.Shapes.{shape_view, has_shape}
-use Rattle.wc_view_changes.specs.Sides.{line_numbered, pass_text, side_found}
-use Rattle.wc_view_changes.proofs.Others.{side_line}
-use Rattle.wc_view_changes.proofs.Variables.{on_ok}
+use Rattle.wc_model.specs.Language.Views.{text_view}
+use Rattle.wc_names.proofs.HandedOn.{on_ok}
+use Rattle.wc_view_changes.specs.ChangeReport.{line_text}
+use Rattle.wc_view_changes.specs.Shapes.{shape_view}
+use Rattle.wc_view_changes.proofs.Others.{line_there}
 use Rattle.wc_view_changes.proofs.describing.describe_shape.Goals as goal
 
 -- a variable of the new text that keeps its value
 pub returns-in-New-clause-line : goal.returns-in-New-clause-line
 returns-in-New-clause-line c =
-    let shape = shape_view c.args.shape in
-    let path = c.args.prefix.now ++ c.args.name.now in
-    let out = c.args.out.now.items in
-    let n = name_of c.args.name.now in
-    on_ok c.put_kept.result _ _
-    (λ w side h e. w
-    ∙ ap (λ b. out ++ line_text b path shape (option_map found_type (side_found side (n ∷ [])))) (sym c.if-is_kept.true ∙ c.is_kept.ensures)
-    ∙ ap (λ p. out ++ pass_text p (has_shape c.args.there.declared shape) path shape (side_found side (n ∷ []))) (sym c.in-New.is))
-    (c.put_kept.ensures.line shape None)
+    on_ok c.put_kept.result (λ w side h e. rw (c.in-New.is, sym c.is_kept.ensures ∙ c.if-is_kept.true) w) (c.put_kept.ensures.line (shape_view c.args.shape) None)
 
 -- one that begins with its first value
 pub returns-in-New-2-clause-line : goal.returns-in-New-2-clause-line
 returns-in-New-2-clause-line c =
-    let shape = shape_view c.args.shape in
-    let path = c.args.prefix.now ++ c.args.name.now in
-    let out = c.args.out.now.items in
+    on_ok c.put_first.result
+    (λ w side h e.
     let n = name_of c.args.name.now in
-    on_ok c.put_first.result _ _
-    (λ w side h e. w ∙ ap (λ o. out ++ line_text false path shape o) (c.type_text-was.ensures c.args.there.unit side n h e)
-    ∙ ap (λ b. out ++ line_text b path shape (option_map found_type (side_found side (n ∷ [])))) (sym c.if-is_kept.false ∙ c.is_kept.ensures)
-    ∙ ap (λ p. out ++ pass_text p (has_shape c.args.there.declared shape) path shape (side_found side (n ∷ []))) (sym c.in-New-2.is))
+    rw (c.in-New-2.is, sym c.is_kept.ensures ∙ c.if-is_kept.false)
+    (w ∙ ap (λ was. c.args.out.now.items ++ line_text false (c.args.prefix.now ++ c.args.name.now) (shape_view c.args.shape) was)
+    (c.type_text-was.ensures c.args.there.unit side n h e)))
     c.put_first.ensures.0
 
 -- one of the old text that is not lost
 pub returns-in-Old-clause-line : goal.returns-in-Old-clause-line
-returns-in-Old-clause-line c =
-    let shape = shape_view c.args.shape in
-    let path = c.args.prefix.now ++ c.args.name.now in
-    let out = c.args.out.now.items in
-    let n = name_of c.args.name.now in
-    λ side h e.
-    sym (append-nil out)
-    ∙ ap (λ b. out ++ lost_text b path shape) (sym c.if-is_line.true ∙ c.is_line.ensures ∙ ap line_numbered e ∙ sym (side_line side n))
-    ∙ ap (λ p. out ++ pass_text p (has_shape c.args.there.declared shape) path shape (side_found side (n ∷ []))) (sym c.in-Old.is)
+returns-in-Old-clause-line c = λ side h e.
+    rw (
+      c.in-Old.is,
+      line_there (text_view c.args.texts.other.now.source) c.args.there.unit side (name_of c.args.name.now) c.args.there.declared h e ∙ sym c.is_line.ensures ∙ c.if-is_line.true,
+    ) (sym (append-nil c.args.out.now.items))
 
 -- one that is lost
 pub returns-in-Old-2-clause-line : goal.returns-in-Old-2-clause-line
 returns-in-Old-2-clause-line c =
-    let shape = shape_view c.args.shape in
-    let path = c.args.prefix.now ++ c.args.name.now in
-    let out = c.args.out.now.items in
-    let n = name_of c.args.name.now in
-    on_ok c.put_lost.result _ _
-    (λ w side h e. w ∙ ap (λ b. out ++ lost_text b path shape) (sym c.if-is_line.false ∙ c.is_line.ensures ∙ ap line_numbered e ∙ sym (side_line side n))
-    ∙ ap (λ p. out ++ pass_text p (has_shape c.args.there.declared shape) path shape (side_found side (n ∷ []))) (sym c.in-Old-2.is))
+    on_ok c.put_lost.result
+    (λ w side h e. rw (
+      c.in-Old-2.is,
+      line_there (text_view c.args.texts.other.now.source) c.args.there.unit side (name_of c.args.name.now) c.args.there.declared h e ∙ sym c.is_line.ensures ∙ c.if-is_line.false,
+    ) w)
     c.put_lost.ensures.0
 
 pub returns-in-Notes-clause-line : goal.returns-in-Notes-clause-line
-returns-in-Notes-clause-line c =
-    let shape = shape_view c.args.shape in
-    let path = c.args.prefix.now ++ c.args.name.now in
-    on_ok c.describe_first.result _ _
-    (λ w side h e. w side h e
-    ∙ ap (λ p. c.args.out.now.items ++ pass_text p (has_shape c.args.there.declared shape) path shape (side_found side (name_of c.args.name.now ∷ []))) (sym c.in-Notes.is))
-    c.describe_first.ensures.note
+returns-in-Notes-clause-line c = on_ok c.describe_first.result (λ w side h e. rw c.in-Notes.is (w side h e)) c.describe_first.ensures.note

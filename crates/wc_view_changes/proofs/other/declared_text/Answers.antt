@@ -1,33 +1,40 @@
-use Rattle.std.proofs.Common.{[], ◌∷◌, Some, option_map, ap, sym, ◌∙◌}
+use Rattle.std.proofs.Common.{◌≡◌, ◌≤◌, Some, None, ap, arith, length, option_map, refl, sym, ◌∙◌}
+use Rattle.std.proofs.lemmas.List.{length-map}
+use Rattle.std.proofs.lemmas.Option.{slice_get-map, slice_get_past}
 use Rattle.std.specs.Prelude.{slice_get}
-use Rattle.wc_model.specs.Language.Views.{text_view}
+use Rattle.wc_model.specs.Language.Views.{text_view, unit_view}
 use Rattle.wc_model.specs.declared.source.Source.{Source}
 use Rattle.wc_names.proofs.Lists.{got_some}
-use Rattle.wc_view_changes.specs.ChangeReport.{found_type}
-use Rattle.wc_view_changes.specs.Sides.{side_found}
-use Rattle.wc_view_changes.proofs.Others.{code_spelled, missing_block, text_block, text_elementary, text_standard}
+use Rattle.wc_names.specs.declared.declared_type.DeclaredType.TheVariants as numbered
+use Rattle.wc_view_changes.proofs.Others.{spelled_there}
 use Rattle.wc_view_changes.proofs.other.declared_text.Goals as goal
+use Rattle.wc_view_changes.specs.Sides.{found_numbered, side_initial}
 
 pub returns-in-Elementary : goal.returns-in-Elementary
 returns-in-Elementary c = λ unit side name h e.
-    ap Some c.kind_text.ensures ∙ text_elementary (text_view c.args.other.now.source) unit side name c.in-Elementary.kind h (ap Some (sym c.in-Elementary.is) ∙ e)
+    ap Some c.kind_text.ensures ∙ spelled_there (text_view c.args.other.now.source) unit side name c.args.declared (numbered.Elementary c.in-Elementary.kind) h e c.in-Elementary.is
 
 pub returns-in-Standard : goal.returns-in-Standard
 returns-in-Standard c = λ unit side name h e.
-    ap Some c.block_text.ensures ∙ text_standard (text_view c.args.other.now.source) unit side name c.in-Standard.block h (ap Some (sym c.in-Standard.is) ∙ e)
+    ap Some c.block_text.ensures ∙ spelled_there (text_view c.args.other.now.source) unit side name c.args.declared (numbered.Standard c.in-Standard.block) h e c.in-Standard.is
 
 pub returns-in-Some : goal.returns-in-Some
 returns-in-Some c = λ unit side name h e.
     let source = c.args.other.now.source in
     let number = c.in-Block.number in
-    let b = text_block (text_view source) unit side name number h (ap Some (sym c.in-Block.is) ∙ e) in
-    let there = got_some c.deref.result.now number c.in-Some.unit.now c.in-Some.ensures.lookup.3.0 c.in-Some.ensures.lookup.1 in
-    code_spelled source number (option_map found_type (side_found side (name ∷ []))) c.in-Some.unit.now b
-    (ap (λ xs. slice_get xs number) (sym (c.deref.ensures.value ∙ ap (λ (s : Source). s.units.items) c.source.ensures.source)) ∙ there)
+    let there : slice_get source.units.items number ≡ Some c.in-Some.unit.now =
+    ap (λ xs. slice_get xs number) (sym (c.deref.ensures.value ∙ ap (λ (s : Source). s.units.items) c.source.ensures.source))
+    ∙ got_some c.deref.result.now number c.in-Some.unit.now c.in-Some.ensures.lookup.3.0 c.in-Some.ensures.lookup.1 in
+    let spelled : Some c.in-Some.unit.now.name.text.now ≡ option_map (λ f. f.type) (found_numbered (text_view source) (side_initial side name) (numbered.Block number)) =
+    rw (slice_get-map unit_view source.units.items number, there) refl in
+    spelled ∙ spelled_there (text_view source) unit side name c.args.declared (numbered.Block number) h e c.in-Block.is
 
 pub returns-in-None : goal.returns-in-None
 returns-in-None c = λ unit side name h e.
     let source = c.args.other.now.source in
-    let number = c.in-Block.number in
-    let b = text_block (text_view source) unit side name number h (ap Some (sym c.in-Block.is) ∙ e) in
-    absurd (missing_block source number (option_map found_type (side_found side (name ∷ []))) c.deref.result.now b (c.deref.ensures.value ∙ ap (λ (s : Source). s.units.items) c.source.ensures.source) c.in-None.ensures.lookup.3)
+    let counted : length (text_view source) ≡ length source.units.items = length-map source.units.items unit_view in
+    let past : length (text_view source) ≤ c.in-Block.number =
+    omega (arith, counted, ap length (c.deref.ensures.value ∙ ap (λ (s : Source). s.units.items) c.source.ensures.source), c.in-None.ensures.lookup.3) in
+    let missing : None ≡ option_map (λ f. f.type) (found_numbered (text_view source) (side_initial side name) (numbered.Block c.in-Block.number)) =
+    rw (slice_get_past (text_view source) c.in-Block.number past) refl in
+    missing ∙ spelled_there (text_view source) unit side name c.args.declared (numbered.Block c.in-Block.number) h e c.in-Block.is

@@ -2,9 +2,9 @@ use Rattle.std.proofs.Common.{◌≡◌, ◌++◌, suc, length, vec_len, ap, sym
 use Rattle.std.proofs.lemmas.List.{length-map}
 use Rattle.wc_model.specs.Language.Views.{text_view, unit_view}
 use Rattle.wc_model.specs.declared.source.Source.{Source}
+use Rattle.wc_names.proofs.HandedOn.{on_ok}
 use Rattle.wc_view_changes.specs.Shown.{declared_of}
 use Rattle.wc_view_changes.specs.Sides.{lines_between}
-use Rattle.wc_view_changes.proofs.Variables.{on_ok}
 use Rattle.wc_view_changes.proofs.Wholes.{none_reported, other_side, reported}
 use Rattle.wc_view_changes.proofs.report.describe_program.Goals as goal
 
@@ -20,7 +20,7 @@ returns-clause-lines c =
     let other_counted : length (text_view other) ≡ c.len-2.result =
     length-map other.units.items unit_view ∙ ap (λ (s : Source). length s.units.items) (sym c.source-2.ensures.source) ∙ sym w ∙ sym c.len-2.ensures
     in
-    on_ok c.describe_unit.result _ _
+    on_ok c.describe_unit.result
     (λ said. reported c.args.pass (text_view other) source c.in-Some.unit c.checked_sub-other.result c.args.out.now.items c.describe_unit.new.out.items counted
     (other_side (text_view other) c.len-2.result c.checked_sub-other.result other_counted c.checked_sub-other.ensures)
     (λ side before u h at. said side before u h at ∙ ap (λ p. c.args.out.now.items ++ lines_between c.args.pass side before u p (declared_of u)) c.new-names.ensures.items))
