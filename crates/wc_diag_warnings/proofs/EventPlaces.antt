@@ -3,11 +3,12 @@ use Rattle.std.proofs.Common.{◌≡◌, ℕ, suc, ◌+◌, ◌<◌, ◌≤◌, 
 use Rattle.std.proofs.lemmas.List.{reverse-append, length-reverse, length-take-le, take-append-drop, take_more}
 use Rattle.std.specs.Prelude.{slice_get}
 use Rattle.std.specs.List.{list_any}
+use Rattle.std.specs.Option.{option_map_or}
 use Rattle.wc_diag_warnings.specs.Addresses.{stores}
 use Rattle.wc_diag_warnings.specs.Events.{Happening}
-use Rattle.wc_diag_warnings.specs.Places.{Tracked, again_at, is_again, is_passed, on_at, edges_from}
+use Rattle.wc_diag_warnings.specs.Places.{Tracked, again_at, on_at, edges_from}
 use Rattle.wc_diag_warnings.specs.Warnings.{is_stored_again}
-use Rattle.wc_diag_warnings.specs.Edges.{Passed, is_on, is_reached, is_stored_before, passed}
+use Rattle.wc_diag_warnings.specs.Edges.{Passed, is_on, is_reached, passed}
 
 -- a list around the event at a place
 pub record Around (events : List Happening) (place : ℕ) (e : Happening) : Type 0 where
@@ -27,15 +28,13 @@ length_passed starts marks [] = refl
 length_passed starts marks (e ∷ before) = ap suc (length_passed starts marks before)
 
 -- what is known of the first events is not changed by those after
-pub record Prefixes (all known : List Passed) : Type 0 where
-  pub prefix : List Passed
-  pub is : all ≡ prefix ++ known
-
-passed_after : (starts : Bool) (marks : Happening → Bool) (late early : List Happening) → Prefixes (passed starts marks (late ++ early)) (passed starts marks early)
-passed_after starts marks [] early = record { prefix = []; is = refl }
+passed_after : (starts : Bool) (marks : Happening → Bool) (late early : List Happening) →
+    (prefix : List Passed) × (passed starts marks (late ++ early) ≡ prefix ++ passed starts marks early)
+passed_after starts marks [] early = ([], refl)
 passed_after starts marks (e ∷ late) early =
     let h = passed_after starts marks late early in
-    record { prefix = record { event = e; on = is_on starts marks (late ++ early) e } ∷ h.prefix; is = ap (λ ps. record { event = e; on = is_on starts marks (late ++ early) e } ∷ ps) h.is }
+    let item : Passed = record { event = e; on = is_on starts marks (late ++ early) e } in
+    (item ∷ h.0, ap (λ ps. item ∷ ps) h.1)
 
 -- the event between those before and after it, newest first
 turned_whole : (before : List Happening) (e : Happening) (following : List Happening) → reverse (before ++ e ∷ following) ≡ reverse following ++ e ∷ reverse before
@@ -50,10 +49,11 @@ passed_at starts marks before e following =
     let item : Passed = record { event = e; on = is_on starts marks (reverse before) e } in
     let h = passed_after starts marks (reverse following) (e ∷ reverse before) in
     let n : length (reverse known) ≡ length before = length-reverse known ∙ length_passed starts marks (reverse before) ∙ length-reverse before in
-    let cut : reverse (passed starts marks (reverse (before ++ e ∷ following))) ≡ reverse known ++ item ∷ reverse h.prefix =
-    ap (λ es. reverse (passed starts marks es)) (turned_whole before e following) ∙ ap reverse h.is
-    ∙ reverse-append h.prefix (item ∷ known) ∙ ap (λ ps. ps ++ reverse h.prefix) (reverse-append (item ∷ []) known) ∙ append_assoc (reverse known) (item ∷ []) (reverse h.prefix) in
-    ap (λ ps. slice_get ps (length before)) cut ∙ ap (λ k. slice_get (reverse known ++ item ∷ reverse h.prefix) k) (sym n) ∙ slice_at (reverse known) item (reverse h.prefix)
+    let cut : reverse (passed starts marks (reverse (before ++ e ∷ following))) ≡ reverse known ++ item ∷ reverse h.0 =
+    ap (λ es. reverse (passed starts marks es)) (turned_whole before e following) ∙ ap reverse h.1
+    ∙ reverse-append h.0 (item ∷ known) ∙ ap (λ ps. ps ++ reverse h.0) (reverse-append (item ∷ []) known)
+    ∙ append_assoc (reverse known) (item ∷ []) (reverse h.0) in
+    ap (λ ps. slice_get ps (length before)) cut ∙ ap (slice_get (reverse known ++ item ∷ reverse h.0)) (sym n) ∙ slice_at (reverse known) item (reverse h.0)
 
 -- and at the place of an event of a list
 found_at : (starts : Bool) (marks : Happening → Bool) (events : List Happening) (place : ℕ) (e : Happening) (a : Around events place e) →
@@ -66,15 +66,17 @@ found_at starts marks events place e a =
 -- the paths of the start
 pub reached_at : (events : List Happening) (known : List Passed) (place : ℕ) (e : Happening) (a : Around events place e) → known ≡ reverse (passed true (λ any. false) (reverse events)) →
     on_at known place ≡ is_reached (reverse a.before) e
-reached_at events known place e a is = ap (λ ps. on_at ps place) is ∙ ap is_passed (found_at true (λ any. false) events place e a)
+reached_at events known place e a is =
+    ap (λ ps. on_at ps place) is ∙ ap (λ p. option_map_or (λ q. q.on) p false) (found_at true (λ any. false) events place e a)
 
 -- the paths of each output
 again_with : (events : List Happening) (place : ℕ) (e : Happening) (a : Around events place e) (numbers : List ℕ) →
     list_any (again_at place) (map (edges_from events) numbers) ≡ is_stored_again numbers (reverse a.before) e
 again_with events place e a [] = refl
 again_with events place e a (n ∷ ns) =
-    ap (λ b. b || list_any (again_at place) (map (edges_from events) ns)) (ap (is_again n) (found_at false (stores n) events place e a))
-    ∙ ap (λ b. (is_stored_before n (reverse a.before) e && stores n e) || b) (again_with events place e a ns)
+    ap (λ b. b || list_any (again_at place) (map (edges_from events) ns))
+    (ap (λ p. option_map_or (λ q. q.on && stores n q.event) p false) (found_at false (stores n) events place e a))
+    ∙ ap (λ b. (is_on false (stores n) (reverse a.before) e && stores n e) || b) (again_with events place e a ns)
 
 pub stored_at : (events : List Happening) (rows : List Tracked) (place : ℕ) (e : Happening) (a : Around events place e) (numbers : List ℕ) → rows ≡ map (edges_from events) numbers →
     list_any (again_at place) rows ≡ is_stored_again numbers (reverse a.before) e

@@ -1,6 +1,5 @@
 -- One event more of a body. (No rule of the language.)
-use Rattle.std.proofs.Common.{◌≡◌, ℕ, ◌+◌, Bool, true, false, not, ◌&&◌, ◌||◌, List, ◌∷◌, ◌++◌, Option, refl, ap, sym, ◌∙◌, append_assoc}
-use Rattle.std.proofs.Math.Bool.{or_comm}
+use Rattle.std.proofs.Common.{◌≡◌, ℕ, Bool, not, ◌&&◌, ◌||◌, List, ◌∷◌, ◌++◌, Option, append_assoc, arith}
 use Rattle.std.specs.Prelude.{if◌then◌else◌}
 use Rattle.std.specs.List.{flat_map, list_any}
 use Rattle.wc_model.specs.Language.Checks.{positions_after}
@@ -11,26 +10,20 @@ use Rattle.wc_diag_warnings.specs.Edges.{is_reached}
 
 -- a truth that comes last may come before the second
 swapped : (v b w : Bool) → ((v || b) || w) ≡ (v || (w || b))
-swapped true b w = refl
-swapped false b w = or_comm b w
+swapped v b w = grind arith
 
 -- whether a weight is read or the validity anywhere, with one event more
 pub asked_step : (events before more : List Happening) (e : Happening) (asked weighs next : Bool) → more ≡ e ∷ before →
     asked ≡ (list_any reads_valid events || list_any reads_weight before) → weighs ≡ reads_weight e → next ≡ (asked || weighs) →
     next ≡ (list_any reads_valid events || list_any reads_weight more)
 asked_step events before more e asked weighs next is asked_is weighs_is next_is =
-    let valid = list_any reads_valid events in
-    let weighed = list_any reads_weight before in
-    next_is ∙ ap (λ x. x || weighs) asked_is ∙ ap (λ x. (valid || weighed) || x) weighs_is ∙ swapped valid weighed (reads_weight e)
-    ∙ sym (ap (λ es. valid || list_any reads_weight es) is)
+    let order = swapped (list_any reads_valid events) (list_any reads_weight before) (reads_weight e) in cc
 
 -- whether the last instruction is reached, with one event more
 pub above_step : (before more : List Happening) (e : Happening) (begins reached above next : Bool) → more ≡ e ∷ before →
     begins ≡ doing_begins e.doing → reached ≡ is_reached before e → above ≡ is_above_reached before → next ≡ (if begins then reached else above) →
     next ≡ is_above_reached more
-above_step before more e begins reached above next is begins_is reached_is above_is next_is =
-    next_is ∙ ap (λ x. if x then reached else above) begins_is ∙ ap (λ x. if doing_begins e.doing then x else above) reached_is
-    ∙ ap (λ x. if doing_begins e.doing then is_reached before e else x) above_is ∙ sym (ap is_above_reached is)
+above_step before more e begins reached above next is begins_is reached_is above_is next_is = cc
 
 -- the number of an event's warning, by what is known of it
 pub number_is : (numbers : List ℕ) (events before : List Happening) (e : Happening) (begins above reached again weighs asked : Bool) (number : Option ℕ) →
@@ -38,13 +31,7 @@ pub number_is : (numbers : List ℕ) (events before : List Happening) (e : Happe
     begins ≡ doing_begins e.doing → above ≡ is_above_reached before → reached ≡ is_reached before e → again ≡ is_stored_again numbers before e →
     weighs ≡ reads_weight e → asked ≡ (list_any reads_valid events || list_any reads_weight before) →
     number ≡ event_number (begins_stretch before e) (is_stored_again numbers before e) (is_unasked events before e)
-number_is numbers events before e begins above reached again weighs asked number is begins_is above_is reached_is again_is weighs_is asked_is =
-    is ∙ ap (λ x. event_number (x && above && not reached) again (weighs && not asked)) begins_is
-    ∙ ap (λ x. event_number (doing_begins e.doing && x && not reached) again (weighs && not asked)) above_is
-    ∙ ap (λ x. event_number (doing_begins e.doing && is_above_reached before && not x) again (weighs && not asked)) reached_is
-    ∙ ap (λ x. event_number (begins_stretch before e) x (weighs && not asked)) again_is
-    ∙ ap (λ x. event_number (begins_stretch before e) (is_stored_again numbers before e) (x && not asked)) weighs_is
-    ∙ ap (λ x. event_number (begins_stretch before e) (is_stored_again numbers before e) (reads_weight e && not x)) asked_is
+number_is numbers events before e begins above reached again weighs asked number is begins_is above_is reached_is again_is weighs_is asked_is = cc
 
 -- the warnings so far with those of the events that are left, with one event more
 pub found_step : (numbers : List ℕ) (events before more left rest : List Happening) (e : Happening) (number : Option ℕ) (old new all : List Caution) →
@@ -55,10 +42,4 @@ pub found_step : (numbers : List ℕ) (events before more left rest : List Happe
     new ++ flat_map (event_cautions numbers events) (positions_after more rest) ≡ all
 found_step numbers events before more left rest e number old new all more_is left_is pushed counted so_far =
     let own = caution (event_number (begins_stretch before e) (is_stored_again numbers before e) (is_unasked events before e)) e.line (address_of e.doing) in
-    let others = flat_map (event_cautions numbers events) (positions_after (e ∷ before) rest) in
-    ap (λ es. new ++ flat_map (event_cautions numbers events) (positions_after es rest)) more_is
-    ∙ ap (λ cs. cs ++ others) pushed
-    ∙ ap (λ n. (old ++ caution n e.line (address_of e.doing)) ++ others) counted
-    ∙ append_assoc old own others
-    ∙ sym (ap (λ es. old ++ flat_map (event_cautions numbers events) (positions_after before es)) left_is)
-    ∙ so_far
+    cc (append_assoc old own (flat_map (event_cautions numbers events) (positions_after (e ∷ before) rest)))

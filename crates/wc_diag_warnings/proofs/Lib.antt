@@ -4,8 +4,6 @@ pub mod EventLaws
 pub mod EventPlaces
 pub mod EventSteps
 pub mod Following
-pub mod Lists
 pub mod NameSets
-pub mod Putting
 pub mod RowLists
 pub mod WayLaws

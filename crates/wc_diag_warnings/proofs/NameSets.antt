@@ -1,6 +1,7 @@
 -- Names that one more is added to. (No rule of the language.)
 use Rattle.std.proofs.Common.{◌≡◌, Bool, true, false, not, ◌||◌, List, [], ◌∷◌, ◌++◌, refl, sym, ap, ◌∙◌}
 use Rattle.std.proofs.Math.Bool.{or-false}
+use Rattle.std.proofs.lemmas.Bool.{not-false}
 use Rattle.std.proofs.lemmas.List.Folds.{list_any-append}
 use Rattle.std.proofs.lemmas.Map.Steps.{list_any_congr}
 use Rattle.std.specs.Prelude.{if◌then◌else◌}
@@ -22,12 +23,8 @@ among_again true names name other e there =
     let here : is_among names other ≡ true = list_any_congr same_name_laws other name names (same_name_laws.symm other name ∙ e) ∙ there in
     here ∙ ap (λ b. b || true) (sym here)
 
-fresh_not : (b : Bool) → false ≡ not b → b ≡ true
-fresh_not true e = refl
-fresh_not false e = cc
-
 pub among_added : (fresh : Bool) (names new : List Name) (name other : Name) → fresh ≡ not (is_among names name) → new ≡ (if fresh then names ++ name ∷ [] else names) →
     is_among new other ≡ (is_among names other || same_name name other)
 among_added true names new name other e is = ap (λ ns. is_among ns other) is ∙ among_more names name other
 among_added false names new name other e is =
-    ap (λ ns. is_among ns other) is ∙ among_again (same_name name other) names name other refl (fresh_not (is_among names name) e)
+    ap (λ ns. is_among ns other) is ∙ among_again (same_name name other) names name other refl (not-false (is_among names name) (sym e))

@@ -1,43 +1,11 @@
 -- What is computed of the paths to an event is so. (No rule of the language.)
-use Rattle.std.proofs.Common.{◌≡◌, Bool, true, false, not, ◌&&◌, ◌||◌, List, [], ◌∷◌, ◌++◌, ◌⊎◌, inl, inr, refl, ap, sym, ◌∙◌, append_assoc}
+use Rattle.std.proofs.Common.{◌≡◌, Bool, true, not, ◌&&◌, ◌||◌, List, [], ◌∷◌, ◌++◌, inl, inr, refl, ap, sym, ◌∙◌, append_assoc}
+use Rattle.std.proofs.lemmas.Bool.{and_parts, not-true, or_cases, or_right}
 use Rattle.std.specs.List.{list_any}
 use Rattle.wc_model.specs.Language.Names.{Name}
-use Rattle.wc_diag_warnings.specs.Events.{Doing, Begins, Labels, Reads, Stores, Sets, Calls, Gives, Jumps, Returns, Happening}
+use Rattle.wc_diag_warnings.specs.Events.{Doing, Labels, Happening}
 use Rattle.wc_diag_warnings.specs.Laws.{IsWay, at_start, from_mark, onward, by_jump, EdgesAreThere}
 use Rattle.wc_diag_warnings.specs.Edges.{Passed, comes_by_jump, comes_down, doing_jumps, doing_leaves, is_on, passed}
-
--- one of two truths holds, or both
-pub or_true : (a b : Bool) → (a || b) ≡ true → (a ≡ true) ⊎ (b ≡ true)
-or_true true b e = inl refl
-or_true false b e = inr e
-
-pub left_true : (a b : Bool) → (a && b) ≡ true → a ≡ true
-left_true true b e = refl
-left_true false b e = e
-
-pub right_true : (a b : Bool) → (a && b) ≡ true → b ≡ true
-right_true true b e = e
-right_true false b e = cc
-
-pub true_or : (a b : Bool) → b ≡ true → (a || b) ≡ true
-true_or true b e = refl
-true_or false b e = e
-
-pub or_left : (a b : Bool) → a ≡ true → (a || b) ≡ true
-or_left true b e = refl
-or_left false b e = cc
-
-pub both_true : (a b : Bool) → a ≡ true → b ≡ true → (a && b) ≡ true
-both_true true b e f = f
-both_true false b e f = e
-
-pub not_true : (a : Bool) → not a ≡ true → a ≡ false
-not_true true e = cc
-not_true false e = refl
-
-pub not_false : (a : Bool) → a ≡ false → not a ≡ true
-not_false true e = cc
-not_false false e = refl
 
 module _ (starts : Bool) (marks : Happening → Bool) where
   -- each of these events that is on has a path to it
@@ -55,37 +23,30 @@ module _ (starts : Bool) (marks : Happening → Bool) where
   jumped name all between (jump ∷ before) e whole edges at found =
       let here = is_on starts marks before jump && doing_jumps jump.doing name in
       let others = list_any (jumps_here name) (passed starts marks before) in
-      elim (or_true here others found) [
-        | inl h ↦ by_jump all between before jump e name whole (edges.0 (left_true (is_on starts marks before jump) (doing_jumps jump.doing name) h)) (right_true (is_on starts marks before jump) (doing_jumps jump.doing name) h) at
+      elim (or_cases here others found) [
+        | inl h ↦ let both = and_parts (is_on starts marks before jump) (doing_jumps jump.doing name) h in
+            by_jump all between before jump e name whole (edges.0 both.0) both.1 at
         | inr h ↦ jumped name all (between ++ jump ∷ []) before e (whole ∙ sym (append_assoc between (jump ∷ []) before)) edges.1 at h
       ]
 
   -- a path by a jump
   came_by_jump : (doing : Doing) (before : List Happening) (e : Happening) → AllEdges before → e.doing ≡ doing → comes_by_jump (passed starts marks before) doing ≡ true → IsWay starts marks before e
   came_by_jump (Labels name) before e edges at found = jumped name before [] before e refl edges at found
-  came_by_jump Begins before e edges at found = cc
-  came_by_jump (Reads term) before e edges at found = cc
-  came_by_jump (Stores term) before e edges at found = cc
-  came_by_jump (Sets term) before e edges at found = cc
-  came_by_jump (Calls instance) before e edges at found = cc
-  came_by_jump (Gives instance input) before e edges at found = cc
-  came_by_jump (Jumps condition label) before e edges at found = cc
-  came_by_jump (Returns condition) before e edges at found = cc
+  came_by_jump doing before e edges at found = cc
 
   -- a path from right above
   came_down : (before : List Happening) (e : Happening) → AllEdges before → comes_down starts marks (passed starts marks before) ≡ true → IsWay starts marks before e
   came_down [] e edges found = at_start e found
   came_down (last ∷ before) e edges found =
-      let on = is_on starts marks before last in
-      let goes = not_true (doing_leaves last.doing) (left_true (not (doing_leaves last.doing)) (on || marks last) found) in
-      elim (or_true on (marks last) (right_true (not (doing_leaves last.doing)) (on || marks last) found)) [
-        | inl h ↦ onward before last e (edges.0 h) goes
-        | inr h ↦ from_mark before last e h goes
+      let both = and_parts (not (doing_leaves last.doing)) (is_on starts marks before last || marks last) found in
+      elim (or_cases (is_on starts marks before last) (marks last) both.1) [
+        | inl h ↦ onward before last e (edges.0 h) (not-true (doing_leaves last.doing) both.0)
+        | inr h ↦ from_mark before last e h (not-true (doing_leaves last.doing) both.0)
       ]
 
   pub came : (before : List Happening) (e : Happening) → AllEdges before → is_on starts marks before e ≡ true → IsWay starts marks before e
   came before e edges found =
-      elim (or_true (comes_down starts marks (passed starts marks before)) (comes_by_jump (passed starts marks before) e.doing) found) [
+      elim (or_cases (comes_down starts marks (passed starts marks before)) (comes_by_jump (passed starts marks before) e.doing) found) [
         | inl h ↦ came_down before e edges h
         | inr h ↦ came_by_jump e.doing before e edges refl h
       ]
@@ -97,22 +58,18 @@ module _ (starts : Bool) (marks : Happening → Bool) where
   -- a jump that is on is found, whatever follows it
   jump_found : (name : Name) (between before : List Happening) (jump : Happening) → is_on starts marks before jump ≡ true → doing_jumps jump.doing name ≡ true →
       list_any (jumps_here name) (passed starts marks (between ++ jump ∷ before)) ≡ true
-  jump_found name [] before jump on jumps =
-      or_left (is_on starts marks before jump && doing_jumps jump.doing name) (list_any (jumps_here name) (passed starts marks before)) (both_true (is_on starts marks before jump) (doing_jumps jump.doing name) on jumps)
+  jump_found name [] before jump on jumps = cc
   jump_found name (e ∷ between) before jump on jumps =
-      true_or (is_on starts marks (between ++ jump ∷ before) e && doing_jumps e.doing name) (list_any (jumps_here name) (passed starts marks (between ++ jump ∷ before))) (jump_found name between before jump on jumps)
+      or_right (is_on starts marks (between ++ jump ∷ before) e && doing_jumps e.doing name) (list_any (jumps_here name) (passed starts marks (between ++ jump ∷ before)))
+      (jump_found name between before jump on jumps)
 
   -- a path is found
   pub leads : {before : List Happening} {e : Happening} → IsWay starts marks before e → is_on starts marks before e ≡ true
-  leads (at_start e s) = or_left starts (comes_by_jump [] e.doing) s
-  leads (from_mark before last e m l) =
-      or_left (not (doing_leaves last.doing) && (is_on starts marks before last || marks last)) (comes_by_jump (passed starts marks (last ∷ before)) e.doing)
-      (both_true (not (doing_leaves last.doing)) (is_on starts marks before last || marks last) (not_false (doing_leaves last.doing) l) (true_or (is_on starts marks before last) (marks last) m))
-  leads (onward before last e w l) =
-      or_left (not (doing_leaves last.doing) && (is_on starts marks before last || marks last)) (comes_by_jump (passed starts marks (last ∷ before)) e.doing)
-      (both_true (not (doing_leaves last.doing)) (is_on starts marks before last || marks last) (not_false (doing_leaves last.doing) l) (or_left (is_on starts marks before last) (marks last) (leads w)))
+  leads (at_start e s) = cc
+  leads (from_mark before last e m l) = let here = or_right (is_on starts marks before last) (marks last) m in cc
+  leads (onward before last e w l) = let here = leads w in cc
   leads (by_jump all between before jump e name whole w jumps at) =
-      true_or (comes_down starts marks (passed starts marks all)) (comes_by_jump (passed starts marks all) e.doing)
+      or_right (comes_down starts marks (passed starts marks all)) (comes_by_jump (passed starts marks all) e.doing)
       (ap (comes_by_jump (passed starts marks all)) at ∙ ap (λ es. list_any (jumps_here name) (passed starts marks es)) whole ∙ jump_found name between before jump (leads w) jumps)
 
 pub edges_there : EdgesAreThere

@@ -1,5 +1,6 @@
 -- Which events use a directly represented variable. (No rule of the language.)
-use Rattle.std.specs.Prelude.{ℕ, ◌+◌, nat_eq, Bool, true, false, List, map, filter, Option, Some, None}
+use Rattle.std.specs.Prelude.{ℕ, ◌+◌, nat_eq, Bool, true, false, List, map, filter, Option}
+use Rattle.std.specs.Option.{option_map_or}
 use Rattle.wc_model.specs.Language.DirectVariables.{DirectVariable, InputBit, StatusBit, Weight, OutputBit, OutputWord, direct_variables, is_output, variable_at}
 use Rattle.wc_model.specs.Language.Tree.{Term, Address}
 use Rattle.wc_diag_warnings.specs.Events.{Doing, Reads, Stores, Happening}
@@ -23,8 +24,7 @@ is_valid_bit variable = false
 
 -- a variable that there is, and that passes a test
 abbrev pub is_such : (DirectVariable → Bool) → Option DirectVariable → Bool
-is_such test None = false
-is_such test (Some variable) = test variable
+is_such test variable = option_map_or test variable false
 
 -- a term is a directly represented variable that passes a test
 abbrev pub is_direct : (DirectVariable → Bool) → Term → Bool

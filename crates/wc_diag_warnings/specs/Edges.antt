@@ -1,23 +1,16 @@
 -- Which events a run of a body can come to, and from where: every conditional may go either way, jumps go ahead. (The
 -- profile's own.) Events before another come newest first.
-use Rattle.std.specs.Prelude.{ℕ, Bool, true, false, not, ◌&&◌, ◌||◌, List, [], ◌∷◌}
+use Rattle.std.specs.Prelude.{Bool, true, false, not, ◌&&◌, ◌||◌, List, [], ◌∷◌}
 use Rattle.std.specs.List.{list_any}
 use Rattle.wc_model.specs.Language.Declarations.{same_name}
 use Rattle.wc_model.specs.Language.Names.{Name}
-use Rattle.wc_model.specs.declared.operator.Condition.{Condition}
-use Rattle.wc_model.specs.declared.operator.Condition.TheVariants.{Always, IfTrue, IfFalse}
-use Rattle.wc_diag_warnings.specs.Addresses.{stores}
+use Rattle.wc_model.specs.declared.operator.Condition.TheVariants.{Always}
 use Rattle.wc_diag_warnings.specs.Events.{Doing, Labels, Jumps, Returns, Happening}
-
-abbrev pub is_always : Condition → Bool
-is_always Always = true
-is_always IfTrue = false
-is_always IfFalse = false
 
 -- no run goes on from it to the next event
 abbrev pub doing_leaves : Doing → Bool
-doing_leaves (Jumps condition label) = is_always condition
-doing_leaves (Returns condition) = is_always condition
+doing_leaves (Jumps Always label) = true
+doing_leaves (Returns Always) = true
 doing_leaves doing = false
 
 abbrev pub doing_jumps : Doing → Name → Bool
@@ -42,20 +35,14 @@ comes_by_jump earlier doing = false
 abbrev pub arrives : Bool → (Happening → Bool) → List Passed → Happening → Bool
 arrives starts marks earlier e = comes_down starts marks earlier || comes_by_jump earlier e.doing
 
-abbrev pub with_event : Bool → (Happening → Bool) → Happening → List Passed → List Passed
-with_event starts marks e earlier = record { event = e; on = arrives starts marks earlier e } ∷ earlier
-
 abbrev pub passed : Bool → (Happening → Bool) → List Happening → List Passed
 passed starts marks [] = []
-passed starts marks (e ∷ before) = with_event starts marks e (passed starts marks before)
+passed starts marks (e ∷ before) = let earlier = passed starts marks before in record { event = e; on = arrives starts marks earlier e } ∷ earlier
 
 -- there is a path to an event after these
 abbrev pub is_on : Bool → (Happening → Bool) → List Happening → Happening → Bool
 is_on starts marks before e = arrives starts marks (passed starts marks before) e
 
--- a run comes to it from the body's start; from a store of that output
+-- a run comes to it from the body's start
 abbrev pub is_reached : List Happening → Happening → Bool
 is_reached before e = is_on true (λ any. false) before e
-
-abbrev pub is_stored_before : ℕ → List Happening → Happening → Bool
-is_stored_before output before e = is_on false (stores output) before e

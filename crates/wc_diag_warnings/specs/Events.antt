@@ -1,11 +1,11 @@
 -- What a body does, one event after the other in text order. (No rule of the language.)
-use Rattle.std.specs.Prelude.{ℕ, List, [], ◌∷◌, ◌++◌, Option, Some, None}
+use Rattle.std.specs.Prelude.{ℕ, List, [], ◌∷◌, ◌++◌, Option, Some}
 use Rattle.std.specs.List.{flat_map}
+use Rattle.std.specs.Option.{option_map_or}
 use Rattle.wc_model.specs.Language.Kinds.{BodyLine, AloneLine, PlainLine, NestedLine}
 use Rattle.wc_model.specs.Language.Names.{Name}
 use Rattle.wc_model.specs.Language.Tree.{Word, Term, Assignment, Step, Load, Store, Apply, Negate, Jump, Call, Return, Lines, End, Alone, Plain, Nested}
 use Rattle.wc_model.specs.declared.operator.Condition.{Condition}
-use Rattle.wc_model.specs.declared.operator.Direction.{Direction}
 use Rattle.wc_model.specs.declared.operator.Direction.TheVariants.{Into, OutOf}
 use Rattle.wc_model.specs.declared.operator.Storing.{Storing}
 use Rattle.wc_model.specs.declared.operator.Storing.TheVariants.{Result, Negation, Set, Reset}
@@ -32,8 +32,7 @@ abbrev pub at : ℕ → Doing → Happening
 at line doing = record { line = line; doing = doing }
 
 abbrev pub label_events : Option Word → List Happening
-label_events None = []
-label_events (Some word) = at word.line (Labels word.name) ∷ []
+label_events label = option_map_or (λ word. at word.line (Labels word.name) ∷ []) label []
 
 abbrev pub storing_event : Storing → Term → Doing
 storing_event Result target = Stores target
@@ -42,12 +41,9 @@ storing_event Set target = Sets target
 storing_event Reset target = Sets target
 
 -- an item of a call's list: the value is read and given to the input, or the output is stored
-abbrev pub passing_events : Direction → ℕ → Name → Name → Term → List Happening
-passing_events Into line instance formal actual = at line (Reads actual) ∷ at line (Gives instance formal) ∷ []
-passing_events OutOf line instance formal actual = at line (Stores actual) ∷ []
-
 abbrev pub argument_events : ℕ → Name → Assignment → List Happening
-argument_events line instance a = passing_events a.direction line instance a.formal a.actual
+argument_events line instance a =
+    elim a.direction [ Into ↦ at line (Reads a.actual) ∷ at line (Gives instance a.formal) ∷ [] | OutOf ↦ at line (Stores a.actual) ∷ [] ]
 
 abbrev pub call_events : ℕ → Name → List Assignment → List Happening
 call_events line instance arguments = at line (Calls instance) ∷ flat_map (argument_events line instance) arguments
@@ -63,8 +59,7 @@ step_events line (Return condition) = at line (Returns condition) ∷ []
 
 -- the operand of an opening line
 abbrev pub opening_events : ℕ → Option Term → List Happening
-opening_events line None = []
-opening_events line (Some operand) = at line (Reads operand) ∷ []
+opening_events line operand = option_map_or (λ term. at line (Reads term) ∷ []) operand []
 
 -- what lines do: each its label, and then its instruction with the lines in its parenthesis
 abbrev pub events_of : Lines → List Happening

@@ -1,5 +1,6 @@
 -- Ways of a whole body, looked up by the places of its events. (No rule of the language.)
-use Rattle.std.specs.Prelude.{◌≡◌, ℕ, zero, suc, ◌+◌, Bool, true, false, ◌&&◌, List, [], ◌∷◌, map, reverse, Option, Some, None, slice_get}
+use Rattle.std.specs.Prelude.{◌≡◌, ℕ, Bool, true, false, ◌&&◌, List, map, reverse, slice_get}
+use Rattle.std.specs.Option.{option_map_or}
 use Rattle.wc_model.specs.Language.DeclarationRules.{is_among}
 use Rattle.wc_model.specs.Language.Names.{Name}
 use Rattle.wc_diag_warnings.specs.Addresses.{stores}
@@ -25,25 +26,12 @@ abbrev pub AreEdges : List Happening → List Passed → Type 0
 AreEdges events known = reverse known ≡ passed true (λ any. false) (reverse events)
 
 -- whether there is a path to the event at a place
-abbrev pub is_passed : Option Passed → Bool
-is_passed None = false
-is_passed (Some p) = p.on
-
 abbrev pub on_at : List Passed → ℕ → Bool
-on_at events place = is_passed (slice_get events place)
+on_at events place = option_map_or (λ p. p.on) (slice_get events place) false
 
 -- whether the event there stores the output, and there is a path to it
-abbrev pub is_again : ℕ → Option Passed → Bool
-is_again output None = false
-is_again output (Some p) = p.on && stores output p.event
-
 abbrev pub again_at : ℕ → Tracked → Bool
-again_at place row = is_again row.output (slice_get row.events place)
-
--- numbers from one on, by their count
-abbrev pub numbers_from : ℕ → ℕ → List ℕ
-numbers_from first zero = []
-numbers_from first (suc count) = first ∷ numbers_from (first + 1) count
+again_at place row = option_map_or (λ p. p.on && stores row.output p.event) (slice_get row.events place) false
 
 -- the names are the labels to which a path goes on by a jump
 abbrev pub AreLed : List Passed → List Name → Type 0

@@ -1,6 +1,6 @@
 -- What the code's values represent. (No rule of the language.)
-use Rattle.std.specs.Prelude.{◌≡◌, ℕ, Bool, true, false, List, [], ◌∷◌, ◌++◌, map, Option, Some, None, codes}
-use Rattle.std.specs.Option.{option_map}
+use Rattle.std.specs.Prelude.{◌≡◌, ℕ, Bool, true, false, List, [], ◌∷◌, ◌++◌, map, Option, None, codes}
+use Rattle.std.specs.Option.{option_map, option_map_or}
 use Rattle.wc_model.specs.Language.Declarations.{Variable}
 use Rattle.wc_model.specs.declared.operand.Word.{Word as Spelled}
 use Rattle.wc_model.specs.declared.source.Decl.{Decl}
@@ -41,8 +41,7 @@ deed_view (deeds.Return condition) = Returns condition
 
 -- the event of a deed, if there is one
 abbrev pub deed_events : ℕ → Option Deed → List Happening
-deed_events line None = []
-deed_events line (Some deed) = at line (deed_view deed) ∷ []
+deed_events line deed = option_map_or (λ one. at line (deed_view one) ∷ []) deed []
 
 abbrev pub event_view : Event → Happening
 event_view event = record { line = event.line; doing = deed_view event.deed }

@@ -1,19 +1,16 @@
 -- Which events use a name. (No rule of the language.)
-use Rattle.std.specs.Prelude.{Bool, false, ◌&&◌, List, Option, Some, None, codes}
+use Rattle.std.specs.Prelude.{Bool, false, ◌&&◌, List, Option, codes}
 use Rattle.std.specs.List.{list_any}
+use Rattle.std.specs.Option.{option_map_or}
 use Rattle.wc_model.specs.Language.Declarations.{same_name}
 use Rattle.wc_model.specs.Language.Names.{Name}
 use Rattle.wc_model.specs.Language.Tree.{Term, Variable, Field}
 use Rattle.wc_diag_warnings.specs.Events.{Doing, Reads, Stores, Sets, Calls, Gives, Happening}
 
--- a term is the variable of that name, or that field of an instance
+-- a term is the variable of that name
 abbrev pub is_variable : Term → Name → Bool
 is_variable (Variable name) other = same_name name other
 is_variable term other = false
-
-abbrev pub is_field : Term → Name → Name → Bool
-is_field (Field instance field) name input = same_name instance name && same_name field input
-is_field term name input = false
 
 abbrev pub doing_reads : Doing → Name → Bool
 doing_reads (Reads term) name = is_variable term name
@@ -31,7 +28,7 @@ doing_calls doing name = false
 -- an input is given by a call's list, or stored as a field
 abbrev pub doing_gives : Doing → Name → Name → Bool
 doing_gives (Gives instance given) name input = same_name instance name && same_name given input
-doing_gives (Stores term) name input = is_field term name input
+doing_gives (Stores (Field instance field)) name input = same_name instance name && same_name field input
 doing_gives doing name input = false
 
 -- some event reads or writes the variable, calls the instance, gives it that input
@@ -49,8 +46,7 @@ is_given events name input = list_any (λ e. doing_gives e.doing name input) eve
 
 -- it is that name, if there is one
 abbrev pub is_this : Option Name → Name → Bool
-is_this None name = false
-is_this (Some this) name = same_name this name
+is_this word name = option_map_or (λ this. same_name this name) word false
 
 -- what is done with a name
 pub record Used : Type 0 where

@@ -8,10 +8,9 @@ use Rattle.std.specs.List.{flat_map, list_any}
 use Rattle.wc_model.specs.Language.Checks.{Position, positions_of}
 use Rattle.wc_model.specs.Language.Declarations.{Variable, elementary_types, named_in, standard_blocks, variables_of}
 use Rattle.wc_model.specs.Language.Names.{Name}
-use Rattle.wc_model.specs.Language.Tree.{Term, Address, ProgramUnit, Text}
+use Rattle.wc_model.specs.Language.Tree.{Address, ProgramUnit, Text}
 use Rattle.wc_model.specs.declared.block.StandardBlock.{StandardBlock}
 use Rattle.wc_model.specs.declared.block.StandardBlock.TheVariants.{Ton, Tof, Tp}
-use Rattle.wc_model.specs.declared.kind.Kind.{Kind}
 use Rattle.wc_model.specs.declared.source.Section.{Section}
 use Rattle.wc_model.specs.declared.source.Section.TheVariants.{Input, Output, Own}
 use Rattle.wc_model.specs.declared.source.UnitKind.{UnitKind}
@@ -19,7 +18,7 @@ use Rattle.wc_model.specs.declared.source.UnitKind.TheVariants.{FunctionBlock, P
 use Rattle.wc_diag_warnings.specs.Addresses.{outputs, reads_valid, reads_weight, stores}
 use Rattle.wc_diag_warnings.specs.Events.{Doing, Begins, Reads, Stores, Happening, events_of}
 use Rattle.wc_diag_warnings.specs.Uses.{Used, used_in}
-use Rattle.wc_diag_warnings.specs.Edges.{is_reached, is_stored_before}
+use Rattle.wc_diag_warnings.specs.Edges.{is_on, is_reached}
 
 -- a warning: its number, its line, and the name of which it is; no name for lines that no run reaches
 pub record Caution : Type 0 where
@@ -34,11 +33,8 @@ caution (Some number) line name = record { number = number; line = line; name = 
 
 -- a variable of a body that is used by it alone: whether it is read, and written, and has a first value
 abbrev pub use_number : Bool → Bool → Bool → Option ℕ
-use_number false false first = Some 1
-use_number false true first = Some 2
-use_number true false false = Some 3
-use_number true false true = None
-use_number true true first = None
+use_number false written first = Some (if written then 2 else 1)
+use_number true written first = if written || first then None else Some 3
 
 -- a block's inputs are written by its callers, and its outputs read by them
 abbrev pub variable_number : UnitKind → Section → Bool → Bool → Bool → Option ℕ
@@ -58,14 +54,12 @@ is_timer (Some Tof) = true
 is_timer (Some Tp) = true
 is_timer block = false
 
--- of a variable, or of an instance
-abbrev pub typed_number : Option Kind → UnitKind → Used → Variable → Option ℕ
-typed_number (Some type) kind used v = variable_number kind v.section (is_some v.initial) used.read used.written
-typed_number None kind used v = instance_number (is_timer (named_in standard_blocks v.type_name)) used.called used.given
-
--- the number of a declared name's warning, in a unit of that kind, by what is done with each name there
+-- the number of a declared name's warning, in a unit of that kind, by what is done with each name there: of a variable, or of an instance
 abbrev pub number_by : UnitKind → (Name → Used) → Variable → Option ℕ
-number_by kind uses v = typed_number (named_in elementary_types v.type_name) kind (uses v.name) v
+number_by kind uses v = elim (named_in elementary_types v.type_name) [
+  | Some type ↦ variable_number kind v.section (is_some v.initial) (uses v.name).read (uses v.name).written
+  | None ↦ instance_number (is_timer (named_in standard_blocks v.type_name)) (uses v.name).called (uses v.name).given
+]
 
 -- in a unit of that kind with these events
 abbrev pub declared_number : UnitKind → List Happening → Variable → Option ℕ
@@ -89,7 +83,7 @@ begins_stretch before e = doing_begins e.doing && is_above_reached before && not
 
 -- it stores an output that is stored on a path to it
 abbrev pub is_stored_again : List ℕ → List Happening → Happening → Bool
-is_stored_again numbers before e = list_any (λ output. is_stored_before output before e && stores output e) numbers
+is_stored_again numbers before e = list_any (λ output. is_on false (stores output) before e && stores output e) numbers
 
 -- it reads a weight, none is read before, and the validity nowhere
 abbrev pub is_unasked : List Happening → List Happening → Happening → Bool
@@ -102,13 +96,9 @@ event_number false false true = Some 9
 event_number false false false = None
 
 -- the address that an event reads or stores
-abbrev pub term_address : Term → Name
-term_address (Address word) = word.name
-term_address term = []
-
 abbrev pub address_of : Doing → Name
-address_of (Reads term) = term_address term
-address_of (Stores term) = term_address term
+address_of (Reads (Address word)) = word.name
+address_of (Stores (Address word)) = word.name
 address_of doing = []
 
 -- the number of an event's warning, after those before it

@@ -1,4 +1,4 @@
-use Rattle.std.proofs.Common.{◌≡◌, ◌≤◌, [], ◌++◌, length, map, drop, sym, ap, ◌∙◌, subst}
+use Rattle.std.proofs.Common.{◌≤◌, ◌++◌, length, map, sym, ap, ◌∙◌, subst}
 use Rattle.std.proofs.lemmas.List.{append-nil, drop_all}
 use Rattle.wc_diag_warnings.proofs.DeclaredViews.{declared_views}
 use Rattle.wc_diag_warnings.specs.Seen.{uses_view, variable_view, warnings_view}
@@ -9,11 +9,11 @@ pub returns-clause-added : goal.returns-clause-added
 returns-clause-added c =
     let uses = uses_view c.args.uses.now in
     let declaration = c.args.declaration.now in
-    let words = declaration.names.items in
     let found = warnings_view c.loop-word.warnings.items in
-    let past : length words ≤ c.loop-word.word-index = subst (λ xs. length xs ≤ c.loop-word.word-index) c.deref-word-items.ensures.value c.loop-word-test.false in
-    let end : drop c.loop-word.word-index words ≡ [] = drop_all c.loop-word.word-index words past in
+    let past : length declaration.names.items ≤ c.loop-word.word-index =
+    subst (λ xs. length xs ≤ c.loop-word.word-index) c.deref-word-items.ensures.value c.loop-word-test.false in
     sym (append-nil found)
-    ∙ sym (ap (λ ws. found ++ declared_cautions c.args.kind uses (map (variable_view declaration) ws)) end)
+    ∙ sym (ap (λ ws. found ++ declared_cautions c.args.kind uses (map (variable_view declaration) ws))
+    (drop_all c.loop-word.word-index declaration.names.items past))
     ∙ c.loop-word.invariant
     ∙ sym (ap (λ vs. warnings_view c.args.warnings.now.items ++ declared_cautions c.args.kind uses vs) (declared_views declaration))

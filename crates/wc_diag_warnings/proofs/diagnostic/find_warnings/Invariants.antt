@@ -8,4 +8,5 @@ use Rattle.wc_diag_warnings.proofs.diagnostic.find_warnings.Given as goal
 -- with the units that are left these are all
 abbrev pub invariant-loop-unit : goal.invariant-loop-unit
 invariant-loop-unit l =
-    warnings_view l.warnings.items ++ flat_map unit_cautions (map unit_view (drop l.unit-index l.source.units.items)) ≡ flat_map unit_cautions (map unit_view l.source.units.items)
+    warnings_view l.warnings.items ++ flat_map unit_cautions (map unit_view (drop l.unit-index l.unit-items))
+    ≡ flat_map unit_cautions (map unit_view l.unit-items)

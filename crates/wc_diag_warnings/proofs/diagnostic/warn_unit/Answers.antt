@@ -14,10 +14,7 @@ both : (kind : UnitKind) (variables : List Variable) (all first then : List Happ
     between ≡ old ++ declared_cautions kind (used_in first) variables → new ≡ between ++ body_cautions kind then →
     new ≡ old ++ (declared_cautions kind (used_in all) variables ++ body_cautions kind all)
 both kind variables all first then old between new f t b n =
-    n ∙ ap (λ cs. cs ++ body_cautions kind then) b
-    ∙ append_assoc old (declared_cautions kind (used_in first) variables) (body_cautions kind then)
-    ∙ ap (λ es. old ++ (declared_cautions kind (used_in es) variables ++ body_cautions kind then)) f
-    ∙ ap (λ es. old ++ (declared_cautions kind (used_in all) variables ++ body_cautions kind es)) t
+    cc (append_assoc old (declared_cautions kind (used_in all) variables) (body_cautions kind all))
 
 pub returns-clause-added : goal.returns-clause-added
 returns-clause-added c =
