@@ -54,6 +54,8 @@ pub(crate) fn may_follow(
     match number {
         201 => broken.any(line, line, Mark::Aside) || goes_on(tokens, broken, line),
         206 => broken.any(0, u32::MAX, Mark::Aside),
+        // a block whose name is not sure
+        302 => changed.any(|it| it.region == Region::Head),
         204 | 205 | 207 => changed.any(|it| it.first <= line && line <= it.last),
         401 => is_unnamed,
         402 | 403 => {
