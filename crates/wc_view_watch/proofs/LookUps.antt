@@ -1,35 +1,32 @@
 -- The names of a list by their numbers, and where each is.
-use Rattle.std.proofs.Common.{◌≡◌, ℕ, suc, ◌+◌, ◌≤◌, List, [], ◌∷◌, ◌++◌, Bool, Bor, true, false, cond, length, map, take, drop, Option, Some, None, refl, sym, ap, ◌∙◌, arith, append-nil, length-append, Vec, Global}
+use Rattle.std.proofs.Common.{◌≡◌, ℕ, suc, ◌+◌, ◌<◌, ◌≤◌, List, [], ◌∷◌, ◌++◌, Bool, true, false, cond, length, map, take, drop, Option, Some, None, refl, sym, ap, ◌∙◌, arith, length-append, Vec, Global}
 use Rattle.std.proofs.lemmas.Grind.{flat_map-append}
-use Rattle.std.proofs.lemmas.List.{append_assoc, take-append-drop, take_all, take_more}
+use Rattle.std.proofs.lemmas.List.{append_assoc, flat_map_more, take-append-drop, take_all, take_more}
 use Rattle.std.proofs.lemmas.Option.{get_or_from_slice_get, slice_get-map, slice_get_within}
 use Rattle.std.specs.List.{flat_map, onto_first, position_from}
 use Rattle.std.specs.Prelude.{◌==◌, ◌||◌, ℤ, get_or, is_some, not, option_and_then, option_map, slice_get}
 use Rattle.wc_model.specs.Language.Tree.{Text}
-use Rattle.wc_names.proofs.Lists.{from_index}
+use Rattle.wc_names.proofs.Lists.{from_index, got_some}
 use Rattle.wc_text_variables.proofs.Readings.{known}
 use Rattle.wc_text_variables.specs.Numbered.{variable_named}
 use Rattle.wc_text_variables.specs.Names.{named_location}
-use Rattle.wc_view_watch.specs.Names.{names_in}
-use Rattle.wc_view_watch.specs.Unknown.{has_meaning, is_unknown, with_commas}
+use Rattle.wc_view_watch.specs.Unknown.{is_unknown, with_commas}
+use Rattle.wc_view_watch.specs.Values.{names_in}
 use Rattle.wc_view_watch.specs.Watching.{AreLookedUp}
 use Rattle.wc_text_variables.specs.declared.variables.NamedVariable.{NamedVariable}
 use Rattle.wc_view_watch.specs.declared.watched_names.WatchedNames.{WatchedNames}
 
--- a name of the list
-pub name_at : (names : List (Bor (List ℕ))) (list : List ℕ) (index : ℕ) (name : Bor (List ℕ)) → map (λ one. one.now) names ≡ names_in list → slice_get names index ≡ Some name
-    → slice_get (names_in list) index ≡ Some name.now
-name_at names list index name are there =
-    ap (λ all. slice_get all index) (sym are) ∙ slice_get-map (λ (one : Bor (List ℕ)). one.now) names index ∙ ap (option_map (λ (one : Bor (List ℕ)). one.now)) there
+-- what `get` answers, as a look-up in the same list
+pub got_there : {X : Type 0} {xs ys : List X} (index : ℕ) (x : X) → xs ≡ ys → index < length xs → x ≡ get_or xs index x → slice_get ys index ≡ Some x
+got_there {X} {xs} index x same below is = ap (λ zs. slice_get zs index) (sym same) ∙ got_some xs index x below is
 
--- and what it means
-pub meaning_at : (f : List ℕ → Option NamedVariable) (all : List (Option NamedVariable)) (names : List (List ℕ)) (index : ℕ) (name : List ℕ) → all ≡ map f names
-    → slice_get names index ≡ Some name → slice_get all index ≡ Some (f name)
-meaning_at f all names index name are there = ap (λ xs. slice_get xs index) are ∙ slice_get-map f names index ∙ ap (option_map f) there
+-- what a list has of each item of another one, by its number
+pub at_index : {X Y : Type 0} (f : X → Y) {all : List Y} (items : List X) (index : ℕ) (x : X) → all ≡ map f items → slice_get items index ≡ Some x → slice_get all index ≡ Some (f x)
+at_index f items index x are there = ap (λ xs. slice_get xs index) are ∙ slice_get-map f items index ∙ ap (option_map f) there
 
 pub same_meaning : (f : List ℕ → Option NamedVariable) (all : List (Option NamedVariable)) (names : List (List ℕ)) (index : ℕ) (name : List ℕ) (w : Option NamedVariable) → all ≡ map f names
     → slice_get names index ≡ Some name → slice_get all index ≡ Some w → f name ≡ w
-same_meaning f all names index name w are there found = let e : Some (f name) ≡ Some w = sym (meaning_at f all names index name are there) ∙ found in cc (e)
+same_meaning f all names index name w are there found = let e : Some (f name) ≡ Some w = sym (at_index f names index name are there) ∙ found in cc (e)
 
 -- so of what is looked up by the number of a name
 pub named_at : (f : List ℕ → Option NamedVariable) (g : List ℕ → Option ℤ) (all : List (Option NamedVariable)) (names : List (List ℕ)) (index : ℕ) (w : Option NamedVariable) → all ≡ map f names
@@ -40,16 +37,7 @@ named_at f g all names index w are found = by (slice_get names index) refl
     by None there =
         let none : Some w ≡ None = sym found ∙ ap (λ xs. slice_get xs index) are ∙ slice_get-map f names index ∙ ap (option_map f) there in
         absurd (cc (none))
-    by (Some name) there = (
-      name,
-      same_meaning f all names index name w are there found,
-      get_or_from_slice_get (map g names) index (g name) None (slice_get-map g names index ∙ ap (option_map g) there),
-    )
-
--- the names from one on are it, and those after it
-rest_at : (names : List (List ℕ)) (index : ℕ) (name : List ℕ) → slice_get names index ≡ Some name → drop index names ≡ name ∷ drop (index + 1) names
-rest_at names index name there =
-    from_index names index name (slice_get_within names index name there) (sym (get_or_from_slice_get names index name name there))
+    by (Some name) there = (name, same_meaning f all names index name w are there found, get_or_from_slice_get (map g names) index (g name) None (at_index g names index name refl there))
 
 -- the names up to one are those before it, and it
 next_name : (names : List (List ℕ)) (index : ℕ) (name : List ℕ) → slice_get names index ≡ Some name → take (index + 1) names ≡ take index names ++ name ∷ []
@@ -60,8 +48,7 @@ next_name names index name there =
 pub one_name_more : (g : List ℕ → List ℕ) (names : List (List ℕ)) (index : ℕ) (name old line new : List ℕ) → slice_get names index ≡ Some name
     → line ≡ old ++ flat_map g (take index names) → new ≡ line ++ g name → new ≡ old ++ flat_map g (take (index + 1) names)
 one_name_more g names index name old line new there so_far put =
-    put ∙ ap (λ l. l ++ g name) so_far ∙ append_assoc old (flat_map g (take index names)) (g name)
-    ∙ ap (λ t. old ++ t) (ap (λ t. flat_map g (take index names) ++ t) (sym (append-nil (g name))) ∙ sym (flat_map-append g (take index names) (name ∷ [])) ∙ ap (flat_map g) (sym (next_name names index name there)))
+    put ∙ ap (λ l. l ++ g name) so_far ∙ flat_map_more g old (take index names) name ∙ ap (λ ns. old ++ flat_map g ns) (sym (next_name names index name there))
 
 -- and of all names
 pub all_names : (g : List ℕ → List ℕ) (names : List (List ℕ)) (index : ℕ) (old line : List ℕ) → length names ≤ index → line ≡ old ++ flat_map g (take index names) → line ≡ old ++ flat_map g names
@@ -89,11 +76,13 @@ whole_length (x ∷ list) = by (x == 44) (whole_length list)
 pub start_within : (list : List ℕ) (index : ℕ) → length (with_commas (take index (names_in list))) ≤ suc (length list)
 start_within list index =
     let names : List (List ℕ) = names_in list in
-    let cut : length (with_commas (take index names)) + length (with_commas (drop index names)) ≡ length (with_commas names) =
-    sym (length-append (with_commas (take index names)) (with_commas (drop index names)))
-    ∙ ap length (sym (flat_map-append (λ (name : List ℕ). name ++ 44 ∷ []) (take index names) (drop index names)))
-    ∙ ap (λ all. length (with_commas all)) (take-append-drop index names) in
-    omega (arith, cut, whole_length list)
+    omega (
+      arith,
+      length-append (with_commas (take index names)) (with_commas (drop index names)),
+      ap length (flat_map-append (λ (name : List ℕ). name ++ 44 ∷ []) (take index names) (drop index names)),
+      ap (λ all. length (with_commas all)) (take-append-drop index names),
+      whole_length list,
+    )
 
 -- a name more, with its comma
 pub start_more : (list : List ℕ) (index : ℕ) (name : List ℕ) → slice_get (names_in list) index ≡ Some name
@@ -102,9 +91,7 @@ start_more list index name there =
     let names : List (List ℕ) = names_in list in
     let whole : with_commas (take (index + 1) names) ≡ with_commas (take index names) ++ ((name ++ 44 ∷ []) ++ []) =
     ap with_commas (next_name names index name there) ∙ flat_map-append (λ (one : List ℕ). one ++ 44 ∷ []) (take index names) (name ∷ []) in
-    let one : length (with_commas (take (index + 1) names)) ≡ length (with_commas (take index names)) + length ((name ++ 44 ∷ []) ++ []) = ap length whole ∙ length-append (with_commas (take index names)) ((name ++ 44 ∷ []) ++ []) in
-    let two : length ((name ++ 44 ∷ []) ++ []) ≡ length name + 1 = ap length (append-nil (name ++ 44 ∷ [])) ∙ length-append name (44 ∷ []) in
-    omega (arith, one, two)
+    omega (arith, ap length whole, length-append (with_commas (take index names)) ((name ++ 44 ∷ []) ++ []), length-append (name ++ 44 ∷ []) [], length-append name (44 ∷ []))
 
 -- whether a name is known, by what was looked up
 pub is_known_at : (names : WatchedNames) (list : List ℕ) (text : Text) (next : Option Text) (index : ℕ) (name : List ℕ) → AreLookedUp names list text next
@@ -112,27 +99,23 @@ pub is_known_at : (names : WatchedNames) (list : List ℕ) (text : Text) (next :
     → not (is_some (option_and_then (λ found. found) (slice_get names.watched.items index))
     || is_some (option_and_then (λ all. option_and_then (λ found. found) (slice_get all.items index)) names.next)) ≡ is_unknown text next name
 is_known_at names list text next index name looked there =
-    (λ i. not (here i || ahead names.next next looked.ahead i))
+    (λ i. not (here text names.watched.items looked.here i || ahead names.next next looked.ahead i))
   where
-    here : is_some (option_and_then (λ (found : Option NamedVariable). found) (slice_get names.watched.items index)) ≡ is_some (named_location text name)
-    here = ap (λ (o : Option (Option NamedVariable)). is_some (option_and_then (λ found. found) o)) (meaning_at (variable_named text) names.watched.items (names_in list) index name looked.here there) ∙ known text name
+    here : (text : Text) (all : List (Option NamedVariable)) → all ≡ map (variable_named text) (names_in list)
+        → is_some (option_and_then (λ (found : Option NamedVariable). found) (slice_get all index)) ≡ is_some (named_location text name)
+    here text all are =
+        ap (λ (o : Option (Option NamedVariable)). is_some (option_and_then (λ found. found) o)) (at_index (variable_named text) (names_in list) index name are there) ∙ known text name
 
     ahead : (all : Option (Vec (Option NamedVariable) Global)) (other : Option Text) → option_map (λ found. found.items) all ≡ option_map (λ one. map (variable_named one) (names_in list)) other
-        → is_some (option_and_then (λ found. option_and_then (λ one. one) (slice_get found.items index)) all) ≡ has_meaning other name
+        → is_some (option_and_then (λ found. option_and_then (λ one. one) (slice_get found.items index)) all) ≡ is_some (option_and_then (λ text. named_location text name) other)
     ahead None None e = refl
     ahead None (Some other) e = absurd (cc (e))
     ahead (Some all) None e = absurd (cc (e))
-    ahead (Some all) (Some other) e =
-        let are : all.items ≡ map (variable_named other) (names_in list) = cc (e) in
-        ap (λ (o : Option (Option NamedVariable)). is_some (option_and_then (λ found. found) o)) (meaning_at (variable_named other) all.items (names_in list) index name are there) ∙ known other name
+    ahead (Some all) (Some other) e = let are : all.items ≡ map (variable_named other) (names_in list) = cc (e) in here other all.items are
 
--- the first unknown name among those from this one on
-pub found_here : (p : List ℕ → Bool) (names : List (List ℕ)) (index : ℕ) (name : List ℕ) → slice_get names index ≡ Some name → p name ≡ true
-    → position_from p index (drop index names) ≡ Some index
-found_here p names index name there is =
-    ap (position_from p index) (rest_at names index name there) ∙ ap (λ b. cond b (Some index) (position_from p (index + 1) (drop (index + 1) names))) is
-
-pub found_later : (p : List ℕ → Bool) (names : List (List ℕ)) (index : ℕ) (name : List ℕ) → slice_get names index ≡ Some name → p name ≡ false
-    → position_from p index (drop index names) ≡ position_from p (index + 1) (drop (index + 1) names)
-found_later p names index name there is =
-    ap (position_from p index) (rest_at names index name there) ∙ ap (λ b. cond b (Some index) (position_from p (index + 1) (drop (index + 1) names))) is
+-- the first unknown name among those from this one on: it, or one of those after it
+pub found_from : (p : List ℕ → Bool) (names : List (List ℕ)) (index : ℕ) (name : List ℕ) (here : Bool) → slice_get names index ≡ Some name → p name ≡ here
+    → position_from p index (drop index names) ≡ cond here (Some index) (position_from p (index + 1) (drop (index + 1) names))
+found_from p names index name here there is =
+    ap (position_from p index) (from_index names index name (slice_get_within names index name there) (sym (get_or_from_slice_get names index name name there)))
+    ∙ ap (λ b. cond b (Some index) (position_from p (index + 1) (drop (index + 1) names))) is

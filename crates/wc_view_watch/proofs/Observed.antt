@@ -1,5 +1,5 @@
 -- What an observer that watches variables has seen, step by step.
-use Rattle.std.proofs.Common.{◌≡◌, ◌≤◌, ◌+◌, ℕ, Bool, Bor, List, [], length, Option, Some, None, refl, sym, ap, subst, ◌∙◌, arith}
+use Rattle.std.proofs.Common.{◌≡◌, ◌≤◌, ◌+◌, ℕ, Bool, List, [], length, Option, Some, None, refl, sym, ap, subst, ◌∙◌, arith}
 use Rattle.std.specs.Prelude.{IfSome, option_map, reverse, slice_get}
 use Rattle.wc_controller.proofs.Allowing.{known_more, on_known}
 use Rattle.wc_controller.specs.InputStates.{Reader, observed_by}
@@ -12,9 +12,8 @@ use Rattle.wc_run.specs.Logics.{logic_after}
 use Rattle.wc_run.specs.Observing.{onto, text_in_all}
 use Rattle.wc_view_watch.proofs.LookUps.{start_more, start_within}
 use Rattle.wc_view_watch.proofs.Rows.{past_again}
-use Rattle.wc_view_watch.specs.Names.{names_in}
-use Rattle.wc_view_watch.specs.Plans.{end_text, last_values, scans_so_far, watch_plan}
-use Rattle.wc_view_watch.specs.Runs.{watch_observed}
+use Rattle.wc_view_watch.specs.Values.{names_in}
+use Rattle.wc_view_watch.specs.Plans.{end_text, last_values, scans_so_far, watch_observed, watch_plan}
 use Rattle.wc_view_watch.specs.Unknown.{IsFirstUnknown, begins_with}
 use Rattle.wc_view_watch.specs.Watching.{FitLogic, HasSeen, KeepsLast, KeepsValues}
 use Rattle.wc_view_watch.specs.declared.watched_names.WatchedNames.{WatchedNames}
@@ -30,23 +29,18 @@ end_is watcher plate logic past text is = is ∙ ap (λ rows. end_text watcher.n
 pub seen_after : (old new : Watcher) (names : WatchedNames) (plate : PlateData) (logic : Option Logic) (past : Past) → new.list ≡ old.list → new.number ≡ old.number → new.changes ≡ old.changes
     → new.names ≡ names → FitLogic names old.list.now (logic_after plate logic past) → KeepsLast new.last old.number (scans_so_far old.list.now old.changes plate logic past)
     → KeepsValues new.changes new.values (last_values old.list.now plate logic past) → HasSeen new plate logic past
-seen_after old new names plate logic past list number changes same fit scans values = record {
-  names = subst (λ (l : Bor (List ℕ)). FitLogic new.names l.now (logic_after plate logic past)) (sym list) (subst (λ n. FitLogic n old.list.now (logic_after plate logic past)) (sym same) fit);
-  scans = subst (λ (l : Bor (List ℕ)). KeepsLast new.last new.number (scans_so_far l.now new.changes plate logic past)) (sym list)
-      (subst (λ c. KeepsLast new.last new.number (scans_so_far old.list.now c plate logic past)) (sym changes)
-      (subst (λ n. KeepsLast new.last n (scans_so_far old.list.now old.changes plate logic past)) (sym number) scans));
-  values = subst (λ (l : Bor (List ℕ)). KeepsValues new.changes new.values (last_values l.now plate logic past)) (sym list) values;
-}
+seen_after old new names plate logic past list number changes same fit scans values =
+    record { names = rw (list, same) fit; scans = rw (list, number, changes) scans; values = rw list values }
 
 -- an unknown name is inside its list
 name_inside : (list : List ℕ) (logic : Option Logic) (name : UnknownName) → IsFirstUnknown list logic name → name.start + name.length ≤ length list
-name_inside list logic name (index, first, at) = by (slice_get (names_in list) index) refl at.count
+name_inside list logic name at = by (slice_get (names_in list) at.index) refl at.count
   where
-    by : (found : Option (List ℕ)) → slice_get (names_in list) index ≡ found → option_map length found ≡ Some name.length → name.start + name.length ≤ length list
+    by : (found : Option (List ℕ)) → slice_get (names_in list) at.index ≡ found → option_map length found ≡ Some name.length → name.start + name.length ≤ length list
     by None there e = absurd (cc (e))
     by (Some one) there e =
         let same : length one ≡ name.length = cc (e) in
-        omega (arith, same, at.start, start_more list index one there, start_within list (index + 1))
+        omega (arith, same, at.start, start_more list at.index one there, start_within list (at.index + 1))
 
 pub found_name : (list names : List ℕ) (logic : Option Logic) (unknown : Option UnknownName) (held shown : UnknownName) → list ≡ names → IfSome unknown (λ name. held ≡ name)
     → (held.start + held.length ≤ length names → shown ≡ held) → (name : UnknownName) × (unknown ≡ Some name) × IsFirstUnknown list logic name → IsFirstUnknown names logic shown

@@ -9,7 +9,7 @@ use Rattle.wc_model.specs.Say.Job.{AnswersProgram, JobAnswer}
 use Rattle.wc_model.specs.Say.UnitReport.{IsUnitReport}
 use Rattle.wc_model.specs.declared.source.Source.{Source}
 use Rattle.wc_run.specs.declared.fault.RunFault.{RunFault}
-use Rattle.wc_run.specs.declared.fault.RunFault.TheVariants.{Refused, Read, Write, Memory}
+use Rattle.wc_run.specs.declared.fault.RunFault.TheVariants.{Write, Memory}
 
 -- the lines of the new program's units, and what a change from the old one keeps and loses
 pub record IsPreview (paths : Bool) (old new : Source) (answer : JobAnswer) : Type 0 where
@@ -19,10 +19,8 @@ pub record IsPreview (paths : Bool) (old new : Source) (answer : JobAnswer) : Ty
 
 -- A text that is loaded has a tree that keeps the spelling of its names, of which the rest says what is answered.
 -- (The profile's own.)
-pub record AnswersTree (rest : Source → JobAnswer → Type 0) (text : Text) (answer : JobAnswer) : Type 0 where
-  pub source : Source
-  pub is : text_view source ≡ text
-  pub says : rest source answer
+abbrev pub AnswersTree : (Source → JobAnswer → Type 0) → Text → JobAnswer → Type 0
+AnswersTree rest text answer = (source : Source) × (text_view source ≡ text) × rest source answer
 
 -- the new program is refused, or loaded after an old one
 abbrev pub AnswersNew : Bool → Source → List ℕ → JobAnswer → Type 0
@@ -34,7 +32,6 @@ AnswersPreview paths old new answer = AnswersFile old (AnswersProgram old (Answe
 
 -- a fault of writing: nothing is refused, and nothing is read
 abbrev pub IsOfWriting : RunFault → Type 0
-IsOfWriting (Refused number place) = ⊥
-IsOfWriting Read = ⊥
 IsOfWriting Write = ⊤
 IsOfWriting Memory = ⊤
+IsOfWriting fault = ⊥

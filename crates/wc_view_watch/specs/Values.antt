@@ -1,12 +1,15 @@
--- The line with the values that are watched. (The profile's own.)
-use Rattle.std.specs.Prelude.{ℕ, ℤ, List, [], ◌∷◌, ◌++◌, Option, Some, None, codes, decimal, map, option_and_then}
-use Rattle.std.specs.List.{flat_map}
+-- The names of variables that are watched, and the line with their values. (The profile's own.)
+use Rattle.std.specs.Prelude.{ℕ, ℤ, ◌==◌, List, [], ◌∷◌, ◌++◌, Option, Some, None, codes, decimal, map, option_and_then}
+use Rattle.std.specs.List.{flat_map, slice_split}
 use Rattle.wc_view_changes.specs.ChangeReport.{content_text}
 use Rattle.wc_model.specs.Language.Store.{Location, Store}
 use Rattle.wc_model.specs.Language.Tree.{Text}
 use Rattle.wc_text_flat.specs.Contents.{number_in}
 use Rattle.wc_text_variables.specs.Names.{named_location}
-use Rattle.wc_view_watch.specs.Names.{names_in}
+
+-- the names of a list are between its commas
+abbrev pub names_in : List ℕ → List (List ℕ)
+names_in list = slice_split (λ byte. byte == 44) list
 
 -- what the store holds at a place, as a literal of the language
 abbrev pub text_at : Store → Location → List ℕ

@@ -1,20 +1,22 @@
 -- What an observer that watches variables has looked up, and what it has kept. (No rule of the language.)
-use Rattle.std.specs.Prelude.{◌≡◌, ⊤, ℕ, Bool, true, List, [], ◌∷◌, map, Option, Some, None, option_map, if◌then◌else◌}
-use Rattle.wc_machine.specs.Machines.{MachineState, RepresentsText}
+use Rattle.std.specs.Prelude.{◌≡◌, ℕ, Bool, true, List, [], ◌∷◌, map, Option, Some, None, IfSome, MatchOption, option_map, if◌then◌else◌}
+use Rattle.std.specs.Option.{IsNone, IsSomeAnd}
+use Rattle.wc_machine.specs.Machines.{MachineState}
 use Rattle.wc_model.specs.Instrument.Plates.{PlateData}
 use Rattle.wc_model.specs.Language.Tree.{Text}
 use Rattle.wc_model.specs.Run.Rows.{Past}
 use Rattle.wc_model.specs.Say.ProgramReport.{Logic}
 use Rattle.wc_run.specs.Logics.{logic_after}
 use Rattle.wc_run.specs.Observing.{IsShown, row_of}
-use Rattle.wc_run.specs.Representation.{Represents}
+use Rattle.wc_open_scale.specs.Representation.{IsRunning}
+use Rattle.wc_run.specs.Representation.{Represents, program_of}
 use Rattle.wc_run.specs.declared.row_seen.RowSeen.{RowSeen}
 use Rattle.wc_run.specs.declared.scale.Scale.{Scale}
 use Rattle.wc_text_variables.specs.Numbered.{variable_named}
-use Rattle.wc_view_watch.specs.Names.{names_in}
 use Rattle.wc_view_watch.specs.Plans.{last_values, scans_so_far}
 use Rattle.wc_view_watch.specs.Ring.{RingState, HoldsLast}
 use Rattle.wc_view_watch.specs.Unknown.{IsFirstUnknown}
+use Rattle.wc_view_watch.specs.Values.{names_in}
 use Rattle.wc_view_watch.specs.declared.last_values.LastValues.{LastValues}
 use Rattle.wc_view_watch.specs.declared.names.UnknownName.{UnknownName}
 use Rattle.wc_view_watch.specs.declared.watched_names.WatchedNames.{WatchedNames}
@@ -26,34 +28,17 @@ pub record AreLookedUp (names : WatchedNames) (list : List ℕ) (text : Text) (n
   pub here : names.watched.items ≡ map (variable_named text) (names_in list)
   pub ahead : option_map (λ all. all.items) names.next ≡ option_map (λ other. map (variable_named other) (names_in list)) next
 
--- the text that runs after a change: the next one, if there is one
-abbrev pub text_after : Text → Option Text → Text
-text_after text None = text
-text_after text (Some other) = other
-
 -- so of a logic; with none nothing is looked up
 abbrev pub FitLogic : WatchedNames → List ℕ → Option Logic → Type 0
-FitLogic names list None = ⊤
-FitLogic names list (Some logic) = AreLookedUp names list logic.text logic.next
+FitLogic names list logic = IfSome logic (λ running. AreLookedUp names list running.text running.next)
 
 -- the machine runs the logic, and with none there is no machine
 abbrev pub RunsLogic : Option MachineState → Option Logic → Type 0
-RunsLogic None None = ⊤
-RunsLogic None (Some logic) = ⊥
-RunsLogic (Some machine) None = ⊥
-RunsLogic (Some machine) (Some logic) = RepresentsText machine logic.text logic.store
+RunsLogic machine logic = IsRunning machine (program_of logic)
 
 -- the last n texts are kept, if these are asked for
 abbrev pub KeepsLast : Option RingState → Option ℕ → List (List ℕ) → Type 0
-KeepsLast None None texts = ⊤
-KeepsLast None (Some number) texts = ⊥
-KeepsLast (Some ring) None texts = ⊥
-KeepsLast (Some ring) (Some number) texts = HoldsLast ring number texts
-
--- what is written at once of a scan: all of it, or nothing, if the last n are kept
-abbrev pub written_now : Option ℕ → List ℕ → List ℕ
-written_now None text = text
-written_now (Some number) text = []
+KeepsLast ring last texts = MatchOption last (IsNone ring) (λ number. IsSomeAnd ring (λ kept. HoldsLast kept number texts))
 
 -- the values that are kept, if there are any
 abbrev pub kept_values : LastValues → Option (List ℕ)

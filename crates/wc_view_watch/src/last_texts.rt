@@ -1,6 +1,6 @@
-ghost use Rattle.std.specs.Prelude.{◌≡◌, ◌≤◌, ◌<◌, ◌++◌, ◌∷◌, [], ℕ, List, IfOk, IsOkUnless, OnOk, map};
+ghost use Rattle.std.specs.Prelude.{◌≡◌, ◌≤◌, ◌<◌, ◌++◌, ◌∷◌, [], ℕ, List, IfOk, IsOkUnless, OnOk, flat_map, map, replicate};
 ghost use Rattle.wc_model.specs.Instrument.WeighingHistories.{last_items};
-ghost use Rattle.wc_view_watch.specs.Ring.{HoldsLast, blank, joined};
+ghost use Rattle.wc_view_watch.specs.Ring.{HoldsLast};
 
 use std::alloc::Global;
 use std::marker::Model;
@@ -15,16 +15,16 @@ pub(crate) struct LastTexts {
 
 impl Model for LastTexts {
     ghost use Rattle.std.specs.Prelude.{map};
-    ghost use Rattle.wc_view_watch.specs.Ring.{RingState, ring_of};
+    ghost use Rattle.wc_view_watch.specs.Ring.{RingState};
 
     ghost Value = { RingState };
 
-    ghost view = { λ ring. ring_of (map (λ text. text.items) ring.texts.items) ring.first };
+    ghost view = { λ ring. record { texts = map (λ text. text.items) ring.texts.items; first = ring.first } };
 }
 
 /// N empty texts, each with a buffer of that many bytes. `Memory` is the only fault.
 fn empty_texts(alloc: Global, number: u16, length: usize) -> Result<Vec<Vec<u8>>, Fault>
-    ensures empty { IfOk result (λ texts. map (λ text. text.items) texts.items ≡ blank number) }
+    ensures empty { IfOk result (λ all. map (λ text. text.items) all.items ≡ replicate number []) }
     ensures memory { IsOkUnless result Fault.Memory }
 {
     let mut texts = Vec::new(alloc);
@@ -43,7 +43,7 @@ fn empty_texts(alloc: Global, number: u16, length: usize) -> Result<Vec<Vec<u8>>
 /// Appends texts to another one. `Memory` is the only fault.
 fn put_texts(out: &mut Vec<u8>, texts: &[Vec<u8>]) -> Result<(), Fault>
     ensures texts { OnOk result (out.new.items
-        ≡ out.old.items ++ joined (map (λ text. text.items) texts.now)) }
+        ≡ out.old.items ++ flat_map (λ text. text) (map (λ text. text.items) texts.now)) }
     ensures memory { IsOkUnless result Fault.Memory }
 {
     for text in texts {
@@ -87,7 +87,7 @@ impl LastTexts {
     pub(crate) fn put_all(&self, out: &mut Vec<u8>) -> Result<(), Fault>
         ensures puts { OnOk result ((number : ℕ) (all : List (List ℕ))
             → HoldsLast self.now number all
-            → out.new.items ≡ out.old.items ++ joined (last_items number all)) }
+            → out.new.items ≡ out.old.items ++ flat_map (λ text. text) (last_items number all)) }
         ensures memory { IsOkUnless result Fault.Memory }
     {
         let first = self.first.min(self.texts.len());

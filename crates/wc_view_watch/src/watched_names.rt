@@ -1,4 +1,4 @@
-ghost use Rattle.std.specs.Prelude.{◌≡◌, ◌<◌, ◌^◌, ◌++◌, ◌∷◌, ◌||◌, List, ℕ, IfErr, IfOk, IfSome, IsOkUnless, None, OnOk, Option, Some, get_or, is_some, length, map, option_and_then, option_copied, option_map, slice_get, true};
+ghost use Rattle.std.specs.Prelude.{◌≡◌, ◌<◌, ◌^◌, ◌++◌, ◌∷◌, ◌||◌, List, ℕ, IfErr, IfOk, IfSome, IsOkUnless, None, OnOk, Option, Some, get_or, is_some, length, map, option_and_then, option_copied, option_map, slice_get, true, unwrap_or};
 ghost use Rattle.wc_machine.specs.Machines.{RepresentsText};
 ghost use Rattle.wc_model.specs.Language.Store.{Store as Contents};
 ghost use Rattle.wc_model.specs.Language.Tree.{Text};
@@ -12,7 +12,7 @@ ghost use Rattle.wc_text_variables.specs.Numbered.{variable_named};
 ghost use Rattle.wc_view_watch.specs.Unknown.{IsUnknown, begins_with};
 ghost use Rattle.wc_view_watch.specs.Plans.{numbers_of};
 ghost use Rattle.wc_view_watch.specs.Values.{numbers_in, value_text, values_in, values_line};
-ghost use Rattle.wc_view_watch.specs.Watching.{AreLookedUp, FitLogic, HasRefused, RunsLogic, text_after};
+ghost use Rattle.wc_view_watch.specs.Watching.{AreLookedUp, FitLogic, HasRefused, RunsLogic};
 
 use crate::names::{UnknownName, all_watched, names_of};
 use std::alloc::Global;
@@ -245,7 +245,7 @@ impl<'n> WatchedNames<'n> {
     fn change(&mut self)
         ensures { (list : List ℕ) (text : Text) (next : Option Text)
             → AreLookedUp self.old list text next
-            → AreLookedUp self.new list (text_after text next) None }
+            → AreLookedUp self.new list (unwrap_or next text) None }
     {
         if let Some(next) = self.next.take() {
             self.watched = next;

@@ -2,8 +2,8 @@ ghost use Rattle.std.specs.Prelude.{◌≡◌, ◌≤◌, ◌++◌, ◌∷◌, L
 ghost use Rattle.wc_model.specs.Say.ProgramReport.{Logic};
 ghost use Rattle.wc_run.specs.Observing.{row_of};
 ghost use Rattle.wc_run.specs.Outputs.{line_of_record};
-ghost use Rattle.wc_view_watch.specs.Plans.{end_text, is_written, last_values, line_with_values, row_text, scans_so_far, values_of};
-ghost use Rattle.wc_view_watch.specs.Watching.{FitLogic, IsNew, KeepsLast, KeepsValues, OfRow, RunsLogic, WatchesAs, written_now};
+ghost use Rattle.wc_view_watch.specs.Plans.{end_text, is_written, last_values, line_with_values, row_text, scans_so_far, values_of, written_now};
+ghost use Rattle.wc_view_watch.specs.Watching.{FitLogic, IsNew, KeepsLast, KeepsValues, OfRow, RunsLogic, WatchesAs};
 
 use crate::last_texts::LastTexts;
 use crate::last_values::LastValues;

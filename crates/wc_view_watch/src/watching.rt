@@ -4,7 +4,7 @@ ghost use Rattle.wc_controller.specs.InputRuns.{RunsAs, TakesInputs};
 ghost use Rattle.wc_controller.specs.InputStates.{writer_of};
 ghost use Rattle.wc_controller.specs.TakenLogs.{OfPrograms};
 ghost use Rattle.wc_record.specs.Reported.{fields_reported};
-ghost use Rattle.wc_view_watch.specs.Runs.{watch_observed};
+ghost use Rattle.wc_view_watch.specs.Plans.{watch_observed};
 ghost use Rattle.wc_view_watch.specs.Unknown.{IsFirstUnknown};
 
 use crate::names::{UnknownName, within};

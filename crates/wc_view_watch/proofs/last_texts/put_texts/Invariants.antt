@@ -1,7 +1,7 @@
 use Rattle.std.proofs.Common.{◌≡◌, ◌++◌, map, take}
-use Rattle.wc_view_watch.specs.Ring.{joined}
+use Rattle.std.specs.List.{flat_map}
 use Rattle.wc_view_watch.proofs.last_texts.put_texts.Given as goal
 
 -- the texts so far are put
 abbrev pub invariant-loop-text : goal.invariant-loop-text
-invariant-loop-text l = l.out.items ≡ l.initial.out.items ++ joined (map (λ text. text.items) (take l.text-index l.fn.texts))
+invariant-loop-text l = l.out.items ≡ l.initial.out.items ++ flat_map (λ text. text) (map (λ text. text.items) (take l.text-index l.fn.texts))

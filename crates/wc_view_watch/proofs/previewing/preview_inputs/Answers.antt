@@ -76,7 +76,7 @@ returns-clause-writes g c =
     (of_known following others (λ other. WritesUpTo (AnswersPreview c.args.paths items other) answer old new) c.in_ok-other.ensures.whole.1
     (file_read items (AnswersProgram items rest) answer old new c.in_ok-text.ensures.whole.0
     (upto_more (AnswersFile others (AnswersNew c.args.paths first others)) (AnswersProgram items rest) answer old new
-    (λ one e. loads_program (text_view first) (subst (λ text. IsLoaded text (text_view first)) c.deref.ensures.value c.in-Ok.ensures.loaded) (record { source = first; is = refl; says = e }))
+    (λ one e. loads_program (text_view first) (subst (λ text. IsLoaded text (text_view first)) c.deref.ensures.value c.in-Ok.ensures.loaded) (first, refl, e))
     (file_read others (AnswersNew c.args.paths first others) answer old new c.in_ok-other.ensures.whole.0
     (subst (λ text. WritesUpTo (AnswersNew c.args.paths first text) answer old new) c.deref-2.ensures.value c.preview_next.ensures.writes)))))
 
@@ -103,6 +103,6 @@ returns-in_err-other-clause-writes g c =
     let rest : Text → JobAnswer → Type 0 = AnswersTree (λ source. AnswersFile other (AnswersNew c.args.paths source other)) in
     file_read items (AnswersProgram items rest) (Some why) old old c.in_ok-text.ensures.whole.0
     (upto_more (AnswersFile other (AnswersNew c.args.paths first other)) (AnswersProgram items rest) (Some why) old old
-    (λ one e. loads_program (text_view first) (subst (λ text. IsLoaded text (text_view first)) c.deref.ensures.value c.in-Ok.ensures.loaded) (record { source = first; is = refl; says = e }))
+    (λ one e. loads_program (text_view first) (subst (λ text. IsLoaded text (text_view first)) c.deref.ensures.value c.in-Ok.ensures.loaded) (first, refl, e))
     (too_long_file other (AnswersNew c.args.paths first other) why old longer)))
     c.in_err-other.ensures.too_long))

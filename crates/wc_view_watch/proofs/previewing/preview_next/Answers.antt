@@ -12,7 +12,7 @@ returns-in-Ok-clause-writes g c =
     let taken = g.W.ByteOut.bytes_taken in
     let old = c.args.old.now.source in
     upto_more (IsPreview c.args.paths old c.in-Ok.new.source) (AnswersNew c.args.paths old c.args.text.now) (raised c.write_preview.result) (taken c.args.writer.now) (taken c.write_preview.new.writer)
-    (λ answer e. loads_program (text_view c.in-Ok.new.source) c.in-Ok.ensures.loaded (record { source = c.in-Ok.new.source; is = refl; says = e })) c.write_preview.ensures.writes
+    (λ answer e. loads_program (text_view c.in-Ok.new.source) c.in-Ok.ensures.loaded (c.in-Ok.new.source, refl, e)) c.write_preview.ensures.writes
 
 pub returns-in-Err-clause-writes : goal.returns-in-Err-clause-writes
 returns-in-Err-clause-writes g c =

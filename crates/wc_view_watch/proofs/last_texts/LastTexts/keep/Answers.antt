@@ -4,7 +4,7 @@ use Rattle.std.specs.Prelude.{ℕ}
 use Rattle.wc_view_watch.proofs.RingSteps.{one_kept}
 use Rattle.wc_view_watch.proofs.last_texts.LastTexts.keep.Goals as goal
 use Rattle.wc_view_watch.proofs.last_texts.LastTexts.keep.Goals.{then-self-len, else-self-len}
-use Rattle.wc_view_watch.specs.Ring.{HoldsLast, RingState, ring_of}
+use Rattle.wc_view_watch.specs.Ring.{HoldsLast, RingState}
 
 pub returns-clause-keeps : goal.returns-clause-keeps
 returns-clause-keeps c = λ number all holds.
@@ -20,5 +20,5 @@ returns-clause-keeps c = λ number all holds.
     ] in
     let same : map items (set c.self.inside.texts.items at c.put_bytes.new.text) ≡ set texts at c.args.text.now =
     map-set items c.self.inside.texts.items at c.put_bytes.new.text ∙ ap (set texts at) (c.in_ok-put_bytes.ensures.bytes ∙ ap (λ kept. kept ++ c.args.text.now) c.clear.ensures.items) in
-    subst (λ kept. HoldsLast (ring_of kept (at + 1)) number (all ++ c.args.text.now ∷ [])) (sym same)
+    subst (λ kept. HoldsLast (record { texts = kept; first = at + 1 }) number (all ++ c.args.text.now ∷ [])) (sym same)
     (one_kept texts c.self.inside.first at c.args.text.now number all where_at held)

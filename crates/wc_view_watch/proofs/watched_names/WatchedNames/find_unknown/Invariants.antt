@@ -1,7 +1,7 @@
 use Rattle.std.proofs.Common.{◌≡◌, Option, drop, length, map, take}
 use Rattle.std.specs.List.{position_from}
 use Rattle.wc_model.specs.Language.Tree.{Text}
-use Rattle.wc_view_watch.specs.Names.{names_in}
+use Rattle.wc_view_watch.specs.Values.{names_in}
 use Rattle.wc_view_watch.specs.Unknown.{is_unknown, with_commas}
 use Rattle.wc_view_watch.specs.Watching.{AreLookedUp}
 use Rattle.wc_view_watch.proofs.watched_names.WatchedNames.find_unknown.Given as goal

@@ -4,8 +4,7 @@ use Rattle.std.specs.List.{flat_map}
 use Rattle.wc_names.proofs.HandedOn.{on_ok}
 use Rattle.wc_view_watch.proofs.LookUps.{four_chunks}
 use Rattle.wc_view_watch.proofs.watched_names.WatchedNames.put_line.Goals as goal
-use Rattle.wc_view_watch.specs.Names.{names_in}
-use Rattle.wc_view_watch.specs.Values.{value_text}
+use Rattle.wc_view_watch.specs.Values.{names_in, value_text}
 
 pub returns-clause-puts : goal.returns-clause-puts
 returns-clause-puts c = λ list text next store looked represents.

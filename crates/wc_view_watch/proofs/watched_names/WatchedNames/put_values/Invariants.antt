@@ -3,8 +3,7 @@ use Rattle.std.specs.Prelude.{ℕ, flat_map}
 use Rattle.wc_machine.specs.Machines.{RepresentsText}
 use Rattle.wc_model.specs.Language.Store.{Store}
 use Rattle.wc_model.specs.Language.Tree.{Text}
-use Rattle.wc_view_watch.specs.Names.{names_in}
-use Rattle.wc_view_watch.specs.Values.{value_text}
+use Rattle.wc_view_watch.specs.Values.{names_in, value_text}
 use Rattle.wc_view_watch.specs.Watching.{AreLookedUp}
 use Rattle.wc_view_watch.proofs.watched_names.WatchedNames.put_values.Given as goal
 
