@@ -76,7 +76,8 @@ place_means text place hidden is =
 pub by_address : (text : Text) (name : List ℕ) → is_address name ≡ true → option_and_then (variable_at_location text) (option_map Direct (variable_at (name_of name))) ≡ variable_named text name
 by_address text name is = rw is (by (variable_at (name_of name)))
   where
-    by : (v : Option DirectVariable) → option_and_then (variable_at_location text) (option_map Direct v) ≡ option_and_then (variable_at_location text) (option_and_then (if_readable text) (option_map Direct v))
+    by : (v : Option DirectVariable) → option_and_then (variable_at_location text) (option_map Direct v)
+        ≡ option_and_then (variable_at_location text) (option_and_then (if_readable text) (option_map Direct v))
     by None = refl
     by (Some v) = place_means text (Direct v) false refl
 
@@ -84,8 +85,8 @@ by_address text name is = rw is (by (variable_at (name_of name)))
 abbrev pub path_of : List (Bor (List ℕ)) → Location
 path_of parts = Path (map (λ part. name_of part.now) parts)
 
-pub by_parts : (text : Text) (name : List ℕ) (parts : List (Bor (List ℕ))) (hidden : Bool) → is_address name ≡ false → map (λ part. part.now) parts ≡ parts_in name → is_hidden text (path_of parts) ≡ hidden
-    → (if hidden then None else variable_at_location text (path_of parts)) ≡ variable_named text name
+pub by_parts : (text : Text) (name : List ℕ) (parts : List (Bor (List ℕ))) (hidden : Bool) → is_address name ≡ false → map (λ part. part.now) parts ≡ parts_in name
+    → is_hidden text (path_of parts) ≡ hidden → (if hidden then None else variable_at_location text (path_of parts)) ≡ variable_named text name
 by_parts text name parts hidden other are is =
     rw other (place_means text (path_of parts) hidden is
     ∙ ap (λ names. option_and_then (variable_at_location text) (if_readable text (Path names))) (sym (map-map name_of (λ (part : Bor (List ℕ)). part.now) parts) ∙ ap (map name_of) are))

@@ -19,7 +19,8 @@ use Rattle.wc_text_variables.specs.declared.variables.NamedVariable.{NamedVariab
 
 -- a place with a value holds it
 holds : (content : Option Content) (value : Value)
-    → (elim content as (λ x. Result Value Reason) [ Some c ↦ elim c [ Plain v ↦ Ok v | Moment m ↦ Err NoSuchPlace | Phase p ↦ Err NoSuchPlace ] | None ↦ Err NoSuchPlace ]) ≡ Ok value → content ≡ Some (Plain value)
+    → (elim content as (λ x. Result Value Reason) [ Some c ↦ elim c [ Plain v ↦ Ok v | Moment m ↦ Err NoSuchPlace | Phase p ↦ Err NoSuchPlace ] | None ↦ Err NoSuchPlace ]) ≡ Ok value
+    → content ≡ Some (Plain value)
 holds (Some (Plain v)) value e = let same : v ≡ value = cc in ap (λ w. Some (Plain w)) same
 holds content value e = cc
 

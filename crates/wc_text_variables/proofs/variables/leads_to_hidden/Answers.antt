@@ -20,7 +20,8 @@ use Rattle.wc_text_variables.specs.Names.{is_hidden}
 
 -- what the name of that number leads to, whose variable has this type by the tables of the text
 led : {source read : Source} {tables given : Tables} (unit index : ℕ) (names : List (Bor Name)) (name : Bor Name) {whole : Bool} {found : Option DeclaredType} (declared : Option DeclaredType)
-    → read ≡ source → tables ≡ given → AreTables given (text_view read) → index < length names → name ≡ get_or names index name → Walks (text_view source) unit (map (λ name. name_of name.now) (drop index names)) whole
+    → read ≡ source → tables ≡ given → AreTables given (text_view read) → index < length names → name ≡ get_or names index name
+    → Walks (text_view source) unit (map (λ name. name_of name.now) (drop index names)) whole
     → ((text : Text) (scope : Scope) → AreTables tables text → IsUnit text unit scope → found ≡ option_and_then (numbered_type scope.before) (type_of scope (name_of name.now))) → found ≡ declared
     → WalksOn (text_view source) (map (λ name. name_of name.now) (drop (index + 1) names)) whole declared
 led {source} {read} {tables} {given} unit index names name {whole} {found} declared same kept occur below is walks says typed =
@@ -47,20 +48,24 @@ returns-in_default c =
 pub returns-in-Standard : goal.returns-in-Standard
 returns-in-Standard c =
     c.is_hidden_at.ensures
-    ∙ led c.loop-index.unit c.loop-index.index c.args.names.now c.in-Some.name.now (Some (numbered.Standard c.in-Standard.block)) c.checked.ensures c.tables-tables.ensures.tables c.tables-tables.ensures.occur
-    c.in-Some.ensures.lookup.3.0 c.in-Some.ensures.lookup.1 c.loop-index.invariant c.in-Some-declared_type.ensures (ap Some c.in-Standard.is)
+    ∙ led c.loop-index.unit c.loop-index.index c.args.names.now c.in-Some.name.now (Some (numbered.Standard c.in-Standard.block))
+    c.checked.ensures c.tables-tables.ensures.tables c.tables-tables.ensures.occur c.in-Some.ensures.lookup.3.0 c.in-Some.ensures.lookup.1
+    c.loop-index.invariant c.in-Some-declared_type.ensures (ap Some c.in-Standard.is)
 
 pub returns-in_default-declared_type : goal.returns-in_default-declared_type
 returns-in_default-declared_type c =
-    led c.loop-index.unit c.loop-index.index c.args.names.now c.in-Some.name.now None c.checked.ensures c.tables-tables.ensures.tables c.tables-tables.ensures.occur
-    c.in-Some.ensures.lookup.3.0 c.in-Some.ensures.lookup.1 c.loop-index.invariant c.declared_type.ensures c.in_default-declared_type.is
+    led c.loop-index.unit c.loop-index.index c.args.names.now c.in-Some.name.now None
+    c.checked.ensures c.tables-tables.ensures.tables c.tables-tables.ensures.occur c.in-Some.ensures.lookup.3.0 c.in-Some.ensures.lookup.1
+    c.loop-index.invariant c.declared_type.ensures c.in_default-declared_type.is
 
 pub returns-in-Elementary : goal.returns-in-Elementary
 returns-in-Elementary c =
-    led c.loop-index.unit c.loop-index.index c.args.names.now c.in-Some.name.now (Some (numbered.Elementary c.in-Elementary.field-0)) c.checked.ensures c.tables-tables.ensures.tables c.tables-tables.ensures.occur
-    c.in-Some.ensures.lookup.3.0 c.in-Some.ensures.lookup.1 c.loop-index.invariant c.in-Some-declared_type.ensures (ap Some c.in-Elementary.is)
+    led c.loop-index.unit c.loop-index.index c.args.names.now c.in-Some.name.now (Some (numbered.Elementary c.in-Elementary.field-0))
+    c.checked.ensures c.tables-tables.ensures.tables c.tables-tables.ensures.occur c.in-Some.ensures.lookup.3.0 c.in-Some.ensures.lookup.1
+    c.loop-index.invariant c.in-Some-declared_type.ensures (ap Some c.in-Elementary.is)
 
 pub loop-index-preserved : goal.loop-index-preserved
 loop-index-preserved c =
-    led c.loop-index.unit c.loop-index.index c.args.names.now c.in-Some.name.now (Some (numbered.Block c.in-Block.block)) c.checked.ensures c.tables-tables.ensures.tables c.tables-tables.ensures.occur
-    c.in-Some.ensures.lookup.3.0 c.in-Some.ensures.lookup.1 c.loop-index.invariant c.in-Some-declared_type.ensures (ap Some c.in-Block.is)
+    led c.loop-index.unit c.loop-index.index c.args.names.now c.in-Some.name.now (Some (numbered.Block c.in-Block.block))
+    c.checked.ensures c.tables-tables.ensures.tables c.tables-tables.ensures.occur c.in-Some.ensures.lookup.3.0 c.in-Some.ensures.lookup.1
+    c.loop-index.invariant c.in-Some-declared_type.ensures (ap Some c.in-Block.is)
