@@ -7,24 +7,6 @@ use Rattle.std.proofs.lemmas.Nat.{le-div, pow_pos, shr-shr}
 use Rattle.std.specs.Prelude.{◌==◌}
 use Rattle.wc_view_columns.specs.Rows.{AreFrom, Row, column_number, rows_before, rows_of}
 
--- once a row passes the one test, none passes the other
-abbrev Apart : (p q : Row → Bool) → List Row → Type 0
-Apart p q [] = Unit {0}
-Apart p q (row ∷ rows) = (q row ≡ true → (p row ≡ false) × (filter p rows ≡ [])) × Apart p q rows
-
-one_part : (x : Row) (all ps qs : List Row) (a b c : Bool) → c ≡ (a || b) → (b ≡ true → (a ≡ false) × (ps ≡ [])) → all ≡ ps ++ qs
-    → cond c (x ∷ all) all ≡ cond a (x ∷ ps) ps ++ cond b (x ∷ qs) qs
-one_part x all ps qs true true c e apart rest = absurd (true≢false (apart refl).0)
-one_part x all ps qs true false c e apart rest = ap (λ t. cond t (x ∷ all) all) e ∙ ap (λ r. x ∷ r) rest
-one_part x all ps qs false true c e apart rest =
-    ap (λ t. cond t (x ∷ all) all) e ∙ ap (λ r. x ∷ r) rest ∙ ap (λ r. x ∷ (r ++ qs)) (apart refl).1 ∙ ap (λ r. r ++ x ∷ qs) (sym (apart refl).1)
-one_part x all ps qs false false c e apart rest = ap (λ t. cond t (x ∷ all) all) e ∙ rest
-
-parts : (p q either : Row → Bool) (rows : List Row) → ((row : Row) → either row ≡ (p row || q row)) → Apart p q rows → filter either rows ≡ filter p rows ++ filter q rows
-parts p q either [] is apart = refl
-parts p q either (row ∷ rows) is apart =
-    one_part row (filter either rows) (filter p rows) (filter q rows) (p row) (q row) (either row) (is row) apart.0 (parts p q either rows is apart.1)
-
 -- numbers that do not fall, from a number on
 abbrev pub Rises : (Row → ℕ) → ℕ → List Row → Type 0
 Rises n least [] = Unit {0}
@@ -39,49 +21,38 @@ none_later n p least [] rises fails = refl
 none_later n p least (row ∷ rows) rises fails =
     ap (λ t. cond t (row ∷ filter p rows) (filter p rows)) (fails row rises.0) ∙ none_later n p least rows (rises_from n least (n row) rows rises.1 rises.0) fails
 
-apart_at : (n : Row → ℕ) (p q : Row → Bool) (border least : ℕ) (rows : List Row) → Rises n least rows → ((row : Row) → q row ≡ true → border ≤ n row)
-    → ((row : Row) → border ≤ n row → p row ≡ false) → Apart p q rows
-apart_at n p q border least [] rises late fails = tt
-apart_at n p q border least (row ∷ rows) rises late fails = (
-  λ e. (fails row (late row e), none_later n p border rows (rises_from n border (n row) rows rises.1 (late row e)) fails),
-  apart_at n p q border (n row) rows rises.1 late fails,
-)
+-- rows that pass one of two tests, if no row after one that passes the second passes the first
+one_part : (x : Row) (all ps qs : List Row) (a b c : Bool) → c ≡ (a || b) → (b ≡ true → (a ≡ false) × (ps ≡ [])) → all ≡ ps ++ qs
+    → cond c (x ∷ all) all ≡ cond a (x ∷ ps) ps ++ cond b (x ∷ qs) qs
+one_part x all ps qs true true c e apart rest = absurd (true≢false (apart refl).0)
+one_part x all ps qs true false c e apart rest = cc
+one_part x all ps qs false true c e apart rest = let none = (apart refl).1 in cc
+one_part x all ps qs false false c e apart rest = cc
 
--- tests of numbers
-halves : (m i : ℕ) → (m / 2 == i) ≡ ((m == 2 * i) || (m == 2 * i + 1))
-halves m i = grind (arith, nat_tests)
-
-from_second : (m i : ℕ) → (m == 2 * i + 1) ≡ true → 2 * i + 1 ≤ m
-from_second m i e = grind (arith, nat_tests)
-
-no_first : (m i : ℕ) → 2 * i + 1 ≤ m → (m == 2 * i) ≡ false
-no_first m i l = grind (arith, nat_tests)
-
-up_to : (m i : ℕ) → nat_lt m (i + 1) ≡ (nat_lt m i || (m == i))
-up_to m i = grind (arith, nat_tests)
-
-from_own : (m i : ℕ) → (m == i) ≡ true → i ≤ m
-from_own m i e = grind (arith, nat_tests)
-
-not_below : (m i : ℕ) → i ≤ m → nat_lt m i ≡ false
-not_below m i l = grind (arith, nat_tests)
-
-below_half : (m i : ℕ) → nat_lt (m / 2) i ≡ nat_lt m (2 * i)
-below_half m i = grind (arith, nat_tests)
+parts : (n : Row → ℕ) (p q either : Row → Bool) (border least : ℕ) (rows : List Row) → Rises n least rows → ((row : Row) → either row ≡ (p row || q row))
+    → ((row : Row) → q row ≡ true → border ≤ n row) → ((row : Row) → border ≤ n row → p row ≡ false) → filter either rows ≡ filter p rows ++ filter q rows
+parts n p q either border least [] rises is late fails = refl
+parts n p q either border least (row ∷ rows) rises is late fails =
+    one_part row (filter either rows) (filter p rows) (filter q rows) (p row) (q row) (either row) (is row)
+    (λ e. (fails row (late row e), none_later n p border rows (rises_from n border (n row) rows rises.1 (late row e)) fails))
+    (parts n p q either border (n row) rows rises.1 is late fails)
 
 -- of two numbers
 two_parts : (n : Row → ℕ) (i least : ℕ) (rows : List Row) → Rises n least rows
     → filter (λ row. n row / 2 == i) rows ≡ filter (λ row. n row == 2 * i) rows ++ filter (λ row. n row == 2 * i + 1) rows
 two_parts n i least rows rises =
-    parts (λ row. n row == 2 * i) (λ row. n row == 2 * i + 1) (λ row. n row / 2 == i) rows (λ row. halves (n row) i)
-    (apart_at n (λ row. n row == 2 * i) (λ row. n row == 2 * i + 1) (2 * i + 1) least rows rises (λ row e. from_second (n row) i e) (λ row l. no_first (n row) i l))
+    parts n (λ row. n row == 2 * i) (λ row. n row == 2 * i + 1) (λ row. n row / 2 == i) (2 * i + 1) least rows rises
+    (λ row. grind (arith, nat_tests)) (λ row e. grind (arith, nat_tests)) (λ row l. grind (arith, nat_tests))
 
 -- of the numbers up to one
 up_to_parts : (n : Row → ℕ) (i least : ℕ) (rows : List Row) → Rises n least rows
     → filter (λ row. nat_lt (n row) (i + 1)) rows ≡ filter (λ row. nat_lt (n row) i) rows ++ filter (λ row. n row == i) rows
 up_to_parts n i least rows rises =
-    parts (λ row. nat_lt (n row) i) (λ row. n row == i) (λ row. nat_lt (n row) (i + 1)) rows (λ row. up_to (n row) i)
-    (apart_at n (λ row. nat_lt (n row) i) (λ row. n row == i) i least rows rises (λ row e. from_own (n row) i e) (λ row l. not_below (n row) i l))
+    parts n (λ row. nat_lt (n row) i) (λ row. n row == i) (λ row. nat_lt (n row) (i + 1)) i least rows rises
+    (λ row. grind (arith, nat_tests)) (λ row e. grind (arith, nat_tests)) (λ row l. grind (arith, nat_tests))
+
+below_half : (m i : ℕ) → nat_lt (m / 2) i ≡ nat_lt m (2 * i)
+below_half m i = grind (arith, nat_tests)
 
 -- later times have no lesser numbers
 pub later : (start power a b : ℕ) → a ≤ b → column_number start power a ≤ column_number start power b

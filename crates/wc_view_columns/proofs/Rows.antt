@@ -1,9 +1,8 @@
 -- Columns of rows: as wide again, and with one row more.
 use Rattle.std.proofs.Common.{◌≡◌, ℕ, zero, suc, ◌+◌, ◌-◌, ◌*◌, ◌/◌, ◌^◌, ◌<◌, ◌≤◌, ◌⊎◌, inl, inr, Bool, true, false, cond, nat_lt, max, List, [], ◌∷◌, ◌++◌, Option, Some, None, filter, length, get_or, replicate, set, refl, sym, ap, ◌∙◌, subst, arith, append_assoc, append-nil, length-append, length-set, le_of_eq, le_trans}
 use Rattle.std.proofs.Math.Nat.{zero-div}
-use Rattle.std.proofs.lemmas.Bool.{cases_eq, cases_lt}
-use Rattle.std.proofs.lemmas.Bool.Decides.{nat_tests}
-use Rattle.std.proofs.lemmas.List.{get_or-set_other, get_or-set_same, length-replicate, map-append, replicate_more}
+use Rattle.std.proofs.lemmas.Bool.{cases_eq, cases_lt, eq-eqb, le-ltb, lt-ltb, ne_eqb}
+use Rattle.std.proofs.lemmas.List.{get_or-append_right, get_or-replicate, get_or-set_other, get_or-set_same, get_or_append_left, length-replicate, map-append, replicate_more}
 use Rattle.std.proofs.lemmas.List.Elements.{filter-append}
 use Rattle.std.specs.List.{last_or}
 use Rattle.std.specs.Option.{option_to_list}
@@ -21,30 +20,21 @@ use Rattle.wc_view_columns.specs.declared.state.State.{State}
 abbrev pub AreEach : (start power : ℕ) → List Row → List Column → Type 0
 AreEach start power rows columns = (i : ℕ) (other : Column) → i < length columns → IsColumnOf start power i rows (get_or columns i other)
 
--- no row is in a column after the last
-pub none_over : (start power i : ℕ) (rows : List Row) → column_count start power rows ≤ i → rows_of start power i rows ≡ []
+-- no row is in a column after the last, and all are before it
+over : (n m k : ℕ) → max (n + 1) m ≤ k → ((n == k) ≡ false) × (nat_lt n k ≡ true) × (m ≤ k)
+over n m k l = let below : n < k = omega (arith, l) in (ne_eqb n k (λ e. omega (arith, e, below)), lt-ltb n k below, omega (arith, l))
+
+none_over : (start power i : ℕ) (rows : List Row) → column_count start power rows ≤ i → rows_of start power i rows ≡ []
 none_over start power i [] within = refl
 none_over start power i (row ∷ rows) within =
-    ap (λ t. cond t (row ∷ rows_of start power i rows) (rows_of start power i rows)) (differs (column_number start power row.ms) (column_count start power rows) i within)
-    ∙ none_over start power i rows (rest (column_number start power row.ms) (column_count start power rows) i within)
-  where
-    differs : (n m k : ℕ) → max (n + 1) m ≤ k → (n == k) ≡ false
-    differs n m k l = let below : n < k = omega (arith, l) in grind (arith, nat_tests)
+    let after = over (column_number start power row.ms) (column_count start power rows) i within in
+    ap (λ t. cond t (row ∷ rows_of start power i rows) (rows_of start power i rows)) after.0 ∙ none_over start power i rows after.2
 
-    rest : (n m k : ℕ) → max (n + 1) m ≤ k → m ≤ k
-    rest n m k l = omega (arith, l)
-
-pub all_before : (start power i : ℕ) (rows : List Row) → column_count start power rows ≤ i → rows_before start power i rows ≡ rows
+all_before : (start power i : ℕ) (rows : List Row) → column_count start power rows ≤ i → rows_before start power i rows ≡ rows
 all_before start power i [] within = refl
 all_before start power i (row ∷ rows) within =
-    ap (λ t. cond t (row ∷ rows_before start power i rows) (rows_before start power i rows)) (less (column_number start power row.ms) (column_count start power rows) i within)
-    ∙ ap (λ r. row ∷ r) (all_before start power i rows (rest (column_number start power row.ms) (column_count start power rows) i within))
-  where
-    less : (n m k : ℕ) → max (n + 1) m ≤ k → nat_lt n k ≡ true
-    less n m k l = let below : n < k = omega (arith, l) in grind (arith, nat_tests)
-
-    rest : (n m k : ℕ) → max (n + 1) m ≤ k → m ≤ k
-    rest n m k l = omega (arith, l)
+    let after = over (column_number start power row.ms) (column_count start power rows) i within in
+    ap (λ t. cond t (row ∷ rows_before start power i rows) (rows_before start power i rows)) after.1 ∙ ap (λ r. row ∷ r) (all_before start power i rows after.2)
 
 -- what rows and later ones leave is what the first left, and then the later ones
 last_of_left : (o : Option Held) (held : List Held) → last_or None (option_to_list o ++ held) ≡ last_or o held
@@ -134,13 +124,6 @@ pair_same old now i c count rest pair = record {
   single = λ other l. pair.single other (omega (arith, l, count)) ∙ rest (2 * i) other (omega arith);
 }
 
-under : (n k : ℕ) → (k ≡ n → ⊥) → k < n + 1 → k < n
-under n k differs l = by (cases_lt k n)
-  where
-    by : ((k < n) ⊎ (n ≤ k)) → k < n
-    by (inl is) = is
-    by (inr not_below) = absurd (differs (omega (arith, l, not_below)))
-
 pub pairs_more : (old now : List Column) (k : ℕ) (c : Column) → length now ≡ length old → ((j : ℕ) (other : Column) → k ≤ j → get_or now j other ≡ get_or old j other)
     → k < length now → ((i : ℕ) (other : Column) → i < k → IsPairOf old (2 * i) (get_or now i other)) → IsPairOf now (2 * k) c
     → (i : ℕ) (other : Column) → i < k + 1 → IsPairOf old (2 * i) (get_or (set now k c) i other)
@@ -150,7 +133,7 @@ pairs_more old now k c count rest inside done pair i other l = by (cases_eq i k)
     by (inl here) =
         subst (λ j. IsPairOf old (2 * j) (get_or (set now k c) j other)) (sym here)
         (subst (λ d. IsPairOf old (2 * k) d) (sym (get_or-set_same now k c other inside)) (pair_same old now k c count rest pair))
-    by (inr differs) = subst (λ d. IsPairOf old (2 * i) d) (sym (get_or-set_other now k i c other differs)) (done i other (under k i differs l))
+    by (inr differs) = subst (λ d. IsPairOf old (2 * i) d) (sym (get_or-set_other now k i c other differs)) (done i other (omega (arith, differs, l)))
 
 -- more columns in which this holds
 pub filled_more : (old : List Column) (n : ℕ) (c : Column) → length old ≤ n → (old ++ replicate (n - length old) c) ++ c ∷ [] ≡ old ++ replicate (n + 1 - length old) c
@@ -159,23 +142,19 @@ filled_more old n c l =
     append_assoc old (replicate (n - length old) c) (c ∷ []) ∙ ap (λ cs. old ++ cs) (replicate_more (n - length old) c ∙ ap (λ k. replicate k c) one)
 
 -- a column more in which nothing happened
-each_more : (P : ℕ → Column → Type 0) (columns : List Column) (more : Column) → ((i : ℕ) (other : Column) → i < length columns → P i (get_or columns i other))
-    → P (length columns) more → (i : ℕ) (other : Column) → i < length (columns ++ more ∷ []) → P i (get_or (columns ++ more ∷ []) i other)
-each_more P [] more each here zero other within = here
-each_more P [] more each here (suc i) other within = absurd (omega (arith, within))
-each_more P (c ∷ columns) more each here zero other within = each 0 other (omega arith)
-each_more P (c ∷ columns) more each here (suc i) other within =
-    each_more (λ k. P (suc k)) columns more (λ k o l. each (suc k) o (omega (arith, l))) here i other (omega (arith, within))
-
 each_on : (P : ℕ → Column → Type 0) (columns : List Column) (n : ℕ) (more : Column) → ((i : ℕ) (other : Column) → i < length columns → P i (get_or columns i other))
     → ((i : ℕ) → length columns ≤ i → P i more)
     → (i : ℕ) (other : Column) → i < length (columns ++ replicate n more) → P i (get_or (columns ++ replicate n more) i other)
-each_on P columns zero more each here i other =
-    subst (λ (cs : List Column). i < length cs → P i (get_or cs i other)) (sym (append-nil columns)) (each i other)
-each_on P columns (suc n) more each here i other =
-    subst (λ (cs : List Column). i < length cs → P i (get_or cs i other)) (append_assoc columns (more ∷ []) (replicate n more))
-    (each_on P (columns ++ more ∷ []) n more (each_more P columns more each (here (length columns) (omega arith)))
-    (λ k l. here k (omega (arith, l, length-append columns (more ∷ [])))) i other)
+each_on P columns n more each here i other within = by (cases_lt i (length columns))
+  where
+    by : ((i < length columns) ⊎ (length columns ≤ i)) → P i (get_or (columns ++ replicate n more) i other)
+    by (inl l) = rw (get_or_append_left columns (replicate n more) other i l) (each i other l)
+    by (inr l) =
+        let inside : i - length columns < n = omega (arith, within, length-append columns (replicate n more), length-replicate n more, l) in
+        rw (
+          get_or-append_right columns (replicate n more) (length columns) i other refl l,
+          get_or-replicate n (i - length columns) more other inside,
+        ) (here i l)
 
 held_on : (start power i : ℕ) (rows : List Row) (state : State) → IsStateOf (left_by rows) state → column_count start power rows ≤ i
     → IsColumnOf start power i rows (holding state)
@@ -198,22 +177,13 @@ filter_one p rows row b e = filter-append p rows (row ∷ []) ∙ ap (λ t. filt
 filter_none : (p : Row → Bool) (rows : List Row) (row : Row) → p row ≡ false → filter p (rows ++ row ∷ []) ≡ filter p rows
 filter_none p rows row e = filter_one p rows row false e ∙ append-nil (filter p rows)
 
-unlike : (n i : ℕ) → i < n → (n == i) ≡ false
-unlike n i l = grind (arith, nat_tests)
-
-alike : (n : ℕ) → (n == n) ≡ true
-alike n = grind (arith, nat_tests)
-
-not_less : (n i : ℕ) → i ≤ n → nat_lt n i ≡ false
-not_less n i l = grind (arith, nat_tests)
-
 earlier_stays : (start power i : ℕ) (rows : List Row) (row : Row) (c : Column) → i < column_number start power row.ms → IsColumnOf start power i rows c
     → IsColumnOf start power i (rows ++ row ∷ []) c
 earlier_stays start power i rows row c l are =
     let before : rows_before start power i (rows ++ row ∷ []) ≡ rows_before start power i rows =
-    filter_none (λ r. nat_lt (column_number start power r.ms) i) rows row (not_less (column_number start power row.ms) i (omega (arith, l))) in
+    filter_none (λ r. nat_lt (column_number start power r.ms) i) rows row (le-ltb (column_number start power row.ms) i (omega (arith, l))) in
     let own : rows_of start power i (rows ++ row ∷ []) ≡ rows_of start power i rows =
-    filter_none (λ r. column_number start power r.ms == i) rows row (unlike (column_number start power row.ms) i l) in
+    filter_none (λ r. column_number start power r.ms == i) rows row (ne_eqb (column_number start power row.ms) i (λ e. omega (arith, e, l))) in
     record {
       state = column_state c.state before own are.state;
       events = subst (λ (y : List Row). AreTogether (events_of y) c.events) (sym own) are.events;
@@ -226,9 +196,9 @@ own_more start power rows row a one c are held happened joined =
     let old_before : List Row = rows_before start power n rows in
     let old_own : List Row = rows_of start power n rows in
     let before : rows_before start power n (rows ++ row ∷ []) ≡ old_before =
-    filter_none (λ r. nat_lt (column_number start power r.ms) n) rows row (not_less n n (omega arith)) in
+    filter_none (λ r. nat_lt (column_number start power r.ms) n) rows row (le-ltb n n (omega arith)) in
     let own : rows_of start power n (rows ++ row ∷ []) ≡ old_own ++ row ∷ [] =
-    filter_one (λ r. column_number start power r.ms == n) rows row true (alike n) in
+    filter_one (λ r. column_number start power r.ms == n) rows row true (eq-eqb n n refl) in
     record {
       state = column_state c.state before own
           (subst (λ hs. IsStateOf hs c.state)
@@ -259,7 +229,7 @@ each_added start power rows row columns one c d each count held happened joined 
         (each (column_number start power row.ms) d (omega (arith, count))) held happened joined))
     by (inr else_where) =
         subst (λ d. IsColumnOf start power i (rows ++ row ∷ []) d) (sym (get_or-set_other columns (column_number start power row.ms) i c other else_where))
-        (earlier_stays start power i rows row (get_or columns i other) (under (column_number start power row.ms) i else_where (omega (arith, count, inside))) (each i other inside))
+        (earlier_stays start power i rows row (get_or columns i other) (omega (arith, else_where, count, inside)) (each i other inside))
 
 pub count_added : (start power : ℕ) (rows : List Row) (row : Row) → column_count start power (rows ++ row ∷ []) ≡ max (column_count start power rows) (column_number start power row.ms + 1)
 count_added start power [] row = omega arith
@@ -340,13 +310,10 @@ followed start power first rows row columns filled state one c d index from coun
     )
 
 -- what holds after a last row
-last_one : {A : Type 0} (o : Option A) (xs : List A) (x : A) → last_or o (xs ++ x ∷ []) ≡ Some x
-last_one o [] x = refl
-last_one o (y ∷ xs) x = last_one (Some y) xs x
-
 pub left_last : (rows : List Row) (row : Row) → left_by (rows ++ row ∷ []) ≡ row.held ∷ []
 left_last rows row =
-    ap (λ hs. option_to_list (last_or None hs)) (map-append (λ (r : Row). r.held) rows (row ∷ [])) ∙ ap option_to_list (last_one None (held_of rows) row.held)
+    ap (λ hs. option_to_list (last_or None hs)) (map-append (λ (r : Row). r.held) rows (row ∷ []))
+    ∙ ap option_to_list (last_or-append None (held_of rows) (row.held ∷ []))
 
 -- more rows have no fewer columns
 pub still_narrow : (start power : ℕ) (rows : List Row) (row : Row) → ((720 < column_count start power rows) ⊎ (720 ≤ column_number start power row.ms))

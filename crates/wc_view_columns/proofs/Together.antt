@@ -1,5 +1,5 @@
 -- What held after some rows and after later ones.
-use Rattle.std.proofs.Common.{◌≡◌, ◌+◌, ◌-◌, ◌/◌, ◌%◌, ◌^◌, ◌<◌, ◌≤◌, ◌||◌, ℕ, Bool, true, false, ℤ, List, [], ◌∷◌, ◌++◌, Option, Some, None, map, refl, sym, ap, ◌∙◌, subst, arith, rules, pow_mono}
+use Rattle.std.proofs.Common.{◌≡◌, ◌+◌, ◌-◌, ◌/◌, ◌%◌, ◌^◌, ◌<◌, ◌≤◌, ◌||◌, ℕ, Bool, false, ℤ, List, [], ◌∷◌, ◌++◌, Option, Some, None, map, sym, ap, ◌∙◌, subst, arith, pow_mono}
 use Rattle.std.proofs.lemmas.List.{map-append}
 use Rattle.std.proofs.lemmas.List.Elements.{filter_map-append}
 use Rattle.std.proofs.lemmas.List.Folds.{list_any-append}
@@ -60,16 +60,11 @@ one_bits value c high low last = record {
 
 -- what a single row gives
 pub one_given : {X Y : Type 0} (f : X → Option Y) (x : X) → filter_map f (x ∷ []) ≡ option_to_list (f x)
-one_given f x = go (f x) refl
-  where
-    go : (o : Option _) → f x ≡ o → filter_map f (x ∷ []) ≡ option_to_list (f x)
-    go None e = search (rules, e)
-    go (Some y) e = search (rules, e)
+one_given f x = grind arith
 
 -- a single flag
 pub one_flag : (b : Bool) → (b || false) ≡ b
-one_flag true = refl
-one_flag false = refl
+one_flag b = grind arith
 
 -- the values of rows and of later ones
 pub bits_on : (f : Held → ℕ) (held others : List Held) (c : Bits) → AreBitsOf (map f held ++ map f others) c → AreBitsOf (map f (held ++ others)) c

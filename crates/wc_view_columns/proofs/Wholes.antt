@@ -1,28 +1,28 @@
 -- One column more of those that become one.
-use Rattle.std.proofs.Common.{◌≡◌, ℕ, zero, suc, ◌+◌, ◌<◌, List, [], ◌∷◌, ◌++◌, Option, Some, None, length, take, get_or, refl, sym, ap, ◌∙◌, subst, arith, append_assoc, append-nil}
-use Rattle.wc_view_columns.specs.Columns.{AreOf, IsOfAll, all_of}
+use Rattle.std.proofs.Common.{◌≡◌, ℕ, zero, suc, ◌+◌, ◌<◌, List, [], ◌∷◌, ◌++◌, Option, Some, None, length, take, get_or, refl, sym, ap, ◌∙◌, subst, arith, append-nil}
+use Rattle.std.proofs.lemmas.List.Concat.{flat_map-append}
+use Rattle.std.specs.List.{flat_map}
+use Rattle.wc_view_columns.specs.Columns.{AreOf, IsOfAll}
 use Rattle.wc_view_columns.specs.declared.columns.Column.{Column}
 
--- the rows of one time more
-rows_on : {X : Type 0} (times : List (List X)) (one : List X) → all_of (times ++ one ∷ []) ≡ all_of times ++ one
-rows_on [] one = append-nil one
-rows_on (first ∷ times) one = ap (λ rows. first ++ rows) (rows_on times one) ∙ sym (append_assoc first (all_of times) one)
-
--- the times up to a column, and the rows of that column
-record IsNextOf {X : Type 0} (R : List X → Column → Type 0) (times : List (List X)) (i : ℕ) (column : Column) : Type 0 where
-  rows : List X
-  own : R rows column
-  cut : take (suc i) times ≡ take i times ++ rows ∷ []
-
+-- the rows of the column at a place, and the times up to it
 next_of : {X : Type 0} (R : List X → Column → Type 0) (times : List (List X)) (columns : List Column) (i : ℕ) (other : Column) → AreOf R times columns → i < length columns
-    → IsNextOf R times i (get_or columns i other)
+    → (rows : List X) × R rows (get_or columns i other) × (take (suc i) times ≡ take i times ++ rows ∷ [])
 next_of R [] [] i other are within = absurd (omega (arith, within))
 next_of R [] (column ∷ columns) i other are within = absurd are
 next_of R (rows ∷ times) [] i other are within = absurd are
-next_of R (rows ∷ times) (column ∷ columns) zero other are within = record { rows = rows; own = are.0; cut = refl }
+next_of R (rows ∷ times) (column ∷ columns) zero other are within = (rows, are.0, refl)
 next_of R (rows ∷ times) (column ∷ columns) (suc i) other are within =
     let next = next_of R times columns i other are.1 (omega (arith, within)) in
-    record { rows = next.rows; own = next.own; cut = ap (λ more. rows ∷ more) next.cut }
+    (next.0, next.1, ap (λ more. rows ∷ more) next.2)
+
+-- so the rows of one time more are those of the column
+rows_on : {X : Type 0} (times : List (List X)) (i : ℕ) (rows : List X) → take (suc i) times ≡ take i times ++ rows ∷ []
+    → flat_map (λ own. own) (take (i + 1) times) ≡ flat_map (λ own. own) (take i times) ++ rows
+rows_on times i rows cut =
+    let step : i + 1 ≡ suc i = omega arith in
+    ap (λ n. flat_map (λ own. own) (take n times)) step ∙ ap (flat_map (λ own. own)) cut
+    ∙ flat_map-append (λ own. own) (take i times) (rows ∷ []) ∙ ap (λ last. flat_map (λ own. own) (take i times) ++ last) (append-nil rows)
 
 pub whole_on : {X : Type 0} (R : List X → Column → Type 0) (times : List (List X)) (columns : List Column) (i : ℕ) (other : Column) → AreOf R times columns → i < length columns
     → (all : Option Column) (both : Column) → IsOfAll R all (take i times) → (all ≡ None → both ≡ get_or columns i other)
@@ -30,16 +30,11 @@ pub whole_on : {X : Type 0} (R : List X → Column → Type 0) (times : List (Li
     → IsOfAll R (Some both) (take (i + 1) times)
 whole_on R times columns i other are within None both none first more =
     let next = next_of R times columns i other are within in
-    let step : i + 1 ≡ suc i = omega arith in
-    let rows : all_of (take (i + 1) times) ≡ next.rows =
-    ap (λ n. all_of (take n times)) step ∙ ap all_of (next.cut ∙ ap (λ before. before ++ next.rows ∷ []) none) ∙ append-nil next.rows in
-    subst (λ r. R r both) (sym rows) (subst (λ c. R next.rows c) (sym (first refl)) next.own)
+    let rows = rows_on times i next.0 next.2 ∙ ap (λ before. flat_map (λ own. own) before ++ next.0) none in
+    subst (λ r. R r both) (sym rows) (subst (λ c. R next.0 c) (sym (first refl)) next.1)
 whole_on R times columns i other are within (Some before) both so_far first more =
     let next = next_of R times columns i other are within in
-    let step : i + 1 ≡ suc i = omega arith in
-    let rows : all_of (take (i + 1) times) ≡ all_of (take i times) ++ next.rows =
-    ap (λ n. all_of (take n times)) step ∙ ap all_of next.cut ∙ rows_on (take i times) next.rows in
-    subst (λ r. R r both) (sym rows) (more before (all_of (take i times)) next.rows refl so_far next.own)
+    subst (λ r. R r both) (sym (rows_on times i next.0 next.2)) (more before (flat_map (λ own. own) (take i times)) next.0 refl so_far next.1)
 
 -- the times of no column more are all
 pub as_many : {X : Type 0} (R : List X → Column → Type 0) (times : List (List X)) (columns : List Column) → AreOf R times columns → length times ≡ length columns

@@ -1,6 +1,7 @@
 -- Columns, each of the rows of its time. (The profile's own.)
-use Rattle.std.specs.Prelude.{◌≡◌, ℕ, ◌==◌, Bool, true, false, not, List, [], ◌∷◌, ◌++◌, Option, Some, None}
+use Rattle.std.specs.Prelude.{◌≡◌, ℕ, ◌==◌, Bool, true, false, not, List, [], Option, Some, None}
 use Rattle.std.specs.Int.{bit_at}
+use Rattle.std.specs.List.{AllZip, flat_map}
 use Rattle.wc_view_columns.specs.declared.bits.Bits.{Bits}
 use Rattle.wc_view_columns.specs.declared.bits.Level.{Level}
 use Rattle.wc_view_columns.specs.declared.bits.Level.TheVariants.{Low, Both, High}
@@ -9,31 +10,20 @@ use Rattle.wc_view_columns.specs.Rows.{AreTogether}
 use Rattle.wc_view_columns.specs.declared.columns.Column.{Column}
 use Rattle.wc_view_columns.specs.declared.events.Events.{Events}
 use Rattle.wc_view_columns.specs.declared.lanes.Lane.{Lane}
-use Rattle.wc_view_columns.specs.declared.lanes.Lane.TheVariants.{Motion, Over, Under, Invalid, Requests, Input, Output, Word, Variable, Scans}
+use Rattle.wc_view_columns.specs.declared.lanes.Lane.TheVariants.{Motion, Over, Under, Invalid, Input, Output}
 
 -- each column is of its own rows, of which these are what held, or what happened
 abbrev pub AreOf : {X : Type 0} → (List X → Column → Type 0) → List (List X) → List Column → Type 0
-AreOf R [] [] = Unit {0}
-AreOf R [] (column ∷ columns) = ⊥
-AreOf R (own ∷ more) [] = ⊥
-AreOf R (own ∷ more) (column ∷ columns) = R own column × AreOf R more columns
+AreOf R own columns = AllZip R own columns
 
--- those of all times, one after the other
-abbrev pub all_of : {X : Type 0} → List (List X) → List X
-all_of [] = []
-all_of (own ∷ more) = own ++ all_of more
-
--- one column is of all these rows, and there is none if there is no time
+-- one column is of the rows of all times, one after the other, and there is none if there is no time
 abbrev pub IsOfAll : {X : Type 0} → (List X → Column → Type 0) → Option Column → List (List X) → Type 0
 IsOfAll R None own = own ≡ []
-IsOfAll R (Some column) own = R (all_of own) column
+IsOfAll R (Some column) own = R (flat_map (λ rows. rows) own) column
 
 -- so of what held
 abbrev pub HasHeld : List Held → Column → Type 0
 HasHeld held column = IsStateOf held column.state
-
-abbrev pub AreColumnsOf : List (List Held) → List Column → Type 0
-AreColumnsOf held columns = AreOf HasHeld held columns
 
 abbrev pub IsWholeOf : Option Column → List (List Held) → Type 0
 IsWholeOf column held = IsOfAll HasHeld column held
@@ -41,12 +31,6 @@ IsWholeOf column held = IsOfAll HasHeld column held
 -- and of what happened
 abbrev pub HasHappened : List Events → Column → Type 0
 HasHappened events column = AreTogether events column.events
-
-abbrev pub AreEventsOf : List (List Events) → List Column → Type 0
-AreEventsOf events columns = AreOf HasHappened events columns
-
-abbrev pub AreAllEvents : Option Column → List (List Events) → Type 0
-AreAllEvents column events = IsOfAll HasHappened column events
 
 -- how something stood that was so after one of the rows, or was not
 abbrev pub level_of : (was was_not : Bool) → Level
@@ -65,9 +49,6 @@ IsLevelOf Motion column level = level ≡ level_of column.state.motion (not colu
 IsLevelOf Over column level = level ≡ level_of column.state.over (not column.state.over)
 IsLevelOf Under column level = level ≡ level_of column.state.under (not column.state.under)
 IsLevelOf Invalid column level = level ≡ level_of column.state.invalid (not column.state.invalid)
-IsLevelOf Requests column level = level ≡ Low
 IsLevelOf (Input i) column level = level ≡ bit_level column.state.inputs i
 IsLevelOf (Output i) column level = level ≡ bit_level column.state.outputs i
-IsLevelOf (Word i) column level = level ≡ Low
-IsLevelOf (Variable i) column level = level ≡ Low
-IsLevelOf Scans column level = level ≡ Low
+IsLevelOf lane column level = level ≡ Low

@@ -1,7 +1,6 @@
 -- The requests of the line with their answers, and what they count. (The profile's own.)
-use Rattle.std.specs.Prelude.{◌≡◌, ℕ, zero, suc, ◌+◌, Bool, true, false, List, [], ◌∷◌, Option, Some, None, map, drop, length}
-use Rattle.std.specs.List.{filter_map, last_or, sum_by}
-use Rattle.std.specs.Option.{option_or}
+use Rattle.std.specs.Prelude.{◌≡◌, ℕ, ◌+◌, Bool, true, false, List, [], ◌∷◌, Option, Some, None, All, map, drop, length}
+use Rattle.std.specs.Option.{option_map_or}
 use Rattle.wc_model.specs.Instrument.Answers.{command_of}
 use Rattle.wc_sma.specs.Seen.{command_view}
 use Rattle.wc_sma.specs.declared.command.Command.{Command}
@@ -9,6 +8,7 @@ use Rattle.wc_sma.specs.declared.command.Command.TheVariants.{Zero, TakeTare, Cl
 use Rattle.wc_sma.specs.declared.letters.Status.{Status}
 use Rattle.wc_sma.specs.declared.letters.Status.TheVariants.{ZeroRefused, TareRefused}
 use Rattle.wc_view_columns.specs.Happened.{counted}
+use Rattle.wc_view_columns.specs.Rows.{AreTogether, nothing}
 use Rattle.wc_view_columns.specs.declared.events.Events.{Events}
 use Rattle.wc_view_columns.specs.declared.events.Request.{Request}
 use Rattle.wc_view_decode.specs.AnswerBytes.{answer_bytes}
@@ -28,75 +28,35 @@ is_refusal None = false
 is_refusal (Some NotUnderstood) = false
 is_refusal (Some (Weight reading)) = is_refused reading.status
 
--- what a command counts as, by whether its answer refuses it
-abbrev pub zeros_set : Command → Bool → ℕ
-zeros_set Zero false = 1
-zeros_set command refused = 0
-
-abbrev pub zeros_not_set : Command → Bool → ℕ
-zeros_not_set Zero true = 1
-zeros_not_set command refused = 0
-
-abbrev pub tares_set : Command → Bool → ℕ
-tares_set TakeTare false = 1
-tares_set command refused = 0
-
-abbrev pub tares_not_set : Command → Bool → ℕ
-tares_not_set TakeTare true = 1
-tares_not_set command refused = 0
-
-abbrev pub tares_cleared : Command → Bool → ℕ
-tares_cleared Clear refused = 1
-tares_cleared command refused = 0
-
--- when it was, if it counts as one of these
+-- when a command was, if it sets a zero or a tare, is refused that, or clears the tare
 abbrev pub mark_of : ℕ → Command → Option ℕ
 mark_of ms Zero = Some ms
 mark_of ms TakeTare = Some ms
 mark_of ms Clear = Some ms
 mark_of ms command = None
 
--- how many of some requests count so
-abbrev pub count_of : (Command → Bool → ℕ) → List Request → ℕ
-count_of f requests = sum_by (λ r. f r.command (is_refusal r.answer)) requests
+-- what happened and a request of a command, by whether its answer refuses it: it counts as it does, and nothing else changes
+abbrev pub marked_by : ℕ → Command → Bool → Events → Events
+marked_by ms Zero false old = record old { zeros = counted (old.zeros + 1); marked = Some ms }
+marked_by ms Zero true old = record old { zeros_refused = counted (old.zeros_refused + 1); marked = Some ms }
+marked_by ms TakeTare false old = record old { tares = counted (old.tares + 1); marked = Some ms }
+marked_by ms TakeTare true old = record old { tares_refused = counted (old.tares_refused + 1); marked = Some ms }
+marked_by ms Clear refused old = record old { clears = counted (old.clears + 1); marked = Some ms }
+marked_by ms command refused old = old
 
--- what some requests count, and nothing else: no change and no scan
-pub record AreCounted (made : List Request) (events : Events) : Type 0 where
-  pub zeros : events.zeros ≡ counted (count_of zeros_set made)
-  pub zeros_refused : events.zeros_refused ≡ counted (count_of zeros_not_set made)
-  pub tares : events.tares ≡ counted (count_of tares_set made)
-  pub tares_refused : events.tares_refused ≡ counted (count_of tares_not_set made)
-  pub clears : events.clears ≡ counted (count_of tares_cleared made)
-  pub marked : events.marked ≡ last_or None (filter_map (λ r. mark_of r.ms r.command) made)
-  pub requests : events.requests ≡ counted (length made)
-  pub last : events.last ≡ last_or None made
-  pub changes : events.changes ≡ 0
-  pub scans : events.scans ≡ 0
-  pub steps : events.steps ≡ 0
+abbrev pub IsMarked : ℕ → Command → Bool → Events → Events → Type 0
+IsMarked ms command refused old new = new ≡ marked_by ms command refused old
 
--- a count and some more, up to the most that is kept
-abbrev pub added : ℕ → ℕ → ℕ
-added count zero = count
-added count (suc more) = counted (count + suc more)
+-- what a request is alone; what some count, and nothing else: no change and no scan
+abbrev pub made_by : Request → Events
+made_by r = record (marked_by r.ms r.command (is_refusal r.answer) nothing) { requests = 1; last = Some r }
 
--- a request of this command counts as it does, and nothing else changes
-pub record IsMarked (ms : ℕ) (command : Command) (refused : Bool) (old new : Events) : Type 0 where
-  pub zeros : new.zeros ≡ added old.zeros (zeros_set command refused)
-  pub zeros_refused : new.zeros_refused ≡ added old.zeros_refused (zeros_not_set command refused)
-  pub tares : new.tares ≡ added old.tares (tares_set command refused)
-  pub tares_refused : new.tares_refused ≡ added old.tares_refused (tares_not_set command refused)
-  pub clears : new.clears ≡ added old.clears (tares_cleared command refused)
-  pub marked : new.marked ≡ option_or (mark_of ms command) old.marked
-  pub requests : new.requests ≡ old.requests
-  pub last : new.last ≡ old.last
-  pub changes : new.changes ≡ old.changes
-  pub scans : new.scans ≡ old.scans
-  pub steps : new.steps ≡ old.steps
+abbrev pub AreCounted : List Request → Events → Type 0
+AreCounted made events = AreTogether (map made_by made) events
 
 -- the bytes after an answer, if one could be read
 abbrev pub after_answer : Option Answer → List ℕ → List ℕ
-after_answer None bytes = bytes
-after_answer (Some answer) bytes = drop (length (answer_bytes answer)) bytes
+after_answer answer bytes = option_map_or (λ read. drop (length (answer_bytes read)) bytes) answer bytes
 
 -- the answers of some requests come first in these bytes, one after the other, and those bytes are left
 abbrev pub AreAnswered : List Request → List ℕ → List ℕ → Type 0
@@ -104,15 +64,10 @@ AreAnswered [] bytes left = bytes ≡ left
 AreAnswered (request ∷ requests) bytes left =
     IsFirstAnswer request.answer bytes × AreAnswered requests (after_answer request.answer bytes) left
 
--- all at one time
-abbrev pub AreAt : ℕ → List Request → Type 0
-AreAt ms [] = Unit {0}
-AreAt ms (request ∷ requests) = (request.ms ≡ ms) × AreAt ms requests
-
 -- Requests of these texts came at one time, their answers are read from these bytes up to a place, and this is what they count.
 pub record HasFollowed (ms : ℕ) (texts : List (List ℕ)) (answers : List ℕ) (at : ℕ) (events : Events) : Type 0 where
   pub requests : List Request
   pub commands : map (λ r. command_view r.command) requests ≡ map command_of texts
-  pub times : AreAt ms requests
+  pub times : All (λ (r : Request). r.ms ≡ ms) requests
   pub answered : AreAnswered requests answers (drop at answers)
   pub counts : AreCounted requests events

@@ -1,12 +1,12 @@
 -- Which lanes a picture has. (The profile's own.)
-use Rattle.std.specs.Prelude.{◌==◌, Bool, true, false, not, List, [], ◌∷◌, Option, Some, None, slice_get, is_some, int_lt}
+use Rattle.std.specs.Prelude.{◌==◌, Bool, true, false, not, List, [], ◌∷◌, slice_get, is_some, int_lt}
+use Rattle.std.specs.Option.{option_map_or}
 use Rattle.wc_view_columns.specs.Columns.{bit_level}
 use Rattle.wc_view_columns.specs.declared.bits.Level.{Level}
 use Rattle.wc_view_columns.specs.declared.bits.Level.TheVariants.{Low, Both, High}
 use Rattle.wc_view_columns.specs.declared.columns.Column.{Column}
 use Rattle.wc_view_columns.specs.declared.lanes.Lane.{Lane}
 use Rattle.wc_view_columns.specs.declared.lanes.Lane.TheVariants.{Motion, Over, Under, Invalid, Requests, Input, Output, Word, Variable, Scans}
-use Rattle.wc_view_columns.specs.declared.span.Span.{Span}
 
 -- all lanes, from above
 unfoldable pub all_lanes : List Lane
@@ -24,16 +24,6 @@ is_both Low = false
 is_both Both = true
 is_both High = false
 
--- whether a word changed
-abbrev pub has_changed : Option Span → Bool
-has_changed None = false
-has_changed (Some span) = int_lt span.least span.greatest
-
--- whether a variable that is drawn had a number
-abbrev pub has_number : Option (Option Span) → Bool
-has_number None = false
-has_number (Some span) = is_some span
-
 -- Whether something is to be seen in a lane, of what all columns are as one: something held or happened, a value changed, or
 -- a variable that is to be drawn had one.
 abbrev pub is_shown : Column → Lane → Bool
@@ -44,6 +34,6 @@ is_shown all Invalid = all.state.invalid
 is_shown all Requests = not (all.events.requests == 0)
 is_shown all (Input i) = is_both (bit_level all.state.inputs i)
 is_shown all (Output i) = is_both (bit_level all.state.outputs i)
-is_shown all (Word i) = has_changed (slice_get all.state.words i)
-is_shown all (Variable i) = has_number (slice_get all.state.variables i)
+is_shown all (Word i) = option_map_or (λ span. int_lt span.least span.greatest) (slice_get all.state.words i) false
+is_shown all (Variable i) = option_map_or (λ span. is_some span) (slice_get all.state.variables i) false
 is_shown all Scans = not (all.events.scans == 0)

@@ -4,13 +4,8 @@ use Rattle.std.specs.Int.{int_max, int_min}
 use Rattle.std.specs.List.{fold}
 use Rattle.wc_view_columns.specs.declared.span.Span.{Span}
 
--- the last of a number and of those that follow it
-abbrev pub last_of : ℤ → List ℤ → ℤ
-last_of number [] = number
-last_of number (next ∷ numbers) = last_of next numbers
-
 -- those of some numbers, if there is one
 abbrev pub span_of : List ℤ → Option Span
 span_of [] = None
 span_of (number ∷ numbers) =
-    Some (record { least = fold int_min number numbers; greatest = fold int_max number numbers; last = last_of number numbers })
+    Some (record { least = fold int_min number numbers; greatest = fold int_max number numbers; last = fold (λ _ next. next) number numbers })

@@ -1,5 +1,5 @@
 ghost use Rattle.std.specs.Prelude.{◌≡◌, ◌++◌, [], ◌∷◌, not, filter, IfOk, List, Some, None};
-ghost use Rattle.wc_view_columns.specs.Columns.{AreAllEvents, AreColumnsOf, AreEventsOf, IsLevelOf, IsWholeOf, level_of};
+ghost use Rattle.wc_view_columns.specs.Columns.{AreOf, HasHappened, HasHeld, IsLevelOf, IsOfAll, IsWholeOf, level_of};
 ghost use Rattle.wc_view_columns.specs.Happened.{AreBoth};
 ghost use Rattle.wc_view_columns.specs.Held.{Held, IsStateOf};
 ghost use Rattle.wc_view_columns.specs.Lanes.{all_lanes, is_both, is_shown};
@@ -105,10 +105,10 @@ fn with_column(all: Option<Column>, column: &Column) -> Column
 
 /// All columns as one; none if there are none.
 pub fn whole(columns: &[Column]) -> Option<Column>
-    ensures held { (held : List (List Held)) → AreColumnsOf held columns.now
+    ensures held { (held : List (List Held)) → AreOf HasHeld held columns.now
         → IsWholeOf result held }
-    ensures events { (events : List (List Events)) → AreEventsOf events columns.now
-        → AreAllEvents result events }
+    ensures events { (events : List (List Events)) → AreOf HasHappened events columns.now
+        → IsOfAll HasHappened result events }
 {
     let mut all: Option<Column> = None;
     for column in columns {

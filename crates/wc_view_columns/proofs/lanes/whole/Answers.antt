@@ -2,7 +2,7 @@ use Rattle.std.proofs.Common.{subst, arith}
 use Rattle.std.proofs.lemmas.List.{take_all}
 use Rattle.wc_view_columns.proofs.Totals.{both_together}
 use Rattle.wc_view_columns.proofs.Wholes.{as_many, whole_on}
-use Rattle.wc_view_columns.specs.Columns.{AreAllEvents, HasHappened, HasHeld, IsWholeOf}
+use Rattle.wc_view_columns.specs.Columns.{HasHappened, HasHeld, IsOfAll, IsWholeOf}
 use Rattle.wc_view_columns.proofs.lanes.whole.Goals as goal
 
 pub loop-column-preserved : goal.loop-column-preserved
@@ -23,5 +23,6 @@ returns-clause-held c held are =
 
 pub returns-clause-events : goal.returns-clause-events
 returns-clause-events c events are =
-    subst (AreAllEvents c.loop-column.all) (take_all c.loop-column.column-index events (omega (arith, c.loop-column-test.false, as_many HasHappened events c.args.columns.now are)))
+    subst (IsOfAll HasHappened c.loop-column.all)
+    (take_all c.loop-column.column-index events (omega (arith, c.loop-column-test.false, as_many HasHappened events c.args.columns.now are)))
     (c.loop-column.invariant.events events are)

@@ -1,19 +1,16 @@
-use Rattle.std.proofs.Common.{◌≡◌, ◌∙◌, [], ◌∷◌, ap, arith, get_or, of_z, pos, rules, suc, to_z, w32, zero}
+use Rattle.std.proofs.Common.{◌≡◌, ◌∙◌, [], ◌∷◌, Some, ap, arith, get_or, of_z, pos, rules, suc, to_z, w32, zero, ℤ}
 use Rattle.std.proofs.lemmas.Int.{to_z-of_z}
+use Rattle.std.specs.Prelude.{FitsSigned}
 use Rattle.wc_view_columns.proofs.state.words_of.Goals as goal
 use Rattle.wc_view_columns.specs.Spans.{span_of}
+use Rattle.wc_view_columns.specs.declared.span.Span.{Span}
+
+raw : (span : Span) (word : ℤ) → FitsSigned w32 word → Some span ≡ span_of (to_z w32 (of_z w32 word) ∷ []) → Some span ≡ span_of (word ∷ [])
+raw span word fits is = is ∙ ap (λ w. span_of (w ∷ [])) (to_z-of_z w32 word fits)
 
 pub returns : goal.returns
-returns c other zero within =
-    let raw : to_z w32 (of_z w32 (get_or c.args.outputs.now.words 0 (pos 0))) ≡ get_or c.args.outputs.now.words 0 (pos 0) = to_z-of_z w32 _ (search rules) in
-    c.word_span.ensures ∙ ap (λ w. span_of (w ∷ [])) raw
-returns c other (suc zero) within =
-    let raw : to_z w32 (of_z w32 (get_or c.args.outputs.now.words 1 (pos 0))) ≡ get_or c.args.outputs.now.words 1 (pos 0) = to_z-of_z w32 _ (search rules) in
-    c.word_span-2.ensures ∙ ap (λ w. span_of (w ∷ [])) raw
-returns c other (suc (suc zero)) within =
-    let raw : to_z w32 (of_z w32 (get_or c.args.outputs.now.words 2 (pos 0))) ≡ get_or c.args.outputs.now.words 2 (pos 0) = to_z-of_z w32 _ (search rules) in
-    c.word_span-3.ensures ∙ ap (λ w. span_of (w ∷ [])) raw
-returns c other (suc (suc (suc zero))) within =
-    let raw : to_z w32 (of_z w32 (get_or c.args.outputs.now.words 3 (pos 0))) ≡ get_or c.args.outputs.now.words 3 (pos 0) = to_z-of_z w32 _ (search rules) in
-    c.word_span-4.ensures ∙ ap (λ w. span_of (w ∷ [])) raw
+returns c other zero within = raw c.word_span.result (get_or c.args.outputs.now.words 0 (pos 0)) (search rules) c.word_span.ensures
+returns c other (suc zero) within = raw c.word_span-2.result (get_or c.args.outputs.now.words 1 (pos 0)) (search rules) c.word_span-2.ensures
+returns c other (suc (suc zero)) within = raw c.word_span-3.result (get_or c.args.outputs.now.words 2 (pos 0)) (search rules) c.word_span-3.ensures
+returns c other (suc (suc (suc zero))) within = raw c.word_span-4.result (get_or c.args.outputs.now.words 3 (pos 0)) (search rules) c.word_span-4.ensures
 returns c other (suc (suc (suc (suc i)))) within = absurd (omega arith)

@@ -1,7 +1,6 @@
 use Rattle.std.proofs.Common.{ℕ, ◌<◌, List, ◌++◌, ◌∷◌, [], length, take, get_or, ap, sym, ◌∙◌, subst, arith, append_assoc}
-use Rattle.std.proofs.lemmas.List.{take_all}
+use Rattle.std.proofs.lemmas.List.{take_all, take_more}
 use Rattle.wc_laws_instrument.proofs.Requests.{requests_in_again}
-use Rattle.wc_view_columns.proofs.Followed.{one_byte_more}
 use Rattle.wc_view_columns.specs.Followed.{HasFollowed}
 use Rattle.wc_model.specs.Instrument.Requests.{requests_in}
 use Rattle.wc_sma.specs.Representation.{HasRead}
@@ -15,12 +14,12 @@ loop-byte-preserved c =
     record {
       within = c.take.ensures.within;
       read = λ before was.
-          subst (λ b. HasRead c.take.new.self.requests (before ++ b)) (sym (one_byte_more i 0 bytes here))
+          subst (λ b. HasRead c.take.new.self.requests (before ++ b)) (sym (take_more bytes i 0 here))
           (subst (λ b. HasRead c.take.new.self.requests b) (append_assoc before (take i bytes) (get_or bytes i 0 ∷ []))
           (c.take.ensures.read (before ++ take i bytes) (c.loop-byte.invariant.read before was)));
       followed = λ before was.
           subst (λ texts. HasFollowed c.args.ms texts c.args.answers.now c.take.new.at c.take.new.events)
-          (sym (ap (λ b. requests_in before b) (one_byte_more i 0 bytes here) ∙ requests_in_again before (take i bytes) (get_or bytes i 0 ∷ [])))
+          (sym (ap (λ b. requests_in before b) (take_more bytes i 0 here) ∙ requests_in_again before (take i bytes) (get_or bytes i 0 ∷ [])))
           (c.take.ensures.followed (before ++ take i bytes) (requests_in before (take i bytes)) (c.loop-byte.invariant.read before was) (c.loop-byte.invariant.followed before was));
     }
 
