@@ -12,26 +12,13 @@ use Rattle.wc_sma.specs.declared.letters.MassUnit.TheVariants.{Gram, Kilogram, T
 
 -- a list of three
 three : (u : List ℕ) → length u ≡ 3 → u ≡ get_or u 0 0 ∷ get_or u 1 0 ∷ get_or u 2 0 ∷ []
-three [] e = absurd (omega arith)
-three (a ∷ []) e = absurd (omega arith)
-three (a ∷ b ∷ []) e = absurd (omega arith)
 three (a ∷ b ∷ c ∷ []) e = refl
-three (a ∷ b ∷ c ∷ d ∷ more) e = absurd (omega arith)
+three u e = absurd (omega (arith, e))
 
 -- a list of ten
 ten : (w : List ℕ) → length w ≡ 10 → w ≡ get_or w 0 0 ∷ get_or w 1 0 ∷ get_or w 2 0 ∷ get_or w 3 0 ∷ get_or w 4 0 ∷ get_or w 5 0 ∷ get_or w 6 0 ∷ get_or w 7 0 ∷ get_or w 8 0 ∷ get_or w 9 0 ∷ []
-ten [] size = absurd (omega arith)
-ten (a ∷ []) size = absurd (omega arith)
-ten (a ∷ b ∷ []) size = absurd (omega arith)
-ten (a ∷ b ∷ c ∷ []) size = absurd (omega arith)
-ten (a ∷ b ∷ c ∷ d ∷ []) size = absurd (omega arith)
-ten (a ∷ b ∷ c ∷ d ∷ e ∷ []) size = absurd (omega arith)
-ten (a ∷ b ∷ c ∷ d ∷ e ∷ f ∷ []) size = absurd (omega arith)
-ten (a ∷ b ∷ c ∷ d ∷ e ∷ f ∷ g ∷ []) size = absurd (omega arith)
-ten (a ∷ b ∷ c ∷ d ∷ e ∷ f ∷ g ∷ h ∷ []) size = absurd (omega arith)
-ten (a ∷ b ∷ c ∷ d ∷ e ∷ f ∷ g ∷ h ∷ i ∷ []) size = absurd (omega arith)
 ten (a ∷ b ∷ c ∷ d ∷ e ∷ f ∷ g ∷ h ∷ i ∷ j ∷ []) size = refl
-ten (a ∷ b ∷ c ∷ d ∷ e ∷ f ∷ g ∷ h ∷ i ∷ j ∷ k ∷ more) size = absurd (omega arith)
+ten w size = absurd (omega (arith, size))
 
 -- a unit has three bytes
 pub unit_length : (unit : MassUnit) → length (unit_letters unit) ≡ 3

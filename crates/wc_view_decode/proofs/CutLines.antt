@@ -28,22 +28,14 @@ words_cut (a ∷ b ∷ c ∷ d ∷ []) text f1 r1 f2 r2 f3 r3 f4 r4 n1 n2 n3 n4 
     let p3 = cut3 (signed_decimal c) (words_text (d ∷ [])) 32 (word_is_field c fc) (lit≤ tt) p2.1 in
     let p4 = cut4 (signed_decimal d) [] 10 (word_is_field d fd) (lit≤ tt) p3.1 in
     rw (read1 a fa p1.0, read2 b fb p2.0, read3 c fc p3.0, read4 d fd p4.0) refl
-words_cut [] text f1 r1 f2 r2 f3 r3 f4 r4 n1 n2 n3 n4 are e cut1 cut2 cut3 cut4 read1 read2 read3 read4 = absurd are
-words_cut (a ∷ []) text f1 r1 f2 r2 f3 r3 f4 r4 n1 n2 n3 n4 are e cut1 cut2 cut3 cut4 read1 read2 read3 read4 = absurd are
-words_cut (a ∷ b ∷ []) text f1 r1 f2 r2 f3 r3 f4 r4 n1 n2 n3 n4 are e cut1 cut2 cut3 cut4 read1 read2 read3 read4 = absurd are
-words_cut (a ∷ b ∷ c ∷ []) text f1 r1 f2 r2 f3 r3 f4 r4 n1 n2 n3 n4 are e cut1 cut2 cut3 cut4 read1 read2 read3 read4 = absurd are
-words_cut (a ∷ b ∷ c ∷ d ∷ x ∷ more) text f1 r1 f2 r2 f3 r3 f4 r4 n1 n2 n3 n4 are e cut1 cut2 cut3 cut4 read1 read2 read3 read4 = absurd are
+words_cut words text f1 r1 f2 r2 f3 r3 f4 r4 n1 n2 n3 n4 are e cut1 cut2 cut3 cut4 read1 read2 read3 read4 = absurd are
 
 -- the line of a scan, by its fields
 pub scan_fields : (ms steps bits : ℕ) (words : List ℤ) → AreWords words
     → content_text (ScanContent ms steps (record { bits = bits; words = words }))
     ≡ 83 ∷ 32 ∷ (decimal ms ++ 32 ∷ (decimal steps ++ 32 ∷ (hex_of_word bits ++ 32 ∷ words_text words)))
 scan_fields ms steps bits (a ∷ b ∷ c ∷ d ∷ []) are = search (rules, append_assoc)
-scan_fields ms steps bits [] are = absurd are
-scan_fields ms steps bits (a ∷ []) are = absurd are
-scan_fields ms steps bits (a ∷ b ∷ []) are = absurd are
-scan_fields ms steps bits (a ∷ b ∷ c ∷ []) are = absurd are
-scan_fields ms steps bits (a ∷ b ∷ c ∷ d ∷ x ∷ more) are = absurd are
+scan_fields ms steps bits words are = absurd are
 
 -- the line of a refusal
 pub refusal_fields : (number place : ℕ) → content_text (RefusalContent number place) ≡ codes "refused" ++ 32 ∷ (decimal number ++ 32 ∷ (decimal place ++ 10 ∷ []))

@@ -1,7 +1,9 @@
 -- Answers one after the other.
 use Rattle.std.proofs.Common.{◌≡◌, ◌+◌, ◌<◌, ℕ, List, [], ◌∷◌, ◌++◌, length, drop, refl, sym, ◌∙◌, ap, arith, length-append, Some, None, true, false, ◌==◌}
 use Rattle.std.proofs.lemmas.Bool.{eqb-true}
+use Rattle.std.proofs.lemmas.Grind.{flat_map-append}
 use Rattle.std.proofs.lemmas.List.{append_assoc, append-nil}
+use Rattle.wc_view_decode.proofs.Takings.{both}
 use Rattle.std.proofs.Math.Seq.{drop-append_seam}
 use Rattle.wc_view_decode.specs.AnswerBytes.{AreAllAnswers, IsAnswer, answer_bytes, bytes_of_answers}
 use Rattle.wc_view_decode.specs.Found.{AreAnswersOf, IsFirstAnswer}
@@ -26,14 +28,7 @@ none_taken bytes = record { taken = refl; all = tt; only = λ others all e. (oth
 
 -- bytes of one answer more
 bytes_after : (answers : List Answer) (a : Answer) → bytes_of_answers (answers ++ a ∷ []) ≡ bytes_of_answers answers ++ answer_bytes a
-bytes_after [] a = append-nil (answer_bytes a)
-bytes_after (b ∷ answers) a =
-    ap (λ more. answer_bytes b ++ more) (bytes_after answers a) ∙ sym (append_assoc (answer_bytes b) (bytes_of_answers answers) (answer_bytes a))
-
--- one answer more
-all_after : (answers : List Answer) (a : Answer) → AreAllAnswers answers → IsAnswer a → AreAllAnswers (answers ++ a ∷ [])
-all_after [] a all ok = (ok, tt)
-all_after (b ∷ answers) a (first, all) ok = (first, all_after answers a all ok)
+bytes_after answers a = flat_map-append answer_bytes answers (a ∷ []) ∙ ap (λ one. bytes_of_answers answers ++ one) (append-nil (answer_bytes a))
 
 -- an answer has bytes
 some_bytes : (a : Answer) → 0 < length (answer_bytes a)
@@ -90,7 +85,7 @@ one_taken bytes answers a rest some (ok, prefix, only) leaves =
           ∙ sym (append_assoc (bytes_of_answers answers) (answer_bytes a) prefix.0)
           ∙ ap (λ t. t ++ prefix.0) (sym (bytes_after answers a))
           ∙ ap (λ r. bytes_of_answers (answers ++ a ∷ []) ++ r) (sym left);
-      all = all_after answers a leaves.all ok;
+      all = both IsAnswer answers (a ∷ []) leaves.all (ok, tt);
       only = λ others all e.
           let following = leaves.only others all e in
           one_left answers a rest some (ok, prefix, only) others following.0 following.1 following.2 following.3;

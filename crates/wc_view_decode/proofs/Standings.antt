@@ -1,16 +1,17 @@
 -- How a decoder goes on from where it is.
 use Rattle.std.proofs.Common.{◌≡◌, ◌<◌, ◌≤◌, ◌+◌, ℕ, Bool, true, false, ◌==◌, List, [], ◌∷◌, ◌++◌, length, take, if◌then◌else◌, refl, sym, ap, ◌∙◌, subst, arith, length-append}
 use Rattle.std.proofs.Math.Seq.{take-append_seam, take-length}
+use Rattle.std.proofs.lemmas.Grind.{flat_map-append}
 use Rattle.std.proofs.lemmas.List.{append_assoc, append-nil}
 use Rattle.std.proofs.lemmas.Bool.{ne_eqb}
+use Rattle.wc_view_decode.proofs.Takings.{both}
 use Rattle.std.specs.List.{position_or_len}
 use Rattle.std.specs.Prelude.{codes, decimal}
 use Rattle.wc_view_decode.specs.AnswerBytes.{bytes_of_answers}
 use Rattle.wc_model.specs.Run.Hex.{hex_of_bytes, hex_of_word}
 use Rattle.wc_model.specs.Say.Report.{spaced_numbers}
-use Rattle.wc_view_decode.proofs.RowTexts.{passed_after}
 use Rattle.wc_view_decode.specs.Decoding.{AreDecoded, Decodes, DecodesPrefix, IsDecodedLine, Reports, longest_line, without_end}
-use Rattle.wc_view_decode.specs.Formats.{closing, heading, opening, passed_on, unknown}
+use Rattle.wc_view_decode.specs.Formats.{closing, heading, opening, passed_byte, passed_on, unknown}
 use Rattle.wc_view_decode.specs.Lines.{LineContent, AnswersContent, RefusalContent, ScanContent, content_text}
 use Rattle.wc_view_decode.specs.Representation.{HasNoEnd, IsInState}
 use Rattle.wc_view_decode.specs.declared.format.DecodeFormat.{DecodeFormat}
@@ -35,11 +36,6 @@ byte_in_prefix byte rest other = ap (λ b. if b then (10 ∷ []) ∷ whole_lines
 pub last_line : (byte : ℕ) (line : List ℕ) → HasNoEnd (byte ∷ line) → whole_lines (byte ∷ line) ≡ (byte ∷ line) ∷ []
 last_line byte [] (other, single) = byte_in_prefix byte [] other
 last_line byte (next ∷ line) (other, single) = byte_in_prefix byte (next ∷ line) other ∙ ap (onto_first_line byte) (last_line next line single)
-
--- no end is among bytes of which none is one
-no_end_after : (prefix back : List ℕ) → HasNoEnd prefix → HasNoEnd back → HasNoEnd (prefix ++ back)
-no_end_after [] back single following = following
-no_end_after (byte ∷ prefix) back (other, single) following = (other, no_end_after prefix back single following)
 
 -- the bytes before the line feed
 place_of_end : (line rest : List ℕ) → HasNoEnd line → position_or_len (λ byte. byte == 10) (line ++ 10 ∷ rest) ≡ length line
@@ -112,7 +108,7 @@ byte_kept format read kept text byte other short represents = record {
   shown = represents.shown;
   started = represents.started;
   whole = λ rest. one_byte_read read represents.line rest byte represents.lines represents.whole;
-  single = no_end_after represents.line (byte ∷ []) represents.single (other, tt);
+  single = both (λ byte. ¬ (byte ≡ 10)) represents.line (byte ∷ []) represents.single (other, tt);
   each = represents.each;
   keeps = (
     ap (λ l. l ++ byte ∷ []) represents.keeps.0,
@@ -146,7 +142,7 @@ pub long_started : (format : DecodeFormat) (read kept text : List ℕ) (byte : �
     → IsInState format read kept false text → IsInState format (read ++ byte ∷ []) [] true (text ++ (opening format ++ passed_on format kept ++ passed_on format (byte ∷ [])))
 long_started format read kept text byte other full represents =
     let again : opening format ++ passed_on format kept ++ passed_on format (byte ∷ []) ≡ opening format ++ passed_on format (represents.line ++ byte ∷ []) =
-    append_assoc (opening format) (passed_on format kept) (passed_on format (byte ∷ [])) ∙ ap (λ p. opening format ++ p) (sym (passed_after format kept (byte ∷ [])))
+    append_assoc (opening format) (passed_on format kept) (passed_on format (byte ∷ [])) ∙ ap (λ p. opening format ++ p) (sym (flat_map-append (passed_byte format) kept (byte ∷ [])))
     ∙ ap (λ l. opening format ++ passed_on format (l ++ byte ∷ [])) (sym represents.keeps.0) in
     record {
       lines = represents.lines;
@@ -154,7 +150,7 @@ long_started format read kept text byte other full represents =
       shown = represents.shown;
       started = opening format ++ passed_on format (represents.line ++ byte ∷ []);
       whole = λ rest. one_byte_read read represents.line rest byte represents.lines represents.whole;
-      single = no_end_after represents.line (byte ∷ []) represents.single (other, tt);
+      single = both (λ byte. ¬ (byte ≡ 10)) represents.line (byte ∷ []) represents.single (other, tt);
       each = represents.each;
       keeps = (omega (arith, full, ap length represents.keeps.0, length-append represents.line (byte ∷ [])), refl, refl);
       text_is = ap (λ t. text ++ t) again
@@ -171,13 +167,13 @@ long_more format read kept text byte other represents = record {
   shown = represents.shown;
   started = represents.started ++ passed_on format (byte ∷ []);
   whole = λ rest. one_byte_read read represents.line rest byte represents.lines represents.whole;
-  single = no_end_after represents.line (byte ∷ []) represents.single (other, tt);
+  single = both (λ byte. ¬ (byte ≡ 10)) represents.line (byte ∷ []) represents.single (other, tt);
   each = represents.each;
   keeps = (
     omega (arith, represents.keeps.0, length-append represents.line (byte ∷ [])),
     represents.keeps.1,
     ap (λ s. s ++ passed_on format (byte ∷ [])) represents.keeps.2 ∙ append_assoc (opening format) (passed_on format represents.line) (passed_on format (byte ∷ []))
-        ∙ ap (λ p. opening format ++ p) (sym (passed_after format represents.line (byte ∷ []))),
+        ∙ ap (λ p. opening format ++ p) (sym (flat_map-append (passed_byte format) represents.line (byte ∷ []))),
   );
   text_is = ap (λ t. t ++ passed_on format (byte ∷ [])) represents.text_is ∙ append_assoc (heading format ++ represents.shown) represents.started (passed_on format (byte ∷ []));
 }

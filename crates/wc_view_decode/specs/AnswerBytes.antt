@@ -1,7 +1,7 @@
 -- The bytes of an answer, by the letters of the line.
 use Rattle.std.specs.Prelude.{◌≡◌, ℕ, ◌==◌, ◌&&◌, ◌||◌, Bool, true, List, [], ◌∷◌, ◌++◌, length, take, drop, slice_index}
 use Rattle.std.specs.Char.{is_ascii_digit}
-use Rattle.std.specs.List.{list_all}
+use Rattle.std.specs.List.{AllByRecursion, flat_map, list_all}
 use Rattle.wc_view_decode.specs.declared.answer.Answer.{Answer}
 use Rattle.wc_view_decode.specs.declared.answer.Answer.TheVariants.{Weight, NotUnderstood}
 use Rattle.wc_view_decode.specs.declared.answer.Reading.{Reading}
@@ -19,8 +19,7 @@ answer_bytes NotUnderstood = 10 ∷ 63 ∷ 13 ∷ []
 
 -- the bytes of answers, joined
 abbrev pub bytes_of_answers : List Answer → List ℕ
-bytes_of_answers [] = []
-bytes_of_answers (answer ∷ answers) = answer_bytes answer ++ bytes_of_answers answers
+bytes_of_answers answers = flat_map answer_bytes answers
 
 -- whether a byte may be in a weight: a space, `-`, a point or a digit
 abbrev pub is_weight_byte : ℕ → Bool
@@ -39,5 +38,4 @@ IsAnswer NotUnderstood = Unit {0}
 
 -- each of them is one
 abbrev pub AreAllAnswers : List Answer → Type 0
-AreAllAnswers [] = Unit {0}
-AreAllAnswers (answer ∷ answers) = IsAnswer answer × AreAllAnswers answers
+AreAllAnswers answers = AllByRecursion IsAnswer answers

@@ -1,11 +1,11 @@
 -- The fields of a line, with a space or the line's end after each. (The form is the profile's own.)
 use Rattle.std.specs.Prelude.{◌≡◌, ℕ, ◌<◌, ◌≤◌, ℤ, List, [], ◌∷◌, ◌++◌}
 use Rattle.std.specs.Fmt.{signed_decimal}
+use Rattle.std.specs.List.{AllByRecursion}
 
 -- no byte of a field is a space or below
 abbrev pub AreFieldBytes : List ℕ → Type 0
-AreFieldBytes [] = Unit {0}
-AreFieldBytes (byte ∷ bytes) = (32 < byte) × AreFieldBytes bytes
+AreFieldBytes bytes = AllByRecursion (λ byte. 32 < byte) bytes
 
 -- the first field is cut off, and the byte that ends it
 abbrev pub CutsField : (text field rest : List ℕ) → Type 0

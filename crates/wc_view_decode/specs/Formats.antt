@@ -1,6 +1,8 @@
 -- What is written for a line of a report: for people, or a row of a table. (The forms are the profile's own.)
-use Rattle.std.specs.Prelude.{ℕ, zero, suc, ◌/◌, ◌%◌, ◌^◌, ◌==◌, ◌&&◌, nat_le, not, Bool, ℤ, List, [], ◌∷◌, ◌++◌, codes, decimal, if◌then◌else◌}
+use Rattle.std.proofs.Common.{Vec, Global}
+use Rattle.std.specs.Prelude.{◌≡◌, ℕ, zero, suc, ◌/◌, ◌%◌, ◌^◌, ◌==◌, ◌&&◌, nat_le, not, Bool, ℤ, List, [], ◌∷◌, ◌++◌, codes, decimal, if◌then◌else◌, Result, OnOk, IsOkUnless}
 use Rattle.std.specs.Fmt.{signed_decimal}
+use Rattle.std.specs.List.{flat_map}
 use Rattle.wc_view_decode.specs.AnswerTexts.{answer_text}
 use Rattle.wc_view_decode.specs.Lines.{LineContent, AnswersContent, RefusalContent, ScanContent}
 use Rattle.wc_view_decode.specs.declared.answer.Answer.{Answer}
@@ -8,7 +10,13 @@ use Rattle.wc_view_decode.specs.declared.format.DecodeFormat.{DecodeFormat}
 use Rattle.wc_view_decode.specs.declared.format.DecodeFormat.TheVariants.{Text, Table}
 use Rattle.wc_model.specs.Run.Hex.{hex_of_bytes}
 use Rattle.wc_model.specs.Say.Job.{refused_text}
+use Rattle.wc_model.specs.declared.fault.Fault.{Fault}
+use Rattle.wc_model.specs.declared.fault.Fault.TheVariants as fault
 use Rattle.wc_model.specs.declared.image.Outputs.{Outputs}
+
+-- these bytes are put at the end of a text, or memory for them is refused
+abbrev pub Puts : {A : Type 0} → Vec ℕ Global → Vec ℕ Global → Result A Fault → List ℕ → Type 0
+Puts old new result bytes = OnOk result (new.items ≡ old.items ++ bytes) × IsOkUnless result fault.Memory
 
 -- whether a bit is set
 abbrev pub is_bit_on : ℕ → ℕ → Bool
@@ -18,27 +26,22 @@ is_bit_on bits i = (bits / 2 ^ i) % 2 == 1
 abbrev pub bit_name : ℕ → ℕ → List ℕ
 bit_name bits i = if is_bit_on bits i then codes " %QX0." ++ decimal i else []
 
--- the names of those that are set among the first n
-abbrev pub names_of_bits : ℕ → ℕ → List ℕ
-names_of_bits bits zero = []
-names_of_bits bits (suc i) = names_of_bits bits i ++ bit_name bits i
+-- what is written of each of the first n bits, one after the other
+abbrev pub of_bits : (ℕ → List ℕ) → ℕ → List ℕ
+of_bits of_bit zero = []
+of_bits of_bit (suc i) = of_bits of_bit i ++ of_bit i
 
 -- the names of all sixteen that are set, or that there are none
 unfoldable pub bits_text : ℕ → List ℕ
-bits_text bits = if bits == 0 then codes " none" else names_of_bits bits 16
+bits_text bits = if bits == 0 then codes " none" else of_bits (bit_name bits) 16
 
 -- the column of a bit
 abbrev pub bit_column : ℕ → ℕ → List ℕ
 bit_column bits i = if is_bit_on bits i then codes ",1" else codes ",0"
 
--- the columns of the first n
-abbrev pub bit_columns : ℕ → ℕ → List ℕ
-bit_columns bits zero = []
-bit_columns bits (suc i) = bit_columns bits i ++ bit_column bits i
-
 -- those of all sixteen
 unfoldable pub bits_row : ℕ → List ℕ
-bits_row bits = bit_columns bits 16
+bits_row bits = of_bits (bit_column bits) 16
 
 -- words, each after its name
 unfoldable pub named_words : List (List ℕ) → List ℤ → List ℕ
@@ -71,8 +74,7 @@ answer_line Table ms answer = decimal ms ++ codes ",L,,,,,,,,,,,,,,,,,,,,,," ++ 
 
 -- a line for each answer to a row
 abbrev pub answer_lines : DecodeFormat → ℕ → List Answer → List ℕ
-answer_lines format ms [] = []
-answer_lines format ms (answer ∷ answers) = answer_line format ms answer ++ answer_lines format ms answers
+answer_lines format ms answers = flat_map (answer_line format ms) answers
 
 -- what precedes the number of a refusal
 abbrev pub refusal_mark : DecodeFormat → List ℕ
@@ -112,8 +114,7 @@ passed_byte Table byte = if byte == 34 then 34 ∷ 34 ∷ [] else byte ∷ []
 
 -- such a line itself
 abbrev pub passed_on : DecodeFormat → List ℕ → List ℕ
-passed_on how [] = []
-passed_on how (byte ∷ bytes) = passed_byte how byte ++ passed_on how bytes
+passed_on how bytes = flat_map (passed_byte how) bytes
 
 -- and what follows it
 abbrev pub closing : DecodeFormat → List ℕ

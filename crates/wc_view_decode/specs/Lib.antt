@@ -1,12 +1,10 @@
 pub mod AnswerBytes
 pub mod AnswerTexts
 pub mod Decoding
-pub mod Entries
 pub mod Fields
 pub mod Formats
 pub mod Found
 pub mod LineAnswers
 pub mod Lines
 pub mod Running
-pub mod Puts
 pub mod Representation

@@ -21,11 +21,10 @@ pub record IsReadingOf (p : PlateData) (history : History) (mode : line_answers.
 -- these are the answers to requests, one to each, which come after this history
 abbrev pub AreAnswersTo : PlateData → List (List ℕ) → History → List Answer → Type 0
 AreAnswersTo p [] history [] = Unit {0}
-AreAnswersTo p [] history (answer ∷ answers) = ⊥
-AreAnswersTo p (text ∷ texts) history [] = ⊥
 AreAnswersTo p (text ∷ texts) history (answer ∷ answers) =
     (line_answers.answer_to p (line_answers.command_of text) history ≡ answer_bytes answer)
     × AreAnswersTo p texts (line_answers.after_command (line_answers.command_of text) history) answers
+AreAnswersTo p texts history answers = ⊥
 
 -- Each answer of the line is read back, as what is so.
 --     one      an answer with a weight is the bytes of a reading, which says what is so of the scale

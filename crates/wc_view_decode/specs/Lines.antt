@@ -3,6 +3,10 @@ use Rattle.std.specs.Prelude.{◌≡◌, ℕ, ◌^◌, ◌<◌, true, List, [], 
 use mir.Syntax.{w32}
 use Rattle.wc_view_decode.specs.AnswerBytes.{AreAllAnswers, bytes_of_answers}
 use Rattle.wc_view_decode.specs.declared.answer.Answer.{Answer}
+use Rattle.wc_view_decode.specs.declared.entry.ReportEntry.{ReportEntry}
+use Rattle.wc_view_decode.specs.declared.entry.ReportEntry.TheVariants.{Scan, Answers, Refusal}
+use Rattle.wc_view_decode.specs.declared.entry.RefusalRow.{RefusalRow}
+use Rattle.wc_view_decode.specs.declared.entry.ScanRow.{ScanRow}
 use Rattle.wc_diag_texts.specs.Numbers.{is_refusal}
 use Rattle.wc_model.specs.Say.Job.{refused_text}
 use Rattle.wc_model.specs.Say.Report.{AnswerLine, ScanLine, line_text}
@@ -14,6 +18,20 @@ pub data LineContent : Type 0 where
   AnswersContent : (ms : ℕ) (answers : List Answer) → LineContent
   RefusalContent : (number place : ℕ) → LineContent
 
+-- what a row of the code says: a scan
+abbrev pub scan_content : ScanRow → LineContent
+scan_content row = ScanContent row.ms row.steps.0 row.outputs
+
+-- a refusal
+abbrev pub refusal_content : RefusalRow → LineContent
+refusal_content row = RefusalContent row.number row.place
+
+-- what an entry says
+abbrev pub entry_content : ReportEntry → LineContent
+entry_content (Scan row) = scan_content row
+entry_content (Answers row) = AnswersContent row.ms row.answers.items
+entry_content (Refusal row) = refusal_content row
+
 -- the line that says it: those that a run and a refusal print
 abbrev pub content_text : LineContent → List ℕ
 content_text (ScanContent ms steps outputs) = line_text (ScanLine ms steps outputs)
@@ -22,12 +40,8 @@ content_text (RefusalContent number place) = refused_text number place
 
 -- four words of 32 bits
 abbrev pub AreWords : List ℤ → Type 0
-AreWords [] = ⊥
-AreWords (a ∷ []) = ⊥
-AreWords (a ∷ b ∷ []) = ⊥
-AreWords (a ∷ b ∷ c ∷ []) = ⊥
 AreWords (a ∷ b ∷ c ∷ d ∷ []) = FitsSigned w32 a × FitsSigned w32 b × FitsSigned w32 c × FitsSigned w32 d
-AreWords (a ∷ b ∷ c ∷ d ∷ e ∷ more) = ⊥
+AreWords words = ⊥
 
 -- each moment is one of a log, at most 1099511627775, each other number is in the range of its type, that of a refusal is one that
 -- there is; each answer is one, and there is one at least

@@ -1,5 +1,6 @@
 -- Where a decoder is in a report.
-use Rattle.std.specs.Prelude.{◌≡◌, ℕ, ◌+◌, ◌<◌, ◌≤◌, Bool, true, false, List, [], ◌∷◌, ◌++◌, length, Result, Ok, Err}
+use Rattle.std.specs.Prelude.{◌≡◌, ℕ, ◌+◌, ◌<◌, ◌≤◌, Bool, true, false, List, [], ◌++◌, length, Result, OnOk}
+use Rattle.std.specs.List.{AllByRecursion}
 use Rattle.wc_view_decode.specs.Decoding.{AreDecoded, Decodes, IsDecodedLine, longest_line}
 use Rattle.wc_view_decode.specs.Formats.{heading, opening, passed_on}
 use Rattle.wc_view_decode.specs.declared.decoder.Decoder.{Decoder}
@@ -8,8 +9,7 @@ use Rattle.wc_model.specs.Run.JobSections.{whole_lines}
 
 -- no line feed is among these bytes
 abbrev pub HasNoEnd : List ℕ → Type 0
-HasNoEnd [] = Unit {0}
-HasNoEnd (byte ∷ bytes) = ¬ (byte ≡ 10) × HasNoEnd bytes
+HasNoEnd bytes = AllByRecursion (λ byte. ¬ (byte ≡ 10)) bytes
 
 -- what is kept of the current line and what is written of it: all is kept, or of a line that is too long all is written
 abbrev pub KeepsLine : DecodeFormat → (line kept : List ℕ) → Bool → (shown : List ℕ) → Type 0
@@ -34,17 +34,15 @@ Represents decoder read text = IsInState decoder.format read decoder.line.items 
 
 -- bytes more are taken, and what is written of them is appended to a text
 abbrev pub TakesBytes : {E : Type 0} → Decoder → Decoder → List ℕ → Result Unit E → (old new : List ℕ) → Type 0
-TakesBytes before after bytes (Ok done) old new =
-    (read text : List ℕ) → Represents before read (text ++ old) → Represents after (read ++ bytes) (text ++ new)
-TakesBytes before after bytes (Err fault) old new = Unit {0}
+TakesBytes before after bytes result old new =
+    OnOk result ((read text : List ℕ) → Represents before read (text ++ old) → Represents after (read ++ bytes) (text ++ new))
 
 -- a line is appended to a text
 abbrev pub PutsLine : {E : Type 0} → DecodeFormat → List ℕ → Result Unit E → (old new : List ℕ) → Type 0
-PutsLine format line (Ok done) old new =
-    (shown : List ℕ) × (new ≡ old ++ shown) × (length line ≤ longest_line + 1 → IsDecodedLine format line shown)
-PutsLine format line (Err fault) old new = Unit {0}
+PutsLine format line result old new =
+    OnOk result ((shown : List ℕ) × (new ≡ old ++ shown) × (length line ≤ longest_line + 1 → IsDecodedLine format line shown))
 
 -- what is missing at a report's end is appended to a text
 abbrev pub Finishes : {E : Type 0} → Decoder → Result Unit E → (old new : List ℕ) → Type 0
-Finishes decoder (Ok done) old new = (read text : List ℕ) → Represents decoder read (text ++ old) → Decodes decoder.format read (text ++ new)
-Finishes decoder (Err fault) old new = Unit {0}
+Finishes decoder result old new =
+    OnOk result ((read text : List ℕ) → Represents decoder read (text ++ old) → Decodes decoder.format read (text ++ new))

@@ -2,7 +2,7 @@ ghost use Rattle.std.specs.Prelude.{◌≡◌, ◌≤◌, ◌==◌, length};
 ghost use Rattle.std.specs.List.{prefix_len};
 ghost use Rattle.wc_view_decode.specs.declared.answer.Answer.TheVariants.{Weight};
 ghost use Rattle.wc_view_decode.specs.AnswerTexts.{answer_text, kind_text, motion_text, status_text, unit_text};
-ghost use Rattle.wc_view_decode.specs.Puts.{Puts};
+ghost use Rattle.wc_view_decode.specs.Formats.{Puts};
 
 use crate::answer::{Answer, Reading};
 use wc_model::{Fault, put_bytes};

@@ -1,7 +1,6 @@
 ghost use Rattle.std.specs.Prelude.{◌≡◌, ◌<◌, ◌^◌, ℕ, List, IfOk, IsOkUnless, option_map, slice_index};
 ghost use Rattle.hex.specs.Hex.{IsBytes};
-ghost use Rattle.wc_view_decode.specs.Entries.{entry_content};
-ghost use Rattle.wc_view_decode.specs.Lines.{AreContentOf, IsContentOf};
+ghost use Rattle.wc_view_decode.specs.Lines.{AreContentOf, IsContentOf, entry_content};
 ghost use Rattle.wc_model.specs.Run.Hex.{hex_of_bytes};
 ghost use Rattle.wc_model.specs.Say.Report.{AnswerLine, line_text};
 

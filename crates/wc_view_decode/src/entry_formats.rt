@@ -1,7 +1,6 @@
 ghost use Rattle.std.specs.Prelude.{◌≡◌};
-ghost use Rattle.wc_view_decode.specs.Entries.{entry_content};
-ghost use Rattle.wc_view_decode.specs.Formats.{answer_line, answer_lines, decoded, refusal_line, refusal_mark, scan_line, scan_prefix};
-ghost use Rattle.wc_view_decode.specs.Puts.{Puts};
+ghost use Rattle.wc_view_decode.specs.Lines.{entry_content};
+ghost use Rattle.wc_view_decode.specs.Formats.{Puts, answer_line, answer_lines, decoded, refusal_line, refusal_mark, scan_line, scan_prefix};
 
 use crate::answer::Answer;
 use crate::answer_texts::put_answer;

@@ -1,6 +1,5 @@
 ghost use Rattle.std.specs.Prelude.{IfOk, IsOkUnless, option_map};
-ghost use Rattle.wc_view_decode.specs.Entries.{entry_content};
-ghost use Rattle.wc_view_decode.specs.Lines.{IsContentOf};
+ghost use Rattle.wc_view_decode.specs.Lines.{IsContentOf, entry_content};
 
 use crate::answers::answers_entry;
 use crate::entry::ReportEntry;

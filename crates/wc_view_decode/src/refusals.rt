@@ -1,6 +1,5 @@
 ghost use Rattle.std.specs.Prelude.{◌≡◌, ℕ, IfOk, IsOkUnless, option_map, slice_index};
-ghost use Rattle.wc_view_decode.specs.Entries.{entry_content, refusal_content};
-ghost use Rattle.wc_view_decode.specs.Lines.{InRange, IsContentOf, RefusalContent, content_text};
+ghost use Rattle.wc_view_decode.specs.Lines.{InRange, IsContentOf, RefusalContent, content_text, entry_content, refusal_content};
 
 use crate::entry::{RefusalRow, ReportEntry};
 use crate::fields::{cut_field, is_same, refusal_number, small_number};

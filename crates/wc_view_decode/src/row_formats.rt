@@ -1,8 +1,7 @@
 ghost use Rattle.std.specs.Prelude.{◌≡◌, ◌<◌, ◌++◌, decimal, IsOkUnless, OnOk};
 ghost use Rattle.std.specs.Fmt.{signed_decimal};
 ghost use Rattle.wc_view_decode.specs.declared.format.DecodeFormat.TheVariants.{Table, Text};
-ghost use Rattle.wc_view_decode.specs.Formats.{bit_column, bit_name, bits_row, bits_text, is_bit_on, named_words, word_names};
-ghost use Rattle.wc_view_decode.specs.Puts.{Puts};
+ghost use Rattle.wc_view_decode.specs.Formats.{Puts, bit_column, bit_name, bits_row, bits_text, is_bit_on, named_words, word_names};
 
 use wc_model::{Fault, put_bytes};
 use wc_report::{put_number, put_signed};

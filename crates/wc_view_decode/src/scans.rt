@@ -1,7 +1,6 @@
 ghost use Rattle.std.specs.Prelude.{◌≡◌, ℕ, ℤ, List, IfOk, IsOkUnless, option_map, slice_index};
-ghost use Rattle.wc_view_decode.specs.Entries.{entry_content, scan_content};
 ghost use Rattle.wc_view_decode.specs.Fields.{words_text};
-ghost use Rattle.wc_view_decode.specs.Lines.{AreWords, InRange, IsContentOf, ScanContent, content_text};
+ghost use Rattle.wc_view_decode.specs.Lines.{AreWords, InRange, IsContentOf, ScanContent, content_text, entry_content, scan_content};
 ghost use Rattle.wc_model.specs.declared.image.Outputs.{Outputs};
 
 use crate::entry::{ReportEntry, ScanRow};

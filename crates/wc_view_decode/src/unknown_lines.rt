@@ -1,6 +1,5 @@
 ghost use Rattle.std.specs.Prelude.{◌≡◌, ◌∷◌, []};
-ghost use Rattle.wc_view_decode.specs.Formats.{closing, is_shown, opening, passed_on, unknown};
-ghost use Rattle.wc_view_decode.specs.Puts.{Puts};
+ghost use Rattle.wc_view_decode.specs.Formats.{Puts, closing, is_shown, opening, passed_on, unknown};
 
 use crate::format::DecodeFormat;
 use wc_model::{Fault, put_bytes};

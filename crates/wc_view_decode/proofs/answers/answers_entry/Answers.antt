@@ -1,6 +1,6 @@
 use Rattle.std.proofs.Common.{◌≡◌, rules}
 use Rattle.wc_view_decode.proofs.ContentRows.{otherwise_none, row_content}
-use Rattle.wc_view_decode.specs.Entries.{entry_content}
+use Rattle.wc_view_decode.specs.Lines.{entry_content}
 use Rattle.wc_model.specs.Say.Report.{AnswerLine, line_text}
 use Rattle.wc_view_decode.proofs.answers.answers_entry.Goals as goal
 

@@ -1,7 +1,8 @@
 use Rattle.std.proofs.Common.{◌∙◌, ◌++◌, true, false, ◌<◌, length, ap, subst, arith}
 use Rattle.std.proofs.lemmas.Grind.{common_steps}
+use Rattle.std.proofs.lemmas.Result.{on_ok_weaker}
 use Rattle.wc_view_decode.proofs.Standings.{finished_kept, finished_long}
-use Rattle.wc_view_decode.proofs.Takings.{after_text, finishes_if}
+use Rattle.wc_view_decode.proofs.Takings.{after_text}
 use Rattle.wc_view_decode.specs.Decoding.{Decodes}
 use Rattle.wc_view_decode.specs.Formats.{unknown}
 use Rattle.wc_view_decode.specs.Representation.{IsInState}
@@ -12,10 +13,11 @@ returns-then-decoder-clause-finishes c =
     let format = c.args.decoder.now.format in
     let kept = c.args.decoder.now.line.items in
     let old = c.args.text.now.items in
-    finishes_if c.put_closing.result c.args.decoder.now _ _ _ c.put_closing.ensures.0
+    on_ok_weaker c.put_closing.result
     (λ e read text represents.
     subst (Decodes format read) (after_text text old c.put_closing.new.text.items _ e)
     (finished_long format read kept (text ++ old) (subst (λ b. IsInState format read kept b (text ++ old)) c.if-decoder.true represents)))
+    c.put_closing.ensures.0
 
 pub returns-clause-finishes : goal.returns-clause-finishes
 returns-clause-finishes c =
@@ -23,7 +25,8 @@ returns-clause-finishes c =
     let kept = c.args.decoder.now.line.items in
     let old = c.args.text.now.items in
     let some : 0 < length kept = grind (arith, common_steps) in
-    finishes_if c.put_unknown.result c.args.decoder.now _ _ _ c.put_unknown.ensures.0
+    on_ok_weaker c.put_unknown.result
     (λ e read text represents.
     subst (Decodes format read) (after_text text old c.put_unknown.new.text.items (unknown format kept) (e ∙ ap (λ l. old ++ unknown format l) c.deref.ensures.value))
     (finished_kept format read kept (text ++ old) (λ none. omega (arith, some, ap length none)) (subst (λ b. IsInState format read kept b (text ++ old)) c.if-decoder.false represents)))
+    c.put_unknown.ensures.0
