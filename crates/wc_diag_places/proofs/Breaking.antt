@@ -1,15 +1,16 @@
 -- Which one of a call's list breaks a rule first.
-use Rattle.std.proofs.Common.{◌≡◌, ℕ, suc, ◌+◌, ◌<◌, ◌≤◌, Bool, true, false, not, List, [], ◌∷◌, map, ◌++◌, Option, Some, None, Result, Ok, Err, append-nil, add-one, refl, sym, ap, subst, ◌∙◌, arith, ◌⊎◌, inl, inr}
+use Rattle.std.proofs.Common.{◌≡◌, ℕ, suc, ◌+◌, ◌<◌, ◌≤◌, Bool, true, false, not, List, [], ◌∷◌, map, ◌++◌, Option, Some, None, Err, append-nil, add-one, refl, sym, ap, subst, ◌∙◌, arith, ◌⊎◌, inl, inr}
 use Rattle.std.specs.List.{list_any}
-use Rattle.std.specs.Prelude.{IfOk, if◌then◌else◌, is_some, slice_get}
+use Rattle.std.specs.Prelude.{if◌then◌else◌, is_some, slice_get}
 use Rattle.std.proofs.lemmas.Bool.{cases_order}
 use Rattle.std.proofs.lemmas.List.Sums.{prefix_len-le-length}
 use Rattle.wc_diag_places.proofs.Positions.{earlier_there, first_before, item_far, item_there, previous_of}
 use Rattle.wc_diag_places.specs.Arguments.{IsArgument, IsArgumentAt, IsFirstBrokenOf, KeepsNames, RuleIs, argument_count, argument_from, broken_at, means_name}
-use Rattle.wc_diag_places.specs.OperandTokens.{begins_item, is_closing_shape, list_end, tokens_at}
+use Rattle.wc_diag_places.specs.OperandTokens.{begins_item, is_shape, list_end, tokens_at}
 use Rattle.wc_diag_places.specs.Lists.{AreListed, IsListedAs, item_after, item_at, operand_in, text_at}
 use Rattle.wc_diag_places.specs.declared.arguments.Broken.{Broken}
 use Rattle.wc_diag_places.specs.declared.lists.Item.{Item}
+use Rattle.wc_lexer.specs.declared.shape.Shape.TheVariants.{Closing}
 use Rattle.wc_lexer.specs.declared.shape.Token.{Token}
 use Rattle.wc_model.specs.Language.BodyRules.{actual_checks, argument_checks, formal_named, is_readable, is_writable, suits_input, suits_output}
 use Rattle.wc_model.specs.Language.Checks.{Position, Refusal, asks, first_broken, positions_of}
@@ -35,9 +36,14 @@ number_of None = 0
 number_of (Some refusal) = refusal.number
 
 -- the rules of one of a list without their line
-abbrev rules_of : Scope → Direction → Option Member → Term → List (ℕ × Bool)
-rules_of scope Into formal term = (401, is_some (entity_of scope term)) ∷ (405, is_readable (entity_of scope term)) ∷ (402, suits_input scope formal term) ∷ []
-rules_of scope OutOf formal term = (401, is_some (entity_of scope term)) ∷ (404, is_writable (entity_of scope term)) ∷ (402, suits_output scope formal term) ∷ []
+abbrev value_rules : Scope → Direction → Option Member → Term → List (ℕ × Bool)
+value_rules scope Into formal term = (401, is_some (entity_of scope term)) ∷ (405, is_readable (entity_of scope term)) ∷ (402, suits_input scope formal term) ∷ []
+value_rules scope OutOf formal term = (401, is_some (entity_of scope term)) ∷ (404, is_writable (entity_of scope term)) ∷ (402, suits_output scope formal term) ∷ []
+
+abbrev rules_of : Scope → Direction → List Member → Position Assignment → List (ℕ × Bool)
+rules_of scope direction members position =
+    let formal = formal_named direction members position.item.formal in
+    (409, is_some formal) ∷ (410, not (list_any (λ a. same_name a.formal position.item.formal) position.before)) ∷ value_rules scope direction formal position.item.actual
 
 abbrev first_number : List (ℕ × Bool) → Option ℕ
 first_number [] = None
@@ -53,9 +59,7 @@ asked_on line [] = refl
 asked_on line (rule ∷ rules) = asked_more rule.1 rule.0 line (first_broken (map (λ rule. asks rule.0 line rule.1) rules)) (first_number rules) (asked_on line rules)
 
 number_broken : (scope : Scope) (members : List Member) (position : Position Assignment) → Option ℕ
-number_broken scope members position =
-    first_number ((409, is_some (formal_named position.item.direction members position.item.formal)) ∷ (410, not (list_any (λ a. same_name a.formal position.item.formal) position.before))
-    ∷ rules_of scope position.item.direction (formal_named position.item.direction members position.item.formal) position.item.actual)
+number_broken scope members position = first_number (rules_of scope position.item.direction members position)
 
 on_line : (scope : Scope) (members : List Member) (line : ℕ) (position : Position Assignment) → broken_at scope line members position ≡ first_at (number_broken scope members position) line None
 unfolding number_broken
@@ -64,10 +68,9 @@ on_line scope members line position = by position.item.direction
     by : (direction : Direction) →
         first_broken (asks 409 line (is_some (formal_named direction members position.item.formal)) ∷ asks 410 line (not (list_any (λ a. same_name a.formal position.item.formal) position.before))
         ∷ actual_checks scope line direction (formal_named direction members position.item.formal) position.item.actual)
-        ≡ first_at (first_number ((409, is_some (formal_named direction members position.item.formal)) ∷ (410, not (list_any (λ a. same_name a.formal position.item.formal) position.before))
-        ∷ rules_of scope direction (formal_named direction members position.item.formal) position.item.actual)) line None
-    by Into = asked_on line ((409, is_some (formal_named Into members position.item.formal)) ∷ (410, not (list_any (λ a. same_name a.formal position.item.formal) position.before)) ∷ rules_of scope Into (formal_named Into members position.item.formal) position.item.actual)
-    by OutOf = asked_on line ((409, is_some (formal_named OutOf members position.item.formal)) ∷ (410, not (list_any (λ a. same_name a.formal position.item.formal) position.before)) ∷ rules_of scope OutOf (formal_named OutOf members position.item.formal) position.item.actual)
+        ≡ first_at (first_number (rules_of scope direction members position)) line None
+    by Into = asked_on line (rules_of scope Into members position)
+    by OutOf = asked_on line (rules_of scope OutOf members position)
 
 same_number : (one other : Option ℕ) (line place : ℕ) → first_at one line None ≡ first_at other place None → one ≡ other
 same_number None None line place e = refl
@@ -196,7 +199,7 @@ pub all_looked_at : (tables : Tables) (unit : ℕ) (declared : DeclaredType) (to
     → numbered_type scope.before type ≡ Some declared → AreListed tokens arguments → IsFirstBrokenOf scope line (members_of scope.before type) arguments number k → ⊥
 all_looked_at tables unit declared tokens names item n so_far all scope type line k number arguments is num listed first =
     past_end tables unit declared tokens names item n so_far scope type line k number arguments
-    (let far = item_far tokens n in let within = prefix_len-le-length (λ (token : Token). not (is_closing_shape token.shape)) tokens in
+    (let far = item_far tokens n in let within = prefix_len-le-length (λ (token : Token). not (is_shape Closing token.shape)) tokens in
     let here = ap (λ (one : Item). one.name) so_far.here in omega (arith, all, far, within, here)) is num listed first
 
 -- what is found is one of a number
@@ -229,8 +232,3 @@ argument_operand_tokens scope number tokens operand_tokens from count at there =
     let inside = argument_there tokens number (item_at tokens k) first.position.item one in
     there (subst (λ n. n ≤ list_end tokens) (λ i. sym here.0 i + sym here.1 i) inside.0) (subst (λ n. begins_item tokens n ≡ true) (sym here.0) inside.1)
     ∙ (λ i. tokens_at tokens (here.0 i) (here.1 i))
-
--- what follows of what is given, if something is
-pub if_ok : {X E : Type 0} (r : Result X E) (P Q : X → Type 0) → ((x : X) → P x → Q x) → IfOk r P → IfOk r Q
-if_ok (Ok x) P Q f p = f x p
-if_ok (Err e) P Q f p = tt

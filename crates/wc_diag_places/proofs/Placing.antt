@@ -10,8 +10,7 @@ use Rattle.wc_model.specs.Language.Tree.{Text}
 use Rattle.wc_model.specs.declared.fault.Fault.{Fault}
 use Rattle.wc_model.specs.declared.fault.Fault.TheVariants.{Memory, Refused}
 use Rattle.wc_diag_places.specs.OperandTokens.{on_line, tokens_from}
-use Rattle.wc_diag_places.specs.LaterSpans.{IsBodyFault, RefusesLater, at_costs, unit_number}
-use Rattle.wc_diag_places.specs.Spotting.{IsNamed, PointsToOffending}
+use Rattle.wc_diag_places.specs.LaterSpans.{IsBodyFault, IsTokenFault, OfRefusal, PointsToOffending, RefusesLater, at_costs, unit_number}
 use Rattle.wc_diag_stops.specs.ReadingSpans.{AreReadByPlaces, place_mark, place_marks}
 use Rattle.wc_diag_stops.specs.declared.span.RefusalSpan.{RefusalSpan}
 use Rattle.wc_names.specs.RepresentsText.{AreTables}
@@ -32,7 +31,7 @@ faultless bytes tokens text read declared sound =
     }
 
 -- a fault of the costs
-pub costs_named : (text : Text) (fault : Fault) → declaration_fault text ≡ None → body_fault text ≡ None → Measures text (Err fault) → IsNamed text fault
+pub costs_named : (text : Text) (fault : Fault) → declaration_fault text ≡ None → body_fault text ≡ None → Measures text (Err fault) → OfRefusal fault (IsTokenFault text)
 costs_named text Memory declared sound measures = tt
 costs_named text (Refused number place) declared sound measures = at_costs declared sound measures
 

@@ -13,6 +13,7 @@ use Rattle.wc_names.specs.Numbered.{IsUnit}
 use Rattle.wc_diag_places.specs.Arguments.{IsArgument}
 use Rattle.wc_diag_places.specs.OperandTokens.{IsOperandOf, is_listed, length_of_operand, line_at, on_line, operator_of, start_of_operand, tokens_from}
 use Rattle.wc_diag_stops.specs.ReadingSpans.{AreReadByPlaces}
+use Rattle.wc_diag_stops.specs.declared.span.RefusalSpan.{RefusalSpan}
 use Rattle.wc_diag_places.specs.declared.spanned_source.SpannedSource.{SpannedSource}
 
 -- the refusal of that number, asked at that place
@@ -66,10 +67,31 @@ pub record IsLaterSpan (bytes : List ℕ) (number line start count : ℕ) : Type
   pub start_is : start ≡ start_of_operand operand_tokens
   pub count_is : count ≡ length_of_operand operand_tokens
 
--- why a pass after reading refuses; out of memory says nothing
+-- what is so of a refusal's number and place; out of memory says nothing
+abbrev pub OfRefusal : Fault → (ℕ → ℕ → Type 0) → Type 0
+OfRefusal Memory P = Unit {0}
+OfRefusal (Refused number place) P = P number place
+
+-- why a pass after reading refuses
 abbrev pub RefusesLater : List ℕ → Fault → (start count : ℕ) → Type 0
-RefusesLater bytes Memory start count = Unit {0}
-RefusesLater bytes (Refused number line) start count = IsLaterSpan bytes number line start count
+RefusesLater bytes fault start count = OfRefusal fault (λ number line. IsLaterSpan bytes number line start count)
+
+-- a refusal of that number on the line of the first of these tokens, with this slice
+pub record PointsTo (number : ℕ) (tokens operand_tokens : List Token) (span : RefusalSpan) : Type 0 where
+  pub fault_is : span.fault ≡ Refused number (line_at (slice_get tokens 0))
+  pub start_is : span.start ≡ start_of_operand operand_tokens
+  pub length_is : span.length ≡ length_of_operand operand_tokens
+
+-- a refusal with a slice of the instruction that begins with these tokens, in a scope that is known by this
+pub record IsOffendingThere (known : Scope → Type 0) (number : ℕ) (tokens : List Token) (span : RefusalSpan) : Type 0 where
+  pub offending : List Token
+  pub means : IsOperandOf number tokens offending
+  pub argument : (scope : Scope) → known scope → is_listed tokens ≡ true → IsArgument scope number tokens offending
+  pub points : PointsTo number tokens (on_line tokens offending) span
+
+-- or out of memory
+abbrev pub PointsToOffending : (Scope → Type 0) → ℕ → List Token → RefusalSpan → Type 0
+PointsToOffending known number tokens span = (span.fault ≡ Memory) ⊎ IsOffendingThere known number tokens span
 
 -- what is so of whatever bytes these tokens and this tree were read by places from, and of the tree
 abbrev pub OfRead : SpannedSource → (List ℕ → Text → Type 0) → Type 0

@@ -2,4 +2,3 @@ pub mod Arguments
 pub mod LaterSpans
 pub mod Lists
 pub mod OperandTokens
-pub mod Spotting

@@ -3,7 +3,7 @@
 use Rattle.std.specs.Prelude.{◌≡◌, ◌≤◌, ◌+◌, ◌-◌, ℕ, zero, suc, Bool, true, false, min, nat_lt, List, [], drop, length, Option, Some, None, slice_get, if◌then◌else◌}
 use Rattle.std.specs.List.{position_or_len}
 use Rattle.std.specs.Option.{option_map_or}
-use Rattle.wc_diag_places.specs.OperandTokens.{begins_item, is_point, list_end, tokens_at}
+use Rattle.wc_diag_places.specs.OperandTokens.{begins_item, is_point, is_shape, list_end, tokens_at}
 use Rattle.wc_diag_places.specs.declared.lists.Item.{Item}
 use Rattle.wc_lexer.specs.declared.shape.Shape.{Shape}
 use Rattle.wc_lexer.specs.declared.shape.Shape.TheVariants.{Arrow, LineEnd}
@@ -20,10 +20,6 @@ abbrev pub is_mark_shape : Shape → Bool
 is_mark_shape LineEnd = false
 is_mark_shape shape = true
 
-abbrev pub is_arrow_shape : Shape → Bool
-is_arrow_shape Arrow = true
-is_arrow_shape shape = false
-
 -- the first index after one whose token ends no line; the number of tokens if there is none
 unfoldable pub mark_after : List Token → ℕ → ℕ
 mark_after tokens index =
@@ -32,7 +28,7 @@ mark_after tokens index =
 
 -- `=>` gives an output out, `:=` assigns an input
 abbrev pub direction_of : Option Token → Direction
-direction_of sign = if option_map_or (λ token. is_arrow_shape token.shape) sign false then OutOf else Into
+direction_of sign = if option_map_or (λ token. is_shape Arrow token.shape) sign false then OutOf else Into
 
 -- the last token of a value: that of the field after a point, or its only one
 abbrev pub value_end : List Token → ℕ → ℕ

@@ -6,24 +6,19 @@ use Rattle.wc_lexer.specs.declared.shape.Shape.{Shape}
 use Rattle.wc_lexer.specs.declared.shape.Shape.TheVariants.{Arrow, Assign, Closing, Comma, LineEnd, Opening, Point}
 use Rattle.wc_lexer.specs.declared.shape.Token.{Token}
 
--- a token is an opening parenthesis, a closing one, a point
-abbrev pub is_opening_shape : Shape → Bool
-is_opening_shape Opening = true
-is_opening_shape shape = false
-
-abbrev pub is_closing_shape : Shape → Bool
-is_closing_shape Closing = true
-is_closing_shape shape = false
-
-abbrev pub is_point_shape : Shape → Bool
-is_point_shape Point = true
-is_point_shape shape = false
+-- a shape is that one: an opening parenthesis, a closing one, a point, `=>`
+abbrev pub is_shape : (wanted shape : Shape) → Bool
+is_shape Opening Opening = true
+is_shape Closing Closing = true
+is_shape Point Point = true
+is_shape Arrow Arrow = true
+is_shape _ _ = false
 
 abbrev pub is_opening : Option Token → Bool
-is_opening found = option_map_or (λ token. is_opening_shape token.shape) found false
+is_opening found = option_map_or (λ token. is_shape Opening token.shape) found false
 
 abbrev pub is_point : Option Token → Bool
-is_point found = option_map_or (λ token. is_point_shape token.shape) found false
+is_point found = option_map_or (λ token. is_shape Point token.shape) found false
 
 -- the tokens from the one that starts at that byte on; none if none does
 abbrev pub tokens_from : List Token → ℕ → List Token
@@ -58,7 +53,7 @@ is_listed tokens = is_opening (slice_get tokens 2)
 
 -- where the list of a call ends
 abbrev pub list_end : List Token → ℕ
-list_end tokens = position_or_len (λ token. is_closing_shape token.shape) tokens
+list_end tokens = position_or_len (λ token. is_shape Closing token.shape) tokens
 
 -- a name or a value of a call's list is after such a token: `(`, a comma, `:=`, `=>`, or the end of a line after one of these
 abbrev pub starts_item_shape : Shape → Bool
@@ -90,21 +85,14 @@ IsOperatorOrOperand tokens operand_tokens = (operand_tokens ≡ operator_of toke
 abbrev pub operand_by_number : ℕ → List Token → List Token
 operand_by_number number tokens =
     if number == 408 then (if opens tokens then operator_of tokens else operand_of tokens)
-    else if number == 401 then operand_of tokens
-    else if number == 404 then operand_of tokens
-    else if number == 405 then operand_of tokens
-    else if number == 406 then operand_of tokens
+    else if (number == 401) || (number == 404) || (number == 405) || (number == 406) then operand_of tokens
     else operator_of tokens
-
--- in an instruction without a list
-abbrev pub IsPlainOperand : ℕ → List Token → List Token → Type 0
-IsPlainOperand number tokens operand_tokens =
-    (number ≡ 402 → IsOperatorOrOperand tokens operand_tokens) × ((number ≡ 402 → ⊥) → operand_tokens ≡ operand_by_number number tokens)
 
 -- in an instruction, whose tokens are those from its first one on
 abbrev pub IsOperandOf : ℕ → List Token → List Token → Type 0
 IsOperandOf number tokens operand_tokens =
-    (is_listed tokens ≡ true → (operand_tokens ≡ operator_of tokens) ⊎ IsOfCall tokens operand_tokens) × (is_listed tokens ≡ false → IsPlainOperand number tokens operand_tokens)
+    (is_listed tokens ≡ true → (operand_tokens ≡ operator_of tokens) ⊎ IsOfCall tokens operand_tokens)
+    × (is_listed tokens ≡ false → (number ≡ 402 → IsOperatorOrOperand tokens operand_tokens) × ((number ≡ 402 → ⊥) → operand_tokens ≡ operand_by_number number tokens))
 
 -- the line of a token that is there
 abbrev pub line_at : Option Token → ℕ
@@ -116,14 +104,9 @@ abbrev pub on_line : List Token → List Token → List Token
 on_line tokens operand_tokens = if line_at (slice_get operand_tokens 0) == line_at (slice_get tokens 0) then operand_tokens else operator_of tokens
 
 -- where a slice starts, and its number of bytes, from its first token to its last
-abbrev pub start_at : Option Token → ℕ
-start_at found = option_map_or (λ token. token.start) found 0
-
-abbrev pub end_at : Option Token → ℕ
-end_at found = option_map_or (λ token. token.start + length token.text.now) found 0
-
 abbrev pub start_of_operand : List Token → ℕ
-start_of_operand operand_tokens = start_at (slice_get operand_tokens 0)
+start_of_operand operand_tokens = option_map_or (λ token. token.start) (slice_get operand_tokens 0) 0
 
 abbrev pub length_of_operand : List Token → ℕ
-length_of_operand operand_tokens = end_at (slice_get operand_tokens (length operand_tokens - 1)) - start_of_operand operand_tokens
+length_of_operand operand_tokens =
+    option_map_or (λ token. token.start + length token.text.now) (slice_get operand_tokens (length operand_tokens - 1)) 0 - start_of_operand operand_tokens

@@ -1,7 +1,7 @@
 ghost use Rattle.std.specs.Prelude.{◌≡◌, ◌==◌, ◌+◌, ◌≤◌, length};
 ghost use Rattle.std.specs.List.{position_or_len};
 ghost use Rattle.std.specs.Option.{option_copied};
-ghost use Rattle.wc_diag_places.specs.OperandTokens.{is_closing_shape, is_listed, is_opening, is_point, length_of_operand, line_at, list_end, operand_count, operand_index, operand_of, operator_of, opens, start_of_operand, tokens_at, tokens_from};
+ghost use Rattle.wc_diag_places.specs.OperandTokens.{is_listed, is_opening, is_point, is_shape, length_of_operand, line_at, list_end, operand_count, operand_index, operand_of, operator_of, opens, start_of_operand, tokens_at, tokens_from};
 
 use wc_diag_texts::Case;
 use wc_lexer::{Shape, Token};
@@ -22,7 +22,7 @@ pub(crate) fn is_point(token: Option<&Token<'_>>) -> bool
 
 /// A token closes a list.
 pub(crate) fn is_closing(token: &Token<'_>) -> bool
-    ensures { result ≡ is_closing_shape token.now.shape }
+    ensures { result ≡ is_shape Shape.Closing token.now.shape }
 {
     matches!(token.shape, Shape::Closing)
 }

@@ -2,12 +2,11 @@ ghost use Rattle.std.specs.Prelude.{◌≡◌, true, None, IfOk, IfNone, IfSome}
 ghost use Rattle.wc_model.specs.Language.Faults.{declaration_fault};
 ghost use Rattle.wc_names.specs.RepresentsText.{AreTables};
 ghost use Rattle.wc_diag_places.specs.Arguments.{IsArgument};
-ghost use Rattle.wc_diag_places.specs.LaterSpans.{IsAccepted, OfRead, RefusesLater, unit_number};
+ghost use Rattle.wc_diag_places.specs.LaterSpans.{IsAccepted, IsBodyFault, IsTokenFault, OfRead, OfRefusal, PointsTo, PointsToOffending, RefusesLater, unit_number};
 ghost use Rattle.wc_model.specs.Language.Scopes.{Scope};
 ghost use Rattle.wc_model.specs.Language.Views.{text_view};
 ghost use Rattle.wc_verify.specs.Seeing.{IsScope};
 ghost use Rattle.wc_diag_places.specs.OperandTokens.{IsOperatorOrOperand, IsOperandOf, is_listed, on_line, operator_of, operand_by_number, tokens_from};
-ghost use Rattle.wc_diag_places.specs.Spotting.{IsInBody, IsNamed, PointsTo, PointsToOffending};
 
 use crate::calls::{offending_in_call, operand_of_call};
 use crate::instances::{block_in, slice_of};
@@ -268,7 +267,7 @@ fn span_of_instruction<'a>(
 
 /// A refusal of pass 3 or of the costs.
 fn span_of_name(spanned_source: &SpannedSource<'_>, fault: Fault) -> RefusalSpan
-    ensures { OfRead spanned_source.now (λ bytes text. IsNamed text fault
+    ensures { OfRead spanned_source.now (λ bytes text. OfRefusal fault (IsTokenFault text)
         → RefusesLater bytes result.fault result.start result.length) }
 {
     match fault {
@@ -285,7 +284,7 @@ fn span_of_body<'a>(
     fault: Fault,
 ) -> RefusalSpan
     ensures { OfRead spanned_source.now (λ bytes text. AreTables tables.now text
-        → IsInBody text fault
+        → OfRefusal fault (IsBodyFault text)
         → RefusesLater bytes result.fault result.start result.length) }
 {
     match fault {

@@ -1,6 +1,6 @@
 use Rattle.std.proofs.Common.{◌≡◌, ◌∙◌, false, true, ap, sym}
+use Rattle.std.proofs.lemmas.Result.{IfOk-weaker}
 use Rattle.std.specs.Prelude.{is_some, option_and_then}
-use Rattle.wc_diag_places.proofs.Breaking.{if_ok}
 use Rattle.wc_diag_places.proofs.calls.offending_in_call.Goals as goal
 use Rattle.wc_model.specs.Language.Names.{name_of}
 use Rattle.wc_model.specs.Language.Scopes.{type_of}
@@ -8,7 +8,7 @@ use Rattle.wc_names.specs.Numbered.{numbered_type}
 
 pub returns-in_default : goal.returns-in_default
 returns-in_default c =
-    if_ok c.offending_in_list.result _ _
+    IfOk-weaker c.offending_in_list.result _ _
     (λ call given scope is type line k arguments typed instance listed first.
     given scope type line k arguments is
     (sym (c.in-Some.ensures.declared is.text scope is.tables_are is.unit_is ∙ ap (λ text. option_and_then (numbered_type scope.before) (type_of scope (name_of text))) c.text_at.ensures
