@@ -52,6 +52,7 @@ pub record AreShort (sections : Sections) (part : List ℕ) : Type 0 where
   pub plate : line_ends sections.plate ≤ 1048576
   pub program : line_ends sections.program ≤ 1048576
   pub next : line_ends part ≤ 1048576
+  pub together : line_ends sections.plate + line_ends sections.program ≤ 1048576
 
 pub sections_are_short : (bytes : List ℕ) (sections : Sections) → sections_of bytes ≡ Ok sections → (made : IsMadeOf bytes sections) → AreShort sections made.next_part
 sections_are_short bytes sections e made =
@@ -68,28 +69,14 @@ sections_are_short bytes sections e made =
     let c = length-append made.program_line program in
     let d = length-append sections.program next in
     let f = length-append made.next_part following in
+    let p = count_by-le-length (λ byte. byte == 10) sections.plate in
+    let q = count_by-le-length (λ byte. byte == 10) sections.program in
     record {
       plate = few_ends sections.plate 0 1048576 (omega (arith, whole, a, b, short));
       program = few_ends sections.program 0 1048576 (omega (arith, whole, a, b, c, d, short));
       next = few_ends made.next_part 0 1048576 (omega (arith, whole, a, b, c, d, f, short));
+      together = omega (arith, whole, a, b, c, d, p, q, short);
     }
-
--- the lines of plate and program together
-short_together : (bytes : List ℕ) (sections : Sections) → sections_of bytes ≡ Ok sections → IsMadeOf bytes sections → line_ends sections.plate + line_ends sections.program ≤ 1048576
-short_together bytes sections e made =
-    let short = job_is_short bytes sections e in
-    let log = sections.log ++ [] in
-    let next = made.next_part ++ (made.log_line ++ log) in
-    let program = sections.program ++ next in
-    let heading = made.program_line ++ program in
-    let whole : length bytes ≡ length (made.plate_line ++ (sections.plate ++ heading)) = ap length made.whole in
-    let a = length-append made.plate_line (sections.plate ++ heading) in
-    let b = length-append sections.plate heading in
-    let c = length-append made.program_line program in
-    let d = length-append sections.program next in
-    let p = count_by-le-length (λ byte. byte == 10) sections.plate in
-    let q = count_by-le-length (λ byte. byte == 10) sections.program in
-    omega (arith, whole, a, b, c, d, p, q, short)
 
 -- one line is above the plate
 pub above_plate : (bytes : List ℕ) (sections : Sections) (made : IsMadeOf bytes sections) → 1 ≡ line_ends (bytes_before Plate bytes sections made)
@@ -188,7 +175,7 @@ log_is_there job found program next result is first second none some sections e 
     counted : sections_of job ≡ Ok found → (m : IsMadeOf job found) → result ≡ (1 + line_ends found.plate + 1) + line_ends found.program + next_ends found.next + 1
     counted f m =
         let short = sections_are_short job found f m in
-        let low = short_together job found f m in
+        let low = short.together in
         let middle = between job found program next first second f m in
         let last = by_next found.next m.next_part refl m.next_heading short.next (omega (arith, middle, low)) in
         omega (arith, middle, last)

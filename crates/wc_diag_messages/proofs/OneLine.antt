@@ -1,5 +1,5 @@
 -- What is written on one line has no control of ASCII in it.
-use Rattle.std.proofs.Common.{◌≡◌, ◌==◌, ◌&&◌, ◌||◌, not, ◌<◌, ◌≤◌, ◌/◌, ◌%◌, ◌+◌, ◌-◌, nat_lt, nat_le, lit<, ℕ, zero, suc, Bool, true, false, if◌then◌else◌, List, [], ◌∷◌, ◌++◌, Option, Some, None, codes, decimal, length, take, refl, sym, subst, arith}
+use Rattle.std.proofs.Common.{◌≡◌, ◌==◌, ◌&&◌, ◌||◌, not, ◌<◌, ◌≤◌, ◌/◌, ◌%◌, ◌+◌, ◌-◌, nat_lt, nat_le, lit<, ℕ, zero, suc, Bool, true, false, if◌then◌else◌, List, [], ◌∷◌, ◌++◌, Option, Some, None, codes, decimal, refl, sym, subst, arith}
 use Rattle.std.proofs.lemmas.Bool.{and_parts, leb-true, ltb-false}
 use Rattle.std.specs.Char.{digit_char}
 use Rattle.std.specs.List.{flat_map}
@@ -7,13 +7,12 @@ use Rattle.std.specs.Str.{is_utf8}
 use Rattle.std.specs.Fmt.{digits, digits_onto, digit_glyph}
 use Rattle.wc_diag_spans.specs.declared.diagnostic.Span.{Span}
 use Rattle.wc_diag_spans.specs.declared.refusal.Part.{Part}
-use Rattle.wc_diag_spans.specs.declared.refusal.Part.TheVariants.{Job, Plate, Program, Next, Log}
+use Rattle.wc_diag_spans.specs.declared.refusal.Part.TheVariants.{Log}
 use Rattle.wc_diag_spans.specs.declared.refusal.Refusal.{Refusal}
-use Rattle.wc_diag_messages.specs.Explanations.{QuotesAndSays, left_out_text, line_text, numbered, opening, quoted_text}
-use Rattle.wc_diag_messages.specs.Formats.{after_colon, helped_text, position_text, short_text}
-use Rattle.wc_diag_messages.specs.Known.{IsKnown, IsPrintable}
-use Rattle.wc_diag_messages.specs.Locations.{column_text, counted_name, counted_text, heading, number_text, place_text, row_text, section_text}
-use Rattle.wc_diag_texts.specs.Plain.{HasNoControls, IsShown, acts, column_of, escaped_byte, escaped_text, hex_digit, is_calm, is_control, passes, shown_text, with_spaces, words_after}
+use Rattle.wc_diag_messages.specs.Explanations.{IsKnown, IsPrintable, QuotesAndSays, left_out_text, line_text, numbered, quoted_text}
+use Rattle.wc_diag_messages.specs.Formats.{helped_text, position_text, short_text}
+use Rattle.wc_diag_messages.specs.Locations.{column_text, counted_text, place_text, row_text, section_text}
+use Rattle.wc_diag_texts.specs.Plain.{HasNoControls, IsShown, acts, escaped_byte, escaped_text, hex_digit, is_calm, is_control, passes, shown_text, with_spaces, words_after}
 use Rattle.wc_diag_messages.specs.Warned.{KnowsWarning, named_text}
 use Rattle.wc_diag_messages.specs.declared.parts.Parts.{Parts}
 use Rattle.wc_diag_messages.specs.declared.parts.Severity.{Severity}
@@ -55,8 +54,7 @@ bytes_escaped [] = tt
 bytes_escaped (byte ∷ rest) = joined (escaped_byte byte) (escaped_text rest) (byte_escaped byte) (bytes_escaped rest)
 
 above_if_calm : (small other rest : Bool) (control : Bool) → (not ((small || control) || other) && rest) ≡ true → small ≡ false
-above_if_calm true other rest control e = absurd (cc)
-above_if_calm false other rest control e = refl
+above_if_calm small other rest control e = grind arith
 
 calm_above : (bytes : List ℕ) → is_calm bytes ≡ true → HasNoControls bytes
 calm_above [] e = tt
@@ -98,31 +96,16 @@ decimal_above n = digits_above 64 10 false n [] tt
 
 -- the slice that is quoted, and what is said of it
 left_out : (long : ℕ) → HasNoControls (left_out_text long)
-left_out long =
-    let text = shown_text (codes "(and ") ++ number_text (long - 120) in
-    either (nat_lt 120 long) (text ++ shown_text (codes " bytes more) ")) []
-    (joined text (shown_text (codes " bytes more) ")) (joined (shown_text (codes "(and ")) (number_text (long - 120)) (bytes_shown (codes "(and ")) (bytes_shown (decimal (long - 120)))) (bytes_shown (codes " bytes more) "))) tt
+left_out long = search (joined, either, bytes_shown)
 
 pub quoted_above : (text : List ℕ) → HasNoControls (quoted_text text)
 quoted_above [] = tt
-quoted_above (byte ∷ rest) =
-    let mark = shown_text (codes "`") in
-    let text = shown_text (take 120 (byte ∷ rest)) in
-    let space = shown_text (codes " ") in
-    let a = joined mark text (bytes_shown (codes "`")) (bytes_shown (take 120 (byte ∷ rest))) in
-    let b = joined (mark ++ text) mark a (bytes_shown (codes "`")) in
-    let c = joined (mark ++ text ++ mark) space b (bytes_shown (codes " ")) in
-    joined (mark ++ text ++ mark ++ space) (left_out_text (length (byte ∷ rest))) c (left_out (length (byte ∷ rest)))
+quoted_above (byte ∷ rest) = search (joined, bytes_shown, left_out)
 
 -- the name of a warning
 named_above : (name : List ℕ) → HasNoControls (named_text name)
 named_above [] = tt
-named_above (byte ∷ rest) =
-    let mark = shown_text (codes "`") in
-    let text = shown_text (byte ∷ rest) in
-    let a = joined mark text (bytes_shown (codes "`")) (bytes_shown (byte ∷ rest)) in
-    let b = joined (mark ++ text) mark a (bytes_shown (codes "`")) in
-    joined (mark ++ text ++ mark) (shown_text (codes " ")) b (bytes_shown (codes " "))
+named_above (byte ∷ rest) = search (joined, bytes_shown)
 
 -- what is wrong
 pub reported_above : (subject reported : List ℕ) → QuotesAndSays subject reported → HasNoControls reported
@@ -139,63 +122,43 @@ helped_above reported advice h k =
 
 -- the place that is counted
 counted_above : (part : Part) (place : ℕ) → HasNoControls (counted_text part place)
-counted_above part place = joined (shown_text (counted_name part)) (number_text place) (bytes_shown (counted_name part)) (bytes_shown (decimal place))
+counted_above part place = search (joined, bytes_shown)
 
 row_above : (part : Part) (place : ℕ) → HasNoControls (row_text part place)
-row_above Job place = tt
-row_above Plate place = tt
-row_above Program place = tt
-row_above Next place = tt
-row_above Log place = either (place == 0) [] (counted_text Log place) tt (counted_above Log place)
+row_above Log place = search (either, counted_above)
+row_above part place = tt
 
 section_above : (part : Part) (place : ℕ) → HasNoControls (section_text part place)
-section_above part place =
-    let of = shown_text (codes " of ") in
-    either (place == 0) (shown_text (heading part)) (counted_text part place ++ of ++ shown_text (heading part)) (bytes_shown (heading part))
-    (joined (counted_text part place ++ of) (shown_text (heading part)) (joined (counted_text part place) of (counted_above part place) (bytes_shown (codes " of "))) (bytes_shown (heading part)))
+section_above part place = search (joined, either, bytes_shown, counted_above)
 
 place_above : (in_job : Bool) (part : Part) (place : ℕ) → HasNoControls (place_text in_job part place)
 place_above in_job part place = either in_job (section_text part place) (row_text part place) (section_above part place) (row_above part place)
 
-colon_above : (words : List ℕ) → HasNoControls words → HasNoControls (after_colon words)
-colon_above [] h = tt
-colon_above (byte ∷ rest) h = joined (shown_text (codes ":")) (byte ∷ rest) (bytes_shown (codes ":")) h
-
 column_above : (shown : List ℕ) (span : Option Span) → HasNoControls (column_text shown span)
 column_above shown None = tt
-column_above shown (Some span) = joined (shown_text (codes ":")) (number_text (column_of shown span.start)) (bytes_shown (codes ":")) (bytes_shown (decimal (column_of shown span.start)))
+column_above shown (Some span) = search (joined, bytes_shown)
 
 line_above : (line : ℕ) → HasNoControls (line_text line)
-line_above line =
-    either (line == 0) [] (shown_text (codes ":") ++ number_text line) tt
-    (joined (shown_text (codes ":")) (number_text line) (bytes_shown (codes ":")) (bytes_shown (decimal line)))
+line_above line = search (joined, either, bytes_shown)
 
 -- where it is
 position_above : (parts : Parts) → HasNoControls parts.place.bytes.items → HasNoControls (position_text parts)
 position_above parts h =
     let shown = parts.diagnostic.shown.items in
     let span = parts.diagnostic.span in
-    either (parts.line == 0) (after_colon parts.place.bytes.items) (line_text parts.line ++ column_text shown span) (colon_above parts.place.bytes.items h)
+    let colon = words_above (shown_text (codes ":")) parts.place.bytes.items (bytes_shown (codes ":")) h in
+    either (parts.line == 0) (words_after (shown_text (codes ":")) parts.place.bytes.items) (line_text parts.line ++ column_text shown span) colon
     (joined (line_text parts.line) (column_text shown span) (line_above parts.line) (column_above shown span))
 
 -- its number
 numbered_above : (severity : Severity) (number : ℕ) → HasNoControls (numbered severity number)
-numbered_above severity number =
-    joined (shown_text (opening severity) ++ number_text number) (shown_text (codes "]: "))
-    (joined (shown_text (opening severity)) (number_text number) (bytes_shown (opening severity)) (bytes_shown (decimal number))) (bytes_shown (codes "]: "))
+numbered_above severity number = search (joined, bytes_shown)
 
 -- all of it on one line
 pub short_above : (name : List ℕ) (parts : Parts) → IsPrintable parts → HasNoControls (short_text name parts)
 short_above name parts is =
-    let file = shown_text name in
-    let position = position_text parts in
-    let colon = shown_text (codes ": ") in
-    let number = numbered parts.severity parts.number in
-    let said = helped_text parts.reported.bytes.items parts.advice.bytes.items in
-    let a = joined file position (bytes_shown name) (position_above parts is.place) in
-    let b = joined (file ++ position) colon a (bytes_shown (codes ": ")) in
-    let c = joined (file ++ position ++ colon) number b (numbered_above parts.severity parts.number) in
-    joined (file ++ position ++ colon ++ number) said c (helped_above parts.reported.bytes.items parts.advice.bytes.items is.reported is.advice)
+    let helped = helped_above parts.reported.bytes.items parts.advice.bytes.items is.reported is.advice in
+    search (joined, bytes_shown, position_above parts is.place, numbered_above, helped)
 
 -- what is known of a refusal or a warning
 pub refusal_prints : (refusal : Refusal) (parts : Parts) → IsKnown refusal parts → IsPrintable parts

@@ -6,7 +6,7 @@ use Rattle.json.specs.Print.{begins, ends, escape, escape_byte, escape_letter, p
 use Rattle.json.specs.Token as json_token
 use Rattle.json.specs.Token.{Token}
 use Rattle.wc_diag_messages.proofs.OneLine.{decimal_above, digit_above, joined}
-use Rattle.wc_diag_messages.specs.Formats.{column_after, first_column, number_if_any, number_member, object_tokens, position_members, severity_members, text_if_any, text_member, word_members}
+use Rattle.wc_diag_messages.specs.Formats.{number_if_any, number_member, object_tokens, position_members, severity_members, text_if_any, text_member, word_members}
 use Rattle.wc_diag_texts.specs.Plain.{HasNoControls}
 use Rattle.wc_diag_messages.specs.Warned.{left_out_tokens}
 use Rattle.wc_diag_messages.specs.declared.parts.Parts.{Parts}
@@ -82,31 +82,14 @@ number_if_any_clean : (name : List ℕ) (value : ℕ) → AreClean (number_if_an
 number_if_any_clean name value = either_clean (value == 0) [] (number_member name value) tt (number_clean name value)
 
 position_clean : (parts : Parts) → AreClean (position_members parts)
-position_clean parts =
-    let shown = parts.diagnostic.shown.items in
-    let span = parts.diagnostic.span in
-    let a = number_if_any (codes "line") parts.line in
-    let b = number_if_any (codes "column") (first_column shown span) in
-    let c = number_if_any (codes "endColumn") (column_after span shown) in
-    let place = parts.place.bytes.items in
-    let first = both_clean a b (number_if_any_clean (codes "line") parts.line) (number_if_any_clean (codes "column") (first_column shown span)) in
-    let second = both_clean (a ++ b) c first (number_if_any_clean (codes "endColumn") (column_after span shown)) in
-    both_clean (a ++ b ++ c) (text_if_any (codes "place") place) second (text_if_any_clean (codes "place") place)
+position_clean parts = search (both_clean, number_if_any_clean, text_if_any_clean)
 
 severity_clean : (severity : Severity) → AreClean (severity_members severity)
 severity_clean Error = tt
 severity_clean Warning = text_clean (codes "severity") (codes "warning")
 
 words_clean : (parts : Parts) → AreClean (word_members parts)
-words_clean parts =
-    let reported = parts.reported.bytes.items in
-    let advice = parts.advice.bytes.items in
-    let a = severity_members parts.severity in
-    let b = number_member (codes "number") parts.number in
-    let c = text_member (codes "sentence") reported in
-    let first = both_clean a b (severity_clean parts.severity) (number_clean (codes "number") parts.number) in
-    let second = both_clean (a ++ b) c first (text_clean (codes "sentence") reported) in
-    both_clean (a ++ b ++ c) (text_if_any (codes "hint") advice) second (text_if_any_clean (codes "hint") advice)
+words_clean parts = search (both_clean, severity_clean, number_clean, text_clean, text_if_any_clean)
 
 -- four groups of members of an object
 object_clean : (name : List ℕ) (one other : List Token) → AreClean one → AreClean other
@@ -114,9 +97,8 @@ object_clean : (name : List ℕ) (one other : List Token) → AreClean one → A
 object_clean name one other h k =
     let opening = json_token.begin_object ∷ text_member (codes "file") name in
     let first : AreClean opening = ((lit< tt, tt), text_clean (codes "file") name) in
-    let second = both_clean opening one first h in
-    let third = both_clean (opening ++ one) other second k in
-    both_clean (opening ++ one ++ other) (json_token.end_object ∷ []) third ((lit< tt, tt), tt)
+    let last : AreClean (json_token.end_object ∷ []) = ((lit< tt, tt), tt) in
+    search (both_clean, first, last, h, k)
 
 -- a comma, if any
 comma : (b : Bool) → HasNoControls (cond b (44 ∷ []) [])

@@ -1,5 +1,5 @@
 -- A warning that is placed at its token: what follows for its line and its mark.
-use Rattle.std.proofs.Common.{◌≡◌, ◌∙◌, ◌≤◌, ◌&&◌, ℕ, Bool, true, false, List, [], ◌∷◌, Option, Some, None, IfSome, drop, length, min, take, unwrap_or, refl, sym, subst, ap, arith}
+use Rattle.std.proofs.Common.{◌≡◌, ◌∙◌, ◌≤◌, ◌&&◌, ℕ, Bool, true, false, List, [], ◌∷◌, Option, Some, None, IfSome, drop, length, take, unwrap_or, refl, sym, subst, ap, arith}
 use Rattle.std.proofs.Math.Nat.{min-le_right}
 use Rattle.std.proofs.lemmas.Bool.{and_parts, leb-true}
 use Rattle.std.proofs.lemmas.Slice.Eq.{bytes_eq-Decides}
@@ -25,9 +25,6 @@ found_passes p (y ∷ ys) x e = by (p y) refl e (found_passes p ys x)
 begins_there : (name : List ℕ) (start : ℕ) (line : List ℕ) → (marked name start line).start ≡ start
 begins_there [] start line = refl
 begins_there (byte ∷ rest) start line = refl
-
-at_most : (a b : ℕ) → min a b ≤ b
-at_most a b = min-le_right a b
 
 -- the name is where the line has it
 named : (name : List ℕ) (start : ℕ) (line : List ℕ) → has_there line start name ≡ true → IsNamedThere name line (marked name start line)
@@ -65,7 +62,7 @@ at_token text warning diagnostic token is placed =
     record {
       below = let e : diagnostic.line ≡ token.line = placed.line_is in omega (arith, e, least);
       own = λ none. let e : None ≡ Some (marked name start shown) = sym none ∙ placed.span_is in absurd (cc);
-      within = subst (λ s. IfSome s (λ span. span.start ≤ length shown)) (sym placed.span_is) (subst (λ n. n ≤ length shown) (sym (begins_there name start shown)) (at_most _ (length shown)));
+      within = subst (λ s. IfSome s (λ span. span.start ≤ length shown)) (sym placed.span_is) (subst (λ n. n ≤ length shown) (sym (begins_there name start shown)) (min-le_right _ (length shown)));
       represents = subst (λ s. IfSome s (IsNamedThere name shown)) (sym placed.span_is) (named name start shown here);
     }
 

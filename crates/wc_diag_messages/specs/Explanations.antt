@@ -1,23 +1,22 @@
 -- What is said of a refusal or a warning, for people: the number, what is named, the line, the column, the snippet and
 -- the page are pinned; the words between them are not (the profile's own).
 use Rattle.std.specs.Prelude.{◌≡◌, ℕ, ◌+◌, ◌-◌, ◌==◌, ◌&&◌, min, Bool, true, false, nat_lt, List, [], ◌∷◌, ◌++◌, codes, length, take, if◌then◌else◌}
+use Rattle.wc_diag_spans.specs.Finds.{Finds, IsWithin}
 use Rattle.wc_diag_spans.specs.declared.refusal.Part.{Part}
-use Rattle.wc_diag_spans.specs.declared.refusal.Part.TheVariants.{Job, Plate, Program, Next, Log}
+use Rattle.wc_diag_spans.specs.declared.refusal.Part.TheVariants.{Program, Next}
 use Rattle.wc_diag_spans.specs.declared.refusal.Refusal.{Refusal}
 use Rattle.wc_diag_messages.specs.Snippets.{snippet_text}
-use Rattle.wc_diag_messages.specs.Locations.{alongside_text, margin_text, number_text}
-use Rattle.wc_diag_texts.specs.Plain.{IsShown, shown_text}
+use Rattle.wc_diag_messages.specs.Locations.{alongside_text, margin_text, number_text, place_text}
+use Rattle.wc_diag_texts.specs.Plain.{HasNoControls, IsShown, shown_text}
 use Rattle.wc_diag_messages.specs.declared.parts.Parts.{Parts}
 use Rattle.wc_diag_messages.specs.declared.parts.Severity.{Severity}
 use Rattle.wc_diag_messages.specs.declared.parts.Severity.TheVariants.{Error, Warning}
 
 -- the part is a program
 abbrev pub is_program : Part → Bool
-is_program Job = false
-is_program Plate = false
 is_program Program = true
 is_program Next = true
-is_program Log = false
+is_program part = false
 
 -- the line that number of lines below others; none is above 4294967295
 abbrev pub line_under : ℕ → ℕ → ℕ
@@ -50,6 +49,24 @@ quoted_text (byte ∷ rest) =
 -- what is wrong, in words: the slice that is quoted, and what is said of it
 abbrev pub QuotesAndSays : List ℕ → List ℕ → Type 0
 QuotesAndSays subject reported = (said : List ℕ) × IsShown said × (reported ≡ quoted_text subject ++ said)
+
+-- these parts are what is known of the refusal: what is quoted is pinned, the rest is words
+pub record IsKnown (refusal : Refusal) (parts : Parts) : Type 0 where
+  pub found : Finds refusal parts.diagnostic
+  pub says : QuotesAndSays parts.diagnostic.subject.items parts.reported.bytes.items
+  pub severity_is : parts.severity ≡ Error
+  pub number_is : parts.number ≡ refusal.number
+  pub line_is : parts.line ≡ named_line refusal parts.diagnostic.line
+  pub place_is : parts.place.bytes.items ≡ place_text refusal.in_job refusal.part refusal.place
+  pub expected_are : IsShown parts.expected.bytes.items
+  pub advice_is : IsShown parts.advice.bytes.items
+
+-- the offending slice is on its line, and the words are on one line
+pub record IsPrintable (parts : Parts) : Type 0 where
+  pub within : IsWithin parts.diagnostic
+  pub reported : HasNoControls parts.reported.bytes.items
+  pub place : HasNoControls parts.place.bytes.items
+  pub advice : HasNoControls parts.advice.bytes.items
 
 -- what comes before the number: that of a warning is after its W
 abbrev pub opening : Severity → List ℕ

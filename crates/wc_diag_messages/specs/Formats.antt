@@ -9,8 +9,7 @@ use Rattle.json.specs.Token as json_token
 use Rattle.json.specs.Token.{Token}
 use Rattle.wc_diag_spans.specs.declared.diagnostic.Span.{Span}
 use Rattle.wc_diag_spans.specs.declared.refusal.Refusal.{Refusal}
-use Rattle.wc_diag_messages.specs.Explanations.{line_text, long_text, numbered}
-use Rattle.wc_diag_messages.specs.Known.{IsKnown}
+use Rattle.wc_diag_messages.specs.Explanations.{IsKnown, line_text, long_text, numbered}
 use Rattle.wc_diag_messages.specs.Locations.{column_text}
 use Rattle.wc_diag_texts.specs.Plain.{IsOneLine, acts_nowhere, column_of, is_plain, shown_text, words_after}
 use Rattle.wc_diag_messages.specs.declared.parts.Parts.{Parts}
@@ -19,14 +18,10 @@ use Rattle.wc_diag_messages.specs.declared.parts.Severity.TheVariants.{Error, Wa
 use Rattle.wc_diag_texts.specs.declared.format.Format.{Format}
 use Rattle.wc_diag_texts.specs.declared.format.Format.TheVariants.{Long, Short, Json}
 
--- words after a colon; nothing if there are none
-abbrev pub after_colon : List ℕ → List ℕ
-after_colon words = words_after (shown_text (codes ":")) words
-
 -- the line and the column, if the line is known; else the place by which a refusal is counted
 abbrev pub position_text : Parts → List ℕ
 position_text parts =
-    if parts.line == 0 then after_colon parts.place.bytes.items
+    if parts.line == 0 then words_after (shown_text (codes ":")) parts.place.bytes.items
     else line_text parts.line ++ column_text parts.diagnostic.shown.items parts.diagnostic.span
 
 -- what is wrong, and after it what to write instead, if that is known
@@ -125,12 +120,10 @@ pub record Reports (format : Format) (refusal : Refusal) (bytes : List ℕ) : Ty
 
 -- in the formats for people and editors, no byte is a control character of ASCII but line feeds
 abbrev pub IsPlainIn : Format → List ℕ → Type 0
-IsPlainIn Long bytes = list_all is_plain bytes ≡ true
-IsPlainIn Short bytes = list_all is_plain bytes ≡ true
 IsPlainIn Json bytes = Unit {0}
+IsPlainIn format bytes = list_all is_plain bytes ≡ true
 
 -- and no character acts on a terminal or an editor, or is not seen
 abbrev pub IsCalmIn : Format → List ℕ → Type 0
-IsCalmIn Long bytes = acts_nowhere bytes ≡ true
-IsCalmIn Short bytes = acts_nowhere bytes ≡ true
 IsCalmIn Json bytes = Unit {0}
+IsCalmIn format bytes = acts_nowhere bytes ≡ true

@@ -1,9 +1,7 @@
-pub mod Parts
 pub mod Locations
 pub mod Snippets
 pub mod Above
 pub mod Explanations
-pub mod Known
 pub mod Formats
 pub mod Paged
 pub mod Warned

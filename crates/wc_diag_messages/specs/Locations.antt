@@ -34,11 +34,8 @@ heading Log = codes "@log"
 
 -- what is counted in a part
 abbrev pub counted_name : Part → List ℕ
-counted_name Job = codes "line "
-counted_name Plate = codes "line "
-counted_name Program = codes "line "
-counted_name Next = codes "line "
 counted_name Log = codes "row "
+counted_name part = codes "line "
 
 -- a line or a row by its number
 abbrev pub counted_text : Part → ℕ → List ℕ
@@ -52,11 +49,8 @@ section_text part place =
 
 -- the row of a log, if one is named; the lines of other parts are those of the file
 abbrev pub row_text : Part → ℕ → List ℕ
-row_text Job place = []
-row_text Plate place = []
-row_text Program place = []
-row_text Next place = []
 row_text Log place = if place == 0 then [] else counted_text Log place
+row_text part place = []
 
 -- the place by which a refusal is counted, if it is not the line that is named
 abbrev pub place_text : Bool → Part → ℕ → List ℕ

@@ -38,20 +38,10 @@ answer_line number place =
     ++ shown_text (codes " ") ++ number_text place ++ (10 ∷ [])
 
 -- where it is raised, its place, and a smallest input
-pub record RaisedAt : Type 0 where
-  pub pass : List ℕ
-  pub place : List ℕ
-  pub input : List ℕ
-
--- what an entry has of these
-abbrev pub raised_at : Entry → RaisedAt
-raised_at entry = record { pass = entry.pass.now; place = entry.place.now; input = entry.input.now }
-
--- the lines of these
-abbrev pub raised_lines : RaisedAt → List ℕ
-raised_lines raised =
-    page_line (codes "pass") raised.pass ++ page_line (codes "place") raised.place
-    ++ page_line (codes "example (` / ` is a line end)") raised.input
+abbrev pub raised_lines : Entry → List ℕ
+raised_lines entry =
+    page_line (codes "pass") entry.pass.now ++ page_line (codes "place") entry.place.now
+    ++ page_line (codes "example (` / ` is a line end)") entry.input.now
 
 -- the page of that refusal: each line has its words of one entry, which has that number
 pub record ReportsPage (number : ℕ) (bytes : List ℕ) : Type 0 where
@@ -59,6 +49,6 @@ pub record ReportsPage (number : ℕ) (bytes : List ℕ) : Type 0 where
   pub is : entry.number ≡ number
   pub plate : List ℕ
   pub all :
-      bytes ≡ number_line entry.number entry.sentence.now ++ raised_lines (raised_at entry)
+      bytes ≡ number_line entry.number entry.sentence.now ++ raised_lines entry
       ++ plate_line entry.number plate ++ answer_line entry.number entry.answer
       ++ help_lines entry.hint.now (λ line. line.now) entry.usual.now

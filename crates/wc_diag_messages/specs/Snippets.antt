@@ -28,17 +28,13 @@ marks shown start long =
     replicate (columns (passes (with_spaces shown)) (take start shown)) 32
     ++ replicate (max (columns (passes (with_spaces shown)) (take long (drop start shown))) 1) 94
 
--- what could be at the span, if something is known
-abbrev pub expected_text : List ℕ → List ℕ
-expected_text words = words_after (shown_text (codes " expected ")) words
-
 -- the marks under the part that is shown, and what could be there, if there is an offending slice
 abbrev pub marked_text : List ℕ → Option Span → List ℕ → List ℕ
 marked_text line None words = []
 marked_text line (Some span) words =
     shown_text (codes " ")
     ++ marks (shown_part line (Some span)) (span.start - first_shown line span.start) span.length
-    ++ expected_text words
+    ++ words_after (shown_text (codes " expected ")) words
 
 -- a line of the snippet that has no number
 abbrev pub bar_line : List ℕ → List ℕ → List ℕ

@@ -94,9 +94,8 @@ pub record Warns (format : Format) (file text : List ℕ) (tokens : List Token) 
   pub printed : Prints format file parts bytes
 
 -- the number of warnings left out, in words
-pub record CountsLeftOut (count : ℕ) (bytes : List ℕ) : Type 0 where
-  pub said : List ℕ
-  pub all : bytes ≡ shown_text (codes "and ") ++ number_text count ++ shown_text said
+abbrev pub CountsLeftOut : ℕ → List ℕ → Type 0
+CountsLeftOut count bytes = (said : List ℕ) × (bytes ≡ shown_text (codes "and ") ++ number_text count ++ shown_text said)
 
 -- the object that says it
 abbrev pub left_out_tokens : ℕ → List ℕ → List json_token.Token
@@ -106,16 +105,13 @@ left_out_tokens count name =
     ++ number_member (codes "leftOut") count ++ (json_token.end_object ∷ [])
 
 -- the number of warnings left out, on a line for people
-pub record ReportsLeftOut (count : ℕ) (bytes : List ℕ) : Type 0 where
-  pub words : List ℕ
-  pub counts : CountsLeftOut count words
-  pub all : bytes ≡ words ++ (10 ∷ [])
+abbrev pub ReportsLeftOut : ℕ → List ℕ → Type 0
+ReportsLeftOut count bytes = (words : List ℕ) × CountsLeftOut count words × (bytes ≡ words ++ (10 ∷ []))
 
 -- likewise after the file
-pub record ReportsLeftOutShortly (file : List ℕ) (count : ℕ) (bytes : List ℕ) : Type 0 where
-  pub words : List ℕ
-  pub counts : CountsLeftOut count words
-  pub all : bytes ≡ shown_text file ++ shown_text (codes ": ") ++ words ++ (10 ∷ [])
+abbrev pub ReportsLeftOutShortly : List ℕ → ℕ → List ℕ → Type 0
+ReportsLeftOutShortly file count bytes =
+    (words : List ℕ) × CountsLeftOut count words × (bytes ≡ shown_text file ++ shown_text (codes ": ") ++ words ++ (10 ∷ []))
 
 -- in that format
 abbrev pub LeavesOut : Format → List ℕ → ℕ → List ℕ → Type 0

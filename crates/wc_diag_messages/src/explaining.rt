@@ -1,6 +1,6 @@
 ghost use Rattle.std.specs.Prelude.{IfOk};
 ghost use Rattle.wc_diag_messages.specs.Formats.{IsCalmIn, IsPlainIn, Prints, Reports};
-ghost use Rattle.wc_diag_messages.specs.Known.{IsPrintable};
+ghost use Rattle.wc_diag_messages.specs.Explanations.{IsPrintable};
 ghost use Rattle.wc_diag_messages.specs.Warned.{Warns};
 
 use crate::long::long;

@@ -1,6 +1,5 @@
 ghost use Rattle.std.specs.Prelude.{◌≡◌, ◌≤◌, ◌+◌, IfNone, IfSome, option_map};
-ghost use Rattle.wc_diag_messages.specs.Above.{IsBelow, line_ends};
-ghost use Rattle.wc_diag_messages.specs.Parts.{text_of};
+ghost use Rattle.wc_diag_messages.specs.Above.{IsBelow, line_ends, text_of};
 ghost use Rattle.wc_model.specs.Run.JobSections.{sections_of};
 
 use wc_diag_spans::Part;

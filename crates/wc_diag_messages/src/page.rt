@@ -1,6 +1,6 @@
 ghost use Rattle.std.specs.Prelude.{◌≡◌, IfOk, IfSome, OnOk, is_some};
 ghost use Rattle.wc_diag_messages.specs.Locations.{Writes};
-ghost use Rattle.wc_diag_messages.specs.Paged.{ReportsPage, answer_line, help_lines, number_line, page_line, page_lines, plate_line, raised_at, raised_lines, shown_line};
+ghost use Rattle.wc_diag_messages.specs.Paged.{ReportsPage, answer_line, help_lines, number_line, page_line, page_lines, plate_line, raised_lines, shown_line};
 ghost use Rattle.wc_diag_texts.specs.Numbers.{is_from, is_refusal};
 
 use std::alloc::{AllocError, Global};
@@ -59,7 +59,7 @@ fn write_number(message: &mut Message, number: u16, reported: &str) -> Result<()
 
 /// Writes where it is raised, its place, and a smallest input.
 fn write_raised(message: &mut Message, entry: &Entry) -> Result<(), AllocError>
-    ensures { OnOk result (Writes message.old message.new (raised_lines (raised_at entry.now))) }
+    ensures { OnOk result (Writes message.old message.new (raised_lines entry.now)) }
 {
     write_line(message, "pass", entry.pass)?;
     write_line(message, "place", entry.place)?;

@@ -1,7 +1,6 @@
 ghost use Rattle.std.specs.Prelude.{◌≡◌, IfOk, OnOk};
 ghost use Rattle.wc_diag_messages.specs.Locations.{Writes};
-ghost use Rattle.wc_diag_messages.specs.Explanations.{QuotesAndSays, left_out_text, quoted_text};
-ghost use Rattle.wc_diag_messages.specs.Known.{IsKnown};
+ghost use Rattle.wc_diag_messages.specs.Explanations.{IsKnown, QuotesAndSays, left_out_text, quoted_text};
 ghost use Rattle.wc_diag_texts.specs.Plain.{IsShown, shown_text};
 
 use crate::placing::{named_line, place_words};

@@ -1,7 +1,7 @@
 ghost use Rattle.std.specs.Prelude.{IfOk, OnOk};
 ghost use Rattle.wc_diag_messages.specs.Locations.{Writes};
 ghost use Rattle.wc_diag_messages.specs.Formats.{IsShortLine, helped_text, position_text};
-ghost use Rattle.wc_diag_messages.specs.Known.{IsPrintable};
+ghost use Rattle.wc_diag_messages.specs.Explanations.{IsPrintable};
 ghost use Rattle.wc_diag_spans.specs.Finds.{IsWithin};
 
 use crate::long::write_number;
