@@ -1,11 +1,11 @@
 -- The bodies that run, by their depth of calls.
-use Rattle.std.proofs.Common.{◌≡◌, ◌∙◌, ℕ, zero, suc, ◌+◌, ◌-◌, ◌<◌, ◌≤◌, List, [], ◌∷◌, ◌++◌, length, map, take, replicate, reverse, get_or, set, refl, sym, ap, arith, Option, Some, None}
-use Rattle.std.proofs.lemmas.List.{append-nil, append_assoc, length-map, replicate_more, reverse-append, take-map, take-replicate}
-use Rattle.std.specs.Prelude.{slice_get}
+use Rattle.std.proofs.Common.{◌≡◌, ◌∙◌, ℕ, zero, suc, ◌+◌, ◌-◌, ◌<◌, ◌≤◌, List, [], ◌∷◌, ◌++◌, length, map, take, replicate, reverse, get_or, set, refl, sym, ap, arith, Option, None}
+use Rattle.std.proofs.lemmas.List.{append_assoc, length-map, map-set, replicate_more, reverse-append, take-map, take-replicate}
+use Rattle.std.proofs.lemmas.Option.{slice_get-map, slice_get_read}
+use Rattle.std.specs.Prelude.{option_map, slice_get, unwrap_or}
 use Rattle.wc_machine.specs.declared.seen.SeenLine.{SeenLine}
 use Rattle.wc_model.specs.declared.kind.Kind.{Kind}
-use Rattle.wc_view_trace_rows.specs.LevelViews.{level_view}
-use Rattle.wc_view_trace_rows.specs.Levels.{Level, after_seen, closed, level_left, level_or_fresh, levels_after, levels_at}
+use Rattle.wc_view_trace_rows.specs.Levels.{Level, after_seen, closed, fresh, level_left, level_view, levels_after, levels_at}
 use Rattle.wc_view_trace_rows.specs.declared.legend.Legend.{Legend}
 use Rattle.wc_view_trace_rows.specs.declared.levels.BodyLevel.{BodyLevel}
 
@@ -34,29 +34,17 @@ one_started f x level first cut items new within put started =
     put ∙ ap (λ l. l ++ x ∷ []) started ∙ append_assoc (map f cut) (replicate (level - first) x) (x ∷ [])
     ∙ ap (λ l. map f cut ++ l) (replicate_more (level - first) x) ∙ ap (λ k. map f cut ++ replicate k x) more
 
-pub none_started : {A B : Type 0} (f : A → B) (x : B) (n : ℕ) (cut : List A) → map f cut ≡ map f cut ++ replicate (n - n) x
-none_started f x n cut = let none : n - n ≡ 0 = omega arith in sym (append-nil (map f cut)) ∙ ap (λ k. map f cut ++ replicate k x) (sym none)
-
 -- the body that runs there, before a line and after it
-body_at : {A B : Type 0} (f : A → B) (bodies : List A) (i : ℕ) (body : A) → i < length bodies → body ≡ get_or bodies i body → slice_get (map f bodies) i ≡ Some (f body)
-body_at f [] i body few is = absurd (omega arith)
-body_at f (first ∷ bodies) zero body few is = ap (λ b. Some (f b)) (sym is)
-body_at f (first ∷ bodies) (suc i) body few is = body_at f bodies i body (omega arith) is
-
 pub left_is : (legend : Legend) (seen : SeenLine) (levels : List Level) (bodies : List BodyLevel) (old new : BodyLevel) → seen.depth < length bodies → old ≡ get_or bodies seen.depth old
     → map level_view bodies ≡ levels_at seen.depth levels → level_view new ≡ after_seen legend seen (level_view old) → level_view new ≡ level_left legend seen levels
 left_is legend seen levels bodies old new few is at passed =
-    passed ∙ ap (λ o. after_seen legend seen (level_or_fresh o)) (sym (body_at level_view bodies seen.depth old few is) ∙ ap (λ l. slice_get l seen.depth) at)
-
-set_mapped : {A B : Type 0} (f : A → B) (xs : List A) (i : ℕ) (x : A) → map f (set xs i x) ≡ set (map f xs) i (f x)
-set_mapped f [] i x = refl
-set_mapped f (y ∷ xs) zero x = refl
-set_mapped f (y ∷ xs) (suc i) x = ap (λ l. f y ∷ l) (set_mapped f xs i x)
+    let there = slice_get-map level_view bodies seen.depth ∙ ap (option_map level_view) (slice_get_read bodies (length bodies) seen.depth old refl few is) in
+    passed ∙ ap (λ o. after_seen legend seen (unwrap_or o fresh)) (sym there ∙ ap (λ l. slice_get l seen.depth) at)
 
 pub after_is : (legend : Legend) (seen : SeenLine) (levels : List Level) (bodies all : List BodyLevel) (new : BodyLevel) → map level_view bodies ≡ levels_at seen.depth levels
     → level_view new ≡ level_left legend seen levels → all ≡ set bodies seen.depth new → map level_view all ≡ levels_after legend seen levels
 after_is legend seen levels bodies all new at left put =
-    ap (map level_view) put ∙ set_mapped level_view bodies seen.depth new ∙ (λ i. set (at i) seen.depth (left i))
+    ap (map level_view) put ∙ map-set level_view bodies seen.depth new ∙ (λ i. set (at i) seen.depth (left i))
 
 -- a kind that is put by, and one that is taken again
 pub one_put_by : (old new : List (Option Kind)) (kind : Option Kind) → new ≡ old ++ kind ∷ [] → reverse new ≡ kind ∷ reverse old

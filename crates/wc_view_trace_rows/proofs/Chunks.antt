@@ -1,9 +1,10 @@
 -- What is put of a text, byte by byte, and a text that is cut.
-use Rattle.std.proofs.Common.{◌≡◌, ◌∙◌, ℕ, zero, suc, ◌+◌, ◌-◌, ◌<◌, ◌≤◌, Bool, true, false, List, [], ◌∷◌, ◌++◌, cond, length, get_or, take, drop, refl, sym, ap, subst, arith, rules}
+use Rattle.std.proofs.Common.{◌≡◌, ◌∙◌, ℕ, zero, suc, ◌+◌, ◌-◌, ◌<◌, ◌≤◌, Bool, false, List, [], ◌∷◌, ◌++◌, cond, length, get_or, take, drop, sym, ap, subst, arith}
 use Rattle.std.specs.Prelude.{◌==◌, ◌&&◌, nat_le}
-use Rattle.std.proofs.Common.{tests}
+use Rattle.std.proofs.lemmas.Bool.{lt-leb}
 use Rattle.std.proofs.lemmas.List.{append_assoc, drop_more, drop-take, take-append-drop, take-take}
-use Rattle.wc_view_trace_rows.specs.Columns.{columns_of, first_columns, fitted}
+use Rattle.wc_diag_texts.specs.Plain.{characters}
+use Rattle.wc_view_trace_rows.specs.Columns.{first_columns, fitted}
 use Rattle.wc_diag_texts.specs.Acting.{acting_length}
 use Rattle.wc_view_trace_rows.specs.Shown.{shown_bytes, shown_first, single_spaces}
 
@@ -26,8 +27,7 @@ put_first : (before byte : ℕ) (bytes : List ℕ) → single_spaces before (byt
 put_first before byte bytes = by (byte == 32 && before == 32)
   where
     by : (b : Bool) → cond b (single_spaces byte bytes) (byte ∷ single_spaces byte bytes) ≡ cond b [] (byte ∷ []) ++ single_spaces byte bytes
-    by true = refl
-    by false = refl
+    by b = grind arith
 
 pub put_next : (is_text : Bool) (before byte hidden size next i : ℕ) (text new back bytes whole : List ℕ) → i < length bytes → hidden ≤ 0 → back ≡ drop i bytes → size ≡ acting_length back
     → byte ≡ shown_first is_text size (get_or bytes i 0) → next ≡ size - 1 → new ≡ text ++ single_spaces before (byte ∷ [])
@@ -42,19 +42,18 @@ put_next is_text before byte hidden size next i text new back bytes whole l none
     ∙ ap (λ t. text ++ single_spaces before t) first
     ∙ so_far
 
-too_many : (a b : ℕ) → a < b → nat_le b a ≡ false
-too_many a b l = search (rules, tests)
-
 -- a text that is cut in what it has from there on
 parted : (n m : ℕ) (text : List ℕ) → take (n + m) text ≡ take n text ++ take m (drop n text)
 parted n m text =
     sym (take-append-drop n (take (n + m) text))
     ∙ (λ i. take-take n (n + m) text (omega arith) i ++ drop-take n m text i)
 
-pub cut_off : (start kept columns : ℕ) (text back cut : List ℕ) → back ≡ drop start text → columns < columns_of back → take kept back ≡ first_columns (columns - 2) back
+pub cut_off : (start kept columns : ℕ) (text back cut : List ℕ) → back ≡ drop start text
+    → columns < characters back → take kept back ≡ first_columns (columns - 2) back
     → cut ≡ take (start + kept) text → cut ++ 46 ∷ 46 ∷ [] ≡ take start text ++ fitted columns (drop start text)
 cut_off start kept columns text back cut is_back wide prefix is_cut =
-    let long : nat_le (columns_of (drop start text)) columns ≡ false = too_many columns (columns_of (drop start text)) (subst (λ l. columns < columns_of l) is_back wide) in
+    let long : nat_le (characters (drop start text)) columns ≡ false =
+    lt-leb (characters (drop start text)) columns (subst (λ l. columns < characters l) is_back wide) in
     ap (λ t. t ++ 46 ∷ 46 ∷ []) (is_cut ∙ parted start kept text)
     ∙ append_assoc (take start text) (take kept (drop start text)) (46 ∷ 46 ∷ [])
     ∙ ap (λ t. take start text ++ (t ++ 46 ∷ 46 ∷ [])) (subst (λ l. take kept l ≡ first_columns (columns - 2) l) is_back prefix)

@@ -1,30 +1,21 @@
 -- Texts that are put one after another.
-use Rattle.std.proofs.Common.{◌≡◌, ◌∙◌, ℕ, ◌+◌, List, [], ◌∷◌, ◌++◌, Bool, false, cond, length, take, drop, sym, ap, Option, Some, None}
+use Rattle.std.proofs.Common.{◌≡◌, ◌∙◌, ℕ, List, [], ◌∷◌, ◌++◌, Bool, false, cond, length, take, drop, refl, sym, ap, Option, Some, None}
 use Rattle.std.proofs.lemmas.List.{append_assoc, drop_at, take-append-drop, take_at}
 use Rattle.std.specs.Prelude.{option_map}
 use Rattle.wc_view_trace_rows.specs.Columns.{gap, with_cell}
 
--- a space, a name, `=` and a text
-pub four_chunks : (old first second third new name text : List ℕ) → first ≡ old ++ 32 ∷ [] → second ≡ first ++ name → third ≡ second ++ 61 ∷ [] → new ≡ third ++ text
-    → new ≡ old ++ 32 ∷ (name ++ 61 ∷ text)
-four_chunks old first second third new name text one two three four =
-    four ∙ ap (λ l. l ++ text) (three ∙ ap (λ l. l ++ 61 ∷ []) (two ∙ ap (λ l. l ++ name) one))
-    ∙ append_assoc ((old ++ 32 ∷ []) ++ name) (61 ∷ []) text
-    ∙ append_assoc (old ++ 32 ∷ []) name (61 ∷ text)
-    ∙ append_assoc old (32 ∷ []) (name ++ 61 ∷ text)
+-- two parts, or three
+pub two_parts : {X : Type 0} (old a b first all : List X) → first ≡ old ++ a → all ≡ first ++ b → all ≡ old ++ (a ++ b)
+two_parts old a b first all e f = rw (f, e, append_assoc old a b) refl
 
--- two texts, or three
-pub two_texts : (old first new a b : List ℕ) → first ≡ old ++ a → new ≡ first ++ b → new ≡ old ++ (a ++ b)
-two_texts old first new a b one two = two ∙ ap (λ l. l ++ b) one ∙ append_assoc old a b
-
-pub three_texts : (old first second new a b c : List ℕ) → first ≡ old ++ a → second ≡ first ++ b → new ≡ second ++ c → new ≡ old ++ (a ++ (b ++ c))
-three_texts old first second new a b c one two three = three ∙ ap (λ l. l ++ c) (two_texts old first second a b one two) ∙ append_assoc old (a ++ b) c ∙ ap (λ l. old ++ l) (append_assoc a b c)
+pub three_parts : {X : Type 0} (old a b c first second all : List X) → first ≡ old ++ a → second ≡ first ++ b → all ≡ second ++ c → all ≡ old ++ (a ++ (b ++ c))
+three_parts old a b c first second all e f g = rw (g, two_parts old a b first second e f, append_assoc old (a ++ b) c, append_assoc a b c) refl
 
 -- a cell of a row
 pub one_cell : (column start : ℕ) (old first new text : List ℕ) (cell : Option (List ℕ)) → cell ≡ Some text → first ≡ old ++ gap column (drop start old) → new ≡ first ++ text
     → new ≡ take start old ++ with_cell column cell (drop start old)
 one_cell column start old first new text cell is one two =
-    two_texts old first new (gap column (drop start old)) text one two
+    two_parts old (gap column (drop start old)) text first new one two
     ∙ ap (λ l. l ++ (gap column (drop start old) ++ text)) (sym (take-append-drop start old))
     ∙ append_assoc (take start old) (drop start old) (gap column (drop start old) ++ text)
     ∙ ap (λ c. take start old ++ with_cell column c (drop start old)) (sym is)

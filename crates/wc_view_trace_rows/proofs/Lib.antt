@@ -1,7 +1,6 @@
 pub mod Bodies
 pub mod Digits
 pub mod Ends
-pub mod HandedOn
 pub mod Joins
 pub mod LastCalls
 pub mod NamesNoted

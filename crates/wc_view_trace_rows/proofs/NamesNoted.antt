@@ -1,12 +1,11 @@
 -- Names that are noted one after the other.
-use Rattle.std.proofs.Common.{◌≡◌, ℕ, zero, suc, ◌+◌, ◌-◌, ◌≤◌, ◌<◌, None, get_or, subst, rules, ◌&&◌, Bool, true, false, List, [], ◌∷◌, ◌++◌, length, drop, take, map, refl, sym, ap, ◌∙◌, append_assoc, arith, Result}
-use Rattle.std.proofs.lemmas.Bool.Decides.{nat_tests}
-use Rattle.std.proofs.lemmas.List.{take-append-le, take_all, length-append, append-nil, drop-append-le, drop_all, drop_more, length-drop, map-append}
-use Rattle.std.proofs.lemmas.List.Elements.{All-append}
+use Rattle.std.proofs.Common.{◌≡◌, ℕ, zero, suc, ◌-◌, ◌≤◌, None, subst, rules, ◌&&◌, Bool, true, false, List, [], ◌∷◌, ◌++◌, length, drop, take, map, refl, sym, ap, ◌∙◌, arith, Result}
+use Rattle.std.proofs.lemmas.Bool.{le-leb, leb-true}
+use Rattle.std.proofs.lemmas.List.{take-append-le, take_all, length-append, drop-append-le, length-drop, map-append}
+use Rattle.std.proofs.lemmas.List.Elements.{All-push}
 use Rattle.std.proofs.Math.Seq.{drop-append_seam}
 use Rattle.std.specs.Prelude.{nat_le, slice_range, if◌then◌else◌}
 use Rattle.std.specs.Char.{to_ascii_lowercase}
-use Rattle.std.specs.List.{flat_map}
 use Rattle.wc_model.specs.Language.Kinds.{BodyLine, PlainLine}
 use Rattle.wc_model.specs.Language.Tree.{Call}
 use Rattle.wc_model.specs.Language.Views.{assignment_view}
@@ -16,36 +15,32 @@ use Rattle.wc_model.specs.declared.tree.Instr.{Instr}
 use Rattle.wc_model.specs.declared.tree.Line.{the_lemmas}
 use Rattle.wc_verify.specs.Instructions.{instr_line}
 use Rattle.wc_model.specs.Language.Names.{name_of}
-use Rattle.wc_view_trace_rows.specs.Named.{Adds, Named, dotted, line_named, named_as, note_named}
+use Rattle.wc_view_trace_rows.specs.Named.{Adds, dotted, line_named, named_as, note_named}
 use Rattle.wc_view_trace_rows.specs.Notes.{AreWithin, part_of}
 use Rattle.wc_view_trace_rows.specs.declared.notes.Note.{Note}
 use Rattle.wc_view_trace_rows.specs.declared.notes.Notes.{Notes}
-
-within : (a b : ℕ) → a ≤ b → nat_le a b ≡ true
-within a b h = grind (arith, nat_tests)
-
-from_le : (a b : ℕ) → nat_le a b ≡ true → a ≤ b
-from_le a b h = grind (arith, nat_tests)
 
 pub part_kept : (text more : List ℕ) (from to : ℕ) → to ≤ length text → part_of (text ++ more) from to ≡ part_of text from to
 part_kept text more from to h = by (nat_le from to) refl
   where
     longer : nat_le to (length (text ++ more)) ≡ true
-    longer = within to (length (text ++ more)) (omega (arith, length-append text more, h))
+    longer = le-leb to (length (text ++ more)) (omega (arith, length-append text more, h))
 
     by : (b : Bool) → nat_le from to ≡ b → (if b && nat_le to (length (text ++ more)) then slice_range (text ++ more) from to else []) ≡ (if b && nat_le to (length text) then slice_range text from to else [])
     by false e = refl
     by true e =
-        let ordered : from ≤ to = from_le from to e in
+        let ordered : from ≤ to = leb-true from to e in
         ap (λ b. if b then slice_range (text ++ more) from to else []) longer
         ∙ ap (take (to - from)) (drop-append-le from text more (omega (arith, ordered, h)))
         ∙ take-append-le (to - from) (drop from text) more (omega (arith, length-drop from text, ordered, h))
-        ∙ sym (ap (λ b. if b then slice_range text from to else []) (within to (length text) h))
+        ∙ sym (ap (λ b. if b then slice_range text from to else []) (le-leb to (length text) h))
 
 pub part_last : (text more : List ℕ) → part_of (text ++ more) (length text) (length (text ++ more)) ≡ more
 part_last text more =
-    ap (λ b. if b && nat_le (length (text ++ more)) (length (text ++ more)) then slice_range (text ++ more) (length text) (length (text ++ more)) else []) (within (length text) (length (text ++ more)) (omega (arith, length-append text more)))
-    ∙ ap (λ b. if b then slice_range (text ++ more) (length text) (length (text ++ more)) else []) (within (length (text ++ more)) (length (text ++ more)) (omega arith))
+    ap (λ b. if b && nat_le (length (text ++ more)) (length (text ++ more)) then slice_range (text ++ more) (length text) (length (text ++ more)) else [])
+    (le-leb (length text) (length (text ++ more)) (omega (arith, length-append text more)))
+    ∙ ap (λ b. if b then slice_range (text ++ more) (length text) (length (text ++ more)) else [])
+    (le-leb (length (text ++ more)) (length (text ++ more)) (omega arith))
     ∙ ap (take (length (text ++ more) - length text)) (drop-append_seam text more)
     ∙ take_all (length (text ++ more) - length text) more (omega (arith, length-append text more))
 
@@ -59,10 +54,6 @@ kept names more (note ∷ notes) h =
 pub within_more : (names more : List ℕ) (notes : List Note) → AreWithin notes names → AreWithin notes (names ++ more)
 within_more names more notes h = λ k d l. omega (arith, length-append names more, h k d l)
 
-one_within : (note : Note) (names : List ℕ) → note.end ≤ length names → AreWithin (note ∷ []) names
-one_within note names h zero d l = h
-one_within note names h (suc k) d l = absurd (omega (arith, l))
-
 -- a note more, of the names that are added
 pub added : (names more : List ℕ) (notes : List Note) (note : Note) → AreWithin notes names → note.start ≡ length names → note.end ≡ length (names ++ more)
     → map (note_named (names ++ more)) (notes ++ note ∷ []) ≡ map (note_named names) notes ++ record { kind = note.kind; name = name_of more } ∷ []
@@ -75,7 +66,7 @@ added names more notes note h from to =
 pub within_added : (names more : List ℕ) (notes : List Note) (note : Note) → AreWithin notes names → note.end ≡ length (names ++ more)
     → AreWithin (notes ++ note ∷ []) (names ++ more)
 within_added names more notes note h to =
-    All-append (λ (one : Note). one.end ≤ length (names ++ more)) notes (note ∷ []) (within_more names more notes h) (one_within note (names ++ more) (omega (arith, to)))
+    All-push (λ (one : Note). one.end ≤ length (names ++ more)) notes note (within_more names more notes h) (omega (arith, to))
 
 -- a name and its field without letter case
 pub name_dotted : (name field : List ℕ) → name_of (dotted name field) ≡ dotted (name_of name) (name_of field)
@@ -101,14 +92,3 @@ known_added r instr known line old new is seen h = subst (λ l. Adds old new r (
 
 pub seen_call : (condition : _) (instance : _) (arguments : _) (line : _) → instr_line (made.Call condition instance arguments line) None ≡ PlainLine None line (Call condition (name_of instance.now) (map assignment_view arguments.items))
 seen_call condition instance arguments line = search (the_lemmas, rules)
-
--- what is noted of one more, with what is left, is all; and with none left
-pub one_more : {X Y : Type 0} (f : Y → List Named) (v : X → Y) (xs : List X) (i : ℕ) (other : X) (old new all : List Named) → i < length xs → new ≡ old ++ f (v (get_or xs i other))
-    → old ++ flat_map f (map v (drop i xs)) ≡ all → new ++ flat_map f (map v (drop (i + 1) xs)) ≡ all
-one_more f v xs i other old new all below added so_far =
-    ap (λ l. l ++ flat_map f (map v (drop (i + 1) xs))) added ∙ append_assoc old (f (v (get_or xs i other))) (flat_map f (map v (drop (i + 1) xs)))
-    ∙ sym (ap (λ l. old ++ flat_map f (map v l)) (drop_more xs i other below)) ∙ so_far
-
-pub none_left : {X Y : Type 0} (f : Y → List Named) (v : X → Y) (xs : List X) (i : ℕ) (old all : List Named) → length xs ≤ i
-    → old ++ flat_map f (map v (drop i xs)) ≡ all → old ≡ all
-none_left f v xs i old all past so_far = sym (append-nil old) ∙ sym (ap (λ l. old ++ flat_map f (map v l)) (drop_all i xs past)) ∙ so_far

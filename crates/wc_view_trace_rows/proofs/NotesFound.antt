@@ -1,6 +1,6 @@
 -- The notes of a line among notes that are in the order of their lines.
 use Rattle.std.proofs.Common.{◌≡◌, ◌∙◌, ℕ, zero, suc, ◌+◌, ◌<◌, ◌≤◌, Bool, true, false, List, [], ◌∷◌, cond, length, get_or, refl, sym, ap, arith, Some, None, drop}
-use Rattle.std.proofs.lemmas.Bool.Decides.{nat_tests}
+use Rattle.std.proofs.lemmas.Bool.{eqb-false, ne_eqb}
 use Rattle.std.specs.Prelude.{◌==◌, filter, slice_get}
 use Rattle.wc_view_trace_rows.specs.Notes.{AreInOrder, note_among, of_line}
 use Rattle.wc_view_trace_rows.specs.declared.notes.Note.{Note}
@@ -15,24 +15,16 @@ from_number (suc n) i (x ∷ xs) = from_number n i xs ∙ ap (slice_get (x ∷ x
 abbrev AllAfter : ℕ → List Note → Type 0
 AllAfter line notes = (i : ℕ) (d : Note) → i < length notes → line < (get_or notes i d).line
 
-unlike : (a b : ℕ) → b < a → (a == b) ≡ false
-unlike a b l = grind (arith, nat_tests)
-
-below_unlike : (a b : ℕ) → a < b → (a == b) ≡ false
-below_unlike a b l = grind (arith, nat_tests)
-
-above : (a b : ℕ) → b ≤ a → (a == b) ≡ false → b < a
-above a b l e = grind (arith, nat_tests)
-
 none_found : (line : ℕ) (notes : List Note) (k : ℕ) → AllAfter line notes → of_line line (slice_get notes k) ≡ None
 none_found line [] k after = refl
-none_found line (note ∷ notes) zero after = ap (λ b. cond b (Some note) None) (unlike note.line line (after 0 note (omega arith)))
+none_found line (note ∷ notes) zero after = ap (λ b. cond b (Some note) None) (ne_eqb note.line line (λ e. omega (arith, e, after 0 note (omega arith))))
 none_found line (note ∷ notes) (suc k) after = none_found line notes k (λ i d l. after (suc i) d (omega arith))
 
 none_left : (line : ℕ) (notes : List Note) (k : ℕ) → AllAfter line notes → note_among notes line k ≡ None
 none_left line [] k after = refl
 none_left line (note ∷ notes) k after =
-    ap (λ b. slice_get (cond b (note ∷ filter (λ (n : Note). n.line == line) notes) (filter (λ (n : Note). n.line == line) notes)) k) (unlike note.line line (after 0 note (omega arith)))
+    ap (λ b. slice_get (cond b (note ∷ filter (λ (n : Note). n.line == line) notes) (filter (λ (n : Note). n.line == line) notes)) k)
+    (ne_eqb note.line line (λ e. omega (arith, e, after 0 note (omega arith))))
     ∙ none_left line notes k (λ i d l. after (suc i) d (omega arith))
 
 -- from the first note of the line on
@@ -47,7 +39,7 @@ from_first line (note ∷ notes) index order from =
     by true e zero onward = ap (λ b. cond b (Some note) None) e
     by true e (suc k) onward = onward k
     by false e k onward =
-        let first : line < note.line = above note.line line (from 0 note (omega arith)) e in
+        let first : line < note.line = omega (arith, from 0 note (omega arith), eqb-false note.line line e) in
         let after : AllAfter line (note ∷ notes) = λ i d l. let rise = order 0 i d (omega arith) l in omega arith in
         none_found line (note ∷ notes) k after ∙ sym (none_left line notes k (λ i d l. after (suc i) d (omega arith)))
 
@@ -66,4 +58,4 @@ found line (note ∷ notes) (suc first) index order before from within =
     ∙ found line notes first index (λ i j d a l. order (suc i) (suc j) d (omega arith) (omega arith)) (λ k d l. before (suc k) d (omega arith))
     (λ k d a l. from (suc k) d (omega arith) (omega arith)) (omega arith)
     ∙ ap (λ b. slice_get (cond b (note ∷ filter (λ (n : Note). n.line == line) notes) (filter (λ (n : Note). n.line == line) notes)) index)
-    (sym (below_unlike note.line line (before 0 note (omega arith))))
+    (sym (ne_eqb note.line line (λ e. omega (arith, e, before 0 note (omega arith)))))

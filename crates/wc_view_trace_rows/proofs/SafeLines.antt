@@ -1,45 +1,55 @@
 -- A line is shown with no character on which a terminal would act.
-use Rattle.std.proofs.Common.{◌≡◌, ◌∙◌, ℕ, zero, suc, ◌-◌, ◌<◌, ◌≤◌, Bool, true, false, List, [], ◌∷◌, ◌++◌, cond, get_or, refl, sym, ap, subst, arith}
+use Rattle.std.proofs.Common.{◌≡◌, ℕ, zero, suc, ◌-◌, ◌<◌, ◌≤◌, ◌⊎◌, inl, inr, Bool, true, false, List, [], ◌∷◌, ◌++◌, cond, get_or, refl, sym, subst, arith}
+use Rattle.std.proofs.lemmas.Bool.{cases_lt}
 use Rattle.std.proofs.lemmas.Bool.Decides.{nat_tests}
 use Rattle.std.specs.Prelude.{◌==◌, ◌&&◌, nat_le}
 use Rattle.std.specs.Str.{is_utf8}
 use Rattle.wc_diag_texts.proofs.ActingBytes.{ascii_not, no_fourth, no_second, no_third, plain_first}
-use Rattle.wc_view_trace_rows.specs.Columns.{columns_of, first_columns, fitted}
+use Rattle.wc_diag_texts.specs.Plain.{characters}
+use Rattle.wc_view_trace_rows.specs.Columns.{first_columns, fitted}
 use Rattle.wc_view_trace_rows.specs.Safe.{IsSafe, ShownLinesAreSafe}
 use Rattle.wc_diag_texts.specs.Acting.{acting_by, acting_length, continues}
 use Rattle.wc_view_trace_rows.specs.Shown.{between_words, is_control, shown, shown_byte, shown_bytes, shown_first, single_spaces}
 
--- a number is below another or not
-pub data Sides (bound number : ℕ) : Type 0 where
-  Below : number < bound → Sides bound number
-  Above : bound ≤ number → Sides bound number
+-- as long as the first ones, from one on, are above ASCII they are those of the other text
+abbrev AreAs : ℕ → ℕ → List ℕ → List ℕ → Type 0
+AreAs zero i bytes others = Unit {0}
+AreAs (suc n) i bytes others = 128 ≤ get_or bytes i 0 → (get_or bytes i 0 ≡ get_or others i 0) × AreAs n (suc i) bytes others
 
-sides : (bound number : ℕ) → Sides bound number
-sides bound number = by (nat_le bound number) refl
-  where
-    by : (b : Bool) → nat_le bound number ≡ b → Sides bound number
-    by true e = Above (grind (arith, nat_tests))
-    by false e = Below (grind (arith, nat_tests))
+one_later : (n i first other : ℕ) (bytes others : List ℕ) → AreAs n i bytes others → AreAs n (suc i) (first ∷ bytes) (other ∷ others)
+one_later zero i first other bytes others are = tt
+one_later (suc n) i first other bytes others are = λ high. ((are high).0, one_later n (suc i) first other bytes others (are high).1)
 
 -- what follows the first byte of such a character is above ASCII
-acts_further : (first second third fourth : ℕ) → acting_by first second third fourth ≡ 0 → (b c d : ℕ)
-    → (128 ≤ b → b ≡ second) → (128 ≤ b → 128 ≤ c → c ≡ third) → (128 ≤ b → 128 ≤ c → 128 ≤ d → d ≡ fourth) → acting_by first b c d ≡ 0
-acts_further first second third fourth none b c d same_b same_c same_d = by_second (sides 128 b)
+acts_further : (byte : ℕ) (bytes others : List ℕ) → acting_length (byte ∷ bytes) ≡ 0 → AreAs 3 0 others bytes → acting_length (byte ∷ others) ≡ 0
+acts_further byte bytes others none are = by_second (cases_lt b 128)
   where
-    by_fourth : b ≡ second → c ≡ third → (128 ≤ d → d ≡ fourth) → Sides 128 d → acting_by first b c d ≡ 0
-    by_fourth e f same (Below low) =
-        subst (λ x. acting_by first x c d ≡ 0) (sym e) (subst (λ x. acting_by first second x d ≡ 0) (sym f) (no_fourth first second third fourth d none (ascii_not d low)))
-    by_fourth e f same (Above high) =
-        subst (λ x. acting_by first x c d ≡ 0) (sym e)
-        (subst (λ x. acting_by first second x d ≡ 0) (sym f) (subst (λ x. acting_by first second third x ≡ 0) (sym (same high)) none))
+    b : ℕ
+    b = get_or others 0 0
 
-    by_third : 128 ≤ b → Sides 128 c → acting_by first b c d ≡ 0
-    by_third high (Below low) = subst (λ x. acting_by first x c d ≡ 0) (sym (same_b high)) (no_third first second third fourth c d none (ascii_not c low))
-    by_third high (Above next) = by_fourth (same_b high) (same_c high next) (same_d high next) (sides 128 d)
+    c : ℕ
+    c = get_or others 1 0
 
-    by_second : Sides 128 b → acting_by first b c d ≡ 0
-    by_second (Below low) = no_second first b c d (ascii_not b low)
-    by_second (Above high) = by_third high (sides 128 c)
+    d : ℕ
+    d = get_or others 2 0
+
+    second : ℕ
+    second = get_or bytes 0 0
+
+    third : ℕ
+    third = get_or bytes 1 0
+
+    by_fourth : (high : 128 ≤ b) (next : 128 ≤ c) → ((d < 128) ⊎ (128 ≤ d)) → acting_by byte second third d ≡ 0
+    by_fourth high next (inl low) = no_fourth byte second third (get_or bytes 2 0) d none (ascii_not d low)
+    by_fourth high next (inr last) = subst (λ x. acting_by byte second third x ≡ 0) (sym (((are high).1 next).1 last).0) none
+
+    by_third : (high : 128 ≤ b) → ((c < 128) ⊎ (128 ≤ c)) → acting_by byte second c d ≡ 0
+    by_third high (inl low) = no_third byte second third (get_or bytes 2 0) c d none (ascii_not c low)
+    by_third high (inr next) = subst (λ x. acting_by byte second x d ≡ 0) (sym ((are high).1 next).0) (by_fourth high next (cases_lt d 128))
+
+    by_second : ((b < 128) ⊎ (128 ≤ b)) → acting_by byte b c d ≡ 0
+    by_second (inl low) = no_second byte b c d (ascii_not b low)
+    by_second (inr high) = subst (λ x. acting_by byte x c d ≡ 0) (sym (are high).0) (by_third high (cases_lt c 128))
 
 -- a byte as it is shown
 no_control : (is_text : Bool) (byte : ℕ) → is_control (shown_byte is_text byte) ≡ false
@@ -52,47 +62,30 @@ first_no_control : (is_text : Bool) (n byte : ℕ) → is_control (shown_first i
 first_no_control is_text zero byte = no_control is_text byte
 first_no_control is_text (suc n) byte = refl
 
-same_head : (is_text : Bool) (bytes : List ℕ) → 128 ≤ get_or (shown_bytes is_text 0 bytes) 0 0 → get_or (shown_bytes is_text 0 bytes) 0 0 ≡ get_or bytes 0 0
-same_head is_text [] high = refl
-same_head is_text (byte ∷ bytes) high = by (acting_length (byte ∷ bytes)) high
+shown_as : (n : ℕ) (is_text : Bool) (bytes : List ℕ) → AreAs n 0 (shown_bytes is_text 0 bytes) bytes
+shown_as zero is_text bytes = tt
+shown_as (suc n) is_text [] = λ high. absurd (omega arith)
+shown_as (suc n) is_text (byte ∷ bytes) = by (acting_length (byte ∷ bytes)) (shown_as n is_text bytes)
   where
-    by : (n : ℕ) → 128 ≤ shown_first is_text n byte → shown_first is_text n byte ≡ byte
-    by zero h = same_byte is_text byte h
-    by (suc n) h = absurd (omega arith)
-
-same_second : (is_text : Bool) (bytes : List ℕ) → 128 ≤ get_or (shown_bytes is_text 0 bytes) 0 0 → 128 ≤ get_or (shown_bytes is_text 0 bytes) 1 0
-    → get_or (shown_bytes is_text 0 bytes) 1 0 ≡ get_or bytes 1 0
-same_second is_text [] high next = refl
-same_second is_text (byte ∷ bytes) high next = by (acting_length (byte ∷ bytes)) high next
-  where
-    by : (n : ℕ) → 128 ≤ shown_first is_text n byte → 128 ≤ get_or (shown_bytes is_text (n - 1) bytes) 0 0 → get_or (shown_bytes is_text (n - 1) bytes) 0 0 ≡ get_or bytes 0 0
-    by zero h k = same_head is_text bytes k
-    by (suc n) h k = absurd (omega arith)
-
-same_third : (is_text : Bool) (bytes : List ℕ) → 128 ≤ get_or (shown_bytes is_text 0 bytes) 0 0 → 128 ≤ get_or (shown_bytes is_text 0 bytes) 1 0
-    → 128 ≤ get_or (shown_bytes is_text 0 bytes) 2 0 → get_or (shown_bytes is_text 0 bytes) 2 0 ≡ get_or bytes 2 0
-same_third is_text [] high next last = refl
-same_third is_text (byte ∷ bytes) high next last = by (acting_length (byte ∷ bytes)) high next last
-  where
-    by : (n : ℕ) → 128 ≤ shown_first is_text n byte → 128 ≤ get_or (shown_bytes is_text (n - 1) bytes) 0 0 → 128 ≤ get_or (shown_bytes is_text (n - 1) bytes) 1 0
-        → get_or (shown_bytes is_text (n - 1) bytes) 1 0 ≡ get_or bytes 1 0
-    by zero h k l = same_second is_text bytes k l
-    by (suc n) h k l = absurd (omega arith)
+    by : (m : ℕ) → AreAs n 0 (shown_bytes is_text 0 bytes) bytes → 128 ≤ shown_first is_text m byte
+        → (shown_first is_text m byte ≡ byte) × AreAs n 1 (shown_first is_text m byte ∷ shown_bytes is_text (m - 1) bytes) (byte ∷ bytes)
+    by zero others high = (same_byte is_text byte high, one_later n 0 (shown_byte is_text byte) byte (shown_bytes is_text 0 bytes) bytes others)
+    by (suc m) others high = absurd (omega arith)
 
 -- what is shown of a byte, before what is shown of those that follow
 first_acts : (is_text : Bool) (n byte : ℕ) (bytes : List ℕ) → acting_length (byte ∷ bytes) ≡ n
     → acting_length (shown_first is_text n byte ∷ shown_bytes is_text (n - 1) bytes) ≡ 0
 first_acts is_text (suc n) byte bytes is = refl
-first_acts is_text zero byte bytes is = by (sides 194 (shown_byte is_text byte))
+first_acts is_text zero byte bytes is = by (cases_lt (shown_byte is_text byte) 194)
   where
-    by : Sides 194 (shown_byte is_text byte) → acting_length (shown_byte is_text byte ∷ shown_bytes is_text 0 bytes) ≡ 0
-    by (Below low) =
-        plain_first (shown_byte is_text byte) (get_or (shown_bytes is_text 0 bytes) 0 0) (get_or (shown_bytes is_text 0 bytes) 1 0) (get_or (shown_bytes is_text 0 bytes) 2 0) low
-    by (Above high) =
-        subst (λ b. acting_length (b ∷ shown_bytes is_text 0 bytes) ≡ 0) (sym (same_byte is_text byte (omega arith)))
-        (acts_further byte (get_or bytes 0 0) (get_or bytes 1 0) (get_or bytes 2 0) is
-        (get_or (shown_bytes is_text 0 bytes) 0 0) (get_or (shown_bytes is_text 0 bytes) 1 0) (get_or (shown_bytes is_text 0 bytes) 2 0)
-        (same_head is_text bytes) (same_second is_text bytes) (same_third is_text bytes))
+    rest : List ℕ
+    rest = shown_bytes is_text 0 bytes
+
+    by : ((shown_byte is_text byte < 194) ⊎ (194 ≤ shown_byte is_text byte)) → acting_length (shown_byte is_text byte ∷ rest) ≡ 0
+    by (inl low) = plain_first (shown_byte is_text byte) (get_or rest 0 0) (get_or rest 1 0) (get_or rest 2 0) low
+    by (inr high) =
+        subst (λ b. acting_length (b ∷ rest) ≡ 0) (sym (same_byte is_text byte (omega (arith, high))))
+        (acts_further byte bytes rest is (shown_as 3 is_text bytes))
 
 bytes_are_safe : (is_text : Bool) (n : ℕ) (bytes : List ℕ) → IsSafe (shown_bytes is_text n bytes)
 bytes_are_safe is_text n [] = tt
@@ -107,32 +100,19 @@ bytes_are_safe is_text zero (byte ∷ bytes) = (
 no_space : (before byte : ℕ) → 128 ≤ before → (byte == 32 && before == 32) ≡ false
 no_space before byte high = grind (arith, nat_tests)
 
-kept_head : (before : ℕ) (bytes : List ℕ) → 128 ≤ before → get_or (single_spaces before bytes) 0 0 ≡ get_or bytes 0 0
-kept_head before [] high = refl
-kept_head before (byte ∷ bytes) high = ap (λ b. get_or (cond b (single_spaces byte bytes) (byte ∷ single_spaces byte bytes)) 0 0) (no_space before byte high)
-
-kept_second : (before : ℕ) (bytes : List ℕ) → 128 ≤ before → 128 ≤ get_or bytes 0 0 → get_or (single_spaces before bytes) 1 0 ≡ get_or bytes 1 0
-kept_second before [] high next = refl
-kept_second before (byte ∷ bytes) high next =
-    ap (λ b. get_or (cond b (single_spaces byte bytes) (byte ∷ single_spaces byte bytes)) 1 0) (no_space before byte high) ∙ kept_head byte bytes next
-
-kept_third : (before : ℕ) (bytes : List ℕ) → 128 ≤ before → 128 ≤ get_or bytes 0 0 → 128 ≤ get_or bytes 1 0 → get_or (single_spaces before bytes) 2 0 ≡ get_or bytes 2 0
-kept_third before [] high next last = refl
-kept_third before (byte ∷ bytes) high next last =
-    ap (λ b. get_or (cond b (single_spaces byte bytes) (byte ∷ single_spaces byte bytes)) 2 0) (no_space before byte high) ∙ kept_second byte bytes next last
+kept_as : (n before : ℕ) (bytes : List ℕ) → 128 ≤ before → AreAs n 0 (single_spaces before bytes) bytes
+kept_as zero before bytes high = tt
+kept_as (suc n) before [] high = λ h. absurd (omega arith)
+kept_as (suc n) before (byte ∷ bytes) high =
+    subst (λ b. AreAs (suc n) 0 (cond b (single_spaces byte bytes) (byte ∷ single_spaces byte bytes)) (byte ∷ bytes)) (sym (no_space before byte high))
+    (λ h. (refl, one_later n 0 byte byte (single_spaces byte bytes) bytes (kept_as n byte bytes h)))
 
 kept_acts : (byte : ℕ) (bytes : List ℕ) → acting_length (byte ∷ bytes) ≡ 0 → acting_length (byte ∷ single_spaces byte bytes) ≡ 0
-kept_acts byte bytes none = by (sides 194 byte)
+kept_acts byte bytes none = by (cases_lt byte 194)
   where
-    by : Sides 194 byte → acting_length (byte ∷ single_spaces byte bytes) ≡ 0
-    by (Below low) = plain_first byte (get_or (single_spaces byte bytes) 0 0) (get_or (single_spaces byte bytes) 1 0) (get_or (single_spaces byte bytes) 2 0) low
-    by (Above high) =
-        let head = kept_head byte bytes (omega arith) in
-        let second = λ (h : 128 ≤ get_or (single_spaces byte bytes) 0 0). kept_second byte bytes (omega arith) (subst (λ n. 128 ≤ n) head h) in
-        acts_further byte (get_or bytes 0 0) (get_or bytes 1 0) (get_or bytes 2 0) none
-        (get_or (single_spaces byte bytes) 0 0) (get_or (single_spaces byte bytes) 1 0) (get_or (single_spaces byte bytes) 2 0)
-        (λ h. head) (λ h k. second h)
-        (λ h k l. kept_third byte bytes (omega arith) (subst (λ n. 128 ≤ n) head h) (subst (λ n. 128 ≤ n) (second h) k))
+    by : ((byte < 194) ⊎ (194 ≤ byte)) → acting_length (byte ∷ single_spaces byte bytes) ≡ 0
+    by (inl low) = plain_first byte (get_or (single_spaces byte bytes) 0 0) (get_or (single_spaces byte bytes) 1 0) (get_or (single_spaces byte bytes) 2 0) low
+    by (inr high) = acts_further byte bytes (single_spaces byte bytes) none (kept_as 3 byte bytes (omega (arith, high)))
 
 spaces_are_safe : (before : ℕ) (bytes : List ℕ) → IsSafe bytes → IsSafe (single_spaces before bytes)
 spaces_are_safe before [] safe = tt
@@ -146,59 +126,23 @@ spaces_are_safe before (byte ∷ bytes) safe = by (byte == 32 && before == 32) (
 abbrev dotted : ℕ → List ℕ → List ℕ
 dotted n bytes = first_columns n bytes ++ 46 ∷ 46 ∷ []
 
-dotted_head : (n : ℕ) (bytes : List ℕ) → 128 ≤ get_or (dotted n bytes) 0 0 → get_or (dotted n bytes) 0 0 ≡ get_or bytes 0 0
-dotted_head n [] high = absurd (omega arith)
-dotted_head zero (byte ∷ bytes) high = by (continues byte) high
+dotted_as : (n columns : ℕ) (bytes : List ℕ) → AreAs n 0 (dotted columns bytes) bytes
+dotted_as zero columns bytes = tt
+dotted_as (suc n) columns [] = λ high. absurd (omega arith)
+dotted_as (suc n) zero (byte ∷ bytes) = by (continues byte) (dotted_as n zero bytes)
   where
-    by : (b : Bool) → 128 ≤ get_or (cond b (byte ∷ first_columns zero bytes) [] ++ 46 ∷ 46 ∷ []) 0 0
-        → get_or (cond b (byte ∷ first_columns zero bytes) [] ++ 46 ∷ 46 ∷ []) 0 0 ≡ byte
-    by true h = refl
-    by false h = absurd (omega arith)
-dotted_head (suc n) (byte ∷ bytes) high = by (continues byte)
+    by : (b : Bool) → AreAs n 0 (dotted zero bytes) bytes → AreAs (suc n) 0 (cond b (byte ∷ first_columns zero bytes) [] ++ 46 ∷ 46 ∷ []) (byte ∷ bytes)
+    by true others = λ high. (refl, one_later n 0 byte byte (dotted zero bytes) bytes others)
+    by false others = λ high. absurd (omega arith)
+dotted_as (suc n) (suc columns) (byte ∷ bytes) = by (continues byte) (dotted_as n (suc columns) bytes) (dotted_as n columns bytes)
   where
-    by : (b : Bool) → get_or (cond b (byte ∷ first_columns (suc n) bytes) (byte ∷ first_columns n bytes) ++ 46 ∷ 46 ∷ []) 0 0 ≡ byte
-    by true = refl
-    by false = refl
-
-dotted_second : (n : ℕ) (bytes : List ℕ) → 128 ≤ get_or (dotted n bytes) 0 0 → 128 ≤ get_or (dotted n bytes) 1 0 → get_or (dotted n bytes) 1 0 ≡ get_or bytes 1 0
-dotted_second n [] high next = absurd (omega arith)
-dotted_second zero (byte ∷ bytes) high next = by (continues byte) high next
-  where
-    by : (b : Bool) → 128 ≤ get_or (cond b (byte ∷ first_columns zero bytes) [] ++ 46 ∷ 46 ∷ []) 0 0
-        → 128 ≤ get_or (cond b (byte ∷ first_columns zero bytes) [] ++ 46 ∷ 46 ∷ []) 1 0
-        → get_or (cond b (byte ∷ first_columns zero bytes) [] ++ 46 ∷ 46 ∷ []) 1 0 ≡ get_or bytes 0 0
-    by true h k = dotted_head zero bytes k
-    by false h k = absurd (omega arith)
-dotted_second (suc n) (byte ∷ bytes) high next = by (continues byte) next
-  where
-    by : (b : Bool) → 128 ≤ get_or (cond b (byte ∷ first_columns (suc n) bytes) (byte ∷ first_columns n bytes) ++ 46 ∷ 46 ∷ []) 1 0
-        → get_or (cond b (byte ∷ first_columns (suc n) bytes) (byte ∷ first_columns n bytes) ++ 46 ∷ 46 ∷ []) 1 0 ≡ get_or bytes 0 0
-    by true k = dotted_head (suc n) bytes k
-    by false k = dotted_head n bytes k
-
-dotted_third : (n : ℕ) (bytes : List ℕ) → 128 ≤ get_or (dotted n bytes) 0 0 → 128 ≤ get_or (dotted n bytes) 1 0 → 128 ≤ get_or (dotted n bytes) 2 0
-    → get_or (dotted n bytes) 2 0 ≡ get_or bytes 2 0
-dotted_third n [] high next last = absurd (omega arith)
-dotted_third zero (byte ∷ bytes) high next last = by (continues byte) high next last
-  where
-    by : (b : Bool) → 128 ≤ get_or (cond b (byte ∷ first_columns zero bytes) [] ++ 46 ∷ 46 ∷ []) 0 0
-        → 128 ≤ get_or (cond b (byte ∷ first_columns zero bytes) [] ++ 46 ∷ 46 ∷ []) 1 0
-        → 128 ≤ get_or (cond b (byte ∷ first_columns zero bytes) [] ++ 46 ∷ 46 ∷ []) 2 0
-        → get_or (cond b (byte ∷ first_columns zero bytes) [] ++ 46 ∷ 46 ∷ []) 2 0 ≡ get_or bytes 1 0
-    by true h k l = dotted_second zero bytes k l
-    by false h k l = absurd (omega arith)
-dotted_third (suc n) (byte ∷ bytes) high next last = by (continues byte) next last
-  where
-    by : (b : Bool) → 128 ≤ get_or (cond b (byte ∷ first_columns (suc n) bytes) (byte ∷ first_columns n bytes) ++ 46 ∷ 46 ∷ []) 1 0
-        → 128 ≤ get_or (cond b (byte ∷ first_columns (suc n) bytes) (byte ∷ first_columns n bytes) ++ 46 ∷ 46 ∷ []) 2 0
-        → get_or (cond b (byte ∷ first_columns (suc n) bytes) (byte ∷ first_columns n bytes) ++ 46 ∷ 46 ∷ []) 2 0 ≡ get_or bytes 1 0
-    by true k l = dotted_second (suc n) bytes k l
-    by false k l = dotted_second n bytes k l
+    by : (b : Bool) → AreAs n 0 (dotted (suc columns) bytes) bytes → AreAs n 0 (dotted columns bytes) bytes
+        → AreAs (suc n) 0 (cond b (byte ∷ first_columns (suc columns) bytes) (byte ∷ first_columns columns bytes) ++ 46 ∷ 46 ∷ []) (byte ∷ bytes)
+    by true same fewer = λ high. (refl, one_later n 0 byte byte (dotted (suc columns) bytes) bytes same)
+    by false same fewer = λ high. (refl, one_later n 0 byte byte (dotted columns bytes) bytes fewer)
 
 dotted_acts : (byte n : ℕ) (bytes : List ℕ) → acting_length (byte ∷ bytes) ≡ 0 → acting_length (byte ∷ dotted n bytes) ≡ 0
-dotted_acts byte n bytes none =
-    acts_further byte (get_or bytes 0 0) (get_or bytes 1 0) (get_or bytes 2 0) none (get_or (dotted n bytes) 0 0) (get_or (dotted n bytes) 1 0) (get_or (dotted n bytes) 2 0)
-    (dotted_head n bytes) (dotted_second n bytes) (dotted_third n bytes)
+dotted_acts byte n bytes none = acts_further byte bytes (dotted n bytes) none (dotted_as 3 n bytes)
 
 dots_are_safe : IsSafe (46 ∷ 46 ∷ [])
 dots_are_safe = (refl, refl, (refl, refl, tt))
@@ -218,7 +162,7 @@ dotted_is_safe (suc n) (byte ∷ bytes) safe = by (continues byte) (dotted_is_sa
     by false same fewer = (safe.0, dotted_acts byte n bytes safe.1, fewer)
 
 fitted_is_safe : (columns : ℕ) (bytes : List ℕ) → IsSafe bytes → IsSafe (fitted columns bytes)
-fitted_is_safe columns bytes safe = by (nat_le (columns_of bytes) columns)
+fitted_is_safe columns bytes safe = by (nat_le (characters bytes) columns)
   where
     by : (b : Bool) → IsSafe (cond b bytes (dotted (columns - 2) bytes))
     by true = safe

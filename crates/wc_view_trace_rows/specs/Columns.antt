@@ -1,5 +1,6 @@
 -- The columns of a row. (The profile's own.)
 use Rattle.std.specs.Prelude.{ℕ, zero, suc, ◌+◌, ◌*◌, ◌-◌, max, min, nat_le, List, [], ◌∷◌, ◌++◌, length, replicate, Option, Some, None, codes, decimal, if◌then◌else◌}
+use Rattle.std.specs.Option.{option_map_or}
 use Rattle.wc_diag_texts.specs.Acting.{continues}
 use Rattle.wc_diag_texts.specs.Plain.{characters}
 use Rattle.wc_view_trace_rows.specs.Shown.{between_words, shown}
@@ -7,11 +8,7 @@ use Rattle.wc_view_trace_rows.specs.Shown.{between_words, shown}
 abbrev pub spaces : ℕ → List ℕ
 spaces n = replicate n 32
 
--- the number of columns that a text takes: one for each character
-abbrev pub columns_of : List ℕ → ℕ
-columns_of bytes = characters bytes
-
--- the prefix of a text that takes n columns, or all of it
+-- the prefix of a text that takes n columns, one for each character, or all of it
 abbrev pub first_columns : ℕ → List ℕ → List ℕ
 first_columns n [] = []
 first_columns zero (byte ∷ bytes) = if continues byte then byte ∷ first_columns zero bytes else []
@@ -19,7 +16,7 @@ first_columns (suc n) (byte ∷ bytes) = if continues byte then byte ∷ first_c
 
 -- a text in that many columns: if it takes more, its prefix and two dots
 abbrev pub fitted : ℕ → List ℕ → List ℕ
-fitted columns bytes = if nat_le (columns_of bytes) columns then bytes else first_columns (columns - 2) bytes ++ codes ".."
+fitted columns bytes = if nat_le (characters bytes) columns then bytes else first_columns (columns - 2) bytes ++ codes ".."
 
 -- a line of the program's text in that many columns
 abbrev pub line_shown : ℕ → List ℕ → List ℕ
@@ -27,7 +24,7 @@ line_shown columns line = fitted columns (shown (between_words line))
 
 -- the spaces after the start of a row up to a column, and two at least
 abbrev pub gap : ℕ → List ℕ → List ℕ
-gap column row = spaces (max (column - columns_of row) 2)
+gap column row = spaces (max (column - characters row) 2)
 
 -- a number at the right of six columns
 abbrev pub six_columns : ℕ → List ℕ
@@ -52,8 +49,7 @@ prefix (Some number) depth line = six_columns number ++ (spaces (indent depth) +
 
 -- what is at a column after the start of a row, or nothing
 abbrev pub with_cell : ℕ → Option (List ℕ) → List ℕ → List ℕ
-with_cell column None row = row
-with_cell column (Some cell) row = row ++ (gap column row ++ cell)
+with_cell column cell row = option_map_or (λ text. row ++ (gap column row ++ text)) cell row
 
 -- a row: its start, the result, and what is written
 abbrev pub row : List ℕ → Option (List ℕ) → Option (List ℕ) → List ℕ

@@ -1,5 +1,6 @@
 -- What is known of the items of a scan. (The profile's own.)
-use Rattle.std.specs.Prelude.{◌≡◌, ℕ, ◌+◌, ◌<◌, ◌==◌, Bool, false, List, [], ◌∷◌, min, Option, Some, None, ℤ, FitsSigned, if◌then◌else◌}
+use Rattle.std.specs.Prelude.{◌≡◌, ℕ, ◌+◌, ◌<◌, ◌==◌, Bool, false, List, [], ◌∷◌, length, min, slice_index, Option, Some, None, ℤ, FitsSigned, if◌then◌else◌}
+use Rattle.std.specs.Option.{option_map_or}
 use Rattle.std.specs.Int.{w32}
 use Rattle.wc_text_flat.specs.Contents.{frame_of_text, number_in}
 use Rattle.wc_machine.specs.Machines.{MachineState, RepresentsText}
@@ -34,8 +35,7 @@ block_of seen = block_in seen.base seen.line
 
 -- an item is a call of the block whose places begin there
 abbrev pub is_call_at : ℕ → Option (StandardBlock × ℕ) → Bool
-is_call_at place None = false
-is_call_at place (Some found) = found.1 == place
+is_call_at place block = option_map_or (λ found. found.1 == place) block false
 
 -- the number, counted on from these, of the last item that is such a call, or this one
 abbrev pub last_call_from : ℕ → ℕ → ℕ → List SeenLine → ℕ
@@ -45,3 +45,8 @@ last_call_from place count last (seen ∷ lines) = last_call_from place (count +
 -- the number of the last item of a scan, counted from 1, that is such a call; 0 if none is
 abbrev pub last_call : ℕ → List SeenLine → ℕ
 last_call place lines = last_call_from place 0 0 lines
+
+-- for each of these first places the number of the last item that calls a standard block which begins there
+pub record AreLastCalls (items : List ℕ) (places : ℕ) (lines : List SeenLine) : Type 0 where
+  pub count : length items ≡ places
+  pub each : (place : ℕ) → place < places → slice_index items place ≡ last_call place lines

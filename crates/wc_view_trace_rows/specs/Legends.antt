@@ -1,5 +1,6 @@
 -- What a legend says: the lines of the text, what they name, and the kinds of the program's places. (No rule of the language.)
-use Rattle.std.specs.Prelude.{◌≡◌, ℕ, zero, suc, ◌+◌, ◌-◌, ◌==◌, List, [], ◌∷◌, Option, Some, None, option_and_then, slice_get, if◌then◌else◌}
+use Rattle.std.specs.Prelude.{◌≡◌, ℕ, zero, suc, ◌+◌, ◌-◌, ◌==◌, List, [], ◌∷◌, Option, option_and_then, slice_get, if◌then◌else◌}
+use Rattle.std.specs.Option.{option_map_or, option_zip}
 use Rattle.wc_built_in.specs.Fields.{value_kind}
 use Rattle.wc_model.specs.Language.CarriedPlaces.{frame_of_text}
 use Rattle.wc_model.specs.Language.Frames.{slot_kinds}
@@ -27,14 +28,10 @@ pub record IsLegendOf (legend : Legend) (bytes : List ℕ) (text : Text) : Type 
   pub kinds_are : legend.kinds.items ≡ slot_kinds (frame_of_text text)
 
 -- the line of that number, counted from 1: it begins where the legend says, and ends before the byte before the next one
-abbrev pub bytes_between : List ℕ → Option ℕ → Option ℕ → List ℕ
-bytes_between text None next = []
-bytes_between text (Some start) None = []
-bytes_between text (Some start) (Some next) = part_of text start (next - 1)
-
 abbrev pub line_of : Legend → ℕ → List ℕ
 line_of legend zero = []
-line_of legend (suc n) = bytes_between legend.text.items (slice_get legend.starts.items n) (slice_get legend.starts.items (suc n))
+line_of legend (suc n) =
+    option_map_or (λ p. part_of legend.text.items p.0 (p.1 - 1)) (option_zip (slice_get legend.starts.items n) (slice_get legend.starts.items (suc n))) []
 
 -- the kind of the values that a place holds
 abbrev pub kind_at : Legend → ℕ → Option Kind
@@ -48,9 +45,5 @@ abbrev pub name_of : Legend → Note → List ℕ
 name_of legend note = part_of legend.notes.names.items note.start note.end
 
 -- the kind of the literal that a line loads
-abbrev pub noted_kind : Option Note → Option Kind
-noted_kind None = None
-noted_kind (Some note) = note.kind
-
 abbrev pub literal_kind : Legend → ℕ → Option Kind
-literal_kind legend line = noted_kind (note_of legend line 0)
+literal_kind legend line = option_and_then (λ (note : Note). note.kind) (note_of legend line 0)

@@ -1,6 +1,6 @@
 -- The kinds of results while the items of a scan are gone through, body by body. (The profile's own; the kinds that operators give
 -- are those of IEC 61131-3:2003, 3.2.2.)
-use Rattle.std.specs.Prelude.{ℕ, suc, ◌+◌, List, [], ◌∷◌, ◌++◌, take, replicate, slice_get, slice_set, Option, Some, None}
+use Rattle.std.specs.Prelude.{ℕ, suc, ◌+◌, List, [], ◌∷◌, ◌++◌, map, reverse, take, replicate, slice_get, slice_set, Option, None, unwrap_or}
 use Rattle.wc_machine.specs.declared.seen.SeenLine.{SeenLine}
 use Rattle.wc_model.specs.Language.Kinds.{kind_after_operator}
 use Rattle.wc_model.specs.declared.code.Code.{Code}
@@ -9,6 +9,8 @@ use Rattle.wc_model.specs.declared.kind.Kind.{Kind}
 use Rattle.wc_view_trace_rows.specs.Items.{up_to_most}
 use Rattle.wc_view_trace_rows.specs.Legends.{kind_at, literal_kind, note_of}
 use Rattle.wc_view_trace_rows.specs.declared.legend.Legend.{Legend}
+use Rattle.wc_view_trace_rows.specs.declared.levels.BodyLevel.{BodyLevel}
+use Rattle.wc_view_trace_rows.specs.declared.levels.Levels.{Levels}
 use Rattle.wc_view_trace_rows.specs.declared.levels.Said.{Said}
 use Rattle.wc_view_trace_rows.specs.declared.notes.Note.{Note}
 
@@ -23,9 +25,6 @@ pub record Level : Type 0 where
 abbrev pub fresh : Level
 fresh = record { kind = None; put_by = []; items = 0 }
 
-abbrev pub with_kind : Level → Option Kind → Level
-with_kind level kind = record { kind = kind; put_by = level.put_by; items = level.items }
-
 -- a parenthesis is opened, and the result after it has this kind
 abbrev pub opened : Level → Option Kind → Level
 opened level kind = record { kind = kind; put_by = level.kind ∷ level.put_by; items = level.items }
@@ -35,26 +34,20 @@ abbrev pub closed : Level → List (Option Kind) → (Option Kind → Option Kin
 closed level [] operated = record { kind = operated None; put_by = []; items = level.items }
 closed level (outer ∷ others) operated = record { kind = operated outer; put_by = others; items = level.items }
 
-abbrev pub with_items : Level → ℕ → Level
-with_items level items = record { kind = level.kind; put_by = level.put_by; items = items }
-
-abbrev pub one_more : ℕ → ℕ
-one_more items = up_to_most (items + 1)
-
 -- what a line that loads nothing makes of it: an operator gives its result a kind
 abbrev pub operated : Code → Level → Level
-operated (ApplyNumber operator n) level = with_kind level (kind_after_operator operator level.kind)
-operated (ApplyPlace operator place) level = with_kind level (kind_after_operator operator level.kind)
+operated (ApplyNumber operator n) level = record level { kind = kind_after_operator operator level.kind }
+operated (ApplyPlace operator place) level = record level { kind = kind_after_operator operator level.kind }
 operated (Close operator) level = closed level level.put_by (kind_after_operator operator)
-operated (Call condition skip) level = with_items level 0
-operated (ArgumentNumber target n) level = with_items level (one_more level.items)
-operated (ArgumentPlace place target) level = with_items level (one_more level.items)
+operated (Call condition skip) level = record level { items = 0 }
+operated (ArgumentNumber target n) level = record level { items = up_to_most (level.items + 1) }
+operated (ArgumentPlace place target) level = record level { items = up_to_most (level.items + 1) }
 operated line level = level
 
 -- what a line makes of it: a load gives the kind of what is loaded
 abbrev pub level_after : Legend → ℕ → ℕ → Level → Code → Level
-level_after legend base line level (LoadNumber n) = with_kind level (literal_kind legend line)
-level_after legend base line level (LoadPlace negated place) = with_kind level (kind_at legend (base + place.0))
+level_after legend base line level (LoadNumber n) = record level { kind = literal_kind legend line }
+level_after legend base line level (LoadPlace negated place) = record level { kind = kind_at legend (base + place.0) }
 level_after legend base line level Open = opened level None
 level_after legend base line level (OpenNumber n) = opened level (literal_kind legend line)
 level_after legend base line level (OpenPlace place) = opened level (kind_at legend (base + place.0))
@@ -92,13 +85,9 @@ said_of legend seen level = record {
 abbrev pub levels_at : ℕ → List Level → List Level
 levels_at depth levels = take (suc depth) (levels ++ replicate (suc depth) fresh)
 
-abbrev pub level_or_fresh : Option Level → Level
-level_or_fresh None = fresh
-level_or_fresh (Some level) = level
-
 -- the body in which a line is executed, before it and after it
 abbrev pub level_before : SeenLine → List Level → Level
-level_before seen levels = level_or_fresh (slice_get (levels_at seen.depth levels) seen.depth)
+level_before seen levels = unwrap_or (slice_get (levels_at seen.depth levels) seen.depth) fresh
 
 abbrev pub level_left : Legend → SeenLine → List Level → Level
 level_left legend seen levels = after_seen legend seen (level_before seen levels)
@@ -106,3 +95,10 @@ level_left legend seen levels = after_seen legend seen (level_before seen levels
 -- all bodies after it
 abbrev pub levels_after : Legend → SeenLine → List Level → List Level
 levels_after legend seen levels = slice_set (levels_at seen.depth levels) seen.depth (level_left legend seen levels)
+
+-- what the code's levels are
+abbrev pub level_view : BodyLevel → Level
+level_view level = record { kind = level.kind; put_by = reverse level.put_by.items; items = level.items }
+
+abbrev pub levels_view : Levels → List Level
+levels_view levels = map level_view levels.levels.items

@@ -1,12 +1,9 @@
-pub mod Calls
 pub mod Columns
 pub mod Items
 pub mod Legends
-pub mod LevelViews
 pub mod Levels
 pub mod Named
 pub mod Notes
-pub mod Puts
 pub mod Rows
 pub mod Safe
 pub mod Scans

@@ -2,17 +2,16 @@
 -- the items of its list, the inputs first. (The profile's own.)
 use Rattle.std.specs.Prelude.{◌≡◌, ℕ, List, [], ◌∷◌, ◌++◌, map, Option, Some, None, Result, OnOk, IsOkUnless}
 use Rattle.std.specs.List.{flat_map}
+use Rattle.std.specs.Option.{option_map_or}
 use Rattle.wc_model.specs.Language.Kinds.{BodyLine, AloneLine, PlainLine, NestedLine}
 use Rattle.wc_model.specs.Language.Names.{Name, name_of}
-use Rattle.wc_model.specs.Language.Tree.{Term, Constant, Address, Variable, Field, Assignment, Step, Load, Store, Apply, Negate, Jump, Call, Return, Lines, End, Alone, Plain, Nested, ProgramUnit, Text}
+use Rattle.wc_model.specs.Language.Scopes.{kind_of}
+use Rattle.wc_model.specs.Language.Tree.{Term, Constant, Address, Variable, Field, Assignment, Step, Load, Store, Call, Lines, End, Alone, Plain, Nested, ProgramUnit, Text}
 use Rattle.wc_model.specs.declared.fault.Fault.{Fault}
 use Rattle.wc_model.specs.declared.fault.Fault.TheVariants as fault
 use Rattle.wc_model.specs.declared.kind.Kind.{Kind}
-use Rattle.wc_model.specs.declared.kind.Kind.TheVariants as kinds
 use Rattle.wc_model.specs.declared.operator.Direction.{Direction}
 use Rattle.wc_model.specs.declared.operator.Direction.TheVariants.{Into, OutOf}
-use Rattle.wc_model.specs.declared.value.Value.{Value}
-use Rattle.wc_model.specs.declared.value.Value.TheVariants as values
 use Rattle.wc_view_trace_rows.specs.Notes.{AreWithin, part_of}
 use Rattle.wc_view_trace_rows.specs.declared.notes.Note.{Note}
 use Rattle.wc_view_trace_rows.specs.declared.notes.Notes.{Notes}
@@ -30,15 +29,9 @@ dotted name (letter ∷ field) = name ++ 46 ∷ letter ∷ field
 abbrev pub named_as : Option Kind → Name → Name → Named
 named_as kind name field = record { kind = kind; name = dotted name field }
 
--- the kind of a literal
-abbrev pub constant_kind : Value → Kind
-constant_kind (values.Bool value) = kinds.Bool
-constant_kind (values.Dint value) = kinds.Dint
-constant_kind (values.Time value) = kinds.Time
-
 -- an operand
 abbrev pub operand_named : Term → Named
-operand_named (Constant value) = named_as (Some (constant_kind value)) [] []
+operand_named (Constant value) = named_as (Some (kind_of value)) [] []
 operand_named (Address word) = named_as None word.name []
 operand_named (Variable name) = named_as None name []
 operand_named (Field instance field) = named_as None instance field
@@ -46,9 +39,8 @@ operand_named (Field instance field) = named_as None instance field
 -- an item of a call's list, if it has that direction: an input of the instance, or where an output is written
 abbrev pub passed_named : Direction → Direction → Name → Name → Term → List Named
 passed_named Into Into instance formal actual = named_as None instance formal ∷ []
-passed_named Into OutOf instance formal actual = []
-passed_named OutOf Into instance formal actual = []
 passed_named OutOf OutOf instance formal actual = operand_named actual ∷ []
+passed_named direction other instance formal actual = []
 
 abbrev pub item_named : Direction → Name → Assignment → List Named
 item_named direction instance a = passed_named direction a.direction instance a.formal a.actual
@@ -63,16 +55,12 @@ call_named instance arguments =
 abbrev pub step_named : Step → List Named
 step_named (Load negated operand) = operand_named operand ∷ []
 step_named (Store storing target) = operand_named target ∷ []
-step_named (Apply operator operand) = []
-step_named Negate = []
-step_named (Jump condition label) = []
 step_named (Call condition instance arguments) = call_named instance arguments
-step_named (Return condition) = []
+step_named step = []
 
 -- the operand of a line that opens a parenthesis
 abbrev pub opening_named : Option Term → List Named
-opening_named None = []
-opening_named (Some operand) = operand_named operand ∷ []
+opening_named operand = option_map_or (λ term. operand_named term ∷ []) operand []
 
 -- lines, each with those in its parenthesis
 abbrev pub lines_named : Lines → List Named
@@ -87,11 +75,8 @@ line_named (PlainLine label line step) = step_named step
 line_named (NestedLine label line operator operand inside close) = opening_named operand ++ lines_named inside
 
 -- a text, unit by unit
-abbrev pub unit_named : ProgramUnit → List Named
-unit_named unit = lines_named unit.body
-
 abbrev pub text_named : Text → List Named
-text_named text = flat_map unit_named text
+text_named text = flat_map (λ (unit : ProgramUnit). lines_named unit.body) text
 
 -- what notes name, in their order
 abbrev pub note_named : List ℕ → Note → Named

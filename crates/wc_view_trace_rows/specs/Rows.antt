@@ -1,6 +1,8 @@
 -- The row of an item. (The profile's own; literals and the outputs of standard blocks are those of IEC 61131-3:2003, 2.2 and 2.5.2.3.)
-use Rattle.std.specs.Prelude.{ℕ, zero, suc, ◌+◌, Bool, true, false, List, [], ◌∷◌, ◌++◌, map, codes, Option, Some, None, option_map, ℤ, pos, negsuc, if◌then◌else◌}
+use Rattle.std.specs.Prelude.{ℕ, zero, suc, Bool, true, false, List, [], ◌∷◌, ◌++◌, map, codes, Option, Some, None, is_some, option_map, ℤ, pos, if◌then◌else◌}
 use Rattle.std.specs.Char.{to_ascii_uppercase}
+use Rattle.std.specs.List.{flat_map, zip}
+use Rattle.std.specs.Option.{option_map_or}
 use Rattle.wc_view_changes.specs.ChangeReport.{content_text}
 use Rattle.wc_model.specs.Language.Declarations.{Member, standard_members}
 use Rattle.wc_model.specs.Language.Kinds.{elementary_kind}
@@ -9,7 +11,7 @@ use Rattle.wc_model.specs.declared.block.StandardBlock.{StandardBlock}
 use Rattle.wc_model.specs.declared.code.Code.{Code}
 use Rattle.wc_model.specs.declared.code.Code.TheVariants.{ArgumentNumber, ArgumentPlace, Standard, Body}
 use Rattle.wc_model.specs.declared.kind.Kind.{Kind}
-use Rattle.wc_model.specs.declared.kind.Kind.TheVariants.{Bool as KindBool, Dint as KindDint, Time as KindTime}
+use Rattle.wc_model.specs.declared.kind.Kind.TheVariants.{Bool as KindBool, Time as KindTime}
 use Rattle.wc_model.specs.declared.source.Section.{Section}
 use Rattle.wc_model.specs.declared.source.Section.TheVariants as sections
 use Rattle.wc_model.specs.declared.value.Value.{Value}
@@ -25,14 +27,12 @@ use Rattle.wc_view_trace_rows.specs.declared.outputs.BlockOutput.{BlockOutput}
 -- known
 abbrev pub is_true : ℤ → Bool
 is_true (pos zero) = false
-is_true (pos (suc n)) = true
-is_true (negsuc n) = true
+is_true number = true
 
 abbrev pub value_held : Option Kind → ℤ → Value
 value_held (Some KindBool) number = Truth (is_true number)
-value_held (Some KindDint) number = Dint number
 value_held (Some KindTime) number = Time number
-value_held None number = Dint number
+value_held kind number = Dint number
 
 -- it as a literal of the language
 abbrev pub literal : Option Kind → ℤ → List ℕ
@@ -62,13 +62,10 @@ outputs_of block = outputs_from 0 (standard_members block)
 
 -- a space, the name, `=` and the value; nothing of an output without a number
 abbrev pub output_text : Output → Option ℤ → List ℕ
-output_text output None = []
-output_text output (Some number) = 32 ∷ (output.name ++ 61 ∷ literal output.kind number)
+output_text output number = option_map_or (λ n. 32 ∷ (output.name ++ 61 ∷ literal output.kind n)) number []
 
 abbrev pub outputs_text : List Output → List (Option ℤ) → List ℕ
-outputs_text [] numbers = []
-outputs_text (output ∷ outputs) [] = []
-outputs_text (output ∷ outputs) (number ∷ numbers) = output_text output number ++ outputs_text outputs numbers
+outputs_text outputs numbers = flat_map (λ p. output_text p.0 p.1) (zip outputs numbers)
 
 -- an item of a call's list, and a line that is a part of a call
 abbrev pub is_argument : Code → Bool
@@ -91,8 +88,7 @@ result_cell item = if is_part item.seen.line then None else option_map (literal 
 
 -- what is called or written to
 abbrev pub noted_name : Legend → Option Note → List ℕ
-noted_name legend None = []
-noted_name legend (Some note) = name_of legend note
+noted_name legend note = option_map_or (name_of legend) note []
 
 -- the outputs of a standard block after its last call of a scan
 abbrev pub outputs_shown : Code → Bool → List (Option ℤ) → List ℕ
@@ -107,8 +103,7 @@ written_text legend item None =
 
 abbrev pub has_written : Code → Option ℤ → Bool
 has_written (Standard block at) written = true
-has_written line None = false
-has_written line (Some number) = true
+has_written line written = is_some written
 
 abbrev pub written_cell : Legend → Item → Option (List ℕ)
 written_cell legend item = if has_written item.seen.line item.seen.written then Some (written_text legend item item.seen.written) else None

@@ -1,14 +1,10 @@
 -- What a trace says of a scan before its rows and after them, and of a run of which it shows no scan. (The profile's own.)
-use Rattle.std.specs.Prelude.{ℕ, zero, suc, Bool, true, false, List, ◌++◌, codes, decimal}
+use Rattle.std.specs.Prelude.{ℕ, zero, suc, Bool, List, ◌++◌, codes, decimal, if◌then◌else◌}
 
--- after the moment of a scan: whether the next program has taken the place of the first
-abbrev pub heading_end : Bool → List ℕ
-heading_end false = codes " ms\n"
-heading_end true = codes " ms, next program\n"
-
--- `scan 3 at 300 ms`
+-- `scan 3 at 300 ms`, and whether the next program has taken the place of the first
 abbrev pub heading : ℕ → ℕ → Bool → List ℕ
-heading number ms is_changed = codes "scan " ++ (decimal number ++ (codes " at " ++ (decimal ms ++ heading_end is_changed)))
+heading number ms is_changed =
+    codes "scan " ++ (decimal number ++ (codes " at " ++ (decimal ms ++ (if is_changed then codes " ms, next program\n" else codes " ms\n"))))
 
 -- `steps 12 of at most 20`
 abbrev pub steps_line : ℕ → ℕ → List ℕ

@@ -1,8 +1,6 @@
 ghost use Rattle.std.specs.Prelude.{◌≡◌, ◌<◌, ◌+◌, [], ℕ, List, IfOk, IsOkUnless, OnOk, if◌then◌else◌, length, slice_index};
-ghost use Rattle.wc_view_trace_rows.specs.Calls.{AreLastCalls};
-ghost use Rattle.wc_view_trace_rows.specs.Items.{block_of, is_call_at};
-ghost use Rattle.wc_view_trace_rows.specs.LevelViews.{levels_view};
-ghost use Rattle.wc_view_trace_rows.specs.Levels.{levels_after};
+ghost use Rattle.wc_view_trace_rows.specs.Items.{AreLastCalls, block_of, is_call_at};
+ghost use Rattle.wc_view_trace_rows.specs.Levels.{levels_after, levels_view};
 ghost use Rattle.wc_view_trace_rows.specs.Rows.{outputs_of};
 ghost use Rattle.wc_view_trace_rows.specs.Scans.{AreShown, HasOutputs, IsItem, is_last_call};
 

@@ -1,7 +1,6 @@
 ghost use Rattle.std.specs.Prelude.{◌≡◌, ◌+◌, ◌<◌, ◌++◌, ◌∷◌, [], OnOk, IfOk, length, IsOkUnless};
-ghost use Rattle.wc_view_trace_rows.specs.LevelViews.{level_view, levels_view};
 ghost use Rattle.wc_model.specs.Language.Kinds.{kind_after_operator};
-ghost use Rattle.wc_view_trace_rows.specs.Levels.{after_seen, closed, fresh, level_left, levels_after, levels_at, note_said, opened, operated, said_of, written_kind};
+ghost use Rattle.wc_view_trace_rows.specs.Levels.{after_seen, closed, fresh, level_left, level_view, levels_after, levels_at, levels_view, note_said, opened, operated, said_of, written_kind};
 
 use crate::legend::Legend;
 use crate::notes::Note;

@@ -1,11 +1,12 @@
 ghost use Rattle.std.specs.Prelude.{◌≡◌, ◌++◌, ◌∷◌, [], None, map, IsOkUnless, OnOk};
 ghost use Rattle.std.specs.Option.{option_map};
 ghost use Rattle.wc_model.specs.Language.Names.{name_of};
+ghost use Rattle.wc_model.specs.Language.Scopes.{kind_of};
 ghost use Rattle.wc_model.specs.Language.Tree.{Lines};
 ghost use Rattle.wc_model.specs.Language.Views.{assignment_view, line_view, lines_view, term_view, text_view};
 ghost use Rattle.wc_verify.specs.Instructions.{instr_line};
-ghost use Rattle.wc_view_trace_rows.specs.Named.{Adds, IsWhole, call_named, constant_kind, dotted, item_named, items_named, line_named, lines_named, named_as, notes_named, opening_named, operand_named, text_named};
-ghost use Rattle.wc_view_trace_rows.specs.Puts.{Puts};
+ghost use Rattle.wc_view_trace_rows.specs.Named.{Adds, IsWhole, call_named, dotted, item_named, items_named, line_named, lines_named, named_as, notes_named, opening_named, operand_named, text_named};
+ghost use Rattle.wc_view_changes.specs.Puts.{Puts};
 
 use crate::notes::{Note, Notes};
 use wc_model::{Argument, Direction, Fault, Instr, Kind, Line, Operand, Source, Value, put_bytes};
@@ -51,7 +52,7 @@ fn put_name(names: &mut Vec<u8>, name: &[u8], field: &[u8]) -> Result<(), Fault>
 
 /// The kind of a literal.
 fn kind_of(value: Value) -> Kind
-    ensures { result ≡ constant_kind value }
+    ensures { result ≡ kind_of value }
 {
     match value {
         Value::Bool(_) => Kind::Bool,

@@ -1,12 +1,13 @@
 use Rattle.std.proofs.Common.{◌≡◌, ◌++◌, map, drop}
 use Rattle.std.specs.List.{flat_map}
+use Rattle.wc_model.specs.Language.Tree.{ProgramUnit}
 use Rattle.wc_model.specs.Language.Views.{unit_view}
-use Rattle.wc_view_trace_rows.specs.Named.{IsWhole, notes_named, unit_named}
+use Rattle.wc_view_trace_rows.specs.Named.{IsWhole, lines_named, notes_named}
 use Rattle.wc_view_trace_rows.proofs.noting.note_units.Given as goal
 
 -- with the units that are left it is the whole text
 abbrev pub invariant-loop-unit : goal.invariant-loop-unit
 invariant-loop-unit l =
-    (notes_named l.notes ++ flat_map unit_named (map unit_view (drop l.unit-index l.unit-items))
-    ≡ notes_named l.initial.notes ++ flat_map unit_named (map unit_view l.unit-items))
+    (notes_named l.notes ++ flat_map (λ (unit : ProgramUnit). lines_named unit.body) (map unit_view (drop l.unit-index l.unit-items))
+    ≡ notes_named l.initial.notes ++ flat_map (λ (unit : ProgramUnit). lines_named unit.body) (map unit_view l.unit-items))
     × IsWhole l.notes

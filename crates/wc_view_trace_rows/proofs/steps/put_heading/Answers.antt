@@ -1,8 +1,8 @@
-use Rattle.std.proofs.Common.{◌++◌, ◌∙◌, ap}
+use Rattle.std.proofs.Common.{◌++◌, ap, ◌∙◌}
 use Rattle.std.proofs.lemmas.List.{append_assoc}
+use Rattle.std.proofs.lemmas.Result.{on_ok_weaker}
 use Rattle.std.specs.Prelude.{codes, decimal}
-use Rattle.wc_view_trace_rows.proofs.HandedOn.{on_ok}
-use Rattle.wc_view_trace_rows.proofs.Joins.{two_texts}
+use Rattle.wc_view_trace_rows.proofs.Joins.{two_parts}
 use Rattle.wc_view_trace_rows.proofs.steps.put_heading.Goals as goal
 
 pub returns-then-is_changed : goal.returns-then-is_changed
@@ -12,8 +12,9 @@ returns-then-is_changed c =
     let rest = decimal c.args.ms ++ codes " ms, next program\n" in
     let first = rw c.from.ensures at c.in_ok-put_between.ensures.0 in
     rw c.if-is_changed.true (
-      on_ok c.put_between-then-is_changed.result
-          (λ put. two_texts old c.put_between.new.text.items c.put_between-then-is_changed.new.text.items (codes "scan " ++ (number ++ codes " at ")) rest first put
+      on_ok_weaker c.put_between-then-is_changed.result
+          (λ put. two_parts old (codes "scan " ++ (number ++ codes " at ")) rest
+          c.put_between.new.text.items c.put_between-then-is_changed.new.text.items first put
           ∙ ap (λ l. old ++ (codes "scan " ++ l)) (append_assoc number (codes " at ") rest))
           c.put_between-then-is_changed.ensures.0,
       c.put_between-then-is_changed.ensures.1,

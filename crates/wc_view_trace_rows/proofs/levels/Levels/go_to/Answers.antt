@@ -1,7 +1,6 @@
 use Rattle.std.proofs.Common.{◌≡◌, ◌∙◌, ◌+◌, ◌-◌, ◌++◌, ap, arith, length, map, refl, replicate}
 use Rattle.wc_view_trace_rows.proofs.Bodies.{gone, one_started}
-use Rattle.wc_view_trace_rows.specs.LevelViews.{level_view, levels_view}
-use Rattle.wc_view_trace_rows.specs.Levels.{fresh}
+use Rattle.wc_view_trace_rows.specs.Levels.{fresh, level_view, levels_view}
 use Rattle.wc_view_trace_rows.proofs.levels.Levels.go_to.Goals as goal
 
 pub loop-level-preserved : goal.loop-level-preserved

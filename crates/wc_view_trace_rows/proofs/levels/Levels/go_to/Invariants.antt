@@ -1,6 +1,5 @@
 use Rattle.std.proofs.Common.{◌≡◌, ◌≤◌, ◌-◌, ◌++◌, length, map, replicate}
-use Rattle.wc_view_trace_rows.specs.LevelViews.{level_view}
-use Rattle.wc_view_trace_rows.specs.Levels.{fresh}
+use Rattle.wc_view_trace_rows.specs.Levels.{fresh, level_view}
 use Rattle.wc_view_trace_rows.proofs.levels.Levels.go_to.Given as goal
 
 -- there are as many bodies as the loop has come to, and those after the ones that were there are new
