@@ -2,7 +2,7 @@ use Rattle.std.proofs.Common.{◌∷◌, []}
 use Rattle.std.specs.Prelude.{codes}
 use Rattle.std.specs.List.{flat_map}
 use Rattle.json.specs.Token as json
-use Rattle.wc_view_trace_rows.proofs.HandedOn.{on_ok}
+use Rattle.std.proofs.lemmas.Result.{on_ok_weaker}
 use Rattle.wc_view_trace.proofs.Joins.{four_parts}
 use Rattle.wc_view_trace.specs.Items.{item_tokens}
 use Rattle.wc_view_trace.proofs.items.write_items.Goals as goal
@@ -10,7 +10,7 @@ use Rattle.wc_view_trace.proofs.items.write_items.Goals as goal
 pub returns-clause-tokens : goal.returns-clause-tokens
 returns-clause-tokens c =
     let written = c.in_ok-write_each.ensures.tokens in
-    on_ok c.end_array.result
+    on_ok_weaker c.end_array.result
     (λ last. (
       written.0,
       written.1,

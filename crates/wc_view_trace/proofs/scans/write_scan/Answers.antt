@@ -1,5 +1,5 @@
 use Rattle.std.proofs.Common.{length, refl}
-use Rattle.wc_view_trace_rows.proofs.HandedOn.{on_ok}
+use Rattle.std.proofs.lemmas.Result.{on_ok_weaker}
 use Rattle.wc_view_trace.proofs.Joins.{four_parts}
 use Rattle.wc_view_trace.specs.Images.{image_tokens}
 use Rattle.wc_view_trace.specs.Scans.{head_tokens, items_tokens, tail_tokens}
@@ -11,7 +11,7 @@ returns-clause-tokens c =
     let legend = c.args.legend.now in
     let written = c.in_ok-write_items.ensures.tokens in
     let tail = tail_tokens (length scan.lines.now) c.bound.result scan.outputs in
-    on_ok c.write_tail.result
+    on_ok_weaker c.write_tail.result
     (λ last. (
       _,
       record { image = c.image_of-image.result; image_is = c.image_of-image.ensures; items = written.0; items_are = written.1; bound = c.bound.result; bounds = c.bound.ensures; are = refl },
