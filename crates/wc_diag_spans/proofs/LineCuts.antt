@@ -1,5 +1,6 @@
 -- A text cut in lines, one after another.
 use Rattle.std.proofs.Common.{◌≡◌, ◌≤◌, ◌<◌, ◌+◌, ◌-◌, ◌==◌, ltb, ℕ, zero, suc, Bool, true, false, cond, not, min, List, [], ◌∷◌, length, count_by, drop, take, get_or, zero-add, add-zero, Some, None, if◌then◌else◌, refl, sym, ap, ◌∙◌, arith}
+use Rattle.std.proofs.Math.Seq.{drop-nil, take-length}
 use Rattle.std.proofs.lemmas.Bool.{false_from_ne_true, ltb-false, ltb-true, ne_eqb}
 use Rattle.std.proofs.lemmas.List.{drop-drop}
 use Rattle.std.proofs.lemmas.List.Splits.{slice_split_first}
@@ -8,7 +9,7 @@ use Rattle.std.proofs.lemmas.Option.{slice_get-map}
 use Rattle.std.specs.List.{after_first, before_first, onto_first, position_or_len}
 use Rattle.std.specs.Prelude.{option_map, slice_get}
 use Rattle.memchr.specs.Find.{IsFirstByte, is_byte}
-use Rattle.wc_diag_spans.specs.Lines.{HasBelow, IsOneLine, cut_lines, line_of_number, lines_of, without_return}
+use Rattle.wc_diag_spans.specs.Lines.{AreLinesAbove, HasBelow, IsOneLine, cut_lines, line_of_number, lines_of, without_return}
 
 -- an LF
 abbrev pub is_end : ℕ → Bool
@@ -42,11 +43,6 @@ one_line (byte ∷ text) h = by_test (is_end byte) refl h (one_line text)
 first_item : (items : List (List ℕ)) (first : List ℕ) (more : List (List ℕ)) → items ≡ first ∷ more → slice_get items 0 ≡ Some first
 first_item items first more e = ap (λ l. slice_get l 0) e
 
--- all of a list
-whole : (text : List ℕ) → take (length text) text ≡ text
-whole [] = refl
-whole (byte ∷ text) = ap (λ l. byte ∷ l) (whole text)
-
 -- the first line is what is before the first LF
 pub first_cut : (text first : List ℕ) (place : ℕ) → place ≡ position_or_len is_end text → place ≤ length text → first ≡ take (min place (length text)) text → slice_get (cut_lines text) 0 ≡ Some first
 first_cut text first place is within e = by_test (ltb place (length text)) refl
@@ -60,7 +56,7 @@ first_cut text first place is within e = by_test (ltb place (length text)) refl
     by_test false h =
         let more : length text ≤ place = ltb-false place (length text) h in
         let at : min place (length text) ≡ length text = omega arith in
-        let same : first ≡ text = e ∙ ap (λ k. take k text) at ∙ whole text in
+        let same : first ≡ text = e ∙ ap (λ k. take k text) at ∙ take-length text in
         first_item (cut_lines text) first [] (one_line text (omega arith) ∙ ap (λ f. f ∷ []) (sym same))
 
 -- below the first LF are the other lines
@@ -88,21 +84,10 @@ line_kept (byte ∷ next ∷ rest) other =
     let last = λ (e : get_or (next ∷ rest) (length (next ∷ rest) - 1) 0 ≡ 13). other (ap (λ k. get_or (byte ∷ next ∷ rest) k 0) less ∙ e) in
     ap (λ l. byte ∷ l) (line_kept (next ∷ rest) last)
 
--- after that number of lines come these bytes
-abbrev pub IsAfterRecords : List ℕ → ℕ → List ℕ → Type 0
-IsAfterRecords text count rest = drop count (cut_lines text) ≡ cut_lines rest
-
 -- a first byte changes no line but the first
 drop-onto_first : (n byte : ℕ) (lines : List (List ℕ)) → 1 ≤ n → drop n (onto_first byte lines) ≡ drop n lines
 drop-onto_first zero byte lines some = absurd (omega arith)
-drop-onto_first (suc n) byte [] some = all_dropped n
-  where
-    no_lines : List (List ℕ)
-    no_lines = []
-
-    all_dropped : (k : ℕ) → drop k no_lines ≡ no_lines
-    all_dropped zero = refl
-    all_dropped (suc k) = refl
+drop-onto_first (suc n) byte [] some = drop-nil n
 drop-onto_first (suc n) byte (line ∷ lines) some = refl
 
 -- a byte more
@@ -144,7 +129,7 @@ lines_passed (byte ∷ text) (suc (suc k)) some within ends =
     (lines_passed text (suc k) (omega arith) (omega (arith, within)) (ends_later byte text k ends))
 
 -- one line more
-pub is_further : (text : List ℕ) (count : ℕ) (rest below : List ℕ) → IsAfterRecords text count rest → HasBelow rest below → IsAfterRecords text (count + 1) below
+pub is_further : (text : List ℕ) (count : ℕ) (rest below : List ℕ) → AreLinesAbove text count rest → HasBelow rest below → AreLinesAbove text (count + 1) below
 is_further text count rest below represents has =
     sym (drop-drop 1 count (cut_lines text)) ∙ ap (drop 1) (represents ∙ has.1)
 
@@ -157,7 +142,7 @@ item_after (item ∷ items) (suc k) n =
     ap (slice_get (item ∷ items)) more ∙ item_after items k n
 
 -- the line after a number of others
-pub line_after : (text : List ℕ) (count n : ℕ) (rest : List ℕ) → IsAfterRecords text count rest → slice_get (lines_of text) (count + n) ≡ option_map without_return (slice_get (cut_lines rest) n)
+pub line_after : (text : List ℕ) (count n : ℕ) (rest : List ℕ) → AreLinesAbove text count rest → slice_get (lines_of text) (count + n) ≡ option_map without_return (slice_get (cut_lines rest) n)
 line_after text count n rest represents =
     slice_get-map without_return (cut_lines text) (count + n)
     ∙ ap (option_map without_return) (item_after (cut_lines text) count n ∙ ap (λ l. slice_get l n) represents)
@@ -167,12 +152,12 @@ numbered_line : (text : List ℕ) (number before : ℕ) → number ≡ suc befor
 numbered_line text number before e = ap (λ k. line_of_number k text) e
 
 -- the line that is looked for
-pub line_is : (text : List ℕ) (number count : ℕ) (rest first : List ℕ) → number ≡ suc count → IsAfterRecords text count rest → slice_get (cut_lines rest) 0 ≡ Some first → Some (without_return first) ≡ line_of_number number text
+pub line_is : (text : List ℕ) (number count : ℕ) (rest first : List ℕ) → number ≡ suc count → AreLinesAbove text count rest → slice_get (cut_lines rest) 0 ≡ Some first → Some (without_return first) ≡ line_of_number number text
 line_is text number count rest first e represents is =
     sym (numbered_line text number count e ∙ ap (slice_get (lines_of text)) (sym (add-zero count)) ∙ line_after text count 0 rest represents ∙ ap (option_map without_return) is)
 
 -- no line of that number is there
-pub line_is_missing : (text : List ℕ) (number count : ℕ) (rest : List ℕ) → suc count < number → IsAfterRecords text count rest → IsOneLine rest → None ≡ line_of_number number text
+pub line_is_missing : (text : List ℕ) (number count : ℕ) (rest : List ℕ) → suc count < number → AreLinesAbove text count rest → IsOneLine rest → None ≡ line_of_number number text
 line_is_missing text number count rest h represents one =
     let more : number ≡ suc (count + suc (number - suc (suc count))) = omega arith in
     sym (numbered_line text number (count + suc (number - suc (suc count))) more ∙ line_after text count (suc (number - suc (suc count))) rest represents ∙ ap (λ l. option_map without_return (slice_get l (suc (number - suc (suc count))))) one)

@@ -2,7 +2,7 @@
 use Rattle.std.specs.Prelude.{◌≡◌, ◌≤◌, ℕ, List, [], None, IfSome, length, min}
 use Rattle.wc_diag_spans.specs.OffendingTokens.{IsOffendingBy, IsStoppedBy}
 use Rattle.wc_diag_spans.specs.Rows.{MeansField, shown_row}
-use Rattle.wc_diag_spans.specs.Showing.{IsLineOf, ShowsLine}
+use Rattle.wc_diag_spans.specs.Showing.{ShowsLine, known_line, line_of_part}
 use Rattle.wc_diag_spans.specs.declared.diagnostic.Diagnostic.{Diagnostic}
 use Rattle.wc_diag_spans.specs.declared.diagnostic.Span.{Span}
 use Rattle.wc_diag_spans.specs.declared.refusal.Evidence.{Evidence}
@@ -15,10 +15,10 @@ use Rattle.wc_record.specs.Reported.{fields_reported}
 abbrev pub IsWithin : Diagnostic → Type 0
 IsWithin diagnostic = IfSome diagnostic.span (λ span. span.start ≤ length diagnostic.shown.items)
 
--- what is found in the current text: the line of the part, with the offending slice in it
+-- what is found in the current text: the line of the part, if the text has it, with the offending slice in it
 pub record FindsIn (refusal : Refusal) (text : List ℕ) (diagnostic : Diagnostic) : Type 0 where
   pub shows : ShowsLine text diagnostic.line diagnostic.shown.items
-  pub part : IsLineOf refusal.part refusal.place text diagnostic.line
+  pub part : (found : ℕ) × (diagnostic.line ≡ known_line text (line_of_part refusal.part refusal.place found))
   pub stopped : IsStoppedBy refusal.part refusal.number text diagnostic
   pub offending : IsOffendingBy refusal.part refusal.number text diagnostic
 
@@ -38,15 +38,9 @@ pub record FindsName (list : List ℕ) (diagnostic : Diagnostic) : Type 0 where
   pub line : diagnostic.line ≡ 1
   pub shows : diagnostic.shown.items ≡ list
 
--- nothing is found if nothing is available
-pub record FindsNothing (diagnostic : Diagnostic) : Type 0 where
-  pub line : diagnostic.line ≡ 0
-  pub span : diagnostic.span ≡ None
-  pub shown : diagnostic.shown.items ≡ []
-
--- what is found in what is available
+-- what is found in what is available; nothing if that is nothing
 abbrev pub FindsBy : Refusal → Evidence → Diagnostic → Type 0
-FindsBy refusal Nothing diagnostic = FindsNothing diagnostic
+FindsBy refusal Nothing diagnostic = (diagnostic.line ≡ 0) × (diagnostic.span ≡ None) × (diagnostic.shown.items ≡ [])
 FindsBy refusal (Text text) diagnostic = FindsIn refusal text.now diagnostic
 FindsBy refusal (Row row) diagnostic = FindsRow refusal.number (fields_reported row.now) diagnostic
 FindsBy refusal (Names list start length program) diagnostic = FindsName list.now diagnostic

@@ -29,14 +29,10 @@ HasBelow text below = (first : List ℕ) × (cut_lines text ≡ first ∷ cut_li
 abbrev pub AreLinesAbove : List ℕ → ℕ → List ℕ → Type 0
 AreLinesAbove text count below = drop count (cut_lines text) ≡ cut_lines below
 
--- the item of that number, counted from 1
-abbrev pub item_at : {X : Type 0} → ℕ → List X → Option X
-item_at zero items = None
-item_at (suc before) items = slice_get items before
-
 -- the line of that number, counted from 1; nothing if the text has none
 abbrev pub line_of_number : ℕ → List ℕ → Option (List ℕ)
-line_of_number number text = item_at number (lines_of text)
+line_of_number zero text = None
+line_of_number (suc before) text = slice_get (lines_of text) before
 
 -- the number of bytes of its line before a place: those after the last LF
 abbrev pub column_at : List ℕ → ℕ → ℕ

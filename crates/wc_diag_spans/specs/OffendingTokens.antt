@@ -4,7 +4,7 @@ use Rattle.wc_diag_spans.specs.Lines.{column_at}
 use Rattle.wc_diag_spans.specs.declared.diagnostic.Diagnostic.{Diagnostic}
 use Rattle.wc_diag_spans.specs.declared.diagnostic.Span.{Span}
 use Rattle.wc_diag_spans.specs.declared.refusal.Part.{Part}
-use Rattle.wc_diag_spans.specs.declared.refusal.Part.TheVariants.{Job, Plate, Program, Next, Log}
+use Rattle.wc_diag_spans.specs.declared.refusal.Part.TheVariants.{Program, Next}
 use Rattle.wc_model.specs.declared.fault.Fault.TheVariants.{Refused}
 use Rattle.wc_diag_places.specs.LaterSpans.{IsLaterSpan}
 use Rattle.wc_diag_stops.specs.ReadingSpans.{IsAt, StopsReading}
@@ -29,11 +29,9 @@ StopsProgram number text diagnostic =
     number < 300 → IfSome diagnostic.span (λ span. MeansStop text number diagnostic.line diagnostic.shown.items span)
 
 abbrev pub IsStoppedBy : Part → ℕ → List ℕ → Diagnostic → Type 0
-IsStoppedBy Job number text diagnostic = Unit {0}
-IsStoppedBy Plate number text diagnostic = Unit {0}
 IsStoppedBy Program number text diagnostic = StopsProgram number text diagnostic
 IsStoppedBy Next number text diagnostic = StopsProgram number text diagnostic
-IsStoppedBy Log number text diagnostic = Unit {0}
+IsStoppedBy part number text diagnostic = Unit {0}
 
 -- the slice at which the reader stops, while the line is not cut out yet
 abbrev pub HasStop : List ℕ → ℕ → ℕ → Diagnostic → Type 0
@@ -59,11 +57,9 @@ IsOfProgram number text diagnostic =
     300 ≤ number → IfSome diagnostic.span (λ span. MeansSlice text number diagnostic.line diagnostic.shown.items diagnostic.subject.items span)
 
 abbrev pub IsOffendingBy : Part → ℕ → List ℕ → Diagnostic → Type 0
-IsOffendingBy Job number text diagnostic = Unit {0}
-IsOffendingBy Plate number text diagnostic = Unit {0}
 IsOffendingBy Program number text diagnostic = IsOfProgram number text diagnostic
 IsOffendingBy Next number text diagnostic = IsOfProgram number text diagnostic
-IsOffendingBy Log number text diagnostic = Unit {0}
+IsOffendingBy part number text diagnostic = Unit {0}
 
 -- the slice at which a pass after reading refuses, while the line is not cut out yet
 abbrev pub HasLaterSpan : List ℕ → ℕ → ℕ → Diagnostic → Type 0
