@@ -4,7 +4,7 @@ ghost use Rattle.wc_model.specs.Language.Frames.{slot_kinds};
 ghost use Rattle.wc_model.specs.Language.Views.{text_view};
 ghost use Rattle.wc_view_trace_rows.specs.Legends.{IsLegendOf, kind_at, line_of, line_starts, literal_kind, name_of, note_of};
 ghost use Rattle.wc_view_trace_rows.specs.Named.{IsWhole, notes_named, text_named};
-ghost use Rattle.wc_view_changes.specs.Puts.{Puts};
+ghost use Rattle.wc_view_changes.specs.Shapes.{Puts};
 
 use crate::notes::{Note, Notes, note_among};
 use crate::noting::note_units;

@@ -1,6 +1,6 @@
 ghost use Rattle.std.specs.Prelude.{◌≡◌};
 ghost use Rattle.wc_view_trace_rows.specs.Rows.{literal, value_held};
-ghost use Rattle.wc_view_changes.specs.Puts.{Puts};
+ghost use Rattle.wc_view_changes.specs.Shapes.{Puts};
 
 use wc_model::{Fault, Kind, Value};
 use wc_view_changes::put_value;

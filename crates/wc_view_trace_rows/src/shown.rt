@@ -2,7 +2,7 @@ ghost use Rattle.std.specs.Prelude.{◌≡◌, ◌≤◌, ◌+◌, ◌*◌, ◌-
 ghost use Rattle.std.specs.Str.{is_utf8};
 ghost use Rattle.wc_view_trace_rows.specs.Columns.{first_columns, fitted, line_shown};
 ghost use Rattle.wc_view_trace_rows.specs.Shown.{between_words, shown, shown_first, single_spaces};
-ghost use Rattle.wc_view_changes.specs.Puts.{Puts};
+ghost use Rattle.wc_view_changes.specs.Shapes.{Puts};
 
 use wc_diag_texts::{characters, hidden_length};
 use wc_model::{Fault, put_bytes};
