@@ -13,7 +13,7 @@ text_in Program sections = Some sections.program
 text_in Next sections = sections.next
 text_in Log sections = Some sections.log
 
--- likewise, if there are sections
+-- the text of a part, if the job could be cut into sections
 abbrev pub text_of : declared.Part → Result Sections ℕ → Option (List ℕ)
 text_of part (Ok sections) = text_in part sections
 text_of part (Err number) = None
