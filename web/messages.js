@@ -6,7 +6,7 @@ export const shownMessages = objects => objects.map(it => ({ ...it, isWarning: i
 
 // Fills a place with messages. goTo(line, column) leads to one in its text; explain(word) gives the page of a number.
 export function showMessages(place, messages, { goTo, explain, where = it => it.line ? `${it.line}:${it.column ?? 1}` : it.file ?? "" } = {}) {
-  const items = messages.map(it => it.leftOut ? element("li", {}, `and ${it.leftOut} more warnings`) : item(it, { goTo, explain, where }));
+  const items = messages.map(it => it.leftOut ? element("li", {}, it.severity ? `and ${it.leftOut} more warnings` : `and at least ${it.leftOut} more`) : item(it, { goTo, explain, where }));
   place.replaceChildren(...(items.length ? [element("ol", {}, ...items)] : []));
 }
 

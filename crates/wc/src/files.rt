@@ -1,6 +1,7 @@
 use crate::file_source::FileSource;
-use crate::reporting::{ReadFile, Sources, memory_error};
+use crate::reporting::{ReadFile, Sources};
 use crate::session::Session;
+use std::alloc::AllocError;
 use std::io;
 use wc_arguments::ProgramFiles;
 use wc_controller::RunInputs;
@@ -23,7 +24,7 @@ pub(crate) fn kept_cause(source: &KeptSource<'_>) -> Option<io::Error> {
 /// Why a reader that keeps its bytes failed: no memory for these, or the cause of the reader inside.
 pub(crate) fn cause_of<D>(keeping: &TeeReader<D>, inside: Option<io::Error>) -> Option<io::Error> {
     if keeping.has_lacked() {
-        return Some(memory_error());
+        return Some(AllocError.into());
     }
     inside
 }

@@ -1,6 +1,6 @@
-use crate::reporting::{Sources, memory_error, without_memory};
+use crate::reporting::{Sources, without_memory};
 use crate::session::Session;
-use std::alloc::Global;
+use std::alloc::{AllocError, Global};
 use std::io;
 use std::io::Write;
 use wc_controller::{Input, load};
@@ -13,7 +13,7 @@ use wc_view_changes::notes;
 fn accepted(alloc: Global, text: &[u8]) -> io::Result<Option<Loaded<'_>>> {
     match load(alloc, text) {
         Ok(loaded) => Ok(Some(loaded)),
-        Err(Fault::Memory) => Err(memory_error()),
+        Err(Fault::Memory) => Err(AllocError.into()),
         Err(Fault::Refused { .. }) => Ok(None),
     }
 }
@@ -34,7 +34,7 @@ fn report_notes(session: Session<'_>, files: &Sources<'_>) -> io::Result<()> {
     let as_objects = matches!(session.format, Format::Json);
     match notes(alloc, as_objects, &old, &new) {
         Ok(lines) => session.rt.stderr().write_all(&lines),
-        Err(_) => Err(memory_error()),
+        Err(_) => Err(AllocError.into()),
     }
 }
 

@@ -1,12 +1,12 @@
 use crate::session::Session;
-use std::alloc::Global;
+use std::alloc::{AllocError, Global};
 use std::io;
 use std::io::Write;
 use wc_controller::{Ending, Input, RefusedRow};
-use wc_diag_further::{Further, LineFault};
+use wc_diag_further::{Found, Further, LineFault};
 use wc_diag_messages::{
-    Evidence, JobSection, Part, Refusal, explained, section_of, shown, warning_message,
-    warnings_left_out,
+    Evidence, JobSection, Part, Refusal, Severity, explained, left_out, section_of, shown,
+    warning_message,
 };
 use wc_diag_warnings::{Warning, find_warnings};
 use wc_lexer::tokens;
@@ -159,15 +159,15 @@ fn evidence_of<'a>(
     }
 }
 
-/// Says why an input is refused, where, and what to write instead.
-fn report_refusal(
+/// Why an input is refused, where, and what to write instead.
+fn refusal_message(
     session: Session<'_>,
     sources: &Sources<'_>,
     row: &RefusedRow,
     input: Input,
     number: u16,
     place: u32,
-) -> io::Result<()> {
+) -> Result<Vec<u8>, AllocError> {
     let path = sources.path(input);
     let (evidence, above) = evidence_of(sources, row, input);
     let refusal = Refusal {
@@ -179,50 +179,54 @@ fn report_refusal(
         evidence,
         above,
     };
-    let message = explained(session.rt.alloc(), session.format, &refusal)?;
-    session.rt.stderr().write_all(&message)
+    explained(session.rt.alloc(), session.format, &refusal)
 }
 
 /// The number of further refusals that are printed at most.
 const MOST_REFUSALS: usize = 20;
 
-/// Prints a further refusal of a program, without what was refused before.
-fn report_one(
+/// Keeps the line and the message of each further refusal of a program that is refused so, and after them that there are more.
+fn gather_further(
     session: Session<'_>,
-    path: &str,
-    bytes: &[u8],
+    file: &ReadFile<'_>,
     row: &RefusedRow,
-    fault: LineFault,
-) -> io::Result<()> {
-    let (program, next) = (ReadFile { path, bytes }, None);
-    let sources = Sources::Program { program, next };
-    report_refusal(
-        session,
-        &sources,
-        row,
-        Input::Program,
-        fault.number,
-        fault.line,
-    )
+    refused: LineFault,
+    messages: &mut Vec<(u32, Vec<u8>)>,
+) -> Result<(), AllocError> {
+    let (alloc, path, next) = (session.rt.alloc(), file.path, None);
+    let mut further = Further::new(alloc, file.bytes, refused)?;
+    for count in 0..=MOST_REFUSALS {
+        let Found::Refused(LineFault { number, line }) = further.next(alloc)? else {
+            break;
+        };
+        if count == MOST_REFUSALS {
+            let more = left_out(alloc, session.format, Severity::Error, path.as_bytes(), 1)?;
+            messages.push((u32::MAX, more))?;
+            break;
+        }
+        let bytes = further.text();
+        let program = ReadFile { path, bytes };
+        let sources = Sources::Program { program, next };
+        let message = refusal_message(session, &sources, row, Input::Program, number, line)?;
+        messages.push((line, message))?;
+    }
+    Ok(())
 }
 
-/// Prints what else is wrong with a program that is refused so. The error is out of memory, or standard error fails.
+/// Prints what else is wrong with a program that is refused so, in text order. The error is out of memory, or standard error fails.
 fn report_further(
     session: Session<'_>,
     file: &ReadFile<'_>,
     row: &RefusedRow,
-    number: u16,
-    line: u32,
+    refused: LineFault,
 ) -> io::Result<()> {
-    let alloc = session.rt.alloc();
-    let mut further = Further::new(alloc, file.bytes, LineFault { number, line })?;
-    for _ in 0..MOST_REFUSALS {
-        match further.next(alloc)? {
-            Some(fault) => report_one(session, file.path, further.text(), row, fault)?,
-            None => break,
-        }
+    let mut messages = Vec::new(session.rt.alloc());
+    let gathered = gather_further(session, file, row, refused, &mut messages);
+    messages.sort_by_key(|message| message.0)?;
+    for (_, message) in &messages {
+        session.rt.stderr().write_all(message)?;
     }
-    Ok(())
+    Ok(gathered?)
 }
 
 /// Prints what else is wrong with a program, if that is what ended its check. The refusal and its status are reported by then: if memory
@@ -236,10 +240,10 @@ pub(crate) fn list_further(
     if let Ending::Refused {
         input: Input::Program,
         number,
-        place,
+        place: line,
     } = ending
     {
-        let _reported = report_further(session, file, row, number, place);
+        let _reported = report_further(session, file, row, LineFault { number, line });
     }
 }
 
@@ -260,7 +264,7 @@ fn write_warnings(
     let name = file.path.as_bytes();
     // An accepted text has tokens.
     let Ok(tokens) = tokens(alloc, text) else {
-        return Err(memory_error());
+        return Err(AllocError.into());
     };
     for warning in warnings.iter().take(MOST_WARNINGS) {
         let message = warning_message(alloc, session.format, name, text, &tokens, warning)?;
@@ -268,28 +272,22 @@ fn write_warnings(
     }
     if warnings.len() > MOST_WARNINGS {
         let left = warnings.len() - MOST_WARNINGS;
-        let message = warnings_left_out(alloc, session.format, name, left)?;
+        let message = left_out(alloc, session.format, Severity::Warning, name, left)?;
         session.rt.stderr().write_all(&message)?;
     }
     Ok(())
 }
 
-/// The error if memory ran out.
-pub(crate) fn memory_error() -> io::Error {
-    io::ErrorKind::OutOfMemory.into()
-}
-
 /// Prints what is suspicious of a program that is accepted: whether anything is. The error is out of memory.
 pub(crate) fn report_warnings(session: Session<'_>, file: &ReadFile<'_>) -> io::Result<bool> {
-    let alloc = session.rt.alloc();
-    let text = file.bytes;
+    let (alloc, text) = (session.rt.alloc(), file.bytes);
     let source = match read(alloc, text) {
         Ok(source) => source,
-        Err(Fault::Memory) => return Err(memory_error()),
+        Err(Fault::Memory) => return Err(AllocError.into()),
         Err(Fault::Refused { .. }) => return Ok(false),
     };
     let Ok(warnings) = find_warnings(alloc, &source) else {
-        return Err(memory_error());
+        return Err(AllocError.into());
     };
     match write_warnings(session, file, text, &warnings) {
         Err(error) if error.kind() == io::ErrorKind::OutOfMemory => Err(error),
@@ -355,7 +353,10 @@ fn report(
             input,
             number,
             place,
-        } => report_refusal(session, sources, row, input, number, place),
+        } => {
+            let message = refusal_message(session, sources, row, input, number, place)?;
+            session.rt.stderr().write_all(&message)
+        }
         Ending::ReadFault { input } => report_read_fault(
             session.rt,
             sources,
@@ -376,12 +377,8 @@ pub(crate) fn without_memory(rt: &HostRuntime) -> u8 {
 /// The ending, if the system's own calls ran out of memory too.
 fn with_memory(outcome: &CommandEnd) -> Ending {
     match (outcome.ending, outcome.reading) {
-        (Ending::ReadFault { input }, Some(error)) => {
-            if error.kind() == io::ErrorKind::OutOfMemory {
-                Ending::NoMemory
-            } else {
-                Ending::ReadFault { input }
-            }
+        (Ending::ReadFault { .. }, Some(error)) if error.kind() == io::ErrorKind::OutOfMemory => {
+            Ending::NoMemory
         }
         (ending, _) => ending,
     }

@@ -2,8 +2,9 @@
 -- profile's own.)
 use Rattle.std.specs.Prelude.{ℕ, List, [], ◌∷◌, ◌==◌, if◌then◌else◌}
 use Rattle.wc_model.specs.Language.Loading.{IsRefused}
-use Rattle.wc_diag_further.specs.declared.further.Step.{Step}
-use Rattle.wc_diag_further.specs.declared.further.Step.TheVariants.{Refused, Follows, End}
+use Rattle.wc_controller.specs.Loads.{IsNeverRefused}
+use Rattle.wc_diag_further.specs.declared.further.Found.{Found}
+use Rattle.wc_diag_further.specs.declared.further.Found.TheVariants.{Refused, Accepted, Hidden}
 
 -- what is written over a byte that is taken out: a space, but a line feed stays
 abbrev pub blank_of : ℕ → ℕ
@@ -21,8 +22,8 @@ IsMended [] (new ∷ more) = ⊥
 IsMended (old ∷ rest) [] = ⊥
 IsMended (old ∷ rest) (new ∷ more) = IsByteMended old new × IsMended rest more
 
--- a fault that is found is the refusal of the text as it then is
-abbrev pub IsStep : List ℕ → Step → Type 0
-IsStep text (Refused fault) = IsRefused text fault.number fault.line
-IsStep text Follows = Unit {0}
-IsStep text End = Unit {0}
+-- a fault that is found is the refusal of the text as it then is; if nothing else is wrong, that text is accepted
+abbrev pub IsFound : List ℕ → Found → Type 0
+IsFound text (Refused fault) = IsRefused text fault.number fault.line
+IsFound text Accepted = IsNeverRefused text
+IsFound text Hidden = Unit {0}

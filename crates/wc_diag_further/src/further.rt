@@ -1,7 +1,7 @@
 ghost use Rattle.std.specs.Prelude.{◌≡◌, IfNone, IfOk, IfSome, OnOk};
 ghost use Rattle.wc_controller.specs.Loads.{IsNeverRefused};
 ghost use Rattle.wc_model.specs.Language.Loading.{IsRefused};
-ghost use Rattle.wc_diag_further.specs.Mended.{IsMended, IsStep};
+ghost use Rattle.wc_diag_further.specs.Mended.{IsFound, IsMended};
 
 use crate::blanks::{Blank, blank_each, mark_each};
 use crate::extents::{Faulty, taken_out};
@@ -27,13 +27,13 @@ const MOST_STEPS: usize = 20;
 
 /// What is found of a text without what was refused before.
 #[derive(Clone, Copy)]
-enum Step {
+pub enum Found {
     /// It is refused so.
     Refused(LineFault),
-    /// It is refused, but what is missing may be why.
-    Follows,
-    /// No more is found: it is accepted, or it cannot be read on.
-    End,
+    /// It is accepted: nothing else is wrong.
+    Accepted,
+    /// It cannot be read on, so more may be wrong.
+    Hidden,
 }
 
 /// A program text that is refused, without what was refused so far but for the last fault.
@@ -145,44 +145,36 @@ impl Further {
         &self.text
     }
 
-    /// Takes out what was refused last, and says how the text is refused then.
-    fn step(&mut self, alloc: Global) -> Result<Step, AllocError>
+    /// Takes out what was refused last, and says what is found then; nothing if it is refused, but what is missing may be why.
+    fn step(&mut self, alloc: Global) -> Result<Option<Found>, AllocError>
         ensures mended { OnOk result (IsMended self.old.text.items self.new.text.items) }
-        ensures step { IfOk result (IsStep self.new.text.items) }
+        ensures found { IfOk result (λ found. IfSome found (IsFound self.new.text.items)) }
     {
         let Some(blanks) = self.blanks.take() else {
-            return Ok(Step::End);
+            return Ok(Some(Found::Hidden));
         };
         blank_each(&mut self.text, &blanks);
         mark_each(&mut self.broken, &blanks);
         let Some(fault) = refusal_of(alloc, &self.text)? else {
-            return Ok(Step::End);
+            return Ok(Some(Found::Accepted));
         };
         let (blanks, is_own) = mending_of(alloc, &self.text, &self.broken, fault, self.is_uncut)?;
         self.is_uncut = fault.number < 200;
         self.blanks = blanks;
-        Ok(if is_own {
-            Step::Refused(fault)
-        } else {
-            Step::Follows
-        })
+        Ok(is_own.then_some(Found::Refused(fault)))
     }
 
-    /// The next refusal that is one of its own: the text is then refused so, without what was refused before. Nothing if no more is
-    /// found: the text is accepted then, or cannot be read on. The error is out of memory.
-    pub fn next(&mut self, alloc: Global) -> Result<Option<LineFault>, AllocError>
+    /// The next refusal that is one of its own: the text is then refused so, without what was refused before. Or that there is none,
+    /// since the text is then accepted; or that it cannot be read on. The error is out of memory.
+    pub fn next(&mut self, alloc: Global) -> Result<Found, AllocError>
         ensures mended { OnOk result (IsMended self.old.text.items self.new.text.items) }
-        ensures refused { IfOk result
-            (λ found. IfSome found
-            (λ fault. IsRefused self.new.text.items fault.number fault.line)) }
+        ensures found { IfOk result (IsFound self.new.text.items) }
     {
         for _ in 0..MOST_STEPS {
-            match self.step(alloc)? {
-                Step::Refused(fault) => return Ok(Some(fault)),
-                Step::Follows => {}
-                Step::End => return Ok(None),
+            if let Some(found) = self.step(alloc)? {
+                return Ok(found);
             }
         }
-        Ok(None)
+        Ok(Found::Hidden)
     }
 }

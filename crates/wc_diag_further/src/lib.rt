@@ -9,4 +9,4 @@ mod further;
 mod logical_lines;
 mod marks;
 
-pub use further::{Further, LineFault};
+pub use further::{Found, Further, LineFault};

@@ -119,10 +119,9 @@ object_above parts name tokens e =
     subst (λ (ts : List Token). HasNoControls (print ts)) (sym e)
     (printed_above false (object_tokens parts name) (object_clean name (position_members parts) (word_members parts) (position_clean parts) (words_clean parts)))
 
-pub left_out_above : (count : ℕ) (name : List ℕ) (tokens : List Token) → tokens ≡ left_out_tokens count name → HasNoControls (print tokens)
-left_out_above count name tokens e =
-    let severity = text_member (codes "severity") (codes "warning") in
+pub left_out_above : (severity : Severity) (count : ℕ) (name : List ℕ) (tokens : List Token) → tokens ≡ left_out_tokens severity count name → HasNoControls (print tokens)
+left_out_above severity count name tokens e =
     let left = number_member (codes "leftOut") count in
     subst (λ (ts : List Token). HasNoControls (print ts)) (sym e)
-    (printed_above false (left_out_tokens count name)
-    (object_clean name severity left (text_clean (codes "severity") (codes "warning")) (number_clean (codes "leftOut") count)))
+    (printed_above false (left_out_tokens severity count name)
+    (object_clean name (severity_members severity) left (severity_clean severity) (number_clean (codes "leftOut") count)))

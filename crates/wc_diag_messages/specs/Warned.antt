@@ -9,10 +9,11 @@ use Rattle.wc_diag_spans.specs.Finds.{IsWithin}
 use Rattle.wc_diag_spans.specs.Lines.{column_at, line_of_number}
 use Rattle.wc_diag_spans.specs.declared.diagnostic.Diagnostic.{Diagnostic}
 use Rattle.wc_diag_spans.specs.declared.diagnostic.Span.{Span}
-use Rattle.wc_diag_messages.specs.Formats.{IsObjectOf, Prints, number_member, text_member}
+use Rattle.wc_diag_messages.specs.Formats.{IsObjectOf, Prints, number_member, severity_members, text_member, words_before_count}
 use Rattle.wc_diag_messages.specs.Locations.{number_text}
 use Rattle.wc_diag_texts.specs.Plain.{shown_text}
 use Rattle.wc_diag_messages.specs.declared.parts.Parts.{Parts}
+use Rattle.wc_diag_messages.specs.declared.parts.Severity.{Severity}
 use Rattle.wc_diag_messages.specs.declared.parts.Severity.TheVariants as severity
 use Rattle.wc_diag_texts.specs.declared.format.Format.{Format}
 use Rattle.wc_diag_texts.specs.declared.format.Format.TheVariants.{Long, Short, Json}
@@ -93,28 +94,31 @@ pub record Warns (format : Format) (file text : List ℕ) (tokens : List Token) 
   pub knows : KnowsWarning text tokens warning parts
   pub printed : Prints format file parts bytes
 
--- the number of warnings left out, in words
-abbrev pub CountsLeftOut : ℕ → List ℕ → Type 0
-CountsLeftOut count bytes = (said : List ℕ) × (bytes ≡ shown_text (codes "and ") ++ number_text count ++ shown_text said)
+-- the number left out, in words
+abbrev pub CountsLeftOut : Severity → ℕ → List ℕ → Type 0
+CountsLeftOut severity count bytes =
+    (said : List ℕ) × (bytes ≡ shown_text (words_before_count severity) ++ number_text count ++ shown_text said)
 
 -- the object that says it
-abbrev pub left_out_tokens : ℕ → List ℕ → List json_token.Token
-left_out_tokens count name =
+abbrev pub left_out_tokens : Severity → ℕ → List ℕ → List json_token.Token
+left_out_tokens severity count name =
     (json_token.begin_object ∷ text_member (codes "file") name)
-    ++ text_member (codes "severity") (codes "warning")
+    ++ severity_members severity
     ++ number_member (codes "leftOut") count ++ (json_token.end_object ∷ [])
 
--- the number of warnings left out, on a line for people
-abbrev pub ReportsLeftOut : ℕ → List ℕ → Type 0
-ReportsLeftOut count bytes = (words : List ℕ) × CountsLeftOut count words × (bytes ≡ words ++ (10 ∷ []))
+-- the number left out, on a line for people
+abbrev pub ReportsLeftOut : Severity → ℕ → List ℕ → Type 0
+ReportsLeftOut severity count bytes =
+    (words : List ℕ) × CountsLeftOut severity count words × (bytes ≡ words ++ (10 ∷ []))
 
--- likewise after the file
-abbrev pub ReportsLeftOutShortly : List ℕ → ℕ → List ℕ → Type 0
-ReportsLeftOutShortly file count bytes =
-    (words : List ℕ) × CountsLeftOut count words × (bytes ≡ shown_text file ++ shown_text (codes ": ") ++ words ++ (10 ∷ []))
+-- the number left out after the file, on a line
+abbrev pub ReportsLeftOutShortly : List ℕ → Severity → ℕ → List ℕ → Type 0
+ReportsLeftOutShortly file severity count bytes =
+    (words : List ℕ) × CountsLeftOut severity count words
+    × (bytes ≡ shown_text file ++ shown_text (codes ": ") ++ words ++ (10 ∷ []))
 
--- in that format
-abbrev pub LeavesOut : Format → List ℕ → ℕ → List ℕ → Type 0
-LeavesOut Long file count bytes = ReportsLeftOut count bytes
-LeavesOut Short file count bytes = ReportsLeftOutShortly file count bytes
-LeavesOut Json file count bytes = IsObjectOf (left_out_tokens count) file bytes
+-- the number left out, in that format
+abbrev pub LeavesOut : Format → List ℕ → Severity → ℕ → List ℕ → Type 0
+LeavesOut Long file severity count bytes = ReportsLeftOut severity count bytes
+LeavesOut Short file severity count bytes = ReportsLeftOutShortly file severity count bytes
+LeavesOut Json file severity count bytes = IsObjectOf (left_out_tokens severity count) file bytes

@@ -1,41 +1,64 @@
 ghost use Rattle.std.specs.Prelude.{◌≡◌, [], IfOk, OnOk};
-ghost use Rattle.wc_diag_messages.specs.Formats.{IsCalmIn, IsObjectOf, IsPlainIn};
+ghost use Rattle.wc_diag_messages.specs.Formats.{IsCalmIn, IsObjectOf, IsPlainIn, words_before_count};
 ghost use Rattle.wc_diag_messages.specs.Warned.{CountsLeftOut, LeavesOut, ReportsLeftOut, ReportsLeftOutShortly, left_out_tokens};
 
-use crate::object::{line_of, name_text, write_number, write_text};
+use crate::object::{line_of, name_text, write_number, write_severity, write_text};
+use crate::parts::Severity;
 use json::Writer;
 use std::alloc::{AllocError, Global};
 use wc_diag_texts::{Format, Message};
 
-/// The number of warnings left out, in words.
-fn words_of(alloc: Global, count: usize) -> Result<Message, AllocError>
-    ensures { IfOk result (λ message. CountsLeftOut count message.bytes.items) }
+/// The words before the count: the warnings are counted, of refusals is known that there are so many at least.
+fn words_before_count(severity: Severity) -> &'static str
+    ensures { result.now ≡ words_before_count severity }
+{
+    match severity {
+        Severity::Error => "and at least ",
+        Severity::Warning => "and ",
+    }
+}
+
+/// The words after the count.
+fn words_after_count(severity: Severity, count: usize) -> &'static str {
+    match (severity, count) {
+        (Severity::Error, 1) => " more refusal",
+        (Severity::Error, _) => " more refusals",
+        (Severity::Warning, 1) => " more warning",
+        (Severity::Warning, _) => " more warnings",
+    }
+}
+
+/// The number left out, in words.
+fn words_of(alloc: Global, severity: Severity, count: usize) -> Result<Message, AllocError>
+    ensures { IfOk result (λ message. CountsLeftOut severity count message.bytes.items) }
 {
     let mut message = Message::new(alloc);
-    message.say("and ")?;
+    message.say(words_before_count(severity))?;
     message.count(count)?;
-    message.say(if count == 1 {
-        " more warning"
-    } else {
-        " more warnings"
-    })?;
+    message.say(words_after_count(severity, count))?;
     Ok(message)
 }
 
-/// Likewise on a line for people.
-fn long_line(alloc: Global, count: usize) -> Result<Message, AllocError>
-    ensures { IfOk result (λ message. ReportsLeftOut count message.bytes.items) }
+/// The number left out, on a line for people.
+fn long_line(alloc: Global, severity: Severity, count: usize) -> Result<Message, AllocError>
+    ensures { IfOk result (λ message. ReportsLeftOut severity count message.bytes.items) }
 {
-    let mut message = words_of(alloc, count)?;
+    let mut message = words_of(alloc, severity, count)?;
     message.end_line()?;
     Ok(message)
 }
 
-/// Likewise after the file.
-fn short_line(alloc: Global, file: &[u8], count: usize) -> Result<Message, AllocError>
-    ensures { IfOk result (λ message. ReportsLeftOutShortly file.now count message.bytes.items) }
+/// The number left out after the file, on a line.
+fn short_line(
+    alloc: Global,
+    severity: Severity,
+    file: &[u8],
+    count: usize,
+) -> Result<Message, AllocError>
+    ensures { IfOk result
+        (λ message. ReportsLeftOutShortly file.now severity count message.bytes.items) }
 {
-    let words = words_of(alloc, count)?;
+    let words = words_of(alloc, severity, count)?;
     let mut message = Message::new(alloc);
     message.add(file)?;
     message.say(": ")?;
@@ -45,44 +68,57 @@ fn short_line(alloc: Global, file: &[u8], count: usize) -> Result<Message, Alloc
 }
 
 /// Writes the object.
-fn write_object(writer: &mut Writer, name: &str, count: usize) -> Result<(), AllocError>
+fn write_object(
+    writer: &mut Writer,
+    severity: Severity,
+    name: &str,
+    count: usize,
+) -> Result<(), AllocError>
     requires { writer.old.tokens ≡ [] }
     ensures before { writer.new.before ≡ writer.old.before }
-    ensures tokens { OnOk result (writer.new.tokens ≡ left_out_tokens count name.now) }
+    ensures tokens { OnOk result (writer.new.tokens ≡ left_out_tokens severity count name.now) }
 {
     writer.begin_object()?;
     write_text(writer, "file", name)?;
-    write_text(writer, "severity", "warning")?;
+    write_severity(writer, severity)?;
     write_number(writer, "leftOut", count)?;
     writer.end_object()?;
     Ok(())
 }
 
-/// Likewise as an object on one line.
-fn object(alloc: Global, file: &[u8], count: usize) -> Result<Vec<u8>, AllocError>
-    ensures { IfOk result (λ bytes. IsObjectOf (left_out_tokens count) file.now bytes.items) }
+/// The number left out as an object on one line.
+fn object(
+    alloc: Global,
+    severity: Severity,
+    file: &[u8],
+    count: usize,
+) -> Result<Vec<u8>, AllocError>
+    ensures { IfOk result
+        (λ bytes. IsObjectOf (left_out_tokens severity count) file.now bytes.items) }
 {
     let name = name_text(alloc, file)?;
     let mut writer = Writer::new(Vec::new(alloc));
-    write_object(&mut writer, &name, count)?;
+    write_object(&mut writer, severity, &name, count)?;
     let line = line_of(writer)?;
     Ok(line)
 }
 
-/// The number of warnings of a file left out, in that format, on a line with its line feed. The error is out of memory.
-pub fn warnings_left_out(
+/// The number of warnings of a file left out, or of refusals at least, in that format, on a line with its line feed. The error is out
+/// of memory.
+pub fn left_out(
     alloc: Global,
     format: Format,
+    severity: Severity,
     file: &[u8],
     count: usize,
 ) -> Result<Vec<u8>, AllocError>
-    ensures all { IfOk result (λ bytes. LeavesOut format file.now count bytes.items) }
+    ensures all { IfOk result (λ bytes. LeavesOut format file.now severity count bytes.items) }
     ensures plain { IfOk result (λ bytes. IsPlainIn format bytes.items) }
     ensures calm { IfOk result (λ bytes. IsCalmIn format bytes.items) }
 {
     match format {
-        Format::Long => Ok(long_line(alloc, count)?.into_bytes()),
-        Format::Short => Ok(short_line(alloc, file, count)?.into_bytes()),
-        Format::Json => object(alloc, file, count),
+        Format::Long => Ok(long_line(alloc, severity, count)?.into_bytes()),
+        Format::Short => Ok(short_line(alloc, severity, file, count)?.into_bytes()),
+        Format::Json => object(alloc, severity, file, count),
     }
 }

@@ -94,7 +94,7 @@ fn write_position(writer: &mut Writer, parts: &Parts) -> Result<(), AllocError>
 }
 
 /// Writes that a warning is one.
-fn write_severity(writer: &mut Writer, severity: Severity) -> Result<(), AllocError>
+pub(crate) fn write_severity(writer: &mut Writer, severity: Severity) -> Result<(), AllocError>
     ensures before { writer.new.before ≡ writer.old.before }
     ensures tokens { OnOk result (writer.new.tokens
         ≡ writer.old.tokens ++ severity_members severity) }

@@ -11,7 +11,7 @@ use wc_diag_texts::{Message, entry_of, words_of};
 
 /// Whether something is refused, or accepted and suspicious.
 #[derive(Clone, Copy)]
-pub(crate) enum Severity {
+pub enum Severity {
     /// It is refused.
     Error,
     /// It is suspicious.

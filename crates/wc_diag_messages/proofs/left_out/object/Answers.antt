@@ -13,5 +13,5 @@ returns c =
       tokens_are = are;
       reads = c.in_ok-line.ensures.reads;
       all = c.in_ok-line.ensures.all;
-      one = record { line = print tokens; ends = c.in_ok-line.ensures.all; controls = left_out_above c.args.count _ tokens are };
+      one = record { line = print tokens; ends = c.in_ok-line.ensures.all; controls = left_out_above c.args.severity c.args.count _ tokens are };
     }
