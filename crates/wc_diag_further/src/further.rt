@@ -155,8 +155,9 @@ impl Further {
         };
         blank_each(&mut self.text, &blanks);
         mark_each(&mut self.broken, &blanks);
-        let Some(fault) = refusal_of(alloc, &self.text)? else {
-            return Ok(Some(Found::Accepted));
+        let fault = match refusal_of(alloc, &self.text)? {
+            Some(fault) => fault,
+            None => return Ok(Some(Found::Accepted)),
         };
         let (blanks, is_own) = mending_of(alloc, &self.text, &self.broken, fault, self.is_uncut)?;
         self.is_uncut = fault.number < 200;
