@@ -5,7 +5,7 @@ use std::io::Write;
 use wc_controller::{Ending, Input, RefusedRow};
 use wc_diag_further::{Found, Further, LineFault};
 use wc_diag_messages::{
-    Evidence, JobSection, Part, Refusal, Severity, explained, left_out, section_of, shown,
+    Evidence, JobSection, Part, Refusal, Severity, explained, left_out_message, section_of, shown,
     warning_message,
 };
 use wc_diag_warnings::{Warning, find_warnings};
@@ -200,7 +200,8 @@ fn gather_further(
             break;
         };
         if count == MOST_REFUSALS {
-            let more = left_out(alloc, session.format, Severity::Error, path.as_bytes(), 1)?;
+            let (format, name) = (session.format, path.as_bytes());
+            let more = left_out_message(alloc, format, Severity::Error, name, 1)?;
             messages.push((u32::MAX, more))?;
             break;
         }
@@ -272,7 +273,7 @@ fn write_warnings(
     }
     if warnings.len() > MOST_WARNINGS {
         let left = warnings.len() - MOST_WARNINGS;
-        let message = left_out(alloc, session.format, Severity::Warning, name, left)?;
+        let message = left_out_message(alloc, session.format, Severity::Warning, name, left)?;
         session.rt.stderr().write_all(&message)?;
     }
     Ok(())

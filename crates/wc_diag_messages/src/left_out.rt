@@ -105,7 +105,7 @@ fn object(
 
 /// The number of warnings of a file left out, or of refusals at least, in that format, on a line with its line feed. The error is out
 /// of memory.
-pub fn left_out(
+pub fn left_out_message(
     alloc: Global,
     format: Format,
     severity: Severity,

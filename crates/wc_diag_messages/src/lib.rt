@@ -17,7 +17,7 @@ mod warned_parts;
 
 pub use explaining::{explained, warning_message};
 pub use jobs::{JobSection, section_of};
-pub use left_out::left_out;
+pub use left_out::left_out_message;
 pub use page::{page as page_of, warning_page};
 pub use parts::Severity;
 pub use wc_diag_spans::{Evidence, Part, Refusal};
