@@ -84,7 +84,7 @@ abbrev pub severity_members : Severity → List Token
 severity_members Error = []
 severity_members Warning = text_member (codes "severity") (codes "warning")
 
--- the words before the number left out: of refusals is known that there are so many at least
+-- the words before the number left out: of refusals a least number is known
 abbrev pub words_before_count : Severity → List ℕ
 words_before_count Error = codes "and at least "
 words_before_count Warning = codes "and "

@@ -8,7 +8,7 @@ use json::Writer;
 use std::alloc::{AllocError, Global};
 use wc_diag_texts::{Format, Message};
 
-/// The words before the count: the warnings are counted, of refusals is known that there are so many at least.
+/// The words before the count: warnings are counted, of refusals a least number is known.
 fn words_before_count(severity: Severity) -> &'static str
     ensures { result.now ≡ words_before_count severity }
 {
