@@ -93,6 +93,31 @@ def weights_are_raised(numerator, denominator):
     return -(-abs(numerator) // denominator) * (1 if numerator >= 0 else -1)
 
 
+def a_unit_more(self):
+    """A gross weight that is one unit of the last decimal greater."""
+    return self.in_intervals(self.load()) * self.plate.e + 1
+
+
+def a_second_tare_is_the_net_weight(self):
+    """A tare that is taken while another is active is the net weight."""
+    if not self.stable() or not 1 <= self.in_intervals(self.load()) <= self.plate.intervals:
+        return False
+    self.tare, self.tare_active = self.load() - self.tare, True
+    return True
+
+
+def commands_by(known):
+    """A line that takes another text for a request."""
+    take = line.Line.take
+
+    def taken(self, byte):
+        if byte == line.CR and self.open is not None:
+            self.open = known(self.open)
+        return take(self, byte)
+
+    return taken
+
+
 def tare_in_steps_of_two_intervals(self):
     """The tare value has twice the interval of the scale."""
     intervals = self.in_intervals(self.tare)
@@ -201,6 +226,7 @@ BODIES = {
     "tools/edits/wc_indicator/weights_are_cut": (indication, "nearest", weights_are_cut),
     "tools/edits/wc_indicator/weights_are_raised": (indication, "nearest", weights_are_raised),
     "tools/edits/wc_sma/a_zero_before_the_point_is_blank": (line, "number_text", without_a_zero_before_the_point),
+    "tools/edits/wc_indicator/weights_have_a_unit_more": (SCALE, "gross", a_unit_more),
     "wc_indicator/must-fail/over_before_rounding": (SCALE, "over", over_before_rounding),
     "tools/edits/wc_indicator/over_one_interval_late": (SCALE, "over", over_one_interval_late),
     "tools/edits/wc_indicator/over_by_net": (SCALE, "over", over_by_net),
@@ -219,10 +245,13 @@ BODIES = {
     "tools/edits/wc_indicator/tare_at_zero": (SCALE, "set_tare", tare_of(least=0)),
     "tools/edits/wc_indicator/tare_below_zero": (SCALE, "set_tare", tare_of(least=-20)),
     "tools/edits/wc_indicator/an_active_tare_is_kept": (SCALE, "set_tare", tare_of(is_kept=True)),
+    "tools/edits/wc_indicator/a_second_tare_is_the_net_weight": (SCALE, "set_tare", a_second_tare_is_the_net_weight),
     "tools/edits/wc_indicator/shown_is_always_gross": (SCALE, "shown", SCALE.gross),
     "wc_indicator/must-fail/tare_in_motion": (SCALE, "set_tare", tare_of(may_move=True)),
     "tools/edits/wc_indicator/tare_of_a_moving_load": (SCALE, "set_tare", tare_of(when_full=True)),
     "wc_indicator/must-fail/tare_is_rounded": (SCALE, "set_tare", tare_of(rounded=True)),
+    "tools/edits/wc_sma/only_the_first_letter_counts": (LINE, "take", commands_by(lambda text: text[:1])),
+    "tools/edits/wc_sma/small_letters_are_known": (LINE, "take", commands_by(lambda text: b"W" if text == b"w" else text)),
     "wc_sma/must-fail/a_long_chunk_is_a_fault": (LINE, "feed", a_long_chunk_is_a_fault),
     "wc_sma/must-fail/request_cut_is_forgotten": (LINE, "feed", request_cut_is_forgotten),
 }
