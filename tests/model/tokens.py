@@ -13,17 +13,20 @@ DIGITS = {2: "01", 8: "0-7", 10: "0-9", 16: "0-9A-Fa-f"}
 SIGNS = (":=", "=>", "(", ")", ",", ":", ";", ".")
 LETTER, WORD, REST = re.compile("[A-Za-z_]"), re.compile("[A-Za-z0-9_]+"), re.compile("-?[A-Za-z0-9_#.]*")
 NUMBER, ADDRESS = re.compile("[+-]?[0-9][A-Za-z0-9_#.]*"), re.compile("%[A-Za-z0-9.]*")
+TYPED = re.compile("[A-Za-z_][A-Za-z0-9_]*(?:#-?[A-Za-z0-9_#.]*)?")
 OPERATOR = re.compile("&[Nn](?![A-Za-z0-9_])|&")
 
 
 @dataclass
 class Token:
     """A token: its kind (`name`, `number`, `bool`, `duration`, `address`, `eol`, `&` for the
-    operators that begin with it, or the sign itself), its text or value, its line."""
+    operators that begin with it, or the sign itself), its text or value, its line, the bytes from which and up to which it goes."""
 
     kind: str
     value: object
     line: int
+    start: int = 0
+    end: int = 0
 
     def word(self):
         """The text of a name in capitals; None of another token."""
@@ -133,14 +136,20 @@ def other_token(text, at, line):
     raise Refused(101, line)
 
 
+def malformed_slice(text, at):
+    """Where the slice that is no token ends."""
+    found = TYPED.match(text, at) or NUMBER.match(text, at)
+    return found.end() if found else at + 1
+
+
 def tokens(content):
-    """The tokens of a text, given as bytes."""
+    """The tokens of a text, given as bytes. A refusal of a malformed slice has its `slice`, from which byte to which."""
     if len(content) > MOST_BYTES:
         raise Refused(107, 0)
     text, at, line, found = content.decode("latin-1"), 0, 1, []
     while at < len(text):
         if text[at] == "\n":
-            found.append(Token("eol", "\n", line))
+            found.append(Token("eol", "\n", line, at, at + 1))
             at, line = at + 1, line + 1
         elif text[at] in " \t" or text.startswith("\r\n", at):
             at += 1
@@ -148,6 +157,12 @@ def tokens(content):
             end = comment_end(text, at, line)
             at, line = end, line + text.count("\n", at, end)
         else:
-            token, at = (word_token if LETTER.match(text, at) else other_token)(text, at, line)
+            try:
+                token, end = (word_token if LETTER.match(text, at) else other_token)(text, at, line)
+            except Refused as fault:
+                fault.slice = at, malformed_slice(text, at)
+                raise
+            token.start, token.end = at, end
             found.append(token)
+            at = end
     return found

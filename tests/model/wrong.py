@@ -169,6 +169,11 @@ def plate_with(change):
     return made
 
 
+def interval_is_doubled(self):
+    """Each scale interval counts twice, so that there are half as many."""
+    self.e, self.intervals = 2 * self.e, self.max // (2 * self.e)
+
+
 def intervals_of(ones=(1, 2, 5), after=(0, 3)):
     """An interval that is one of these, or after so many decimals one of 10, 20 and 50, and has at least 5 g."""
 
@@ -214,7 +219,7 @@ SCALE, LINE = indication.Indicator, line.Line
 # what each is in the model: where it is, its name, and the wrong body
 BODIES = {
     "tools/edits/wc_plate/a_foreign_unit_is_admitted": (plate, "read_table", read_with(with_pounds)),
-    "tools/edits/wc_plate/interval_is_doubled": (plate.Plate, "__init__", plate_with(lambda self: setattr(self, "e", 2 * self.e))),
+    "tools/edits/wc_plate/interval_is_doubled": (plate.Plate, "__init__", plate_with(interval_is_doubled)),
     "tools/edits/wc_plate/an_interval_of_four": (plate, "interval_allowed", intervals_of(ones=(1, 2, 4, 5))),
     "tools/edits/wc_plate/a_zero_after_two_decimals": (plate, "interval_allowed", intervals_of(after=(0, 2, 3))),
     "tools/edits/wc_plate/intervals_are_units": (plate, "divmod", units_for_intervals),

@@ -4,9 +4,7 @@ ghost use Rattle.wc_arguments.specs.Asked.{asked, check, cut, decode, format_ask
 use crate::files::{KeptSource, RunFiles, RunPaths, cause_of, kept_cause, kept_source, read_of};
 use crate::noting::with_notes;
 use crate::output::{FlushBeforeRead, SharedWriter};
-use crate::reporting::{
-    CommandEnd, ReadFile, Sources, end, list_further, report_warnings, without_memory,
-};
+use crate::reporting::{CommandEnd, ReadFile, Sources, end, report_warnings, without_memory};
 use crate::session::Session;
 use std::io;
 use std::io::{IsTerminal, Stdin};
@@ -122,9 +120,7 @@ pub(crate) fn check_words(
         &program_alone(program, &reader),
         row,
     );
-    let file = read_of(program, &reader);
-    list_further(session, ending, &file, row);
-    with_warnings(session, status, &file, deny)
+    with_warnings(session, status, &read_of(program, &reader), deny)
 }
 
 /// Tells what a change from the program in a file to the one in another keeps: the exit status.

@@ -159,70 +159,78 @@ fn evidence_of<'a>(
     }
 }
 
-/// Why an input is refused, where, and what to write instead.
-fn refusal_message(
-    session: Session<'_>,
-    sources: &Sources<'_>,
-    row: &RefusedRow,
+/// Which input is refused and where, with what is available of it.
+fn refusal_of<'a>(
+    sources: &Sources<'a>,
+    row: &'a RefusedRow,
     input: Input,
-    number: u16,
-    place: u32,
-) -> Result<Vec<u8>, AllocError> {
+    fault: LineFault,
+) -> Refusal<'a> {
     let path = sources.path(input);
     let (evidence, above) = evidence_of(sources, row, input);
-    let refusal = Refusal {
-        number,
-        place,
+    Refusal {
+        number: fault.number,
+        place: fault.place,
         part: part_of(input),
         name: path.unwrap_or("standard input").as_bytes(),
         in_job: path.is_none(),
         evidence,
         above,
+    }
+}
+
+/// Why an input is refused whose text is changed, where, and what to write instead.
+fn further_message(
+    session: Session<'_>,
+    refusal: &Refusal<'_>,
+    fault: LineFault,
+    text: &[u8],
+) -> Result<Vec<u8>, AllocError> {
+    let further = Refusal {
+        number: fault.number,
+        place: fault.place,
+        part: refusal.part,
+        name: &*refusal.name,
+        in_job: refusal.in_job,
+        evidence: Evidence::Text(&*text),
+        above: refusal.above,
     };
-    explained(session.rt.alloc(), session.format, &refusal)
+    explained(session.rt.alloc(), session.format, &further)
 }
 
 /// The number of further refusals that are printed at most.
 const MOST_REFUSALS: usize = 20;
 
-/// Keeps the line and the message of each further refusal of a program that is refused so, and after them that there are more.
+/// Keeps the place and the message of each further refusal of a text that is refused so, and after them that there are more.
 fn gather_further(
     session: Session<'_>,
-    file: &ReadFile<'_>,
-    row: &RefusedRow,
-    refused: LineFault,
+    refusal: &Refusal<'_>,
+    text: &[u8],
     messages: &mut Vec<(u32, Vec<u8>)>,
 ) -> Result<(), AllocError> {
-    let (alloc, path, next) = (session.rt.alloc(), file.path, None);
-    let mut further = Further::new(alloc, file.bytes, refused)?;
+    let (alloc, format) = (session.rt.alloc(), session.format);
+    let Refusal { number, place, .. } = *refusal;
+    let mut further = Further::new(alloc, text, LineFault { number, place })?;
     for count in 0..=MOST_REFUSALS {
-        let Found::Refused(LineFault { number, line }) = further.next(alloc)? else {
+        let Found::Refused(fault) = further.next(alloc)? else {
             break;
         };
         if count == MOST_REFUSALS {
-            let (format, name) = (session.format, path.as_bytes());
-            let more = left_out_message(alloc, format, Severity::Error, name, 1)?;
+            let more = left_out_message(alloc, format, Severity::Error, refusal.name, 1)?;
             messages.push((u32::MAX, more))?;
             break;
         }
-        let bytes = further.text();
-        let program = ReadFile { path, bytes };
-        let sources = Sources::Program { program, next };
-        let message = refusal_message(session, &sources, row, Input::Program, number, line)?;
-        messages.push((line, message))?;
+        let message = further_message(session, refusal, fault, further.text())?;
+        messages.push((fault.place, message))?;
     }
     Ok(())
 }
 
-/// Prints what else is wrong with a program that is refused so, in text order. The error is out of memory, or standard error fails.
-fn report_further(
-    session: Session<'_>,
-    file: &ReadFile<'_>,
-    row: &RefusedRow,
-    refused: LineFault,
-) -> io::Result<()> {
+/// Prints what else is wrong with a text that is refused so: of a program in text order, of a plate in the order of its rules. The error
+/// is out of memory, or standard error fails.
+fn report_further(session: Session<'_>, refusal: &Refusal<'_>, text: &[u8]) -> io::Result<()> {
     let mut messages = Vec::new(session.rt.alloc());
-    let gathered = gather_further(session, file, row, refused, &mut messages);
+    let gathered = gather_further(session, refusal, text, &mut messages);
     messages.sort_by_key(|message| message.0)?;
     for (_, message) in &messages {
         session.rt.stderr().write_all(message)?;
@@ -230,21 +238,15 @@ fn report_further(
     Ok(gathered?)
 }
 
-/// Prints what else is wrong with a program, if that is what ended its check. The refusal and its status are reported by then: if memory
-/// runs out or standard error fails, less is listed.
-pub(crate) fn list_further(
-    session: Session<'_>,
-    ending: Ending,
-    file: &ReadFile<'_>,
-    row: &RefusedRow,
-) {
-    if let Ending::Refused {
-        input: Input::Program,
-        number,
-        place: line,
-    } = ending
-    {
-        let _reported = report_further(session, file, row, LineFault { number, line });
+/// Prints what else is wrong with a program whose check it ended, or with a plate. The refusal is reported by then: if memory runs out or
+/// standard error fails, less is listed.
+fn list_further(session: Session<'_>, sources: &Sources<'_>, refusal: &Refusal<'_>) {
+    let is_listed = match sources {
+        Sources::Program { next: None, .. } => refusal.number < 500,
+        _ => matches!(refusal.number, 502..=508),
+    };
+    if let (true, Evidence::Text(text)) = (is_listed, refusal.evidence) {
+        let _reported = report_further(session, refusal, text);
     }
 }
 
@@ -355,8 +357,11 @@ fn report(
             number,
             place,
         } => {
-            let message = refusal_message(session, sources, row, input, number, place)?;
-            session.rt.stderr().write_all(&message)
+            let refusal = refusal_of(sources, row, input, LineFault { number, place });
+            let message = explained(session.rt.alloc(), session.format, &refusal)?;
+            session.rt.stderr().write_all(&message)?;
+            list_further(session, sources, &refusal);
+            Ok(())
         }
         Ending::ReadFault { input } => report_read_fault(
             session.rt,

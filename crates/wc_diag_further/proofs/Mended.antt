@@ -1,6 +1,8 @@
 -- Bytes taken out of parts of a text are taken out of the text, and those taken out twice are taken out once.
-use Rattle.std.proofs.Common.{◌≡◌, ◌==◌, ℕ, Bool, true, false, List, [], ◌∷◌, ◌++◌, map, if◌then◌else◌, refl}
-use Rattle.wc_diag_further.specs.Mended.{IsByteMended, IsMended, blank_of, kept, taken}
+use Rattle.std.proofs.Common.{◌≡◌, ◌==◌, ◌∙◌, ℕ, Bool, true, false, List, [], ◌∷◌, ◌++◌, Result, Ok, Err, append_assoc, drop, length, map, take, if◌then◌else◌, refl}
+use Rattle.std.proofs.lemmas.List.{take_at}
+use Rattle.std.specs.Prelude.{OnOk, is_ok}
+use Rattle.wc_diag_further.specs.Mended.{IsByteMended, IsMended, IsMendedAs, IsMendedPlate, blank_of, kept, taken}
 
 -- a text of which nothing is taken out
 pub mended_not : (text : List ℕ) → IsMended text text
@@ -50,3 +52,54 @@ mended_again [] (j ∷ b) c x y = absurd x
 mended_again (i ∷ a) [] c x y = absurd x
 mended_again (i ∷ a) (j ∷ b) [] x y = absurd y
 mended_again (i ∷ a) (j ∷ b) (k ∷ c) x y = (byte_again i j k x.0 y.0, mended_again a b c x.1 y.1)
+
+-- a line feed is not taken out
+line_feed_stays : (byte : ℕ) → IsByteMended 10 byte → byte ≡ 10
+line_feed_stays byte kept = refl
+line_feed_stays byte taken = refl
+
+-- a plate without more lines
+plate_mended : (a b : List ℕ) → IsMended a b → IsMendedPlate a b
+unfolding IsMended IsMendedPlate
+plate_mended [] [] x = tt
+plate_mended [] (j ∷ b) x = absurd x
+plate_mended (i ∷ a) [] x = absurd x
+plate_mended (i ∷ a) (j ∷ b) x = (x.0, plate_mended a b x.1)
+
+-- one with more lines
+plate_completed : (text lines : List ℕ) → IsMendedPlate text (text ++ (10 ∷ lines))
+unfolding IsMendedPlate
+plate_completed [] lines = refl
+plate_completed (byte ∷ text) lines = (kept, plate_completed text lines)
+
+-- one of which more is taken out
+plate_again : (a b c : List ℕ) → IsMendedPlate a b → IsMendedPlate b c → IsMendedPlate a c
+unfolding IsMendedPlate
+plate_again [] [] c x y = y
+plate_again [] (j ∷ b) [] x y = absurd y
+plate_again [] (j ∷ b) (k ∷ c) x y = line_feed_stays k (rw x at y.0)
+plate_again (i ∷ a) [] c x y = absurd x
+plate_again (i ∷ a) (j ∷ b) [] x y = absurd y
+plate_again (i ∷ a) (j ∷ b) (k ∷ c) x y = (byte_again i j k x.0 y.0, plate_again a b c x.1 y.1)
+
+-- of either kind
+pub mended_as : (is_plate : Bool) (a b : List ℕ) → IsMended a b → IsMendedAs is_plate a b
+mended_as true a b x = plate_mended a b x
+mended_as false a b x = x
+
+pub mended_as_again : (is_plate : Bool) (a b c : List ℕ) → IsMendedAs is_plate a b → IsMendedAs is_plate b c → IsMendedAs is_plate a c
+mended_as_again true a b c x y = plate_again a b c x y
+mended_as_again false a b c x y = mended_again a b c x y
+
+-- a plate after which a line is written in four parts, if the last can be
+pub mended_line : {E : Type 0} (r : Result (Unit {0}) E) (is_plate : Bool) (text fed named signed given key sign value : List ℕ) → is_plate ≡ true → fed ≡ text ++ (10 ∷ []) → named ≡ fed ++ key → signed ≡ named ++ sign
+    → given ≡ (if is_ok r then signed ++ value else signed) → OnOk r (IsMendedAs is_plate text given)
+mended_line (Err error) is_plate text fed named signed given key sign value p a b c d = tt
+mended_line (Ok done) is_plate text fed named signed given key sign value p a b c d =
+    rw (p, d, c, b, a, append_assoc text (10 ∷ []) key, append_assoc text (10 ∷ key) sign, append_assoc text (10 ∷ (key ++ sign)) value) (plate_completed text ((key ++ sign) ++ value))
+
+-- the bytes of a whole text are taken out, and then it is mended
+pub mended_then : (is_plate : Bool) (long : ℕ) (text slice new given : List ℕ) → length new ≡ length slice → length slice ≡ long → slice ≡ text → IsMended slice new
+    → IsMendedAs is_plate (take long (new ++ drop (length new) text)) given → IsMendedAs is_plate text given
+mended_then is_plate long text slice new given same whole is x y =
+    mended_as_again is_plate text new given (mended_as is_plate text new (rw is at x)) (rw (take_at new (drop (length new) text) long (same ∙ whole)) at y)

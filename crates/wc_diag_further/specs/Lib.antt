@@ -1,1 +1,2 @@
 pub mod Mended
+pub mod Further

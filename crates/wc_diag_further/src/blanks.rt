@@ -3,21 +3,12 @@ ghost use Rattle.wc_diag_further.specs.Mended.{IsMended, blank_of};
 
 use crate::marks::{Mark, Marks};
 
-/// Bytes that are taken out: the first, counted from 0, their number, the lines of the first and the last, and what they are.
+/// Bytes that are taken out: the first, counted from 0, and their number, the lines of the first and the last, and what they are.
 #[derive(Clone, Copy)]
 pub(crate) struct Blank {
-    pub(crate) start: usize,
-    pub(crate) length: usize,
-    pub(crate) first: u32,
-    pub(crate) last: u32,
+    pub(crate) place: (usize, usize),
+    pub(crate) lines: (u32, u32),
     pub(crate) mark: Mark,
-}
-
-/// What is written over a byte that is taken out.
-fn blank_of(byte: u8) -> u8
-    ensures { result ≡ blank_of byte }
-{
-    if byte == b'\n' { b'\n' } else { b' ' }
 }
 
 /// Writes spaces over all bytes but line feeds.
@@ -25,7 +16,7 @@ fn blank_all(text: &mut [u8])
     ensures { text.new ≡ map blank_of text.old }
 {
     for byte in text.iter_mut() {
-        *byte = blank_of(*byte);
+        *byte = if *byte == b'\n' { b'\n' } else { b' ' };
     }
 }
 
@@ -33,9 +24,9 @@ fn blank_all(text: &mut [u8])
 fn write_blank(text: &mut [u8], blank: Blank)
     ensures { IsMended text.old text.new }
 {
-    let start = blank.start.min(text.len());
+    let start = blank.place.0.min(text.len());
     let (_, rest) = text.split_at_mut(start);
-    let length = blank.length.min(rest.len());
+    let length = blank.place.1.min(rest.len());
     let (slice, _) = rest.split_at_mut(length);
     blank_all(slice);
 }
@@ -52,6 +43,6 @@ pub(crate) fn blank_each(text: &mut [u8], blanks: &[Blank])
 /// Marks the lines of all of these bytes.
 pub(crate) fn mark_each(broken: &mut Marks, blanks: &[Blank]) {
     for some in blanks {
-        broken.set_all(some.first, some.last, some.mark);
+        broken.set_all(some.lines.0, some.lines.1, some.mark);
     }
 }

@@ -42,17 +42,11 @@ impl<'a> TakenOut<'a> {
             return Ok(());
         };
         let start = (first.start as usize).saturating_add(skipped);
+        let end = (last.start as usize).saturating_add(last.text.len());
+        let (place, lines) = ((start, end.saturating_sub(start)), (first.line, last.line));
         let is_labelled = mark == Mark::Taken && has(some, Shape::Colon);
-        self.blanks.push(Blank {
-            start,
-            length: (last.start as usize)
-                .saturating_add(last.text.len())
-                .saturating_sub(start),
-            first: first.line,
-            last: last.line,
-            mark: if is_labelled { Mark::Unlabelled } else { mark },
-        })?;
-        Ok(())
+        let mark = if is_labelled { Mark::Unlabelled } else { mark };
+        Ok(self.blanks.push(Blank { place, lines, mark })?)
     }
 
     /// Keeps the names among some tokens.
@@ -216,7 +210,7 @@ fn take_declaration<'a>(
     }
     let is_sure = match faulty.number {
         201 => is_cut && !was_taken && shows_names(some),
-        number => number != 307,
+        number => !matches!(number, 301 | 307),
     };
     taken.keep_names(some)?;
     taken.take(some, 0, if is_sure { Mark::Taken } else { Mark::Unnamed })
@@ -277,11 +271,8 @@ pub(crate) fn taken_out(
     };
     for (index, line) in lines.iter().enumerate() {
         // after the last declaration, if it is not ended, END_VAR may be read as its type
-        let after = if line.region == Region::Section && !line.is_closed {
-            2
-        } else {
-            1
-        };
+        let is_open = line.region == Region::Section && !line.is_closed;
+        let after = if is_open { 2 } else { 1 };
         let next = lines.get(index.saturating_add(after)).unwrap_or(line);
         if take_faulty(&mut taken, line, next.first, faulty)? {
             break;

@@ -25,10 +25,9 @@ fn is_result_unsure(lines: &[LogicalLine<'_, '_>], broken: &Marks, number: u32) 
 
 /// The last line of the unit that a line of the text is in.
 fn end_of_unit(lines: &[LogicalLine<'_, '_>], number: u32) -> u32 {
-    let mut heads = lines.iter().filter(|line| line.region == Region::Head);
-    heads
-        .find(|line| line.first > number)
-        .map_or(u32::MAX, |line| line.first)
+    let mut below = lines.iter().filter(|line| line.first > number);
+    let head = below.find(|line| line.region == Region::Head);
+    head.map_or(u32::MAX, |line| line.first)
 }
 
 /// Whether a line of the text begins with an input or an output of a call, which was taken out above.
@@ -61,6 +60,8 @@ pub(crate) fn may_follow(
         402 | 403 => {
             broken.has(0, u32::MAX, Mark::Unpaired) || is_result_unsure(lines, broken, line)
         }
+        // a section that became VAR has no outputs
+        405 => changed.any(|it| it.region == Region::Edge),
         406 => broken.any(line, end_of_unit(lines, line), Mark::Unlabelled),
         409 => is_unnamed || changed.any(|it| it.region == Region::Edge),
         _ => false,

@@ -1,25 +1,26 @@
-ghost use Rattle.std.specs.Prelude.{◌≡◌, IfNone, IfOk, IfSome, OnOk};
-ghost use Rattle.wc_controller.specs.Loads.{IsNeverRefused};
-ghost use Rattle.wc_model.specs.Language.Loading.{IsRefused};
-ghost use Rattle.wc_diag_further.specs.Mended.{IsFound, IsMended};
+ghost use Rattle.std.specs.Prelude.{◌≡◌, IfOk, IfSome, OnOk, nat_lt};
+ghost use Rattle.wc_diag_further.specs.Further.{IsFoundOf, IsMendedFrom};
+ghost use Rattle.wc_diag_further.specs.Mended.{IsFound};
 
 use crate::blanks::{Blank, blank_each, mark_each};
 use crate::extents::{Faulty, taken_out};
 use crate::following::may_follow;
 use crate::logical_lines::logical_lines;
 use crate::marks::{Mark, Marks};
+use crate::plates::{Remedy, mend, plate_mending};
 use std::alloc::{AllocError, Global};
 use wc_controller::load;
 use wc_lexer::{tokens, tokens_or_stop};
 use wc_model::Fault;
+use wc_plate::plate;
 
-/// A refusal: its number and its line.
+/// A refusal: its number and its place.
 #[derive(Clone, Copy)]
 pub struct LineFault {
     /// The number, from the list of refusals.
     pub number: u16,
-    /// The line of the text, counted from 1.
-    pub line: u32,
+    /// The line of the text, counted from 1; of a plate 0.
+    pub place: u32,
 }
 
 /// The number of texts that are tried for one further refusal at most.
@@ -36,10 +37,13 @@ pub enum Found {
     Hidden,
 }
 
-/// A program text that is refused, without what was refused so far but for the last fault.
+/// A program text or a plate that is refused, without what was refused so far but for the last fault.
 #[derive(Drop)]
 pub struct Further {
     text: Vec<u8>,
+    is_plate: bool,
+    /// The keys of a plate that are given other values, the last of them for the last fault.
+    given: Vec<Remedy>,
     broken: Marks,
     /// Whether there are lines that could not be cut, of which only the malformed slices are taken out.
     is_uncut: bool,
@@ -47,40 +51,35 @@ pub struct Further {
     blanks: Option<Vec<Blank>>,
 }
 
-/// How a text is refused; nothing if it is accepted. The error is out of memory.
-fn refusal_of(alloc: Global, text: &[u8]) -> Result<Option<LineFault>, AllocError>
-    ensures refused { IfOk result
-        (λ found. IfSome found (λ fault. IsRefused text.now fault.number fault.line)) }
-    ensures accepted { IfOk result (λ found. IfNone found (IsNeverRefused text.now)) }
+/// What is found of a plate or of a program as it is. The error is out of memory.
+fn found_in(alloc: Global, text: &[u8], is_plate: bool) -> Result<Found, AllocError>
+    ensures { IfOk result (IsFound is_plate text.now) }
 {
+    if is_plate {
+        return match plate(alloc, text) {
+            Ok(_) => Ok(Found::Accepted),
+            Err(Fault::Memory) => Err(AllocError),
+            Err(Fault::Refused { number, place }) => Ok(Found::Refused(LineFault {
+                number,
+                place,
+            })),
+        };
+    }
     match load(alloc, text) {
-        Ok(_) => Ok(None),
+        Ok(_) => Ok(Found::Accepted),
         Err(Fault::Memory) => Err(AllocError),
-        Err(Fault::Refused { number, place }) => Ok(Some(LineFault {
-            number,
-            line: place,
-        })),
+        Err(Fault::Refused { number, place }) => Ok(Found::Refused(LineFault { number, place })),
     }
 }
 
 /// The slice at which a text cannot be cut into tokens; nothing if the rest is not read on without it.
-fn malformed(
-    alloc: Global,
-    text: &[u8],
-    fault: LineFault,
-) -> Result<Option<Vec<Blank>>, AllocError> {
+fn uncut(alloc: Global, text: &[u8], fault: LineFault) -> Result<Option<Vec<Blank>>, AllocError> {
     match tokens_or_stop(alloc, text) {
         Err(stop) if stop.fault == Fault::Memory => Err(AllocError),
         Err(stop) if !matches!(fault.number, 102 | 103 | 107) => {
-            let mut blanks = Vec::new(alloc);
-            blanks.push(Blank {
-                start: stop.start as usize,
-                length: stop.length as usize,
-                first: fault.line,
-                last: fault.line,
-                mark: Mark::Uncut,
-            })?;
-            Ok(Some(blanks))
+            let place = (stop.start as usize, stop.length as usize);
+            let (lines, mark) = ((fault.place, fault.place), Mark::Uncut);
+            Ok(Some(vec![in alloc; Blank { place, lines, mark }]?))
         }
         _ => Ok(None),
     }
@@ -94,10 +93,14 @@ fn mending_of(
     broken: &Marks,
     fault: LineFault,
     is_uncut: bool,
+    given: &mut Vec<Remedy>,
 ) -> Result<(Option<Vec<Blank>>, bool), AllocError> {
-    let (number, line) = (fault.number, fault.line);
+    let (number, line) = (fault.number, fault.place);
+    if number > 500 {
+        return plate_mending(alloc, text, given);
+    }
     if number < 200 {
-        let blanks = malformed(alloc, text, fault)?;
+        let blanks = uncut(alloc, text, fault)?;
         return Ok((blanks, !broken.any(line, line, Mark::Taken)));
     }
     // what is too long, or a unit that has no head or no end
@@ -125,13 +128,15 @@ impl Further {
     /// A text that is refused so. The error is out of memory.
     pub fn new(alloc: Global, text: &[u8], fault: LineFault) -> Result<Further, AllocError>
         ensures text { IfOk result (λ further. further.text.items ≡ text.now) }
+        ensures kind { IfOk result (λ further. further.is_plate ≡ nat_lt 500 fault.number) }
     {
-        let mut kept = Vec::new(alloc);
-        kept.extend_from_slice(text)?;
-        let broken = Marks::new(alloc, text)?;
-        let (blanks, _) = mending_of(alloc, text, &broken, fault, false)?;
+        let kept = Vec::from_slice(alloc, text)?;
+        let (broken, mut given): (Marks, Vec<Remedy>) = (Marks::new(alloc, text)?, Vec::new(alloc));
+        let (blanks, _) = mending_of(alloc, text, &broken, fault, false, &mut given)?;
         Ok(Further {
             text: kept,
+            is_plate: fault.number > 500,
+            given,
             broken,
             is_uncut: fault.number < 200,
             blanks,
@@ -147,29 +152,30 @@ impl Further {
 
     /// Takes out what was refused last, and says what is found then; nothing if it is refused, but what is missing may be why.
     fn step(&mut self, alloc: Global) -> Result<Option<Found>, AllocError>
-        ensures mended { OnOk result (IsMended self.old.text.items self.new.text.items) }
-        ensures found { IfOk result (λ found. IfSome found (IsFound self.new.text.items)) }
+        ensures mended { OnOk result (IsMendedFrom self.old self.new) }
+        ensures found { IfOk result (λ found. IfSome found (IsFoundOf self.new)) }
     {
         let Some(blanks) = self.blanks.take() else {
             return Ok(Some(Found::Hidden));
         };
         blank_each(&mut self.text, &blanks);
         mark_each(&mut self.broken, &blanks);
-        let fault = match refusal_of(alloc, &self.text)? {
-            Some(fault) => fault,
-            None => return Ok(Some(Found::Accepted)),
+        mend(&mut self.text, self.is_plate, &self.given)?;
+        let found = found_in(alloc, &self.text, self.is_plate)?;
+        let Found::Refused(fault) = found else {
+            return Ok(Some(found));
         };
-        let (blanks, is_own) = mending_of(alloc, &self.text, &self.broken, fault, self.is_uncut)?;
+        let (text, broken, given) = (&self.text, &self.broken, &mut self.given);
+        let (blanks, is_own) = mending_of(alloc, text, broken, fault, self.is_uncut, given)?;
         self.is_uncut = fault.number < 200;
         self.blanks = blanks;
-        Ok(is_own.then_some(Found::Refused(fault)))
+        Ok(is_own.then_some(found))
     }
 
-    /// The next refusal that is one of its own: the text is then refused so, without what was refused before. Or that there is none,
-    /// since the text is then accepted; or that it cannot be read on. The error is out of memory.
+    /// The next refusal that is one of its own, or that the text is then accepted, or cannot be read on. The error is out of memory.
     pub fn next(&mut self, alloc: Global) -> Result<Found, AllocError>
-        ensures mended { OnOk result (IsMended self.old.text.items self.new.text.items) }
-        ensures found { IfOk result (IsFound self.new.text.items) }
+        ensures mended { OnOk result (IsMendedFrom self.old self.new) }
+        ensures found { IfOk result (IsFoundOf self.new) }
     {
         for _ in 0..MOST_STEPS {
             if let Some(found) = self.step(alloc)? {

@@ -39,8 +39,7 @@ pub(crate) fn before(some: &[Token<'_>], shape: Shape) -> usize {
 /// The tokens from an index up to another one.
 pub(crate) fn slice<'a, 't>(some: &'t [Token<'a>], from: usize, to: usize) -> &'t [Token<'a>] {
     let (prefix, _) = some.split_at(to.min(some.len()));
-    let (_, rest) = prefix.split_at(from.min(prefix.len()));
-    rest
+    prefix.split_at(from.min(prefix.len())).1
 }
 
 /// The number of tokens above a line of the text.

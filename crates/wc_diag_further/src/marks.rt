@@ -38,12 +38,10 @@ impl Marks {
     pub(crate) fn set_all(&mut self, first: u32, last: u32, mark: Mark) {
         for line in first..last.saturating_add(1) {
             if let Some(found) = self.lines.get_mut(line as usize) {
-                let least = if *found == Mark::Uncut {
-                    Mark::None
-                } else {
-                    *found
-                };
-                *found = mark.max(least);
+                if *found == Mark::Uncut {
+                    *found = Mark::None;
+                }
+                *found = mark.max(*found);
             }
         }
     }

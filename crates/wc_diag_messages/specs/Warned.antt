@@ -94,11 +94,6 @@ pub record Warns (format : Format) (file text : List ℕ) (tokens : List Token) 
   pub knows : KnowsWarning text tokens warning parts
   pub printed : Prints format file parts bytes
 
--- the number left out, in words
-abbrev pub CountsLeftOut : Severity → ℕ → List ℕ → Type 0
-CountsLeftOut severity count bytes =
-    (said : List ℕ) × (bytes ≡ shown_text (words_before_count severity) ++ number_text count ++ shown_text said)
-
 -- the object that says it
 abbrev pub left_out_tokens : Severity → ℕ → List ℕ → List json_token.Token
 left_out_tokens severity count name =
@@ -106,19 +101,14 @@ left_out_tokens severity count name =
     ++ severity_members severity
     ++ number_member (codes "leftOut") count ++ (json_token.end_object ∷ [])
 
--- the number left out, on a line for people
-abbrev pub ReportsLeftOut : Severity → ℕ → List ℕ → Type 0
-ReportsLeftOut severity count bytes =
-    (words : List ℕ) × CountsLeftOut severity count words × (bytes ≡ words ++ (10 ∷ []))
-
--- the number left out after the file, on a line
-abbrev pub ReportsLeftOutShortly : List ℕ → Severity → ℕ → List ℕ → Type 0
-ReportsLeftOutShortly file severity count bytes =
-    (words : List ℕ) × CountsLeftOut severity count words
-    × (bytes ≡ shown_text file ++ shown_text (codes ": ") ++ words ++ (10 ∷ []))
+-- the number left out in words after these bytes, on a line
+abbrev pub ReportsLeftOut : (before : List ℕ) → Severity → ℕ → List ℕ → Type 0
+ReportsLeftOut before severity count bytes =
+    (said : List ℕ)
+    × (bytes ≡ before ++ shown_text (words_before_count severity) ++ number_text count ++ shown_text said ++ (10 ∷ []))
 
 -- the number left out, in that format
 abbrev pub LeavesOut : Format → List ℕ → Severity → ℕ → List ℕ → Type 0
-LeavesOut Long file severity count bytes = ReportsLeftOut severity count bytes
-LeavesOut Short file severity count bytes = ReportsLeftOutShortly file severity count bytes
+LeavesOut Long file severity count bytes = ReportsLeftOut [] severity count bytes
+LeavesOut Short file severity count bytes = ReportsLeftOut (shown_text file ++ shown_text (codes ": ")) severity count bytes
 LeavesOut Json file severity count bytes = IsObjectOf (left_out_tokens severity count) file bytes

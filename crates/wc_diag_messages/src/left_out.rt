@@ -1,6 +1,6 @@
 ghost use Rattle.std.specs.Prelude.{◌≡◌, [], IfOk, OnOk};
 ghost use Rattle.wc_diag_messages.specs.Formats.{IsCalmIn, IsObjectOf, IsPlainIn, words_before_count};
-ghost use Rattle.wc_diag_messages.specs.Warned.{CountsLeftOut, LeavesOut, ReportsLeftOut, ReportsLeftOutShortly, left_out_tokens};
+ghost use Rattle.wc_diag_messages.specs.Warned.{LeavesOut, ReportsLeftOut, left_out_tokens};
 
 use crate::object::{line_of, name_text, write_number, write_severity, write_text};
 use crate::parts::Severity;
@@ -28,43 +28,15 @@ fn words_after_count(severity: Severity, count: usize) -> &'static str {
     }
 }
 
-/// The number left out, in words.
-fn words_of(alloc: Global, severity: Severity, count: usize) -> Result<Message, AllocError>
-    ensures { IfOk result (λ message. CountsLeftOut severity count message.bytes.items) }
+/// Adds the number left out in words, and ends the line.
+fn add_left_out(message: &mut Message, severity: Severity, count: usize) -> Result<(), AllocError>
+    ensures { OnOk result
+        (ReportsLeftOut message.old.bytes.items severity count message.new.bytes.items) }
 {
-    let mut message = Message::new(alloc);
     message.say(words_before_count(severity))?;
     message.count(count)?;
     message.say(words_after_count(severity, count))?;
-    Ok(message)
-}
-
-/// The number left out, on a line for people.
-fn long_line(alloc: Global, severity: Severity, count: usize) -> Result<Message, AllocError>
-    ensures { IfOk result (λ message. ReportsLeftOut severity count message.bytes.items) }
-{
-    let mut message = words_of(alloc, severity, count)?;
-    message.end_line()?;
-    Ok(message)
-}
-
-/// The number left out after the file, on a line.
-fn short_line(
-    alloc: Global,
-    severity: Severity,
-    file: &[u8],
-    count: usize,
-) -> Result<Message, AllocError>
-    ensures { IfOk result
-        (λ message. ReportsLeftOutShortly file.now severity count message.bytes.items) }
-{
-    let words = words_of(alloc, severity, count)?;
-    let mut message = Message::new(alloc);
-    message.add(file)?;
-    message.say(": ")?;
-    message.append(&words)?;
-    message.end_line()?;
-    Ok(message)
+    message.end_line()
 }
 
 /// Writes the object.
@@ -116,9 +88,15 @@ pub fn left_out_message(
     ensures plain { IfOk result (λ bytes. IsPlainIn format bytes.items) }
     ensures calm { IfOk result (λ bytes. IsCalmIn format bytes.items) }
 {
+    let mut message = Message::new(alloc);
     match format {
-        Format::Long => Ok(long_line(alloc, severity, count)?.into_bytes()),
-        Format::Short => Ok(short_line(alloc, severity, file, count)?.into_bytes()),
-        Format::Json => object(alloc, severity, file, count),
+        Format::Long => {}
+        Format::Short => {
+            message.add(file)?;
+            message.say(": ")?;
+        }
+        Format::Json => return object(alloc, severity, file, count),
     }
+    add_left_out(&mut message, severity, count)?;
+    Ok(message.into_bytes())
 }

@@ -1,8 +1,16 @@
-use Rattle.std.proofs.Common.{◌≡◌, ◌<◌, ◌+◌, ℕ, List, ◌++◌, drop, get_or, length, map, set, take, arith}
+use Rattle.std.proofs.Common.{◌≡◌, ◌<◌, ◌+◌, ℕ, List, ◌++◌, drop, get_or, length, map, set, take, arith, refl}
+use Rattle.std.proofs.lemmas.Bool.{ne_eqb}
 use Rattle.std.proofs.lemmas.List.{get_or_default}
 use Rattle.std.proofs.lemmas.List.Edits.{map_over_more}
 use Rattle.wc_diag_further.specs.Mended.{blank_of}
 use Rattle.wc_diag_further.proofs.blanks.blank_all.Goals as goal
+use Rattle.wc_diag_further.proofs.blanks.blank_all.Goals.{then-byte-eq10, else-byte-eq10}
+
+line_feed_stays : (old new : ℕ) → old ≡ 10 → new ≡ 10 → new ≡ blank_of old
+line_feed_stays old new is e = rw (is, e) refl
+
+other_taken : (old new : ℕ) → (old ≡ 10 → ⊥) → new ≡ 32 → new ≡ blank_of old
+other_taken old new other e = rw (ne_eqb old 10 other, e) refl
 
 -- one more byte
 byte_more : (xs ys : List ℕ) (i new : ℕ) → i < length xs → length ys ≡ length xs → ys ≡ map blank_of (take i xs) ++ drop i xs → new ≡ blank_of (get_or ys i 0)
@@ -13,4 +21,8 @@ byte_more xs ys i new lt long h e =
 
 pub loop-byte-preserved : goal.loop-byte-preserved
 loop-byte-preserved c =
-    byte_more c.args.text.now c.loop-byte.text c.loop-byte.byte-index c.blank_of.result c.loop-byte-test.true c.loop-byte.auto.text c.loop-byte.invariant c.blank_of.ensures
+    byte_more c.args.text.now c.loop-byte.text c.loop-byte.byte-index c.if-byte-eq10.byte c.loop-byte-test.true c.loop-byte.auto.text c.loop-byte.invariant
+    (elim c.if-byte-eq10.branch [
+      | then-byte-eq10 w ↦ line_feed_stays _ _ w.if-byte-eq10.true w.byte-is
+      | else-byte-eq10 w ↦ other_taken _ _ w.if-byte-eq10.false w.byte-is
+    ])
