@@ -164,7 +164,7 @@ class Links:
             named.setdefault(place.rpartition(".")[2], {})[place] = f"type, {place.split('.')[1]}"
         for name, place in self.laws.items():
             named.setdefault(name, {})[place] = "law"
-        return {name: sorted(places.items(), key=lambda it: it[1]) for name, places in sorted(named.items(), key=lambda it: (it[0].lower(), it[0]))}
+        return {name: sorted(places.items(), key=lambda it: it[::-1]) for name, places in sorted(named.items(), key=lambda it: (it[0].lower(), it[0]))}
 
 
 # --- templates
