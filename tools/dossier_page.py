@@ -182,6 +182,8 @@ def view_of(found, links):
     scripts = [one for one in it["commands"] if re.match(r"(env \S+ )?(\.ci|tools)/", one["command"] or "")]
     rows, unseen = rows_of_the_legal_part(found["traceability"]), clauses_unseen(found)
     times, untimed = sorted(one["at"] for one in further if one.get("at")), [one for one in further if one["refused"] is not None and not one.get("at")]
+    run = re.findall(r"\d{4}-\d\d-\d\dT\d\d:\d\d", found["identification"]["run"])
+    by_this_run = [one for one in further if one["by the gate's command"] and run and run[0] <= (one.get("at") or "")[:16] <= run[-1]]
     cases = {one["case"]: one for one in it["seen by a test"]}
     parts = {key: part_view(found, part, links) for key, part in KEYS.items()}
     lines = sorted({re.sub(r"\bfunctions=\d+ ", "", one["line"]) for one in rests if one["line"]})
@@ -195,7 +197,7 @@ def view_of(found, links):
         "further tried": [one for one in further if one["refused"] is not None], "further untried": [one for one in further if one["refused"] is None],
         "public calls": len(try_edits.counts()["all"]), "proved here": [one for one in rests if re.match(r"\w+ proved", one["verdict"])],
         "all further": bool(further), "listed further": not further and bool(try_edits.listed()), "no further": not further and not try_edits.listed(),
-        "further refused": [one for one in further if one["refused"]], "recorded": [{"first": times[0], "last": times[-1], "untimed": untimed}] if times else [],
+        "further refused": [one for one in further if one["refused"]], "by this run": by_this_run, "recorded": [{"first": times[0], "last": times[-1], "untimed": untimed}] if times else [],
         "kinds of refusals": sums_of(further)[0], "parts untried": sums_of(further)[1],
         "by the gate": [one for one in further if one["by the gate's command"]],
         "seen": [{
