@@ -25,15 +25,22 @@ def own_in(cells):
     return [it for it in bodies_in(cells) if f"`{it}` (own)" in cells[-1]]
 
 
+def is_own(cells):
+    """Whether a row's bodies all break a rule of the profile's own: no body can break its clause."""
+    return set(bodies_in(cells)) == set(own_in(cells))
+
+
 def rows_of_the_legal_part(clauses):
     """The rows on clauses of R 76-1 that have a definition."""
     return [cells for part in clauses if part["part"] == LEGAL and len(part["head"]) > 3 for cells in part["rows"]]
 
 
 def clauses_unseen(found):
-    """The clauses of R 76-1 with a definition in whose rows no wrong body that breaks the clause has a case with two answers."""
+    """The clauses of R 76-1 with a definition in whose rows no wrong body has a case with two answers: one that breaks the clause, if a row
+    names such a body."""
     bodies = {it["body"] for it in found["evidence"]["seen by a test"]}
-    return [cells[0] for cells in rows_of_the_legal_part(found["traceability"]) if not bodies & (set(bodies_in(cells)) - set(own_in(cells)))]
+    rows = rows_of_the_legal_part(found["traceability"])
+    return [cells[0] for cells in rows if not bodies & (set(bodies_in(cells)) - (set() if is_own(cells) else set(own_in(cells))))]
 
 
 def digests_in(lines):
@@ -191,6 +198,7 @@ def view_of(found, links):
         **parts, "no line": MISSING, "interface": list(INTERFACE), "digests": digests_in(found["identification"]["digests"]),
         "last verdict": it["verdict"][-1], "scripts": len(scripts), "scripts ended well": sum(one["status"] == "0" for one in scripts),
         "all laws": [law for group in found["laws"] for law in group["laws"]], "rows on R 76-1": len(rows), "rows seen": len(rows) - len(unseen), "unseen": unseen,
+        "own rows": [cells[0] for cells in rows if is_own(cells)],
         "shown of itself": [line for line in found["identification"]["digests"] if not line.startswith("  ")],
         "edits here": [one for one in it["edits"] if one["why"] and not one["earlier"]], "edits before": [one for one in it["edits"] if one["earlier"]],
         "done here": [found[0] for line in it["verdict"] for found in [re.search("done in this run: [^;]*", line)] if found],

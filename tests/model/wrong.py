@@ -205,6 +205,13 @@ def with_a_greatest_load(values):
     return {"max": 15000, **values}
 
 
+def a_question_ends_the_tare(self, text, right=line.Line.act):
+    """The question for the weight clears the tare."""
+    if text == b"W":
+        self.indicator.clear_tare()
+    return right(self, text)
+
+
 def intervals_from(least, most=10000):
     """From a number of intervals to another."""
     return lambda intervals: least <= intervals <= most
@@ -255,6 +262,7 @@ BODIES = {
     "wc_indicator/must-fail/tare_in_motion": (SCALE, "set_tare", tare_of(may_move=True)),
     "tools/edits/wc_indicator/tare_of_a_moving_load": (SCALE, "set_tare", tare_of(when_full=True)),
     "wc_indicator/must-fail/tare_is_rounded": (SCALE, "set_tare", tare_of(rounded=True)),
+    "tools/edits/wc_sma/a_question_ends_the_tare": (LINE, "act", a_question_ends_the_tare),
     "tools/edits/wc_sma/only_the_first_letter_counts": (LINE, "take", commands_by(lambda text: text[:1])),
     "tools/edits/wc_sma/small_letters_are_known": (LINE, "take", commands_by(lambda text: b"W" if text == b"w" else text)),
     "wc_sma/must-fail/a_long_chunk_is_a_fault": (LINE, "feed", a_long_chunk_is_a_fault),
