@@ -40,12 +40,9 @@ pub(crate) fn blank_each(text: &mut [u8], blanks: &[Blank])
     }
 }
 
-/// Marks the lines of all of these bytes. If no malformed slice is among them, all of the text can be cut.
+/// Marks the lines of all of these bytes.
 pub(crate) fn mark_each(broken: &mut Marks, blanks: &[Blank]) {
     for some in blanks {
         broken.set_all(some.lines.0, some.lines.1, some.mark);
-    }
-    if !blanks.iter().any(|some| some.mark == Mark::Uncut) {
-        broken.is_cut();
     }
 }

@@ -9,13 +9,11 @@ pub(crate) enum Mark {
     Aside,
     /// An instruction or a declaration.
     Taken,
-    /// The words of a section, but for VAR.
-    Section,
     /// A line of a body that may have had a label.
     Unlabelled,
     /// A parenthesis whose other one is not found.
     Unpaired,
-    /// Malformed slices, so far; the rest of the line, if there is one, is still there.
+    /// Malformed slices, so far; what else is on the line is still there.
     Uncut,
     /// A declaration whose names may be others than they seem to be.
     Unnamed,
@@ -45,13 +43,6 @@ impl Marks {
                 }
                 *found = mark.max(*found);
             }
-        }
-    }
-
-    /// The rest of the lines with malformed slices was taken out: those that are still marked as such have no rest.
-    pub(crate) fn is_cut(&mut self) {
-        for found in self.lines.iter_mut().filter(|found| **found == Mark::Uncut) {
-            *found = Mark::Taken;
         }
     }
 
