@@ -17,9 +17,10 @@ LAST = (102, 103, 107, 202, 203, 208, 306, 411)
 ENDS = {"END_" + word for word in UNITS}
 # words that no unit can have as names, and that begin or follow a section or a FUNCTION
 FOREIGN = {"FUNCTION", "END_FUNCTION", "VAR_IN_OUT", "VAR_GLOBAL", "VAR_EXTERNAL", "VAR_TEMP", "CONSTANT", "RETAIN", "AT"}
-# what a gap was, from the least that may follow from it: what leaves the result; another instruction, or a declaration; what may have had a
-# label; a parenthesis without its other one; a malformed slice, of which the rest is still there; a declaration whose names are not sure
-ASIDE, LINE, LABEL, HALF, SLICE, NAMES = range(6)
+# what a gap was, from the least that may follow from it: what leaves the result; another instruction, or a declaration; the words of a
+# section, but for VAR; what may have had a label; a parenthesis without its other one; a malformed slice, of which the rest is still there; a
+# declaration whose names are not sure
+ASIDE, LINE, SECTION, LABEL, HALF, SLICE, NAMES = range(7)
 
 
 @dataclass
@@ -59,8 +60,8 @@ def depth_of(kinds):
 
 
 def names(found):
-    """The words among some tokens."""
-    return {token.word() for token in found if token.kind == "name"}
+    """The words among some tokens, but for TRUE and FALSE."""
+    return {token.word() for token in found if token.kind == "name"} - {"TRUE", "FALSE"}
 
 
 def is_foreign(word):
@@ -156,15 +157,18 @@ class Extent:
 
     def __init__(self, text, parts, number, line):
         self.text, self.parts, self.number, self.line = text, parts, number, line
-        self.gaps, self.words = [], set()
+        self.gaps, self.words, self.units = [], set(), set()
         for at, part in enumerate(parts):
             # what is missing is refused at what follows; after a declaration without a semicolon END_VAR may be read as its type
             following = parts[at + (2 if part.where == "section" and not part.whole else 1) :][:1] or [part]
             if self.is_last(part, following[0].first):
                 break
-        # no instruction has a name of what stays
+        # no declaration and no instruction has a name of what was taken out
         for part in parts if self.gaps else []:
-            if part.where == "body" and self.words & names(part.rest[1:]):
+            if part.where == "section" and self.units & names(part.tokens):
+                self.words |= names(part.tokens)
+                self.take(part.tokens, LINE)
+            if part.where == "body" and (self.words | self.units) & names(part.rest[1:]):
                 self.take(part.rest, LINE)
 
     def take(self, found, what, skipped=0):
@@ -182,7 +186,7 @@ class Extent:
         here = self.is_on(part.first, part.last)
         ahead = self.line and self.number < 300 and part.first <= self.line <= following
         if part.where == "edge" and ahead and (len(part.tokens) > 1 or is_foreign(part.word)):
-            self.take(part.tokens, LINE, len("END_VAR" if part.word == "END_VAR" else "VAR"))
+            self.take(part.tokens, SECTION, len("END_VAR" if part.word == "END_VAR" else "VAR"))
             return True
         if part.where == "section" and (here or ahead and not part.whole):
             self.declaration(part)
@@ -197,7 +201,12 @@ class Extent:
         """A line outside all units; not if the head of a unit may be missing."""
         is_lost = self.line and self.parts[-1].where == "lost"
         if not is_lost and part.word not in OPERATORS | SECTIONS:
-            self.words |= names(part.tokens) if is_foreign(part.word) else set()
+            if is_foreign(part.word):
+                self.words |= names(part.tokens)
+            else:
+                # it may be the head of a unit
+                head = [token for token in part.tokens if token.line == part.first]
+                self.units |= names(head[: part.kinds.index(":") if ":" in part.kinds else None])
             self.take(part.tokens, LINE)
 
     def declaration(self, part):
@@ -216,7 +225,8 @@ class Extent:
 
     def instruction(self, part):
         """An instruction or a label; not what looks like a declaration."""
-        if self.number < 300 and (part.label or part.kinds[1:2] == [","]) and part.kinds[-1] == ";":
+        is_typed = part.label and part.operator not in OPERATORS or part.kinds[1:2] == [","]
+        if self.number < 300 and is_typed and part.kinds[-1] == ";":
             return
         if self.number in (307, 407) and part.label:
             self.words |= names(part.tokens[:1])
@@ -229,13 +239,17 @@ class Extent:
     def operator(self, part, found, closing):
         """An instruction, or the part of it that is taken out; and what closes its parenthesis."""
         is_all, what = part.whole and found == part.rest, LINE
-        # a word that is no operator may be a label whose colon is missing
-        if self.number < 300 and is_all and found and found[0].word() not in OPERATORS:
+        # a word that is no operator may be a label whose colon is missing, or the rest of one that has its colon too early
+        is_word = self.number < 300 and is_all and found and found[0].word() not in OPERATORS
+        if is_word:
             self.words |= names(found[:1])
         if self.number == 206:
             what = HALF
-        elif self.number < 300 and found and found[0].kind != "name":
+        elif self.number < 300 and found and found[0].kind != "name" or is_word and part.label:
             what = LABEL
+        elif self.line and is_all and found[1:2] and found[1].word() in OPERATORS:
+            # a word more before an operator is no store and no call
+            what = LINE
         elif self.line and is_all and (part.operator == "CAL" or part.operator in STORING and self.number not in (402, 403, 404)):
             what = ASIDE
         self.take(found, what)
@@ -272,9 +286,14 @@ class Extent:
 
 
 def shows_names(found):
-    """Whether the names of a declaration that can't be read are seen: before each comma and colon is one, or an address."""
+    """Whether the names of a declaration that can't be read are seen: before each comma and colon is one, or an address, up to the first
+    colon no two are next to one another, and no line has two colons."""
+    was_name, colon = False, 0
     for at, (token, following) in enumerate(zip(found, [*found[1:], None])):
         is_name = token.kind == "name" and token.word() not in RESERVED
+        if was_name and is_name and not colon or token.kind == ":" and colon == token.line:
+            return False
+        was_name, colon = is_name, token.line if token.kind == ":" else colon
         ends = following is not None and following.kind in (",", ":")
         if not is_name and (at == 0 or ends and token.kind != "address"):
             return False
@@ -287,8 +306,10 @@ def may_follow(text, found, parts, number, line):
     if text.was(line, line, LINE):
         return True
     if number == 201:
+        # what goes on with a list has lines above it of which something was taken out, and perhaps empty ones
         kinds = [token.kind for token in found if token.line >= line][1:2]
-        return text.was(line, line) or kinds == ["=>"] and text.was(0, line - 1) or kinds == [":="] and text.was(line - 1, line - 1)
+        above = max((token.line for token in found if token.line < line and token.kind != "eol"), default=0)
+        return text.was(line, line) or kinds in (["=>"], [":="]) and text.was(above, line - 1)
     if number == 206:
         return bool(text.gaps)
     if number in (204, 205, 207):
@@ -300,8 +321,8 @@ def may_follow(text, found, parts, number, line):
     if number == 406:
         ends = [part.first for part in parts if part.where == "head" and part.first > line]
         return text.was(line, min(ends, default=MOST_BYTES), LABEL)
-    are_names_unsure = any(gap.what >= SLICE for gap in text.gaps)
-    return number in (401, 409) and are_names_unsure or number in (405, 409) and any(part.where == "edge" for part in changed)
+    missing = {gap.what for gap in text.gaps}
+    return number in (401, 409) and bool(missing & {NAMES, SLICE}) or number in (405, 409) and SECTION in missing
 
 
 def is_result_unsure(text, parts, line):
@@ -309,7 +330,7 @@ def is_result_unsure(text, parts, line):
     above, broken, unsure = 0, False, False
     for part in parts:
         is_body = part.where == "body"
-        here = is_body and text.was(above + 1, part.last, LINE)
+        here = is_body and text.was(above + 1, min(part.last, line - 1), LINE)
         broken = is_body and broken or here
         unsure = (unsure or here or broken and part.label) and is_body and part.operator not in ("LD", "LDN")
         above = part.last

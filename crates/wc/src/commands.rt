@@ -1,17 +1,21 @@
-ghost use Rattle.std.specs.Prelude.{◌≡◌, ◌≤◌, IfSome, Some, None, false, option_map};
-ghost use Rattle.wc_arguments.specs.Asked.{asked, check, cut, decode, format_asked, job, line, run, show, texts_of, trace};
+ghost use Rattle.std.specs.Prelude.{option_map};
+ghost use Rattle.wc.specs.Commands.{Asks, IsCounted, Observes};
+ghost use Rattle.wc_arguments.specs.Asked.{check, cut, decode, job};
 
-use crate::files::{KeptSource, RunFiles, RunPaths, cause_of, kept_cause, kept_source, read_of};
+use crate::files::{
+    RunFiles, RunInputFiles, RunPaths, cause_of, kept_cause, kept_source, optional_cause,
+    optional_read, optional_source, read_of,
+};
 use crate::noting::with_notes;
 use crate::output::{FlushBeforeRead, SharedWriter};
 use crate::reporting::{CommandEnd, ReadFile, Sources, end, report_warnings, without_memory};
 use crate::session::Session;
 use std::io;
 use std::io::{IsTerminal, Stdin};
-use wc_arguments::{ProgramFiles, ScanChoice};
+use wc_arguments::ScanChoice;
 use wc_controller::{Ending, Input, RefusedRow, answer_job, check_file, last_files, report_files};
 use wc_cut::{TooManyRows, cut_files};
-use wc_devices::{RetryReader, TeeReader};
+use wc_devices::{KeepingReader, Retry};
 use wc_diag_texts::Format;
 use wc_model::Device;
 use wc_view_decode::{DecodeFault, DecodeFormat, decode as decode_report};
@@ -44,19 +48,11 @@ fn finish_run(session: Session<'_>, ending: Ending, files: &RunFiles<'_>, row: &
     finish(session, ending, files.cause(), &files.sources(), row)
 }
 
-/// The file of a check with no other program. It is kept apart, so that what is read has a lifetime of its own.
-fn program_alone<'a>(program: &'a str, reader: &'a KeptSource<'_>) -> Sources<'a> {
-    Sources::Program {
-        program: read_of(program, reader),
-        next: None,
-    }
-}
-
-/// The paths of a program, and of the one to which it is to be changed.
+/// The paths of a program that is checked, and of the one to which it is to be changed, if there is one.
 #[derive(Clone, Copy)]
-pub(crate) struct ChangedPaths<'a> {
+pub(crate) struct CheckedPaths<'a> {
     pub(crate) program: &'a str,
-    pub(crate) next: &'a str,
+    pub(crate) next: Option<&'a str>,
 }
 
 /// Prints what is suspicious of a program that is accepted: the exit status, that of a refusal if there is one, or if there is a
@@ -82,13 +78,12 @@ fn report_waiting(rt: &HostRuntime) {
 }
 
 /// Answers a job on standard input: the exit status.
-pub(crate) fn run_job(session: Session<'_>, _words: &[String], row: &mut RefusedRow) -> u8
-    requires asked { asked (texts_of _words.now) ≡ job }
-    requires format { format_asked (texts_of _words.now) ≡ Some session.format }
+pub(crate) fn run_job(session: Session<'_>, row: &mut RefusedRow) -> u8
+    requires asked { Asks session job }
 {
     report_waiting(session.rt);
-    let input: RetryReader<Stdin> = RetryReader::new(session.rt.stdin());
-    let keeping = TeeReader::new(session.rt.alloc(), input);
+    let input: Retry<Stdin> = Retry::new(session.rt.stdin());
+    let keeping = KeepingReader::new(session.rt.alloc(), input);
     let mut reader = Device::new(FlushBeforeRead::new(session.gathered, keeping));
     let mut writer = Device::new(SharedWriter::new(session.gathered));
     let ending = answer_job(session.rt.alloc(), &mut reader, &mut writer, row);
@@ -98,119 +93,32 @@ pub(crate) fn run_job(session: Session<'_>, _words: &[String], row: &mut Refused
     finish(session, ending, reading, &Sources::Job { bytes }, row)
 }
 
-/// Checks the program in a file: the exit status.
-pub(crate) fn check_words(
+/// Checks the program in a file, and the one to which it is to be changed, and says what a change keeps: the exit status.
+pub(crate) fn check_programs(
     session: Session<'_>,
-    _words: &[String],
     row: &mut RefusedRow,
-    program: &str,
+    files: CheckedPaths<'_>,
     paths: bool,
     deny: bool,
 ) -> u8
-    requires asked { asked (texts_of _words.now) ≡ check program.now None paths deny }
-    requires format { format_asked (texts_of _words.now) ≡ Some session.format }
-{
-    let mut reader = kept_source(session, program);
-    let mut writer = Device::new(SharedWriter::new(session.gathered));
-    let ending = check_file(session.rt.alloc(), paths, &mut reader, &mut writer);
-    let status = finish(
-        session,
-        ending,
-        kept_cause(&reader),
-        &program_alone(program, &reader),
-        row,
-    );
-    with_warnings(session, status, &read_of(program, &reader), deny)
-}
-
-/// Tells what a change from the program in a file to the one in another keeps: the exit status.
-pub(crate) fn preview_words(
-    session: Session<'_>,
-    _words: &[String],
-    row: &mut RefusedRow,
-    files: ChangedPaths<'_>,
-    paths: bool,
-    deny: bool,
-) -> u8
-    requires asked { asked (texts_of _words.now)
-        ≡ check files.program.now (Some files.next.now) paths deny }
-    requires format { format_asked (texts_of _words.now) ≡ Some session.format }
-{
-    let ChangedPaths { program, next } = files;
-    let mut reader = kept_source(session, program);
-    let mut next_reader = kept_source(session, next);
-    let mut writer = Device::new(SharedWriter::new(session.gathered));
-    let ending = preview_files(
-        session.rt.alloc(),
-        paths,
-        &mut reader,
-        &mut next_reader,
-        &mut writer,
-    );
-    let reading = kept_cause(&reader).or(kept_cause(&next_reader));
-    let sources = Sources::Program {
-        program: read_of(program, &reader),
-        next: Some(read_of(next, &next_reader)),
-    };
-    let status = finish(session, ending, reading, &sources, row);
-    let status = with_notes(session, status, &sources);
-    with_warnings(session, status, &read_of(next, &next_reader), deny)
-}
-
-/// Runs the log in a file with a program, and with the next one if given, and prints every scan or a number of last ones:
-/// the exit status.
-pub(crate) fn run_words(
-    session: Session<'_>,
-    _words: &[String],
-    row: &mut RefusedRow,
-    last: Option<u16>,
-    plate: &str,
-    files: ProgramFiles<'_>,
-) -> u8
-    requires asked { asked (texts_of _words.now)
-        ≡ run plate.now files.program.now (option_map (λ next. next.now) files.next)
-        files.log.now last None false }
-    requires format { format_asked (texts_of _words.now) ≡ Some session.format }
-    requires so_many { IfSome last (λ n. (1 ≤ n) × (n ≤ 1000)) }
+    requires asked { Asks session
+        (check files.program.now (option_map (λ next. next.now) files.next) paths deny) }
 {
     let alloc = session.rt.alloc();
-    let mut opened = RunFiles::new(session, RunPaths::with_program(plate, files));
+    let mut reader = kept_source(session, files.program);
+    let mut next_reader = optional_source(session, files.next);
     let mut writer = Device::new(SharedWriter::new(session.gathered));
-    let ending = match last {
-        Some(number) => last_files(alloc, number, &mut opened.inputs, &mut writer, row),
-        None => report_files(alloc, &mut opened.inputs, &mut writer, row),
+    let ending = match &mut next_reader {
+        Some(next) => preview_files(alloc, paths, &mut reader, next, &mut writer),
+        None => check_file(alloc, paths, &mut reader, &mut writer),
     };
-    finish_run(session, ending, &opened, row)
-}
-
-/// Runs the log in a file with a program as `run_words` does, and prints the values of variables after each scan: the exit
-/// status.
-pub(crate) fn watch_words(
-    session: Session<'_>,
-    _words: &[String],
-    row: &mut RefusedRow,
-    watched: WatchChoice<'_>,
-    plate: &str,
-    files: ProgramFiles<'_>,
-) -> u8
-    requires asked { asked (texts_of _words.now)
-        ≡ run plate.now files.program.now (option_map (λ next. next.now) files.next)
-        files.log.now watched.last (Some watched.names.now) watched.changes }
-    requires format { format_asked (texts_of _words.now) ≡ Some session.format }
-    requires so_many { IfSome watched.last (λ n. (1 ≤ n) × (n ≤ 1000)) }
-{
-    let mut opened = RunFiles::new(session, RunPaths::with_program(plate, files));
-    let answer = watch_files(
-        session.rt.alloc(),
-        watched,
-        &mut opened.inputs,
-        &mut Device::new(SharedWriter::new(session.gathered)),
-        row,
-    );
-    match answer {
-        Ok(ending) => finish_run(session, ending, &opened, row),
-        Err(unknown) => refuse_name(session, watched.names, unknown, &opened.sources(), row),
-    }
+    let reading = kept_cause(&reader).or(optional_cause(&next_reader));
+    let program = read_of(files.program, &reader);
+    let next = optional_read(files.next, &next_reader);
+    let sources = Sources::Program { program, next };
+    let status = finish(session, ending, reading, &sources, row);
+    let status = with_notes(session, status, &sources);
+    with_warnings(session, status, &next.unwrap_or(program), deny)
 }
 
 /// Reports that a name to be watched is unknown in these files: the exit status.
@@ -257,73 +165,75 @@ fn trace_format(format: Format) -> TraceFormat {
     }
 }
 
-/// Runs the log in a file with a program, and the next one if it is given, and shows the scans that are chosen: the exit
-/// status.
-pub(crate) fn trace_words(
-    session: Session<'_>,
-    _words: &[String],
-    row: &mut RefusedRow,
-    chosen: ScanChoice,
-    plate: &str,
-    files: ProgramFiles<'_>,
-) -> u8
-    requires asked { asked (texts_of _words.now)
-        ≡ trace plate.now files.program.now (option_map (λ next. next.now) files.next)
-        files.log.now chosen.at chosen.scan chosen.from chosen.to }
-    requires format { format_asked (texts_of _words.now) ≡ Some session.format }
-{
-    let mut opened = RunFiles::new(session, RunPaths::with_program(plate, files));
-    let ending = trace_files(
-        session.rt.alloc(),
-        scans_of(chosen),
-        trace_format(session.format),
-        &mut opened.inputs,
-        &mut Device::new(SharedWriter::new(session.gathered)),
-        row,
-    );
-    let status = finish_run(session, ending, &opened, row);
-    with_notes(session, status, &opened.sources())
-}
-
-/// Runs the log in a file, with a program and a next one if they are given, and writes a picture of it, with the variables of a
-/// list of names if one is given: the exit status.
-pub(crate) fn show_words(
-    session: Session<'_>,
-    _words: &[String],
-    row: &mut RefusedRow,
-    names: Option<&str>,
-    paths: RunPaths<'_>,
-) -> u8
-    requires asked { asked (texts_of _words.now)
-        ≡ show paths.plate.now (option_map (λ path. path.now) paths.program)
-        (option_map (λ path. path.now) paths.next) paths.log.now
-        (option_map (λ list. list.now) names) }
-    requires format { format_asked (texts_of _words.now) ≡ Some session.format }
-{
-    let mut opened = RunFiles::new(session, paths);
-    let answer = show_files(
-        session.rt.alloc(),
-        bytes_of(names),
-        &mut opened.inputs,
-        &mut Device::new(SharedWriter::new(session.gathered)),
-        row,
-    );
-    let status = match answer {
-        Ok(ending) => finish_run(session, ending, &opened, row),
-        Err(unknown) => refuse_name(
-            session,
-            bytes_of(names).unwrap_or(b""),
-            unknown,
-            &opened.sources(),
-            row,
-        ),
-    };
-    with_notes(session, status, &opened.sources())
-}
-
 /// The bytes of a list of names, if one is given.
 fn bytes_of(names: Option<&str>) -> Option<&[u8]> {
     Some(names?.as_bytes())
+}
+
+/// What is written of a run of a log.
+#[derive(Clone, Copy)]
+pub(crate) enum Observed<'a> {
+    /// The report: of every scan, or of a number of last ones.
+    Scans(Option<u16>),
+    /// The values of variables.
+    Watched(WatchChoice<'a>),
+    /// The scans that are chosen, item by item.
+    Traced(ScanChoice),
+    /// A picture, with the variables of a list of names if one is given.
+    Drawn(Option<&'a str>),
+}
+
+/// Runs the log in these files, and writes what is observed of it. The error is a name of a list that no program has.
+fn observe(
+    session: Session<'_>,
+    row: &mut RefusedRow,
+    inputs: &mut RunInputFiles<'_>,
+    observed: Observed<'_>,
+) -> Result<Ending, UnknownName>
+    requires count { IsCounted observed }
+{
+    let (alloc, format) = (session.rt.alloc(), trace_format(session.format));
+    let mut writer = Device::new(SharedWriter::new(session.gathered));
+    let ending = match observed {
+        Observed::Watched(choice) => return watch_files(alloc, choice, inputs, &mut writer, row),
+        Observed::Drawn(names) => {
+            return show_files(alloc, bytes_of(names), inputs, &mut writer, row);
+        }
+        Observed::Traced(chosen) => {
+            trace_files(alloc, scans_of(chosen), format, inputs, &mut writer, row)
+        }
+        Observed::Scans(last) => match last {
+            Some(last) => last_files(alloc, last, inputs, &mut writer, row),
+            None => report_files(alloc, inputs, &mut writer, row),
+        },
+    };
+    Ok(ending)
+}
+
+/// Runs the log in a file, with a program and a next one if they are given, and writes what is observed of it: the exit status.
+pub(crate) fn observe_log(
+    session: Session<'_>,
+    row: &mut RefusedRow,
+    paths: RunPaths<'_>,
+    observed: Observed<'_>,
+) -> u8
+    requires asked { Observes session paths observed }
+    requires count { IsCounted observed }
+{
+    let mut opened = RunFiles::new(session, paths);
+    let list = match observed {
+        Observed::Watched(choice) => choice.names,
+        Observed::Drawn(names) => bytes_of(names).unwrap_or(b""),
+        _ => b"",
+    };
+    let status = match observe(session, row, &mut opened.inputs, observed) {
+        Ok(ending) => finish_run(session, ending, &opened, row),
+        Err(unknown) => refuse_name(session, list, unknown, &opened.sources(), row),
+    };
+    match observed {
+        Observed::Traced(_) | Observed::Drawn(_) => with_notes(session, status, &opened.sources()),
+        _ => status,
+    }
 }
 
 /// How a command ends that decodes a report.
@@ -339,16 +249,10 @@ fn ending_of(answer: Result<(), DecodeFault>) -> Ending {
 }
 
 /// Writes a report from standard input for people, or as a table: the exit status.
-pub(crate) fn decode_words(
-    session: Session<'_>,
-    _words: &[String],
-    row: &mut RefusedRow,
-    table: bool,
-) -> u8
-    requires asked { asked (texts_of _words.now) ≡ decode table }
-    requires format { format_asked (texts_of _words.now) ≡ Some session.format }
+pub(crate) fn decode_lines(session: Session<'_>, row: &mut RefusedRow, table: bool) -> u8
+    requires asked { Asks session (decode table) }
 {
-    let input: RetryReader<Stdin> = RetryReader::new(session.rt.stdin());
+    let input: Retry<Stdin> = Retry::new(session.rt.stdin());
     let mut reader = Device::new(FlushBeforeRead::new(session.gathered, input));
     let mut writer = Device::new(SharedWriter::new(session.gathered));
     let decoding = if table {
@@ -365,27 +269,6 @@ pub(crate) fn decode_words(
         &Sources::Job { bytes: b"" },
         row,
     )
-}
-
-/// Runs the log in a file with no program: the exit status.
-pub(crate) fn line_words<'a>(
-    session: Session<'_>,
-    _words: &[String],
-    row: &mut RefusedRow,
-    plate: &'a str,
-    log: &'a str,
-) -> u8
-    requires asked { asked (texts_of _words.now) ≡ line plate.now log.now }
-    requires format { format_asked (texts_of _words.now) ≡ Some session.format }
-{
-    let mut opened = RunFiles::new(session, RunPaths::alone(plate, log));
-    let ending = report_files(
-        session.rt.alloc(),
-        &mut opened.inputs,
-        &mut Device::new(SharedWriter::new(session.gathered)),
-        row,
-    );
-    finish_run(session, ending, &opened, row)
 }
 
 /// The number of rows before the cut, the heading not counted: those up to the row of that number, or all.
@@ -408,16 +291,14 @@ fn with_too_many_rows(rt: &HostRuntime, status: u8) -> u8 {
 }
 
 /// Writes the log that goes on after a row of the log in a file, or after the last one: the exit status.
-pub(crate) fn cut_words<'a>(
+pub(crate) fn cut_log<'a>(
     session: Session<'_>,
-    _words: &[String],
     row: &mut RefusedRow,
     at: Option<u64>,
     plate: &'a str,
     log: &'a str,
 ) -> u8
-    requires asked { asked (texts_of _words.now) ≡ cut plate.now log.now at }
-    requires format { format_asked (texts_of _words.now) ≡ Some session.format }
+    requires asked { Asks session (cut plate.now log.now at) }
 {
     let mut opened = RunFiles::new(session, RunPaths::alone(plate, log));
     let answer = cut_files(

@@ -1,3 +1,5 @@
+ghost use Rattle.std.specs.Prelude.{◌≡◌, None, Some};
+
 use crate::file_source::FileSource;
 use crate::reporting::{ReadFile, Sources};
 use crate::session::Session;
@@ -5,15 +7,15 @@ use std::alloc::AllocError;
 use std::io;
 use wc_arguments::ProgramFiles;
 use wc_controller::RunInputs;
-use wc_devices::TeeReader;
+use wc_devices::KeepingReader;
 use wc_model::Device;
 
 /// A file whose bytes are kept, so that a refusal shows those that were read.
-pub(crate) type KeptSource<'a> = Device<TeeReader<FileSource<'a>>>;
+pub(crate) type KeptSource<'a> = Device<KeepingReader<FileSource<'a>>>;
 
 /// A file whose bytes are kept. It is opened at the first read.
 pub(crate) fn kept_source<'a>(session: Session<'a>, path: &'a str) -> KeptSource<'a> {
-    Device::new(TeeReader::new(session.rt.alloc(), FileSource::new(session, path)))
+    Device::new(KeepingReader::new(session.rt.alloc(), FileSource::new(session, path)))
 }
 
 /// Why a file could not be read, if the system or the lack of memory is the cause.
@@ -22,7 +24,10 @@ pub(crate) fn kept_cause(source: &KeptSource<'_>) -> Option<io::Error> {
 }
 
 /// Why a reader that keeps its bytes failed: no memory for these, or the cause of the reader inside.
-pub(crate) fn cause_of<D>(keeping: &TeeReader<D>, inside: Option<io::Error>) -> Option<io::Error> {
+pub(crate) fn cause_of<D>(
+    keeping: &KeepingReader<D>,
+    inside: Option<io::Error>,
+) -> Option<io::Error> {
     if keeping.has_lacked() {
         return Some(AllocError.into());
     }
@@ -38,17 +43,20 @@ pub(crate) fn read_of<'a>(path: &'a str, source: &'a KeptSource<'_>) -> ReadFile
 }
 
 /// A file that may be missing. It is opened at the first read.
-fn optional_source<'a>(session: Session<'a>, path: Option<&'a str>) -> Option<KeptSource<'a>> {
+pub(crate) fn optional_source<'a>(
+    session: Session<'a>,
+    path: Option<&'a str>,
+) -> Option<KeptSource<'a>> {
     Some(kept_source(session, path?))
 }
 
 /// Why such a file could not be read, if the system said so.
-fn optional_cause(source: &Option<KeptSource<'_>>) -> Option<io::Error> {
+pub(crate) fn optional_cause(source: &Option<KeptSource<'_>>) -> Option<io::Error> {
     kept_cause(source.as_ref()?)
 }
 
 /// Such a file by its path, with the bytes that were read of it.
-fn optional_read<'a>(
+pub(crate) fn optional_read<'a>(
     path: Option<&'a str>,
     source: &'a Option<KeptSource<'_>>,
 ) -> Option<ReadFile<'a>> {
@@ -66,7 +74,9 @@ pub(crate) struct RunPaths<'a> {
 
 impl<'a> RunPaths<'a> {
     /// The paths of a run with no program.
-    pub(crate) fn alone(plate: &'a str, log: &'a str) -> RunPaths<'a> {
+    pub(crate) fn alone(plate: &'a str, log: &'a str) -> RunPaths<'a>
+        ensures { result ≡ record { plate = plate; program = None; next = None; log = log } }
+    {
         RunPaths {
             plate,
             program: None,
@@ -76,7 +86,9 @@ impl<'a> RunPaths<'a> {
     }
 
     /// The paths of a run with a program.
-    pub(crate) fn with_program(plate: &'a str, files: ProgramFiles<'a>) -> RunPaths<'a> {
+    pub(crate) fn with_program(plate: &'a str, files: ProgramFiles<'a>) -> RunPaths<'a>
+        ensures { result ≡ record { plate = plate; program = Some files.program; next = files.next; log = files.log } }
+    {
         RunPaths {
             plate,
             program: Some(files.program),
@@ -86,16 +98,19 @@ impl<'a> RunPaths<'a> {
     }
 }
 
+/// The readers of the files of a run.
+pub(crate) type RunInputFiles<'a> = RunInputs<
+    KeptSource<'a>,
+    KeptSource<'a>,
+    KeptSource<'a>,
+    Device<FileSource<'a>>,
+>;
+
 /// The files of a run: each is opened at the first read. The bytes of all but the log are kept.
 #[derive(Drop)]
 pub(crate) struct RunFiles<'a> {
     paths: RunPaths<'a>,
-    pub(crate) inputs: RunInputs<
-        KeptSource<'a>,
-        KeptSource<'a>,
-        KeptSource<'a>,
-        Device<FileSource<'a>>,
-    >,
+    pub(crate) inputs: RunInputFiles<'a>,
 }
 
 impl<'a> RunFiles<'a> {

@@ -2,8 +2,8 @@
 //! log with none.
 #![tactic(auto)]
 
-ghost use Rattle.std.specs.Prelude.{◌≡◌, Some};
-ghost use Rattle.wc_arguments.specs.Asked.{asked, explain as explain_asked, format_asked, texts_of, view};
+ghost use Rattle.wc.specs.Commands.{Asks};
+ghost use Rattle.wc_arguments.specs.Asked.{explain as explain_asked, view};
 
 mod commands;
 mod file_source;
@@ -16,8 +16,7 @@ mod session;
 use clap::Error;
 use clap::error::ErrorKind;
 use commands::{
-    ChangedPaths, check_words, cut_words, decode_words, line_words, preview_words, run_job,
-    run_words, show_words, trace_words, watch_words,
+    CheckedPaths, Observed, check_programs, cut_log, decode_lines, observe_log, run_job,
 };
 use files::RunPaths;
 use output::shared_output;
@@ -200,95 +199,90 @@ fn report_no_page(rt: &HostRuntime, number: &str) -> io::Result<()> {
 }
 
 /// Prints the page of a refusal or of a warning: the exit status. An unknown number is a usage error.
-fn show_page(rt: &HostRuntime, _words: &[String], number: &str) -> u8
-    requires { asked (texts_of _words.now) ≡ explain_asked number.now }
+fn show_page(session: Session<'_>, number: &str) -> u8
+    requires asked { Asks session (explain_asked number.now) }
 {
-    match explain(rt, number) {
+    match explain(session.rt, number) {
         Ok(true) => 0,
         Ok(false) => {
-            let _reported = report_no_page(rt, number);
+            let _reported = report_no_page(session.rt, number);
             WRONG_WORDS
         }
-        Err(error) => end_unprinted(rt, error),
+        Err(error) => end_unprinted(session.rt, error),
     }
 }
 
-/// Does what the arguments ask for: the exit status. They are a parameter for the proof alone: nothing is done that they do not
-/// ask for.
-fn execute(session: Session<'_>, words: &[String], row: &mut RefusedRow, wanted: Wanted<'_>) -> u8
-    requires asked { asked (texts_of words.now) ≡ view wanted }
-    requires format { format_asked (texts_of words.now) ≡ Some session.format }
+/// Does what the arguments ask for: the exit status.
+fn execute(session: Session<'_>, row: &mut RefusedRow, wanted: Wanted<'_>) -> u8
+    requires asked { Asks session (view wanted) }
 {
     match wanted {
-        Wanted::Job => run_job(session, words, row),
+        Wanted::Job => run_job(session, row),
         Wanted::Check {
             program,
             next,
             paths,
             deny,
-        } => match next {
-            Some(next) => preview_words(
-                session,
-                words,
-                row,
-                ChangedPaths { program, next },
-                paths,
-                deny,
-            ),
-            None => check_words(session, words, row, program, paths, deny),
-        },
+        } => check_programs(session, row, CheckedPaths { program, next }, paths, deny),
         Wanted::Run {
             plate,
             files,
             last,
             watch,
             changes,
-        } => match last {
-            Some(number) if number < 1 || number > 1000 => WRONG_WORDS,
-            last => match watch {
-                Some(names) => watch_words(
-                    session,
-                    words,
-                    row,
-                    WatchChoice {
-                        names: names.as_bytes(),
-                        last,
-                        changes,
-                    },
-                    plate,
-                    files,
-                ),
-                None if changes => WRONG_WORDS,
-                None => run_words(session, words, row, last, plate, files),
-            },
-        },
+        } => {
+            let paths = RunPaths::with_program(plate, files);
+            match last {
+                Some(number) if number < 1 || number > 1000 => WRONG_WORDS,
+                last => match watch {
+                    Some(names) => {
+                        let names = names.as_bytes();
+                        let choice = WatchChoice {
+                            names,
+                            last,
+                            changes,
+                        };
+                        observe_log(session, row, paths, Observed::Watched(choice))
+                    }
+                    None if changes => WRONG_WORDS,
+                    None => observe_log(session, row, paths, Observed::Scans(last)),
+                },
+            }
+        }
         Wanted::Trace {
             plate,
             files,
             chosen,
-        } => trace_words(session, words, row, chosen, plate, files),
+        } => {
+            let paths = RunPaths::with_program(plate, files);
+            observe_log(session, row, paths, Observed::Traced(chosen))
+        }
         Wanted::Show {
             plate,
             program,
             next,
             log,
             watch,
-        } => show_words(
-            session,
-            words,
-            row,
-            watch,
-            RunPaths {
+        } => {
+            let paths = RunPaths {
                 plate,
                 program,
                 next,
                 log,
-            },
-        ),
-        Wanted::Decode { table } => decode_words(session, words, row, table),
-        Wanted::Explain { number } => show_page(session.rt, words, number),
-        Wanted::Line { plate, log } => line_words(session, words, row, plate, log),
-        Wanted::Cut { plate, log, at } => cut_words(session, words, row, at, plate, log),
+            };
+            observe_log(session, row, paths, Observed::Drawn(watch))
+        }
+        Wanted::Decode { table } => decode_lines(session, row, table),
+        Wanted::Explain { number } => show_page(session, number),
+        Wanted::Line { plate, log } => {
+            observe_log(
+                session,
+                row,
+                RunPaths::alone(plate, log),
+                Observed::Scans(None),
+            )
+        }
+        Wanted::Cut { plate, log, at } => cut_log(session, row, at, plate, log),
     }
 }
 
@@ -309,8 +303,8 @@ fn main(rt: HostRuntime) -> ExitCode {
                 rt: &rt,
                 format: request.format,
                 gathered: &gathered,
+                words: words.as_slice(),
             },
-            words.as_slice(),
             &mut RefusedRow::new(rt.alloc()),
             request.wanted,
         ),

@@ -2,18 +2,18 @@ use std::alloc::AllocError;
 use std::cell::RefCell;
 use std::io;
 use std::io::{Read, Stdout, Write};
-use wc_devices::{OutputBuffer, RetryReader};
+use wc_devices::{OutputBuffer, Retry};
 
 /// The number of bytes that are gathered before they are written.
 const CHUNK: usize = 65536;
 
 /// Standard output, and what is gathered for it.
-pub(crate) type Gathered = OutputBuffer<RetryReader<Stdout>>;
+pub(crate) type Gathered = OutputBuffer<Retry<Stdout>>;
 
 /// Standard output, for which nothing is gathered yet. It is shared by the writer that gathers and by the readers that
 /// have it emptied.
 pub(crate) fn shared_output(rt: &HostRuntime) -> Result<RefCell<Gathered>, AllocError> {
-    let gathered = OutputBuffer::new(rt.alloc(), RetryReader::new(rt.stdout()), CHUNK)?;
+    let gathered = OutputBuffer::new(rt.alloc(), Retry::new(rt.stdout()), CHUNK)?;
     Ok(RefCell::new(gathered))
 }
 

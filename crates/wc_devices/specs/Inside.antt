@@ -2,35 +2,35 @@
 use Rattle.std.specs.Prelude.{◌≡◌, ℕ, ◌-◌, Bool, List, ◌++◌, Option, Result, Ok, Err, IsErrAnd, IsTrue, drop, length, take, vec_capacity}
 use Rattle.std.specs.Io.KnownBytes.{append_known}
 use Rattle.wc_devices.specs.declared.output_buffer.OutputBuffer.{OutputBuffer}
-use Rattle.wc_devices.specs.declared.tee_reader.TeeReader.{TeeReader}
-use Rattle.wc_devices.specs.declared.retry_reader.RetryReader.{RetryReader}
+use Rattle.wc_devices.specs.declared.keeping_reader.KeepingReader.{KeepingReader}
+use Rattle.wc_devices.specs.declared.retry.Retry.{Retry}
 use Rattle.std.specs.declared.io.Error.{Error}
 use Rattle.std.specs.declared.io.ErrorKind.TheVariants.{BrokenPipe}
 use Rattle.std.specs.IoError.{error_kind}
 
 -- the reader or writer inside
-abbrev pub retry_inner : {D : Type 0} → RetryReader D → D
+abbrev pub retry_inner : {D : Type 0} → Retry D → D
 retry_inner retry = retry.inner
 
 -- why it failed last, if it did
-abbrev pub last_cause : {D : Type 0} → RetryReader D → Option Error
+abbrev pub last_cause : {D : Type 0} → Retry D → Option Error
 last_cause retry = retry.cause
 
 -- the reader inside
-abbrev pub tee_inner : {D : Type 0} → TeeReader D → D
-tee_inner tee = tee.inner
+abbrev pub keeping_inner : {D : Type 0} → KeepingReader D → D
+keeping_inner reader = reader.inner
 
 -- the bytes that were read
-abbrev pub kept : {D : Type 0} → TeeReader D → List ℕ
-kept tee = tee.kept.items
+abbrev pub kept : {D : Type 0} → KeepingReader D → List ℕ
+kept reader = reader.kept.items
 
 -- whether a read was out of memory for the bytes to keep
-abbrev pub has_lacked : {D : Type 0} → TeeReader D → Bool
-has_lacked tee = tee.lacked
+abbrev pub has_lacked : {D : Type 0} → KeepingReader D → Bool
+has_lacked reader = reader.lacked
 
 -- the number of bytes for which it has memory
-abbrev pub kept_capacity : {D : Type 0} → TeeReader D → ℕ
-kept_capacity tee = vec_capacity tee.kept
+abbrev pub kept_capacity : {D : Type 0} → KeepingReader D → ℕ
+kept_capacity reader = vec_capacity reader.kept
 
 -- bytes that are kept grow by those that a read gives; a failed read adds none
 abbrev pub Extends : List ℕ → List ℕ → Result ℕ Error → List ℕ → Type 0

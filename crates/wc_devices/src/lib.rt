@@ -4,12 +4,12 @@
 
 mod attempts;
 mod buffered_writes;
+mod keeping_reader;
 mod output_buffer;
 mod retries;
-mod retry_reader;
-mod tee_reader;
+mod retry;
 
+pub use keeping_reader::KeepingReader;
 pub use output_buffer::OutputBuffer;
 pub use retries::{open_again, read_again};
-pub use retry_reader::RetryReader;
-pub use tee_reader::TeeReader;
+pub use retry::Retry;

@@ -3,13 +3,14 @@ use crate::logical_lines::{LogicalLine, Region, above, before, has, is_foreign_s
 use crate::marks::{Mark, Marks};
 use indexmap::IndexMap;
 use std::alloc::{AllocError, Global};
-use wc_built_in::{Keyword, is_reserved};
+use wc_built_in::{Keyword, is_reserved, keyword_named};
 use wc_diag_stops::{is_operator, is_shape, text_of};
 use wc_lexer::{Shape, Token};
 use wc_model::Condition;
 use wc_names::Key;
 
-/// What is taken out of a text, the names that are then unknown, and whether each unit and each section begins and ends.
+/// What is taken out of a text, the names that are then unknown with whether each may be that of a unit, and whether each unit and
+/// each section begins and ends.
 #[derive(Drop)]
 struct TakenOut<'a> {
     blanks: Vec<Blank>,
@@ -49,28 +50,35 @@ impl<'a> TakenOut<'a> {
         Ok(self.blanks.push(Blank { place, lines, mark })?)
     }
 
-    /// Keeps the names among some tokens.
-    fn keep_names(&mut self, some: &[Token<'a>]) -> Result<(), AllocError> {
+    /// Keeps the names among some tokens, but for TRUE and FALSE.
+    fn keep_names(&mut self, some: &[Token<'a>], is_unit: bool) -> Result<(), AllocError> {
         for token in some.iter().filter(|token| token.shape == Shape::Identifier) {
-            self.names.insert(Key { text: token.text }, true)?;
+            if !matches!(keyword_named(token.text), Some(Keyword::Truth(_))) {
+                let is_unit = is_unit || self.is_named(&[*token], true);
+                self.names.insert(Key { text: token.text }, is_unit)?;
+            }
         }
         Ok(())
     }
 
-    /// Whether one of these names is among some tokens.
-    fn is_named(&self, some: &[Token<'a>]) -> bool {
+    /// Whether one of these names is among some tokens, or one that may be that of a unit.
+    fn is_named(&self, some: &[Token<'a>], is_unit: bool) -> bool {
         some.iter().any(|token| {
-            token.shape == Shape::Identifier && self.names.get(&Key { text: token.text }).is_some()
+            let found = self.names.get(&Key { text: token.text });
+            token.shape == Shape::Identifier && found.is_some_and(|found| *found || !is_unit)
         })
     }
 
-    /// Takes each instruction with one of these names among its operands.
+    /// Takes each declaration with one of these names of units, and each instruction with one of all of them among its operands.
     fn take_named(&mut self, lines: &[LogicalLine<'a, '_>]) -> Result<(), AllocError> {
-        for line in lines.iter().filter(|line| line.region == Region::Body) {
+        for line in lines {
             let some = line.after_label();
-            if self.is_named(some.get(1..).unwrap_or(&[])) {
-                self.take(some, 0, Mark::Taken)?;
+            match line.region {
+                Region::Section if self.is_named(some, true) => self.keep_names(some, false)?,
+                Region::Body if self.is_named(some.get(1..).unwrap_or(&[]), false) => {}
+                _ => continue,
             }
+            self.take(some, 0, Mark::Taken)?;
         }
         Ok(())
     }
@@ -137,56 +145,89 @@ fn parts_of<'a, 't>(
     }
 }
 
+/// What is taken out with these tokens of an instruction, which may be a word alone that is no operator.
+fn mark_of(
+    line: &LogicalLine<'_, '_>,
+    part: &[Token<'_>],
+    faulty: Faulty<'_>,
+    is_word: bool,
+) -> Mark {
+    let is_lone = line.is_closed && part.len() == line.after_label().len() && faulty.line.is_some();
+    let is_aside = match line.operator() {
+        // a word more before an operator is no store and no call
+        _ if is_operator(text_of(part.get(1))) => false,
+        Some(Keyword::Store(_)) => !matches!(faulty.number, 402 | 403 | 404),
+        Some(Keyword::Call(condition)) => condition == Condition::Always,
+        _ => false,
+    };
+    match faulty.number {
+        206 => Mark::Unpaired,
+        _ if is_word && line.has_label() => Mark::Unlabelled,
+        0..=299 if !is_shape(part.first(), Shape::Identifier) => Mark::Unlabelled,
+        _ if is_lone && is_aside => Mark::Aside,
+        _ => Mark::Taken,
+    }
+}
+
 /// Takes an instruction with a fault out, without its label, if it can stay. Nothing is taken out of a declaration outside all sections.
 fn take_instruction<'a>(
     taken: &mut TakenOut<'a>,
     line: &LogicalLine<'a, '_>,
     faulty: Faulty<'_>,
 ) -> Result<(), AllocError> {
-    let (all, word) = (line.all, line.operator());
-    let is_typed = line.has_label() || is_shape(all.get(1), Shape::Comma);
+    let (all, some, is_label) = (line.all, line.after_label(), line.has_label());
+    let is_foreign = !is_operator(text_of(some.first()));
+    let is_typed = is_label && is_foreign || is_shape(all.get(1), Shape::Comma);
     if faulty.number < 300 && is_typed && is_shape(all.last(), Shape::Semicolon) {
         return Ok(());
     }
-    if matches!(faulty.number, 307 | 407) && line.has_label() {
+    if matches!(faulty.number, 307 | 407) && is_label {
         let label = all.get(..2).unwrap_or(&[]);
-        taken.keep_names(label)?;
+        taken.keep_names(label, false)?;
         return taken.take(label, 0, Mark::Unlabelled);
     }
-    let is_call = matches!(word, Some(Keyword::Call(_)));
+    let is_call = matches!(line.operator(), Some(Keyword::Call(_)));
     if !line.is_closed && !is_call && faulty.number != 201 {
-        return take_unpaired(taken, line.after_label(), faulty);
+        return take_unpaired(taken, some, faulty);
     }
     let (part, closing) = parts_of(line, faulty, is_call);
-    let is_lone = part.len() == line.after_label().len() && line.is_closed && faulty.line.is_some();
-    let is_aside = match word {
-        Some(Keyword::Store(_)) => !matches!(faulty.number, 402 | 403 | 404),
-        Some(Keyword::Call(condition)) => condition == Condition::Always,
-        _ => false,
-    };
-    // a word that is no operator may be a label whose colon is missing
-    if faulty.number < 300 && is_lone && !is_operator(text_of(part.first())) {
-        taken.keep_names(part.get(..1).unwrap_or(&[]))?;
+    // a word that is no operator may be a label whose colon is missing, or the rest of one that has its colon too early
+    let is_word = faulty.number < 300 && is_foreign && line.is_closed && part.len() == some.len();
+    if is_word {
+        taken.keep_names(part.get(..1).unwrap_or(&[]), false)?;
     }
-    let mark = match faulty.number {
-        206 => Mark::Unpaired,
-        0..=299 if !is_shape(part.first(), Shape::Identifier) => Mark::Unlabelled,
-        _ if is_lone && is_aside => Mark::Aside,
-        _ => Mark::Taken,
-    };
+    let mark = mark_of(line, part, faulty, is_word);
     taken.take(part, 0, mark)?;
     taken.take(closing, 0, mark)
 }
 
-/// Whether the names of a declaration that can't be read are seen: each is a word before a comma or a colon.
+/// Whether a token is a word that can be a name.
+fn is_name(token: &Token<'_>) -> bool {
+    token.shape == Shape::Identifier && !is_reserved(token.text)
+}
+
+/// Whether the names of a declaration that can't be read are seen: each is a word before a comma or a colon, up to the first colon
+/// no two are next to one another, and no line has two colons.
 fn shows_names(some: &[Token<'_>]) -> bool {
-    has(some, Shape::Colon)
-        && some.iter().enumerate().all(|(index, token)| {
-            let next = some.get(index.saturating_add(1));
-            let is_last = is_shape(next, Shape::Colon) || is_shape(next, Shape::Comma);
-            let is_name = token.shape == Shape::Identifier && !is_reserved(token.text);
-            is_name || index > 0 && (!is_last || token.shape == Shape::Address)
-        })
+    let (mut colon, mut was_name) = (0_u32, false);
+    for (index, token) in some.iter().enumerate() {
+        let next = some.get(index.saturating_add(1));
+        let is_last = is_shape(next, Shape::Colon) || is_shape(next, Shape::Comma);
+        let (is_word, is_colon) = (is_name(token), token.shape == Shape::Colon);
+        let is_unsure = match is_word {
+            true => was_name && colon == 0,
+            false if is_colon && colon == token.line => true,
+            false => index == 0 || is_last && token.shape != Shape::Address,
+        };
+        if is_unsure {
+            return false;
+        }
+        was_name = is_word;
+        if is_colon {
+            colon = token.line;
+        }
+    }
+    colon > 0
 }
 
 /// Takes a declaration with a fault out, or at first its initial value alone. Nothing is taken out of an instruction in a section.
@@ -212,8 +253,20 @@ fn take_declaration<'a>(
         201 => is_cut && !was_taken && shows_names(some),
         number => !matches!(number, 301 | 307),
     };
-    taken.keep_names(some)?;
+    taken.keep_names(some, false)?;
     taken.take(some, 0, if is_sure { Mark::Taken } else { Mark::Unnamed })
+}
+
+/// Takes a line outside all units out, which may be the head of one.
+fn take_outside<'a>(
+    taken: &mut TakenOut<'a>,
+    line: &LogicalLine<'a, '_>,
+) -> Result<(), AllocError> {
+    let is_section = is_foreign_section(text_of(line.all.first()));
+    let head = on_lines(line.all, line.first, line.first);
+    let head = slice(head, 0, before(head, Shape::Colon));
+    taken.keep_names(if is_section { line.all } else { head }, !is_section)?;
+    taken.take(line.all, 0, Mark::Taken)
 }
 
 /// Takes a line out if a fault is on it, before the line of the text that the next one begins on: whether it is the beginning of a
@@ -237,8 +290,9 @@ fn take_faulty<'a>(
         || matches!(line.operator(), Some(Keyword::SectionStart(_)));
     match line.region {
         Region::Edge if is_before && (line.all.len() > 1 || is_foreign_section(word)) => {
-            // VAR stays
-            taken.take(line.all, 3, Mark::Taken)?;
+            // VAR stays, or END_VAR
+            let is_end = matches!(keyword_named(word), Some(Keyword::SectionEnd));
+            taken.take(line.all, if is_end { 7 } else { 3 }, Mark::Section)?;
             return Ok(true);
         }
         Region::Section if is_here || is_before && !line.is_closed => {
@@ -247,10 +301,7 @@ fn take_faulty<'a>(
         }
         Region::Body if is_here => take_instruction(taken, line, faulty)?,
         Region::Outside if faulty.is_on(line.first, line.first) && !is_inside => {
-            if is_cut && is_foreign_section(word) {
-                taken.keep_names(line.all)?;
-            }
-            taken.take(line.all, 0, Mark::Taken)?
+            take_outside(taken, line)?
         }
         _ => {}
     }

@@ -1,4 +1,4 @@
-use crate::logical_lines::{LogicalLine, Region, above};
+use crate::logical_lines::{LogicalLine, Region, above, slice};
 use crate::marks::{Mark, Marks};
 use wc_built_in::Keyword;
 use wc_diag_stops::is_shape;
@@ -10,7 +10,8 @@ fn is_result_unsure(lines: &[LogicalLine<'_, '_>], broken: &Marks, number: u32) 
     let (mut passed, mut is_broken, mut is_unsure) = (0_u32, false, false);
     for line in lines {
         let is_body = line.region == Region::Body;
-        let is_here = is_body && broken.any(passed.saturating_add(1), line.last, Mark::Taken);
+        let last = line.last.min(number.saturating_sub(1));
+        let is_here = is_body && broken.any(passed.saturating_add(1), last, Mark::Taken);
         let word = line.operator();
         is_broken = is_body && is_broken || is_here;
         is_unsure = is_unsure || is_here || is_broken && line.has_label();
@@ -30,12 +31,19 @@ fn end_of_unit(lines: &[LogicalLine<'_, '_>], number: u32) -> u32 {
     head.map_or(u32::MAX, |line| line.first)
 }
 
-/// Whether a line of the text begins with an input or an output of a call, which was taken out above.
+/// Whether a line of the text begins with an input or an output of a call, of which something was taken out right above, but for empty
+/// lines.
 fn goes_on(tokens: &[Token<'_>], broken: &Marks, number: u32) -> bool {
-    let second = tokens.get(above(tokens, number).saturating_add(1));
-    let last = number.saturating_sub(1);
-    is_shape(second, Shape::Arrow) && broken.any(0, last, Mark::Aside)
-        || is_shape(second, Shape::Assign) && broken.any(last, last, Mark::Aside)
+    let index = above(tokens, number);
+    let second = tokens.get(index.saturating_add(1));
+    let prefix = slice(tokens, 0, index);
+    let nearest = prefix
+        .iter()
+        .rev()
+        .find(|token| token.shape != Shape::LineEnd);
+    let first = nearest.map_or(0, |token| token.line);
+    (is_shape(second, Shape::Arrow) || is_shape(second, Shape::Assign))
+        && broken.any(first, number.saturating_sub(1), Mark::Aside)
 }
 
 /// Whether a refusal may only follow from what was taken out: a result, a name, a label, a call or a parenthesis that was there.
@@ -46,7 +54,9 @@ pub(crate) fn may_follow(
     number: u16,
     line: u32,
 ) -> bool {
-    let is_unnamed = broken.any(0, u32::MAX, Mark::Uncut);
+    let has = |mark| broken.has(0, u32::MAX, mark);
+    // a malformed slice whose line stays may have been VAR
+    let is_unnamed = has(Mark::Unnamed) || has(Mark::Uncut);
     let mut changed = lines
         .iter()
         .filter(|line| broken.any(line.first, line.last, Mark::Aside));
@@ -57,13 +67,11 @@ pub(crate) fn may_follow(
         302 => changed.any(|it| it.region == Region::Head),
         204 | 205 | 207 => changed.any(|it| it.first <= line && line <= it.last),
         401 => is_unnamed,
-        402 | 403 => {
-            broken.has(0, u32::MAX, Mark::Unpaired) || is_result_unsure(lines, broken, line)
-        }
+        402 | 403 => has(Mark::Unpaired) || is_result_unsure(lines, broken, line),
         // a section that became VAR has no outputs
-        405 => changed.any(|it| it.region == Region::Edge),
+        405 => has(Mark::Section),
         406 => broken.any(line, end_of_unit(lines, line), Mark::Unlabelled),
-        409 => is_unnamed || changed.any(|it| it.region == Region::Edge),
+        409 => is_unnamed || has(Mark::Section),
         _ => false,
     }
 }

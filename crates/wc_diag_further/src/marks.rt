@@ -9,11 +9,13 @@ pub(crate) enum Mark {
     Aside,
     /// An instruction or a declaration.
     Taken,
+    /// The words of a section, but for VAR.
+    Section,
     /// A line of a body that may have had a label.
     Unlabelled,
     /// A parenthesis whose other one is not found.
     Unpaired,
-    /// Malformed slices, so far; what else is on the line is still there.
+    /// Malformed slices, so far; the rest of the line, if there is one, is still there.
     Uncut,
     /// A declaration whose names may be others than they seem to be.
     Unnamed,

@@ -2,7 +2,7 @@
 use std::alloc::Global;
 use std::io;
 use std::io::{Read, Write};
-use wc_devices::{OutputBuffer, RetryReader, TeeReader};
+use wc_devices::{KeepingReader, OutputBuffer, Retry};
 
 /// A reader and writer that is interrupted three times, and then fails.
 #[derive(Drop)]
@@ -52,13 +52,13 @@ fn moved(answer: io::Result<usize>) -> Option<usize> {
 }
 
 /// Whether the next read into two bytes gives this many.
-fn reads(reader: &mut TeeReader<&[u8]>, count: usize) -> bool {
+fn reads(reader: &mut KeepingReader<&[u8]>, count: usize) -> bool {
     let mut buffer = [0_u8; 2];
     moved(reader.read(&mut buffer)) == Some(count)
 }
 
 /// Whether a reader of three bytes keeps what it reads.
-fn keeps_what_it_reads(reader: &mut TeeReader<&[u8]>) -> bool {
+fn keeps_what_it_reads(reader: &mut KeepingReader<&[u8]>) -> bool {
     reader.bytes_read().is_empty()
         && reads(reader, 2)
         && reads(reader, 1)
@@ -71,18 +71,18 @@ fn keeps_what_it_reads(reader: &mut TeeReader<&[u8]>) -> bool {
 #[test]
 fn a_reader_keeps_what_it_reads(rt: HostRuntime) {
     let bytes: &[u8] = b"abc";
-    let mut reader = TeeReader::new(rt.alloc(), bytes);
+    let mut reader = KeepingReader::new(rt.alloc(), bytes);
     assert!(rt; keeps_what_it_reads(&mut reader));
 }
 
 /// Whether a read fails.
-fn fails_to_read(calls: &mut RetryReader<Interrupted>) -> bool {
+fn fails_to_read(calls: &mut Retry<Interrupted>) -> bool {
     let mut buffer = [0_u8; 2];
     moved(calls.read(&mut buffer)).is_none()
 }
 
 /// Whether a read and a write fail, and the cause is then that of the last call.
-fn are_tried_again(calls: &mut RetryReader<Interrupted>) -> bool {
+fn are_tried_again(calls: &mut Retry<Interrupted>) -> bool {
     let before = is_broken(calls.cause());
     let read = fails_to_read(calls) && is_broken(calls.cause());
     let written = moved(calls.write(b"abc")).is_none() && is_broken(calls.cause());
@@ -91,31 +91,31 @@ fn are_tried_again(calls: &mut RetryReader<Interrupted>) -> bool {
 
 #[test]
 fn calls_are_tried_again(rt: HostRuntime) {
-    let mut calls = RetryReader::new(Interrupted { left: 3 });
+    let mut calls = Retry::new(Interrupted { left: 3 });
     assert!(rt; are_tried_again(&mut calls));
 }
 
 /// Whether the next read fails, by the error of the last call or by another.
-fn fails_by_the_last(calls: &mut RetryReader<Interrupted>, last: bool) -> bool {
+fn fails_by_the_last(calls: &mut Retry<Interrupted>, last: bool) -> bool {
     fails_to_read(calls) && is_broken(calls.cause()) == last
 }
 
 /// Whether a flush fails, and the cause is then that of the last call.
-fn fails_to_flush(calls: &mut RetryReader<Interrupted>) -> bool {
+fn fails_to_flush(calls: &mut Retry<Interrupted>) -> bool {
     calls.flush().is_err() && is_broken(calls.cause())
 }
 
 #[test]
 fn an_interrupted_flush_is_tried_again(rt: HostRuntime) {
-    let mut calls = RetryReader::new(Interrupted { left: 3 });
+    let mut calls = Retry::new(Interrupted { left: 3 });
     assert!(rt; fails_to_flush(&mut calls));
 }
 
 #[test]
 fn interruptions_have_a_bound(rt: HostRuntime) {
-    let mut calls = RetryReader::new(Interrupted { left: 16 });
+    let mut calls = Retry::new(Interrupted { left: 16 });
     assert!(rt; fails_by_the_last(&mut calls, true));
-    let mut more_calls = RetryReader::new(Interrupted { left: 17 });
+    let mut more_calls = Retry::new(Interrupted { left: 17 });
     assert!(rt; fails_by_the_last(&mut more_calls, false));
     assert!(rt; fails_by_the_last(&mut more_calls, true));
 }
@@ -177,21 +177,21 @@ fn nothing_is_taken_after_a_failure(rt: HostRuntime) {
 }
 
 /// Whether a write is passed on.
-fn is_write_passed_on(writer: &mut RetryReader<Vec<u8>>) -> bool {
+fn is_write_passed_on(writer: &mut Retry<Vec<u8>>) -> bool {
     moved(writer.write(b"abc")) == Some(3) && writer.cause().is_none()
 }
 
 /// Whether a read is passed on.
-fn is_read_passed_on(reader: &mut RetryReader<&[u8]>) -> bool {
+fn is_read_passed_on(reader: &mut Retry<&[u8]>) -> bool {
     let mut buffer = [0_u8; 2];
     moved(reader.read(&mut buffer)) == Some(2) && buffer == *b"ab"
 }
 
 #[test]
 fn bytes_are_passed_on(rt: HostRuntime) {
-    let mut writer = RetryReader::new(Vec::new(rt.alloc()));
+    let mut writer = Retry::new(Vec::new(rt.alloc()));
     assert!(rt; is_write_passed_on(&mut writer));
     let bytes: &[u8] = b"abc";
-    let mut reader = RetryReader::new(bytes);
+    let mut reader = Retry::new(bytes);
     assert!(rt; is_read_passed_on(&mut reader));
 }

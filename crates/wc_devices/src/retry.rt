@@ -11,18 +11,18 @@ use std::io::{ErrorKind, Read, Write};
 /// A reader or a writer that tries a call again after an interruption, at most 16 times, and keeps why it failed last. An
 /// interruption is never the answer: when the last try is interrupted too, the answer is a time-out (`TimedOut`).
 #[derive(Drop)]
-pub struct RetryReader<D> {
+pub struct Retry<D> {
     inner: D,
     cause: Option<io::Error>,
 }
 
-impl<D> RetryReader<D> {
+impl<D> Retry<D> {
     /// One that has not failed.
-    pub fn new(inner: D) -> RetryReader<D>
+    pub fn new(inner: D) -> Retry<D>
         ensures inner { retry_inner result ≡ inner }
         ensures cause { last_cause result ≡ None }
     {
-        RetryReader { inner, cause: None }
+        Retry { inner, cause: None }
     }
 
     /// Why it failed last, if it did.
@@ -33,7 +33,7 @@ impl<D> RetryReader<D> {
     }
 }
 
-impl<D: Read> Read for RetryReader<D> {
+impl<D: Read> Read for Retry<D> {
     ghost remaining = { λ n. D.remaining (retry_inner n) };
 
     fn read(&mut self, buffer: &mut [u8]) -> io::Result<usize>
@@ -54,7 +54,7 @@ impl<D: Read> Read for RetryReader<D> {
     }
 }
 
-impl<D: Write> Write for RetryReader<D> {
+impl<D: Write> Write for Retry<D> {
     ghost contents = { λ n. D.contents (retry_inner n) };
 
     fn write(&mut self, chunk: &[u8]) -> io::Result<usize>

@@ -2,7 +2,7 @@ ghost use Rattle.std.specs.Prelude.{◌≡◌, ◌+◌, ◌≤◌, ◌⊎◌, []
 ghost use Rattle.std.specs.Io.{ReadsAtMost};
 ghost use Rattle.std.specs.Io.KnownBytes.{ReadConsumes};
 ghost use Rattle.std.specs.IoError.{error_kind};
-ghost use Rattle.wc_devices.specs.Inside.{Extends, has_lacked, kept, kept_capacity, tee_inner};
+ghost use Rattle.wc_devices.specs.Inside.{Extends, has_lacked, kept, kept_capacity, keeping_inner};
 
 use std::alloc::Global;
 use std::io;
@@ -11,20 +11,20 @@ use std::io::{ErrorKind, Read};
 /// A reader that keeps the bytes that it reads. Memory for them comes first: if it is refused, the read is out of memory
 /// (`OutOfMemory`) and takes nothing from the reader inside.
 #[derive(Drop)]
-pub struct TeeReader<D> {
+pub struct KeepingReader<D> {
     inner: D,
     kept: Vec<u8>,
     lacked: bool,
 }
 
-impl<D> TeeReader<D> {
+impl<D> KeepingReader<D> {
     /// One that has read nothing.
-    pub fn new(alloc: Global, inner: D) -> TeeReader<D>
-        ensures inner { tee_inner result ≡ inner }
+    pub fn new(alloc: Global, inner: D) -> KeepingReader<D>
+        ensures inner { keeping_inner result ≡ inner }
         ensures nothing { kept result ≡ [] }
         ensures memory { has_lacked result ≡ false }
     {
-        TeeReader {
+        KeepingReader {
             inner,
             kept: Vec::new(alloc),
             lacked: false,
@@ -33,7 +33,7 @@ impl<D> TeeReader<D> {
 
     /// The reader inside.
     pub fn get_ref(&self) -> &D
-        ensures { result.now ≡ tee_inner self.now }
+        ensures { result.now ≡ keeping_inner self.now }
     {
         &self.inner
     }
@@ -53,18 +53,18 @@ impl<D> TeeReader<D> {
     }
 }
 
-impl<D: Read> Read for TeeReader<D> {
-    ghost remaining = { λ k. D.remaining (tee_inner k) };
+impl<D: Read> Read for KeepingReader<D> {
+    ghost remaining = { λ k. D.remaining (keeping_inner k) };
 
     fn read(&mut self, buffer: &mut [u8]) -> io::Result<usize>
         ensures bound { ReadsAtMost result buffer.new }
-        ensures bytes { ReadConsumes (D.remaining (tee_inner self.old))
-            (D.remaining (tee_inner self.new)) result buffer.new }
+        ensures bytes { ReadConsumes (D.remaining (keeping_inner self.old))
+            (D.remaining (keeping_inner self.new)) result buffer.new }
         ensures kept { Extends (kept self.old) (kept self.new) result buffer.new }
         // It lacks memory only if some was refused, and then it says so and the reader inside is not asked.
         ensures lacks { IsTrue (has_lacked self.new) → IsTrue (has_lacked self.old)
             ⊎ IsErrAnd result (λ error. error_kind error ≡ ErrorKind.OutOfMemory)
-            × (tee_inner self.new ≡ tee_inner self.old) }
+            × (keeping_inner self.new ≡ keeping_inner self.old) }
         ensures enough { length (kept self.old) + length buffer.old ≤ kept_capacity self.old
             → has_lacked self.new ≡ has_lacked self.old }
         ensures there { has_lacked self.new ≡ false
