@@ -30,7 +30,7 @@ pub struct InCall {
 }
 
 /// One token of a call.
-fn at_index(from: usize, case: Case) -> InCall
+pub(crate) fn at_index(from: usize, case: Case) -> InCall
     ensures from { result.from ≡ from }
     ensures one { result.count ≡ 1 }
 {
@@ -41,15 +41,6 @@ fn at_index(from: usize, case: Case) -> InCall
         name: 0,
         is_passed: false,
         first: 0,
-    }
-}
-
-/// What does not fit if a value of some kind is passed to or from one of another; a bit is passed to a BOOL.
-fn unfit_value(kind: Option<Kind>, formal: Kind, is_bit: bool) -> Option<Case> {
-    match kind {
-        None => Some(Case::Instance),
-        Some(kind) if kind == formal || is_bit && formal == Kind::Bool => None,
-        Some(kind) => Some(Case::Unpassed(kind, formal)),
     }
 }
 
@@ -85,27 +76,27 @@ fn first_line_of(tokens: &[Token<'_>], name: &[u8], end: usize) -> u32 {
     0
 }
 
-/// In which way the value of one of a call's list breaks the rule of that number.
-fn case_of_value<'a>(
+/// In which way one of a call's list breaks the rule of its number; a bit is passed to a BOOL.
+fn case_of_argument<'a>(
     tables: &Tables<'a>,
     unit: usize,
     declared: DeclaredType,
     tokens: &[Token<'a>],
     broken: Broken,
 ) -> Case {
-    let item = broken.item;
-    let operand_tokens = tokens_at(tokens, item.value, item.count);
-    let formal = tables.formal(declared, item.direction, text_at(tokens, item.name));
-    match (
-        broken.number,
-        entity_in(tables, unit, operand_tokens),
-        formal,
-    ) {
-        (401, _, _) => case_of_operand(operand_tokens),
-        (402, Some(entity), Some(formal)) => {
-            let takes_bit = item.direction == Direction::Into && is_bit(operand_tokens);
-            unfit_value(entity.kind, formal.kind, takes_bit).unwrap_or(Case::Result)
-        }
+    let (item, name) = (broken.item, text_at(tokens, broken.item.name));
+    let operand = tokens_at(tokens, item.value, item.count);
+    let takes_bit = item.direction == Direction::Into && is_bit(operand);
+    let formal = tables.formal(declared, item.direction, name);
+    match (broken.number, entity_in(tables, unit, operand), formal) {
+        (401, _, _) => case_of_operand(operand),
+        (402, Some(entity), Some(formal)) => match entity.kind {
+            None => Case::Instance,
+            Some(kind) if kind == formal.kind => Case::Result,
+            Some(_) if takes_bit && formal.kind == Kind::Bool => Case::Result,
+            Some(kind) => Case::Unpassed(kind, formal.kind),
+        },
+        (409, _, _) => unknown_formal(tables, declared, item.direction, name),
         _ => Case::Plain,
     }
 }
@@ -122,40 +113,32 @@ fn offending_argument<'a>(
     ensures count { result.count ≡ argument_count broken.number broken.item }
 {
     let item = broken.item;
-    let name = text_at(tokens, item.name);
+    let case = case_of_argument(tables, unit, declared, tokens, broken);
     let is_passed = item.direction == Direction::Into;
     match broken.number {
         409 => InCall {
             is_passed,
-            ..at_index(
-                item.name,
-                unknown_formal(tables, declared, item.direction, name),
-            )
+            ..at_index(item.name, case)
         },
         410 => InCall {
-            first: first_line_of(tokens, name, list_end(tokens)),
-            ..at_index(item.name, Case::Plain)
+            first: first_line_of(tokens, text_at(tokens, item.name), list_end(tokens)),
+            ..at_index(item.name, case)
         },
         _ => InCall {
             count: item.count,
             name: item.name,
             is_passed,
-            ..at_index(
-                item.value,
-                case_of_value(tables, unit, declared, tokens, broken),
-            )
+            ..at_index(item.value, case)
         },
     }
 }
 
 /// A refusal that no argument explains: of what is before the list.
 fn no_argument(number: u16) -> InCall {
-    let case = if number == 403 {
-        Case::Plain
-    } else {
-        Case::Result
-    };
-    at_index(0, case)
+    match number {
+        403 => at_index(0, Case::Plain),
+        _ => at_index(0, Case::Result),
+    }
 }
 
 /// The offending slice in the list of a call of an instance; else the operator.

@@ -15,18 +15,14 @@ use wc_text_short_lines::operand_of;
 pub(crate) fn operand_in<'a>(operand_tokens: &[Token<'a>]) -> Option<Operand<'a>>
     ensures { option_map term_view result ≡ operand_in operand_tokens.now }
 {
-    match (operand_tokens.first(), operand_tokens.last()) {
-        (Some(first), Some(last)) => {
-            if operand_tokens.len() > 1 {
-                return Some(Operand::Field {
-                    instance: first.text,
-                    field: last.text,
-                });
-            }
-            operand_of(*first)
-        }
-        _ => None,
+    let (first, last) = (operand_tokens.first()?, operand_tokens.last()?);
+    if operand_tokens.len() > 1 {
+        return Some(Operand::Field {
+            instance: first.text,
+            field: last.text,
+        });
     }
+    operand_of(*first)
 }
 
 /// What some tokens name.
@@ -58,12 +54,10 @@ fn unfit_operand(operating: Operating, kind: Kind, is_bit: bool) -> Case {
     }
 }
 
-/// Whether a name is that of an instance of the unit, or of nothing.
-fn is_instance(tables: &Tables<'_>, unit: usize, name: &[u8]) -> bool {
-    match tables.variable(unit, name) {
-        Some(found) => !matches!(found.declared, DeclaredType::Elementary(_)),
-        None => true,
-    }
+/// Whether a name is that of a variable of the unit that is no instance.
+fn is_plain(tables: &Tables<'_>, unit: usize, name: &[u8]) -> bool {
+    let found = tables.variable(unit, name);
+    found.is_some_and(|found| matches!(found.declared, DeclaredType::Elementary(_)))
 }
 
 /// What does not fit in an instruction without a list whose kinds are refused.
@@ -81,7 +75,7 @@ pub fn unfit(tables: &Tables<'_>, unit: usize, tokens: &[Token<'_>], term: &[Tok
             unfit_operand(operating, kind, is_bit(term))
         }
         (Some(Operation::Calls(_)), _) => match term.first() {
-            Some(name) if !is_instance(tables, unit, name.text) => Case::NoInstance,
+            Some(name) if is_plain(tables, unit, name.text) => Case::NoInstance,
             _ => Case::Result,
         },
         _ => Case::Result,

@@ -6,7 +6,7 @@
 
 mod arguments;
 mod calls;
-mod instances;
+mod declarations;
 mod kinds;
 mod lists;
 mod operand_tokens;
@@ -14,7 +14,6 @@ mod paths;
 mod results;
 mod spanned_source;
 mod spans;
-mod twice;
 
 pub use calls::{InCall, offending_in_call, operand_of_call};
 pub use kinds::unfit;

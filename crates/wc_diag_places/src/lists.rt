@@ -48,11 +48,8 @@ fn direction_of(sign: Option<&Token<'_>>) -> Direction
     ensures { result ≡ direction_of (option_copied sign.entry) }
 {
     match sign {
-        Some(token) => match token.shape {
-            Shape::Arrow => Direction::OutOf,
-            _ => Direction::Into,
-        },
-        None => Direction::Into,
+        Some(token) if matches!(token.shape, Shape::Arrow) => Direction::OutOf,
+        _ => Direction::Into,
     }
 }
 

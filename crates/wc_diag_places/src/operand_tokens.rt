@@ -1,17 +1,11 @@
 ghost use Rattle.std.specs.Prelude.{◌≡◌, ◌==◌, ◌+◌, ◌≤◌, length};
 ghost use Rattle.std.specs.List.{position_or_len};
 ghost use Rattle.std.specs.Option.{option_copied};
-ghost use Rattle.wc_diag_places.specs.OperandTokens.{is_listed, is_opening, is_point, is_shape, length_of_operand, line_at, list_end, operand_count, operand_index, operand_of, operator_of, opens, start_of_operand, tokens_at, tokens_from};
+ghost use Rattle.wc_diag_places.specs.OperandTokens.{is_listed, is_point, is_shape, length_of_operand, line_at, list_end, operand_of, operator_of, opens, start_of_operand, tokens_at, tokens_from};
 
+use wc_diag_stops::Slice;
 use wc_diag_texts::Case;
 use wc_lexer::{Shape, Token};
-
-/// A token is an opening parenthesis.
-fn is_opening(token: Option<&Token<'_>>) -> bool
-    ensures { result ≡ is_opening (option_copied token.entry) }
-{
-    matches!(token, Some(token) if matches!(token.shape, Shape::Opening))
-}
 
 /// A token is a point.
 pub(crate) fn is_point(token: Option<&Token<'_>>) -> bool
@@ -32,10 +26,8 @@ fn count_before(tokens: &[Token<'_>], place: u32) -> usize
     ensures first { result ≡ position_or_len (λ token. token.start == place) tokens.now }
     ensures within { result ≤ length tokens.now }
 {
-    tokens
-        .iter()
-        .take_while(|token| token.start != place)
-        .count()
+    let above = tokens.iter().take_while(|token| token.start != place);
+    above.count()
 }
 
 /// The tokens from the one that starts at a byte on.
@@ -66,34 +58,16 @@ pub fn operator_of<'a, 't>(tokens: &'t [Token<'a>]) -> &'t [Token<'a>]
 pub fn opens(tokens: &[Token<'_>]) -> bool
     ensures { result ≡ opens tokens.now }
 {
-    is_opening(tokens.get(1))
-}
-
-/// Where the operand of an instruction begins.
-fn operand_index(tokens: &[Token<'_>]) -> usize
-    ensures { result ≡ operand_index tokens.now }
-{
-    if opens(tokens) { 2 } else { 1 }
-}
-
-/// The number of tokens of the operand at an index.
-pub(crate) fn operand_count(tokens: &[Token<'_>], index: usize) -> usize
-    requires { index ≤ length tokens.now + 2 }
-    ensures { result ≡ operand_count tokens.now index }
-{
-    if is_point(tokens.get(index + 1)) {
-        3
-    } else {
-        1
-    }
+    matches!(tokens.get(1), Some(token) if matches!(token.shape, Shape::Opening))
 }
 
 /// The operand of an instruction.
 pub fn operand_of<'a, 't>(tokens: &'t [Token<'a>]) -> &'t [Token<'a>]
     ensures { result.now ≡ operand_of tokens.now }
 {
-    let index = operand_index(tokens);
-    tokens_at(tokens, index, operand_count(tokens, index))
+    let index = if opens(tokens) { 2 } else { 1 };
+    let has_field = is_point(tokens.get(index + 1));
+    tokens_at(tokens, index, if has_field { 3 } else { 1 })
 }
 
 /// In which way an operand is nothing that may be there: as a field of an instance, or not.
@@ -109,7 +83,7 @@ pub fn case_of_operand(operand: &[Token<'_>]) -> Case {
 pub fn is_listed(tokens: &[Token<'_>]) -> bool
     ensures { result ≡ is_listed tokens.now }
 {
-    is_opening(tokens.get(2))
+    matches!(tokens.get(2), Some(token) if matches!(token.shape, Shape::Opening))
 }
 
 /// Where the list of a call ends.
@@ -123,10 +97,7 @@ pub(crate) fn list_end(tokens: &[Token<'_>]) -> usize
 pub fn line_at(token: Option<&Token<'_>>) -> u32
     ensures { result ≡ line_at (option_copied token.entry) }
 {
-    match token {
-        Some(token) => token.line,
-        None => 0,
-    }
+    token.map_or(0, |token| token.line)
 }
 
 /// Where a slice starts, and its number of bytes.
@@ -137,11 +108,20 @@ pub fn span_of(operand_tokens: &[Token<'_>]) -> (usize, usize)
     match (operand_tokens.first(), operand_tokens.last()) {
         (Some(first), Some(last)) => {
             let start = first.start as usize;
-            (
-                start,
-                (last.start as usize + last.text.len()).saturating_sub(start),
-            )
+            let end = last.start as usize + last.text.len();
+            (start, end.saturating_sub(start))
         }
         _ => (0, 0),
     }
+}
+
+/// The bytes of some tokens, if there are any.
+pub(crate) fn slice_of(operand_tokens: &[Token<'_>]) -> Option<Slice> {
+    let line = operand_tokens.first()?.line;
+    let (start, length) = span_of(operand_tokens);
+    Some(Slice {
+        start,
+        length,
+        line,
+    })
 }

@@ -2,7 +2,6 @@ use crate::operand_tokens::{line_at, tokens_at, tokens_from};
 use crate::results::{always_leaves, place_of, result_after, result_before};
 use crate::spanned_source::SpannedSource;
 use wc_diag_stops::{Brought, LabelPaths, PathToLabel, ResultKind, last_line, without_line_ends};
-use wc_lexer::Token;
 use wc_model::{Instr, Line, Word};
 use wc_names::Tables;
 
@@ -11,15 +10,6 @@ fn jump_to(line: &Line<'_>, name: &[u8]) -> Option<u32> {
     match &line.instr {
         Some(Instr::Jump { label, line, .. }) if label.eq_ignore_ascii_case(name) => Some(*line),
         _ => None,
-    }
-}
-
-/// What a result is that a path brings; before the first label of a body it is sure that there is none.
-fn brought(before: Option<ResultKind>, is_after_label: bool) -> Brought {
-    match before {
-        Some(made) => Brought::Kind(made.kind),
-        None if is_after_label => Brought::Unsure,
-        None => Brought::Nothing,
     }
 }
 
@@ -45,9 +35,16 @@ struct FoundPaths {
     is_only: bool,
 }
 
-/// Adds a path to those that were found.
-fn add_path(found: &mut FoundPaths, path: PathToLabel) {
-    match (path.brought, found.first) {
+/// Adds the path from a line to those that were found, with the result that it brings; before the first label of a body it is sure
+/// that there is none.
+fn add_path(found: &mut FoundPaths, line: u32, made: Option<ResultKind>, is_after_label: bool) {
+    let brought = match made {
+        Some(made) => Brought::Kind(made.kind),
+        None if is_after_label => Brought::Unsure,
+        None => Brought::Nothing,
+    };
+    let path = PathToLabel { line, brought };
+    match (brought, found.first) {
         (Brought::Unsure, _) => {
             found.is_only = found.unsure.is_none();
             found.unsure = found.unsure.or(Some(path));
@@ -69,46 +66,6 @@ fn paths_of(found: FoundPaths) -> Option<LabelPaths> {
     Some(LabelPaths { first, other })
 }
 
-/// The paths to a label from the lines above it: its jumps, and the last of the lines if it goes on. `tokens` are those of the text
-/// up to the label.
-fn paths_from(
-    tables: &Tables<'_>,
-    unit: usize,
-    above: &[Line<'_>],
-    tokens: &[Token<'_>],
-    label: &[u8],
-) -> Option<LabelPaths> {
-    let mut found = FoundPaths {
-        first: None,
-        other: None,
-        unsure: None,
-        is_only: true,
-    };
-    let mut result = None;
-    let mut is_after_label = false;
-    for line in above {
-        is_after_label = is_after_label || line.label.is_some();
-        result = result_before(line, result);
-        if let Some(place) = jump_to(line, label) {
-            let path = PathToLabel {
-                line: line_at(tokens_from(tokens, place).first()),
-                brought: brought(result, is_after_label),
-            };
-            add_path(&mut found, path);
-        }
-        result = result_after(tables, unit, line, result);
-    }
-    if above.last().is_some_and(always_leaves) {
-        return paths_of(found);
-    }
-    let path = PathToLabel {
-        line: line_at(last_line(without_line_ends(tokens)).first()),
-        brought: brought(result, is_after_label),
-    };
-    add_path(&mut found, path);
-    paths_of(found)
-}
-
 /// The number of lines up to that of the label right before the instruction at a place, and that label, if there is one.
 fn label_before<'a>(body: &[Line<'a>], place: u32) -> Option<(usize, Word<'a>)> {
     let index = body.iter().position(|line| line
@@ -119,31 +76,43 @@ fn label_before<'a>(body: &[Line<'a>], place: u32) -> Option<(usize, Word<'a>)> 
         return Some((index, label));
     }
     let above = index.checked_sub(1)?;
-    match body.get(above)? {
-        Line {
-            label: Some(label),
-            instr: None,
-        } => Some((above, *label)),
-        _ => None,
-    }
+    let line = body.get(above).filter(|line| line.instr.is_none())?;
+    Some((above, line.label?))
 }
 
-/// The paths to the label right before the instruction at a place, if there is one.
+/// The paths to the label right before the instruction at a place, if there is one, from the lines above it: its jumps, and the last
+/// of the lines if it goes on.
 pub(crate) fn paths_to_label(
     spanned_source: &SpannedSource<'_>,
     tables: &Tables<'_>,
     unit: usize,
     place: u32,
 ) -> Option<LabelPaths> {
+    let tokens = &spanned_source.tokens;
     let body = &spanned_source.source.units.get(unit)?.body;
     let (index, label) = label_before(body, place)?;
-    let tokens = &spanned_source.tokens;
-    let left = tokens_from(tokens, label.line).len();
-    paths_from(
-        tables,
-        unit,
-        body.get(..index)?,
-        tokens_at(tokens, 0, tokens.len().saturating_sub(left)),
-        label.text,
-    )
+    let above = body.get(..index)?;
+    let mut found = FoundPaths {
+        first: None,
+        other: None,
+        unsure: None,
+        is_only: true,
+    };
+    let (mut result, mut is_after_label) = (None, false);
+    for line in above {
+        is_after_label = is_after_label || line.label.is_some();
+        result = result_before(line, result);
+        if let Some(place) = jump_to(line, label.text) {
+            let line = line_at(tokens_from(tokens, place).first());
+            add_path(&mut found, line, result, is_after_label);
+        }
+        result = result_after(tables, unit, line, result);
+    }
+    if !above.last().is_some_and(always_leaves) {
+        let left = tokens_from(tokens, label.line).len();
+        let before = tokens_at(tokens, 0, tokens.len().saturating_sub(left));
+        let line = line_at(last_line(without_line_ends(before)).first());
+        add_path(&mut found, line, result, is_after_label);
+    }
+    paths_of(found)
 }

@@ -3,13 +3,6 @@ use wc_diag_stops::ResultKind;
 use wc_model::{Condition, Instr, Line, MOST_DEPTH, Operand};
 use wc_names::Tables;
 
-/// The kinds of the result before an instruction, and before the parenthesis that it closes; nothing if that is not sure.
-#[derive(Clone, Copy)]
-pub(crate) struct Results {
-    pub(crate) before: Option<ResultKind>,
-    pub(crate) outer: Option<ResultKind>,
-}
-
 /// Where an instruction begins.
 pub(crate) fn place_of(instruction: &Instr<'_>) -> u32 {
     match instruction {
@@ -50,10 +43,7 @@ pub(crate) fn always_leaves(line: &Line<'_>) -> bool {
 
 /// The result before the instruction of a line, from that before the line: at a label it is not sure.
 pub(crate) fn result_before(line: &Line<'_>, before: Option<ResultKind>) -> Option<ResultKind> {
-    match line.label {
-        Some(_) => None,
-        None => before,
-    }
+    if line.label.is_some() { None } else { before }
 }
 
 /// The result after a line, from that before its instruction.
@@ -66,51 +56,46 @@ pub(crate) fn result_after(
     match &line.instr {
         Some(Instr::Load { operand, line, .. }) => result_of(tables, unit, operand, *line),
         Some(Instr::Apply { operator, line, .. } | Instr::Defer { operator, line, .. }) => {
-            match kind_after_operator(*operator, None) {
-                Some(kind) => Some(ResultKind { kind, line: *line }),
-                None => before,
-            }
+            let kind = kind_after_operator(*operator, None);
+            kind.map_or(before, |kind| Some(ResultKind { kind, line: *line }))
         }
         _ if always_leaves(line) => None,
         _ => before,
     }
 }
 
-/// The result before the first of some lines that reaches a place, and that line.
+/// The result before the first of some lines that reaches a place, and its instruction.
 fn result_until<'a, 't>(
     tables: &Tables<'_>,
     unit: usize,
     lines: &'t [Line<'a>],
     place: u32,
     first: Option<ResultKind>,
-) -> (Option<ResultKind>, Option<&'t Line<'a>>) {
+) -> (Option<ResultKind>, Option<&'t Instr<'a>>) {
     let mut result = first;
     for line in lines {
         result = result_before(line, result);
         if reaches(line, place) {
-            return (result, Some(line));
+            return (result, line.instr.as_ref());
         }
         result = result_after(tables, unit, line, result);
     }
     (result, None)
 }
 
-/// The results at the instruction, or at the `)`, that is at a place of a body.
+/// The kinds of the result before the instruction, or before the `)`, that is at a place of a body, and before the parenthesis
+/// around it; nothing if that is not sure.
 pub(crate) fn results_at(
     tables: &Tables<'_>,
     unit: usize,
     body: &[Line<'_>],
     place: u32,
-) -> Results {
-    let mut results = Results {
-        before: None,
-        outer: None,
-    };
-    let mut lines = body;
+) -> (Option<ResultKind>, Option<ResultKind>) {
+    let (mut before, mut outer, mut lines) = (None, None, body);
     for _level in 0..=MOST_DEPTH {
-        let (before, reached) = result_until(tables, unit, lines, place, results.before);
-        results.before = before;
-        match reached.and_then(|line| line.instr.as_ref()) {
+        let (result, reached) = result_until(tables, unit, lines, place, before);
+        before = result;
+        match reached {
             Some(
                 Instr::Defer {
                     operand,
@@ -119,14 +104,15 @@ pub(crate) fn results_at(
                     ..
                 },
             ) if *line < place => {
-                results.outer = before;
-                results.before = operand
-                    .as_ref()
-                    .and_then(|operand| result_of(tables, unit, operand, *line));
+                outer = result;
+                before = match operand {
+                    Some(operand) => result_of(tables, unit, operand, *line),
+                    None => None,
+                };
                 lines = inside;
             }
-            _ => return results,
+            _ => return (before, outer),
         }
     }
-    results
+    (before, outer)
 }

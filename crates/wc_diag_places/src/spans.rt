@@ -8,84 +8,41 @@ ghost use Rattle.wc_model.specs.Language.Views.{text_view};
 ghost use Rattle.wc_verify.specs.Seeing.{IsScope};
 ghost use Rattle.wc_diag_places.specs.OperandTokens.{IsOperatorOrOperand, IsOperandOf, is_listed, on_line, operator_of, operand_by_number, tokens_from};
 
-use crate::calls::{offending_in_call, operand_of_call};
-use crate::instances::{block_in, slice_of};
+use crate::calls::{InCall, at_index, offending_in_call, operand_of_call};
+use crate::declarations::{block_in, case_of_capacity, first_of_two, unit_at};
 use crate::kinds::unfit;
+use crate::lists::text_at;
 use crate::operand_tokens::{
-    case_of_operand, is_listed, line_at, opens, operand_of, operator_of, span_of, tokens_at,
-    tokens_from,
+    case_of_operand, is_listed, line_at, opens, operand_of, operator_of, slice_of, span_of,
+    tokens_at, tokens_from,
 };
 use crate::paths::paths_to_label;
 use crate::results::results_at;
 use crate::spanned_source::SpannedSource;
-use crate::twice::{case_of_capacity, first_of_two, unit_at};
 use std::alloc::Global;
 use wc_cost::measure;
 use wc_declare::tables;
-use wc_diag_stops::{RefusalSpan, ResultKind, Slice};
+use wc_diag_stops::{RefusalSpan, ResultKind};
 use wc_diag_texts::Case;
 use wc_lexer::{Shape, Token};
 use wc_model::Fault;
 use wc_names::Tables;
 use wc_verify::validate_bodies;
 
-/// The offending tokens of an instruction, and in which way its rule is broken.
-#[derive(Clone, Copy)]
-struct Found<'a, 't> {
-    operand_tokens: &'t [Token<'a>],
-    case: Case,
-    first: u32,
-    /// The name of the offending input or output; no token: there is none.
-    formal: &'t [Token<'a>],
-    is_passed: bool,
-    /// The offending slice, if it is on a line below.
-    below: Option<Slice>,
-}
-
-/// Those tokens, of which no other has the name.
-fn found_as<'a, 't>(operand_tokens: &'t [Token<'a>], case: Case) -> Found<'a, 't>
-    ensures { result.operand_tokens.now ≡ operand_tokens.now }
-{
-    Found {
-        operand_tokens,
-        case,
-        first: 0,
-        formal: tokens_at(operand_tokens, 0, 0),
-        is_passed: false,
-        below: None,
-    }
-}
-
 /// A refusal with its slice; `tokens` begin where the rule is asked.
-fn span_at(
-    tokens: &[Token<'_>],
-    number: u16,
-    operand_tokens: &[Token<'_>],
-    case: Case,
-    first: u32,
-) -> RefusalSpan
+fn span_at(tokens: &[Token<'_>], number: u16, operand_tokens: &[Token<'_>]) -> RefusalSpan
     ensures { PointsTo number tokens.now operand_tokens.now result }
 {
-    let fault = Fault::Refused {
-        number,
-        place: line_at(tokens.first()),
-    };
+    let place = line_at(tokens.first());
     let (start, length) = span_of(operand_tokens);
-    RefusalSpan {
-        case,
-        first,
-        ..RefusalSpan::new(fault, start, length)
-    }
+    RefusalSpan::new(Fault::Refused { number, place }, start, length)
 }
 
 /// The line of the first of two that have the name at a place; 0: there are no two.
 fn first_line(spanned: &SpannedSource<'_>, number: u16, tokens: &[Token<'_>], place: u32) -> u32 {
     // A jump names its label after the operator.
-    let index = usize::from(number == 406);
-    let Some(name) = tokens.get(index) else {
-        return 0;
-    };
-    match first_of_two(&spanned.source, number, name.text, place) {
+    let name = text_at(tokens, usize::from(number == 406));
+    match first_of_two(&spanned.source, number, name, place) {
         Some(first) => line_at(tokens_from(&spanned.tokens, first).first()),
         None => 0,
     }
@@ -97,38 +54,41 @@ fn span_of_token(spanned_source: &SpannedSource<'_>, number: u16, place: u32) ->
         (operator_of (tokens_from spanned_source.now.tokens.items place)) result }
 {
     let tokens = tokens_from(&spanned_source.tokens, place);
-    let first = first_line(spanned_source, number, tokens, place);
     let case = match number {
         306 => case_of_capacity(&spanned_source.source, place),
         _ => Case::Plain,
     };
-    span_at(tokens, number, operator_of(tokens), case, first)
+    RefusalSpan {
+        case,
+        first: first_line(spanned_source, number, tokens, place),
+        ..span_at(tokens, number, operator_of(tokens))
+    }
 }
+
+/// The offending tokens of an instruction, and what is known of them.
+type Found<'a, 't> = (&'t [Token<'a>], InCall);
 
 /// The offending slice in an instruction without a list whose kinds do not fit.
 fn found_unfit<'a, 't>(tables: &Tables<'a>, unit: usize, tokens: &'t [Token<'a>]) -> Found<'a, 't>
-    ensures { IsOperatorOrOperand tokens.now result.operand_tokens.now }
+    ensures { IsOperatorOrOperand tokens.now result.0.now }
 {
     let operand = operand_of(tokens);
     let case = unfit(tables, unit, tokens, operand);
-    let operand_tokens = match case {
-        Case::Result | Case::Closing => operator_of(tokens),
-        _ => operand,
-    };
-    found_as(operand_tokens, case)
+    match case {
+        Case::Result | Case::Closing => (operator_of(tokens), at_index(0, case)),
+        _ => (operand, at_index(0, case)),
+    }
 }
 
 /// What a refusal of that number means in an instruction without a list.
 fn found_by_number<'a, 't>(tokens: &'t [Token<'a>], number: u16) -> Found<'a, 't>
-    ensures { result.operand_tokens.now ≡ operand_by_number number tokens.now }
+    ensures { result.0.now ≡ operand_by_number number tokens.now }
 {
+    let operand = operand_of(tokens);
     match number {
-        408 if opens(tokens) => found_as(operator_of(tokens), Case::Deferred),
-        401 | 404 | 405 | 406 | 408 => {
-            let operand = operand_of(tokens);
-            found_as(operand, case_of_operand(operand))
-        }
-        _ => found_as(operator_of(tokens), Case::Plain),
+        408 if opens(tokens) => (operator_of(tokens), at_index(0, Case::Deferred)),
+        401 | 404 | 405 | 406 | 408 => (operand, at_index(0, case_of_operand(operand))),
+        _ => (operator_of(tokens), at_index(0, Case::Plain)),
     }
 }
 
@@ -141,10 +101,10 @@ fn found_in<'a, 't>(
     number: u16,
 ) -> Result<Found<'a, 't>, Fault>
     ensures operand_tokens { IfOk result
-        (λ found. IsOperandOf number tokens.now found.operand_tokens.now) }
+        (λ found. IsOperandOf number tokens.now found.0.now) }
     ensures argument { IfOk result (λ found. (scope : Scope) → IsScope tables.now unit scope
         → is_listed tokens.now ≡ true → IsArgument scope number tokens.now
-        found.operand_tokens.now) }
+        found.0.now) }
 {
     if !is_listed(tokens) {
         return Ok(match number {
@@ -153,28 +113,17 @@ fn found_in<'a, 't>(
         });
     }
     let call = offending_in_call(alloc, tables, unit, tokens, number)?;
-    Ok(Found {
-        operand_tokens: operand_of_call(tokens, call),
-        case: call.case,
-        first: call.first,
-        formal: tokens_at(tokens, call.name, usize::from(call.name > 0)),
-        is_passed: call.is_passed,
-        below: None,
-    })
+    Ok((operand_of_call(tokens, call), call))
 }
 
-/// What is found, if it begins on the line of its instruction; else the operator.
-fn on_line<'a, 't>(tokens: &'t [Token<'a>], found: Found<'a, 't>) -> Found<'a, 't>
-    ensures { result.operand_tokens.now ≡ on_line tokens.now found.entry.operand_tokens.now }
+/// The offending tokens, if they begin on the line of their instruction; else the operator.
+fn on_line<'a, 't>(tokens: &'t [Token<'a>], offending: &'t [Token<'a>]) -> &'t [Token<'a>]
+    ensures { result.now ≡ on_line tokens.now offending.now }
 {
-    if line_at(found.operand_tokens.first()) == line_at(tokens.first()) {
-        return found;
+    if line_at(offending.first()) == line_at(tokens.first()) {
+        return offending;
     }
-    Found {
-        operand_tokens: operator_of(tokens),
-        below: slice_of(found.operand_tokens),
-        ..found
-    }
+    operator_of(tokens)
 }
 
 /// The kinds of the result before the instruction at a place, and before the parenthesis that it closes, if that is what does not fit.
@@ -188,43 +137,20 @@ fn results_before(
     let Some(source) = spanned_source.source.units.get(unit) else {
         return (None, None);
     };
-    let results = results_at(tables, unit, &source.body, place);
-    let before = on_its_line(spanned_source, results.before);
+    let (before, outer) = results_at(tables, unit, &source.body, place);
+    let before = on_its_line(spanned_source, before);
     match case {
         Case::Unlike(_) | Case::Result => (before, None),
-        Case::Closing => (before, on_its_line(spanned_source, results.outer)),
+        Case::Closing => (before, on_its_line(spanned_source, outer)),
         _ => (None, None),
     }
 }
 
 /// A result with the line in place of the place.
 fn on_its_line(spanned_source: &SpannedSource<'_>, made: Option<ResultKind>) -> Option<ResultKind> {
-    let ResultKind { kind, line } = made?;
-    Some(ResultKind {
-        kind,
-        line: line_at(tokens_from(&spanned_source.tokens, line).first()),
-    })
-}
-
-/// A refusal with what is found in its instruction.
-fn span_of_found(
-    spanned_source: &SpannedSource<'_>,
-    number: u16,
-    tokens: &[Token<'_>],
-    place: u32,
-    found: Found<'_, '_>,
-) -> RefusalSpan
-    ensures { PointsTo number tokens.now
-        (on_line tokens.now found.entry.operand_tokens.now) result }
-{
-    let found = on_line(tokens, found);
-    let first = first_line(spanned_source, number, tokens, place).max(found.first);
-    RefusalSpan {
-        formal: slice_of(found.formal),
-        is_passed: found.is_passed,
-        below: found.below,
-        ..span_at(tokens, number, found.operand_tokens, found.case, first)
-    }
+    let mut made = made?;
+    made.line = line_at(tokens_from(&spanned_source.tokens, made.line).first());
+    Some(made)
 }
 
 /// A refusal of pass 4 with the offending slice in its instruction.
@@ -244,24 +170,24 @@ fn span_of_instruction<'a>(
     let Ok(found) = found_in(alloc, tables, unit, tokens, number) else {
         return RefusalSpan::new(Fault::Memory, 0, 0);
     };
-    let (result, outer) = results_before(spanned_source, tables, unit, place, found.case);
+    let (offending, call) = found;
+    let (result, outer) = results_before(spanned_source, tables, unit, place, call.case);
     let paths = match number {
         403 => paths_to_label(spanned_source, tables, unit, place),
         _ => None,
     };
-    let block = block_in(
-        &spanned_source.source,
-        unit,
-        tokens,
-        found.operand_tokens,
-        found.case,
-    );
+    let below = slice_of(offending);
     RefusalSpan {
+        case: call.case,
+        first: first_line(spanned_source, number, tokens, place).max(call.first),
         result,
         outer,
         paths,
-        block,
-        ..span_of_found(spanned_source, number, tokens, place, found)
+        formal: slice_of(tokens_at(tokens, call.name, usize::from(call.name > 0))),
+        is_passed: call.is_passed,
+        block: block_in(&spanned_source.source, unit, tokens, offending, call.case),
+        below: below.filter(|slice| slice.line != line_at(tokens.first())),
+        ..span_at(tokens, number, on_line(tokens, offending))
     }
 }
 

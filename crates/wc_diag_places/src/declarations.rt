@@ -3,7 +3,10 @@ ghost use Rattle.std.specs.List.{position_or_len};
 ghost use Rattle.wc_diag_places.specs.LaterSpans.{unit_number};
 ghost use Rattle.wc_model.specs.Language.Views.{text_view};
 
+use crate::operand_tokens::is_listed;
+use wc_diag_stops::Slice;
 use wc_diag_texts::Case;
+use wc_lexer::Token;
 use wc_model::{MOST_VARIABLES, Source, Unit, Word};
 
 /// Where a word is, if it is this name and is before a place.
@@ -60,4 +63,31 @@ pub(crate) fn first_of_two(source: &Source<'_>, number: u16, name: &[u8], at: u3
         406 | 407 => lines.find_map(|line| place_before(line.label.as_ref()?, name, at)),
         _ => None,
     }
+}
+
+/// The type of the instance to which a slice of an instruction refers, that of a field or of the call, if its declaration names
+/// it; each line of the tree is a place.
+pub(crate) fn block_in<'a>(
+    source: &Source<'a>,
+    unit: usize,
+    tokens: &[Token<'a>],
+    operand: &[Token<'a>],
+    case: Case,
+) -> Option<Slice> {
+    let instance = match case {
+        Case::Field | Case::Instance => *operand.first()?,
+        _ if is_listed(tokens) => *tokens.get(1)?,
+        _ if operand.len() > 1 => *operand.first()?,
+        _ => return None,
+    };
+    let mut declarations = source.units.get(unit)?.declarations.iter();
+    let declaration = declarations.find(|declaration| {
+        let mut names = declaration.names.iter();
+        names.any(|word| word.text.eq_ignore_ascii_case(instance.text))
+    })?;
+    Some(Slice {
+        start: declaration.type_name.line as usize,
+        length: declaration.type_name.text.len(),
+        line: 0,
+    })
 }
