@@ -1,5 +1,5 @@
 -- Which of the program's commands the arguments ask for. (No rule of the language.)
-use Rattle.std.specs.Prelude.{◌≡◌, ◌×◌, ◌≤◌, false, Option, Some, None, IfSome, option_map, Unit}
+use Rattle.std.specs.Prelude.{◌≡◌, ◌≤◌, false, Option, Some, None, IfSome, option_map}
 use Rattle.wc_arguments.specs.Asked.{Asked, asked, format_asked, line, run, show, texts_of, trace}
 use Rattle.wc.specs.declared.commands.Observed.{Observed}
 use Rattle.wc.specs.declared.commands.Observed.TheVariants.{Scans, Watched, Traced, Drawn}

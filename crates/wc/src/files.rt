@@ -75,7 +75,7 @@ pub(crate) struct RunPaths<'a> {
 impl<'a> RunPaths<'a> {
     /// The paths of a run with no program.
     pub(crate) fn alone(plate: &'a str, log: &'a str) -> RunPaths<'a>
-        ensures { result ≡ record { plate = plate; program = None; next = None; log = log } }
+        ensures { result ≡ record { plate = plate.entry; program = None; next = None; log = log.entry } }
     {
         RunPaths {
             plate,
@@ -87,7 +87,12 @@ impl<'a> RunPaths<'a> {
 
     /// The paths of a run with a program.
     pub(crate) fn with_program(plate: &'a str, files: ProgramFiles<'a>) -> RunPaths<'a>
-        ensures { result ≡ record { plate = plate; program = Some files.program; next = files.next; log = files.log } }
+        ensures { result ≡ record {
+          plate = plate.entry;
+          program = Some files.entry.program;
+          next = files.entry.next;
+          log = files.entry.log;
+        } }
     {
         RunPaths {
             plate,
