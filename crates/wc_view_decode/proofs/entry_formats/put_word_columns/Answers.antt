@@ -2,7 +2,7 @@ use Rattle.std.proofs.Common.{◌≡◌, codes, length, pos, arith}
 use Rattle.std.proofs.lemmas.Grind.{common_steps}
 use Rattle.std.proofs.lemmas.Result.{on_ok_weaker}
 use Rattle.wc_view_decode.proofs.RowTexts.{four_words}
-use Rattle.wc_view_decode.proofs.row_formats.put_word_columns.Goals as goal
+use Rattle.wc_view_decode.proofs.entry_formats.put_word_columns.Goals as goal
 
 pub returns : goal.returns
 returns c =

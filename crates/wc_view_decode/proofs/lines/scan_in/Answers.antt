@@ -3,7 +3,7 @@ use Rattle.wc_view_decode.proofs.CutLines.{scan_fields}
 use Rattle.wc_view_decode.proofs.Digits.{decimal_is_field, hex_is_field}
 use Rattle.wc_view_decode.specs.Fields.{words_text}
 use Rattle.wc_model.specs.Run.Hex.{hex_of_word}
-use Rattle.wc_view_decode.proofs.scans.scan_in.Goals as goal
+use Rattle.wc_view_decode.proofs.lines.scan_in.Goals as goal
 
 pub returns-clause-scan : goal.returns-clause-scan
 returns-clause-scan c ms steps outputs (below, few, word, are) e =

@@ -1,7 +1,7 @@
 use Rattle.std.proofs.Common.{◌∙◌, ◌++◌, ◌∷◌, [], codes, decimal, lit≤, lit<, refl, arith}
 use Rattle.wc_view_decode.proofs.CutLines.{refusal_fields}
 use Rattle.wc_view_decode.proofs.Digits.{decimal_is_field, known_below}
-use Rattle.wc_view_decode.proofs.refusals.refusal_in.Goals as goal
+use Rattle.wc_view_decode.proofs.lines.refusal_in.Goals as goal
 
 pub returns-clause-refusal : goal.returns-clause-refusal
 returns-clause-refusal c number place (short, small) e =

@@ -1,7 +1,7 @@
 use Rattle.std.proofs.lemmas.Int.{to_z-of_z}
 use Rattle.wc_view_decode.proofs.CutLines.{words_cut}
 use mir.Syntax.{w32}
-use Rattle.wc_view_decode.proofs.scans.words_in.Goals as goal
+use Rattle.wc_view_decode.proofs.lines.words_in.Goals as goal
 
 pub returns-clause-words : goal.returns-clause-words
 returns-clause-words c words are e =
