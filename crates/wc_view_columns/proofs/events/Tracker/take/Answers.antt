@@ -4,7 +4,7 @@ use Rattle.std.specs.Prelude.{option_map}
 use Rattle.wc_model.specs.Instrument.Requests.{requests_in}
 use Rattle.wc_sma.specs.Seen.{command_view}
 use Rattle.wc_view_columns.proofs.Followed.{one_followed}
-use Rattle.wc_view_columns.proofs.requests.Tracker.take.Goals as goal
+use Rattle.wc_view_columns.proofs.events.Tracker.take.Goals as goal
 
 pub returns-clause-followed : goal.returns-clause-followed
 returns-clause-followed c = λ before texts read so.

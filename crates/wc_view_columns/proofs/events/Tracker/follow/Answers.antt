@@ -4,7 +4,7 @@ use Rattle.wc_laws_instrument.proofs.Requests.{requests_in_again}
 use Rattle.wc_view_columns.specs.Followed.{HasFollowed}
 use Rattle.wc_model.specs.Instrument.Requests.{requests_in}
 use Rattle.wc_sma.specs.Representation.{HasRead}
-use Rattle.wc_view_columns.proofs.requests.Tracker.follow.Goals as goal
+use Rattle.wc_view_columns.proofs.events.Tracker.follow.Goals as goal
 
 pub loop-byte-preserved : goal.loop-byte-preserved
 loop-byte-preserved c =

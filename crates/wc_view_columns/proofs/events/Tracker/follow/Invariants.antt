@@ -2,7 +2,7 @@ use Rattle.std.proofs.Common.{◌≤◌, ℕ, List, ◌++◌, length, take}
 use Rattle.wc_model.specs.Instrument.Requests.{requests_in}
 use Rattle.wc_sma.specs.Representation.{HasRead}
 use Rattle.wc_view_columns.specs.Followed.{HasFollowed}
-use Rattle.wc_view_columns.proofs.requests.Tracker.follow.Given as goal
+use Rattle.wc_view_columns.proofs.events.Tracker.follow.Given as goal
 
 -- the bytes so far are followed
 abbrev pub invariant-loop-byte : goal.invariant-loop-byte
