@@ -1,7 +1,7 @@
 use Rattle.std.proofs.Common.{◌≡◌, drop}
 use Rattle.wc_model.specs.Language.Names.{name_of}
 use Rattle.wc_view_changes.proofs.Initials.{initial_in}
-use Rattle.wc_view_changes.proofs.other.literal_in.Given as goal
+use Rattle.wc_view_changes.proofs.shape.literal_in.Given as goal
 
 -- none of the declarations so far has it
 abbrev pub invariant-loop-declaration : goal.invariant-loop-declaration

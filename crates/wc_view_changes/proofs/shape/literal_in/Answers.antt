@@ -5,7 +5,7 @@ use Rattle.wc_model.specs.declared.source.Decl.{Decl}
 use Rattle.wc_model.specs.declared.source.Initial.{Initial}
 use Rattle.wc_names.proofs.Lists.{from_index}
 use Rattle.wc_view_changes.proofs.Initials.{has_word, initial_in, one_initial}
-use Rattle.wc_view_changes.proofs.other.literal_in.Goals as goal
+use Rattle.wc_view_changes.proofs.shape.literal_in.Goals as goal
 
 -- the declaration of that number has it, or those after it
 next : (name : Name) (all ds : List Decl) (i : ℕ) (d : Decl) (has : Bool) → initial_in name all ≡ initial_in name (drop i ds) → i < length ds → d ≡ get_or ds i d → has ≡ has_word name d.names.items
