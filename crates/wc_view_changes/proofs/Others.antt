@@ -55,10 +55,10 @@ pub found_there : (text : Text) (unit : Option ℕ) (side : Option Scope) (name 
 found_there text unit side name declared h e = ap (option_and_then (found_numbered text (side_initial side name))) e ∙ side_numbered text unit side name h
 
 -- how it is spelled
-pub spelled_there : (text : Text) (unit : Option ℕ) (side : Option Scope) (name : Name) (declared type : DeclaredType) → IsSide text unit side → Some declared ≡ numbered_side side name → declared ≡ type
-    → option_map (λ f. f.type) (found_numbered text (side_initial side name) type) ≡ option_map (λ f. f.type) (side_found side (name ∷ []))
+pub spelled_there : (text : Text) (unit : Option ℕ) (side : Option Scope) (name : Name) (declared : Option DeclaredType) (type : DeclaredType) → IsSide text unit side → declared ≡ numbered_side side name
+    → declared ≡ Some type → option_map (λ f. f.type) (found_numbered text (side_initial side name) type) ≡ option_map (λ f. f.type) (side_found side (name ∷ []))
 spelled_there text unit side name declared type h e is =
-    ap (λ d. option_map (λ (f : Found). f.type) (found_numbered text (side_initial side name) d)) (sym is) ∙ ap (option_map (λ (f : Found). f.type)) (found_there text unit side name (Some declared) h e)
+    ap (option_map (λ (f : Found). f.type)) (ap (option_and_then (found_numbered text (side_initial side name))) (sym is) ∙ found_there text unit side name declared h e)
 
 -- it is one of what has a line
 pub line_there : (text : Text) (unit : Option ℕ) (side : Option Scope) (name : Name) (declared : Option DeclaredType) → IsSide text unit side → declared ≡ numbered_side side name

@@ -5,13 +5,14 @@ ghost use Rattle.wc_model.specs.Language.Views.{text_view};
 ghost use Rattle.wc_model.specs.declared.source.Initial.{Initial};
 ghost use Rattle.wc_model.specs.declared.source.Unit.{Unit as CodeUnit};
 ghost use Rattle.wc_view_changes.specs.ChangeReport.{note_on, pass_text};
-ghost use Rattle.wc_view_changes.specs.Shapes.{Puts, shape_view, has_shape};
+ghost use Rattle.wc_view_changes.specs.Shapes.{shape_view, has_shape};
 ghost use Rattle.wc_view_changes.specs.Shown.{declared_in, declared_of};
 ghost use Rattle.wc_view_changes.specs.Sides.{IsAt, IsSide, lines_between, numbered_side, side_found, variable_lines};
 
 use crate::lines::{put_first, put_kept, put_lost, put_note};
-use crate::other::{is_line, literal_of, other_literal, other_type, type_text, unit_of};
-use crate::shape::{Shape, first_value, is_kept};
+use crate::shape::{
+    Shape, first_value, is_kept, is_line, literal_of, other_literal, other_type, type_text, unit_of,
+};
 use wc_model::{Decl, Fault, Value, put_bytes};
 use wc_names::DeclaredType;
 use wc_verify::Checked;
@@ -55,14 +56,6 @@ struct Counterpart {
     declared: Option<DeclaredType>,
 }
 
-/// Puts one more name and a dot after the names that have led so far.
-fn go_into(names: &mut Vec<u8>, name: &[u8]) -> Result<(), Fault>
-    ensures { Puts names.old names.new result (name.now ++ (46 ∷ [])) }
-{
-    put_bytes(names, name)?;
-    put_bytes(names, b".")
-}
-
 /// Puts the note on a variable that keeps its value, if its first one is another than before.
 fn describe_first(
     out: &mut Vec<u8>,
@@ -96,31 +89,28 @@ fn describe_first(
 fn describe_shape(
     out: &mut Vec<u8>,
     texts: Texts<'_, '_, '_, '_>,
-    prefix: &[u8],
-    name: &[u8],
+    path: (&[u8], &[u8]),
     shape: Shape,
     there: Counterpart,
 ) -> Result<(), Fault>
     ensures line { OnOk result ((side : Option Scope)
         → IsSide (text_view texts.entry.other.now.source) there.unit side
-        → there.declared ≡ numbered_side side (name_of name.now)
+        → there.declared ≡ numbered_side side (name_of path.entry.1.now)
         → out.new.items ≡ out.old.items
         ++ pass_text texts.entry.pass (has_shape there.declared (shape_view shape))
-        (prefix.now ++ name.now) (shape_view shape)
-        (side_found side (name_of name.now ∷ []))) }
+        (path.entry.0.now ++ path.entry.1.now) (shape_view shape)
+        (side_found side (name_of path.entry.1.now ∷ []))) }
     ensures memory { IsOkUnless result Fault.Memory }
 {
     match texts.pass {
-        Pass::New if is_kept(shape, there.declared) => put_kept(out, prefix, name),
+        Pass::New if is_kept(shape, there.declared) => put_kept(out, path),
         Pass::New => {
             let was = type_text(texts.other, there.declared);
-            put_first(out, prefix, name, shape, was)
+            put_first(out, path, shape, was)
         }
         Pass::Old if is_line(there.declared) => Ok(()),
-        Pass::Old => put_lost(out, prefix, name, shape),
-        Pass::Notes(as_objects) => {
-            describe_first(out, texts, as_objects, (prefix, name), shape, there)
-        }
+        Pass::Old => put_lost(out, path, shape),
+        Pass::Notes(as_objects) => describe_first(out, texts, as_objects, path, shape, there),
     }
 }
 
@@ -156,11 +146,11 @@ fn describe_variable(
     match located.declared {
         DeclaredType::Elementary(kind) => {
             let shape = Shape::Plain(kind, first_value(kind, literal));
-            describe_shape(out, texts, names.as_slice(), name, shape, there)
+            describe_shape(out, texts, (names.as_slice(), name), shape, there)
         }
         DeclaredType::Standard(block) => {
             let shape = Shape::Instance(block);
-            describe_shape(out, texts, names.as_slice(), name, shape, there)
+            describe_shape(out, texts, (names.as_slice(), name), shape, there)
         }
         DeclaredType::Block(block) => {
             // A block precedes the unit that has its instance, so only what has no place is passed over.
@@ -168,7 +158,8 @@ fn describe_variable(
                 return Ok(());
             }
             let length = names.len();
-            go_into(names, name)?;
+            put_bytes(names, name)?;
+            put_bytes(names, b".")?;
             let inner = UnitPair {
                 unit: block,
                 other: unit_of(there.declared),

@@ -4,7 +4,6 @@
 
 mod describing;
 mod lines;
-mod other;
 mod report;
 mod shape;
 

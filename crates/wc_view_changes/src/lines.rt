@@ -1,7 +1,7 @@
 ghost use Rattle.std.specs.Prelude.{◌≡◌, ◌++◌, ◌∷◌, [], ℕ, List, Option, Some, OnOk, IsOkUnless, true, false, codes, option_map};
 ghost use Rattle.std.specs.Fmt.{signed_decimal};
 ghost use Rattle.wc_model.specs.Language.Store.{Plain};
-ghost use Rattle.wc_view_changes.specs.ChangeReport.{content_text, line_text, lost_text, note_on, note_text, reason_text, same_content};
+ghost use Rattle.wc_view_changes.specs.ChangeReport.{content_text, line_text, lost_text, note_on, note_text, reason_text};
 ghost use Rattle.wc_view_changes.specs.ChangeReport as texts;
 ghost use Rattle.wc_model.specs.Language.Frames.{content_number};
 ghost use Rattle.wc_model.specs.Language.Scopes.{kind_of};
@@ -82,37 +82,38 @@ fn put_reason(out: &mut Vec<u8>, old_type: Option<&[u8]>) -> Result<(), Fault>
 }
 
 /// Puts what a line says first, and the names of its variable.
-fn put_names(out: &mut Vec<u8>, word: &[u8], prefix: &[u8], name: &[u8]) -> Result<(), Fault>
-    ensures { Puts out.old out.new result (word.now ++ (prefix.now ++ name.now)) }
+fn put_names(out: &mut Vec<u8>, word: &[u8], path: (&[u8], &[u8])) -> Result<(), Fault>
+    ensures { Puts out.old out.new result
+        (word.now ++ (path.entry.0.now ++ path.entry.1.now)) }
 {
     put_bytes(out, word)?;
-    put_bytes(out, prefix)?;
-    put_bytes(out, name)
+    put_bytes(out, path.0)?;
+    put_bytes(out, path.1)
 }
 
 /// Puts the line of a variable that keeps its value.
-pub(crate) fn put_kept(out: &mut Vec<u8>, prefix: &[u8], name: &[u8]) -> Result<(), Fault>
+pub(crate) fn put_kept(out: &mut Vec<u8>, path: (&[u8], &[u8])) -> Result<(), Fault>
     ensures line { (shape : shown.Shape) (old : Option (List ℕ)) → OnOk result
-        (out.new.items ≡ out.old.items ++ line_text true (prefix.now ++ name.now) shape old) }
+        (out.new.items ≡ out.old.items
+        ++ line_text true (path.entry.0.now ++ path.entry.1.now) shape old) }
     ensures memory { IsOkUnless result Fault.Memory }
 {
-    put_names(out, b"kept ", prefix, name)?;
+    put_names(out, b"kept ", path)?;
     put_bytes(out, b"\n")
 }
 
 /// Puts the line of a variable that begins with its first value.
 pub(crate) fn put_first(
     out: &mut Vec<u8>,
-    prefix: &[u8],
-    name: &[u8],
+    path: (&[u8], &[u8]),
     shape: Shape,
     old_type: Option<&[u8]>,
 ) -> Result<(), Fault>
     ensures { Puts out.old out.new result
-        (line_text false (prefix.now ++ name.now) (shape_view shape)
+        (line_text false (path.entry.0.now ++ path.entry.1.now) (shape_view shape)
         (option_map (λ spelled. spelled.now) old_type.entry)) }
 {
-    put_names(out, b"first ", prefix, name)?;
+    put_names(out, b"first ", path)?;
     put_bytes(out, b" ")?;
     put_shape(out, shape)?;
     put_bytes(out, b" ")?;
@@ -120,31 +121,14 @@ pub(crate) fn put_first(
 }
 
 /// Puts the line of a variable of the old program that is lost.
-pub(crate) fn put_lost(
-    out: &mut Vec<u8>,
-    prefix: &[u8],
-    name: &[u8],
-    shape: Shape,
-) -> Result<(), Fault>
+pub(crate) fn put_lost(out: &mut Vec<u8>, path: (&[u8], &[u8]), shape: Shape) -> Result<(), Fault>
     ensures { Puts out.old out.new result
-        (lost_text false (prefix.now ++ name.now) (shape_view shape)) }
+        (lost_text false (path.entry.0.now ++ path.entry.1.now) (shape_view shape)) }
 {
-    put_names(out, b"lost ", prefix, name)?;
+    put_names(out, b"lost ", path)?;
     put_bytes(out, b" ")?;
     put_bytes(out, shape_type(shape))?;
     put_bytes(out, b"\n")
-}
-
-/// Whether two first values are the same.
-fn is_same(first: Value, before: Value) -> bool
-    ensures { result ≡ same_content (Plain first) (Plain before) }
-{
-    match (first, before) {
-        (Value::Bool(first), Value::Bool(before)) => first == before,
-        (Value::Dint(first), Value::Dint(before)) => first == before,
-        (Value::Time(first), Value::Time(before)) => first == before,
-        _ => false,
-    }
 }
 
 /// Puts bytes, and a value as a literal after them.
@@ -165,7 +149,7 @@ fn put_sentence(
     ensures { Puts out.old out.new result
         (note_text false (path.entry.0.now ++ path.entry.1.now) (Plain first) (Plain before)) }
 {
-    put_names(out, b"note: a change keeps the value of `", path.0, path.1)?;
+    put_names(out, b"note: a change keeps the value of `", path)?;
     put_before(out, b"`; its first value, ", first)?;
     put_before(out, b", is not taken (it was ", before)?;
     put_bytes(out, b")\n")
@@ -181,12 +165,7 @@ fn put_object(
     ensures { Puts out.old out.new result
         (note_text true (path.entry.0.now ++ path.entry.1.now) (Plain first) (Plain before)) }
 {
-    put_names(
-        out,
-        b"{\"severity\":\"note\",\"variable\":\"",
-        path.0,
-        path.1,
-    )?;
+    put_names(out, b"{\"severity\":\"note\",\"variable\":\"", path)?;
     put_before(out, b"\",\"first\":\"", first)?;
     put_before(out, b"\",\"before\":\"", before)?;
     put_bytes(out, b"\"}\n")
@@ -205,7 +184,7 @@ pub(crate) fn put_note(
         (Some (Plain before))) }
     ensures memory { IsOkUnless result Fault.Memory }
 {
-    if is_same(first, before) {
+    if first == before {
         return Ok(());
     }
     if as_objects {

@@ -13,7 +13,7 @@ use Rattle.wc_view_columns.proofs.Totals.{both_together, last_or-append, none_to
 use Rattle.wc_view_columns.specs.Happened.{AreBoth}
 use Rattle.wc_view_columns.specs.Held.{Held, IsStateOf}
 use Rattle.wc_view_columns.specs.Rows.{AreFrom, AreHalved, AreJoined, AreTogether, IsColumnOf, IsPairOf, Row, column_count, column_number, events_of, held_of, holding, left_by, rows_before, rows_of}
-use Rattle.wc_view_columns.specs.declared.columns.Column.{Column}
+use Rattle.wc_view_columns.specs.declared.line.Column.{Column}
 use Rattle.wc_view_columns.specs.declared.state.State.{State}
 
 -- each column is of its rows

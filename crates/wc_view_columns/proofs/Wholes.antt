@@ -3,7 +3,7 @@ use Rattle.std.proofs.Common.{◌≡◌, ℕ, zero, suc, ◌+◌, ◌<◌, List,
 use Rattle.std.proofs.lemmas.List.Concat.{flat_map-append}
 use Rattle.std.specs.List.{flat_map}
 use Rattle.wc_view_columns.specs.Columns.{AreOf, IsOfAll}
-use Rattle.wc_view_columns.specs.declared.columns.Column.{Column}
+use Rattle.wc_view_columns.specs.declared.line.Column.{Column}
 
 -- the rows of the column at a place, and the times up to it
 next_of : {X : Type 0} (R : List X → Column → Type 0) (times : List (List X)) (columns : List Column) (i : ℕ) (other : Column) → AreOf R times columns → i < length columns

@@ -7,7 +7,7 @@ use Rattle.wc_view_columns.specs.declared.bits.Level.{Level}
 use Rattle.wc_view_columns.specs.declared.bits.Level.TheVariants.{Low, Both, High}
 use Rattle.wc_view_columns.specs.Held.{Held, IsStateOf}
 use Rattle.wc_view_columns.specs.Rows.{AreTogether}
-use Rattle.wc_view_columns.specs.declared.columns.Column.{Column}
+use Rattle.wc_view_columns.specs.declared.line.Column.{Column}
 use Rattle.wc_view_columns.specs.declared.events.Events.{Events}
 use Rattle.wc_view_columns.specs.declared.lanes.Lane.{Lane}
 use Rattle.wc_view_columns.specs.declared.lanes.Lane.TheVariants.{Motion, Over, Under, Invalid, Input, Output}

@@ -4,7 +4,7 @@ use Rattle.std.specs.Option.{option_map_or}
 use Rattle.wc_view_columns.specs.Columns.{bit_level}
 use Rattle.wc_view_columns.specs.declared.bits.Level.{Level}
 use Rattle.wc_view_columns.specs.declared.bits.Level.TheVariants.{Low, Both, High}
-use Rattle.wc_view_columns.specs.declared.columns.Column.{Column}
+use Rattle.wc_view_columns.specs.declared.line.Column.{Column}
 use Rattle.wc_view_columns.specs.declared.lanes.Lane.{Lane}
 use Rattle.wc_view_columns.specs.declared.lanes.Lane.TheVariants.{Motion, Over, Under, Invalid, Requests, Input, Output, Word, Variable, Scans}
 

@@ -4,7 +4,7 @@ use Rattle.std.specs.List.{filter_map, fold, last_or, sum_by}
 use Rattle.std.specs.Option.{option_to_list}
 use Rattle.wc_view_columns.specs.Happened.{AreBoth, counted}
 use Rattle.wc_view_columns.specs.Held.{Held, IsStateOf}
-use Rattle.wc_view_columns.specs.declared.columns.Column.{Column}
+use Rattle.wc_view_columns.specs.declared.line.Column.{Column}
 use Rattle.wc_view_columns.specs.declared.events.Events.{Events}
 use Rattle.wc_view_columns.specs.declared.state.State.{State}
 

@@ -1,8 +1,8 @@
 -- The columns of all rows so far. (The profile's own.)
-use Rattle.std.specs.Prelude.{◌≡◌, ℕ, ◌<◌, List, [], ◌∷◌, Option, Some, None, length, get_or}
+use Rattle.std.specs.Prelude.{◌≡◌, ℕ, ◌<◌, ◌≤◌, ◌⊎◌, List, [], ◌∷◌, Option, Some, None, length, get_or}
 use Rattle.wc_view_columns.specs.Held.{Held, IsStateOf}
-use Rattle.wc_view_columns.specs.Rows.{IsColumnOf, Row, column_count, left_by}
-use Rattle.wc_view_columns.specs.declared.columns.Column.{Column}
+use Rattle.wc_view_columns.specs.Rows.{AreFrom, IsColumnOf, Row, column_count, column_number, left_by}
+use Rattle.wc_view_columns.specs.declared.line.Column.{Column}
 use Rattle.wc_view_columns.specs.declared.line.TimeLine.{TimeLine}
 use Rattle.wc_view_columns.specs.declared.state.State.{State}
 
@@ -15,6 +15,14 @@ pub record AreColumns (rows : List Row) (line : TimeLine) : Type 0 where
   pub count : length line.columns.items ≡ column_count line.start line.power rows
   pub each : (i : ℕ) (other : Column) → i < length line.columns.items
       → IsColumnOf line.start line.power i rows (get_or line.columns.items i other)
+
+-- the columns of some rows are theirs still
+abbrev pub KeepsColumns : TimeLine → TimeLine → Type 0
+KeepsColumns old new = (rows : List Row) → AreFrom old.start rows → AreColumns rows old → AreColumns rows new
+
+-- columns are wider than before only as far as this time needs it
+abbrev pub IsAsNarrow : ℕ → TimeLine → TimeLine → Type 0
+IsAsNarrow ms old new = (power : ℕ) → power < new.power → (power < old.power) ⊎ (720 ≤ column_number old.start power ms)
 
 -- the time of the first row, if there is one
 abbrev pub IsStart : List Row → ℕ → Type 0

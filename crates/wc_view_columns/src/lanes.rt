@@ -2,12 +2,12 @@ ghost use Rattle.std.specs.Prelude.{◌≡◌, ◌++◌, [], ◌∷◌, not, fil
 ghost use Rattle.wc_view_columns.specs.Columns.{AreOf, HasHappened, HasHeld, IsLevelOf, IsOfAll, IsWholeOf, level_of};
 ghost use Rattle.wc_view_columns.specs.Happened.{AreBoth};
 ghost use Rattle.wc_view_columns.specs.Held.{Held, IsStateOf};
-ghost use Rattle.wc_view_columns.specs.Lanes.{all_lanes, is_both, is_shown};
-ghost use Rattle.wc_view_columns.specs.declared.columns.Column.{Column};
+ghost use Rattle.wc_view_columns.specs.Lanes.{all_lanes, is_shown};
+ghost use Rattle.wc_view_columns.specs.declared.line.Column.{Column};
 ghost use Rattle.wc_view_columns.specs.declared.events.Events.{Events};
 
 use crate::bits::Level;
-use crate::columns::Column;
+use crate::line::Column;
 use Lane::{Input, Invalid, Motion, Output, Over, Requests, Scans, Under, Variable, Word};
 use std::alloc::{AllocError, Global};
 
@@ -37,16 +37,6 @@ fn level_of(is_so: bool) -> Level
     if is_so { Level::High } else { Level::Low }
 }
 
-/// Whether something was both so and not so.
-fn is_both(level: Level) -> bool
-    ensures { result ≡ is_both level }
-{
-    match level {
-        Level::Both => true,
-        Level::Low | Level::High => false,
-    }
-}
-
 impl Lane {
     /// What it is in a column, if it has two values.
     pub fn level(self, column: &Column) -> Level
@@ -73,8 +63,8 @@ impl Lane {
             Lane::Under => all.state.under,
             Lane::Invalid => all.state.invalid,
             Lane::Requests => all.events.requests != 0,
-            Lane::Input(number) => is_both(all.state.inputs.level(number)),
-            Lane::Output(number) => is_both(all.state.outputs.level(number)),
+            Lane::Input(number) => matches!(all.state.inputs.level(number), Level::Both),
+            Lane::Output(number) => matches!(all.state.outputs.level(number), Level::Both),
             Lane::Word(number) => match all.state.words.get(number) {
                 Some(word) => word.varies(),
                 None => false,

@@ -3,20 +3,16 @@
 #![tactic(auto)]
 
 mod bits;
-mod columns;
 mod events;
 mod lanes;
 mod line;
-mod requests;
 mod span;
 mod state;
 mod time_line;
 
 pub use bits::{Bits, Level};
-pub use columns::Column;
-pub use events::{Events, Request};
+pub use events::{Events, Request, Tracker};
 pub use lanes::{Lane, lanes_of, whole};
-pub use line::{COLUMNS, TimeLine};
-pub use requests::Tracker;
+pub use line::{COLUMNS, Column, TimeLine};
 pub use span::{Span, join};
 pub use state::State;

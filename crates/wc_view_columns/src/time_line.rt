@@ -1,10 +1,9 @@
-ghost use Rattle.std.specs.Prelude.{◌≡◌, ◌≤◌, ◌<◌, ◌+◌, ◌-◌, ◌^◌, ◌⊎◌, ℕ, List, [], ◌∷◌, ◌++◌, IfOk, length, replicate, vec_capacity};
+ghost use Rattle.std.specs.Prelude.{◌≡◌, ◌≤◌, ◌<◌, ◌+◌, ◌-◌, ◌^◌, List, [], ◌∷◌, ◌++◌, IfOk, length, replicate, vec_capacity};
 ghost use Rattle.wc_view_columns.specs.Held.{Held, IsStateOf};
 ghost use Rattle.wc_view_columns.specs.Rows.{AreFrom, AreHalved, IsPairOf, Row, column_number, holding, left_by};
-ghost use Rattle.wc_view_columns.specs.TimeLines.{AreColumns, IsTimeLineOf, row_at};
+ghost use Rattle.wc_view_columns.specs.TimeLines.{AreColumns, IsAsNarrow, IsTimeLineOf, KeepsColumns, row_at};
 
-use crate::columns::Column;
-use crate::line::{COLUMNS, TimeLine};
+use crate::line::{COLUMNS, Column, TimeLine};
 use crate::state::State;
 use std::alloc::{AllocError, Global};
 
@@ -91,8 +90,7 @@ impl TimeLine {
     /// Makes the columns twice as wide.
     fn halve(&mut self)
         requires { self.old.power < 63 }
-        ensures columns { (rows : List Row) → AreFrom self.old.start rows
-            → AreColumns rows self.old → AreColumns rows self.new }
+        ensures columns { KeepsColumns self.old self.new }
         ensures power { self.new.power ≡ self.old.power + 1 }
         ensures start { self.new.start ≡ self.old.start }
     {
@@ -102,11 +100,9 @@ impl TimeLine {
 
     /// Makes the columns so wide that a time has one.
     fn reach(&mut self, ms: u64)
-        ensures columns { (rows : List Row) → AreFrom self.old.start rows
-            → AreColumns rows self.old → AreColumns rows self.new }
+        ensures columns { KeepsColumns self.old self.new }
         ensures within { column_number self.new.start self.new.power ms < 720 }
-        ensures power { (p : ℕ) → p < self.new.power
-            → (p < self.old.power) ⊎ (720 ≤ column_number self.old.start p ms) }
+        ensures power { IsAsNarrow ms self.old self.new }
         ensures start { self.new.start ≡ self.old.start }
     {
         while self.number(ms) >= COLUMNS as u64 {
@@ -133,8 +129,7 @@ impl TimeLine {
             → AreFrom self.old.start (rows ++ (row_at ms after row.now ∷ []))
             → IsStateOf (left_by rows) held.now → IsStateOf (after ∷ []) row.now.state
             → AreColumns (rows ++ (row_at ms after row.now ∷ [])) self.new }
-        ensures power { (p : ℕ) → p < self.new.power
-            → (p < self.old.power) ⊎ (720 ≤ column_number self.old.start p ms) }
+        ensures power { IsAsNarrow ms self.old self.new }
         ensures start { self.new.start ≡ self.old.start }
     {
         self.reach(ms);

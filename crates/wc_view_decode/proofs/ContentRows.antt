@@ -1,7 +1,11 @@
 -- What a line with answers says.
-use Rattle.std.proofs.Common.{◌≡◌, ◌<◌, ◌^◌, ℕ, List, length, Option, Some, None, Result, Ok, Err, IfOk, option_map, slice_index, sym, ap, ◌∙◌, arith}
+use Rattle.std.proofs.Common.{◌≡◌, ◌<◌, ◌^◌, ℕ, List, [], ◌∷◌, ◌++◌, decimal, lit<, lit≤, length, Option, Some, None, Result, Ok, Err, IfOk, option_map, slice_index, sym, ap, ◌∙◌, arith}
 use Rattle.hex.specs.Hex.{IsBytes}
 use Rattle.wc_view_decode.proofs.ByteLists.{answers_are_bytes}
+use Rattle.wc_view_decode.proofs.CutLines.{answer_fields}
+use Rattle.wc_view_decode.proofs.Digits.{decimal_is_field, hex_is_field}
+use Rattle.wc_model.specs.Run.Hex.{hex_of_bytes}
+use Rattle.wc_view_decode.specs.Fields.{CutsField}
 use Rattle.wc_view_decode.specs.AnswerBytes.{AreAllAnswers, bytes_of_answers}
 use Rattle.wc_view_decode.specs.Lines.{AreContentOf, InRange, IsContentOf, LineContent, AnswersContent, RefusalContent, ScanContent, content_text}
 use Rattle.wc_view_decode.specs.declared.answer.Answer.{Answer}
@@ -10,6 +14,15 @@ use Rattle.wc_model.specs.Say.Report.{AnswerLine, line_text}
 -- the line is that of this moment and these bytes if it is any
 abbrev pub IsOnlyRow : List ℕ → ℕ → List ℕ → Type 0
 IsOnlyRow line ms bytes = (m : ℕ) (bs : List ℕ) → m < 2 ^ 40 → IsBytes bs → line ≡ line_text (AnswerLine m bs) → (ms ≡ m) × (bytes ≡ bs)
+
+-- what is cut out of a line is such a row
+pub row_cut : (line f1 r1 f2 r2 f3 r3 : List ℕ) (ms : ℕ) (bytes : List ℕ) → CutsField line f1 r1 → CutsField r1 f2 r2 → CutsField r2 f3 r3
+    → ((n : ℕ) → n < 2 ^ 40 → f2 ≡ decimal n → ms ≡ n) → ((bs : List ℕ) → IsBytes bs → f3 ≡ hex_of_bytes bs → bytes ≡ bs) → IsOnlyRow line ms bytes
+row_cut line f1 r1 f2 r2 f3 r3 ms bytes cut1 cut2 cut3 moment digits m bs below are e =
+    let p1 = cut1 (76 ∷ []) (decimal m ++ 32 ∷ (hex_of_bytes bs ++ 10 ∷ [])) 32 (lit< tt, tt) (lit≤ tt) (e ∙ answer_fields m bs) in
+    let p2 = cut2 (decimal m) (hex_of_bytes bs ++ 10 ∷ []) 32 (decimal_is_field m (omega (arith, below))) (lit≤ tt) p1.1 in
+    let p3 = cut3 (hex_of_bytes bs) [] 10 (hex_is_field bs) (lit≤ tt) p2.1 in
+    (moment m below p2.0, digits bs are p3.0)
 
 -- whatever else a line that starts with L says, it is the same
 only_content : (line bytes : List ℕ) (ms : ℕ) (answers : List Answer) → slice_index line 0 ≡ 76 → IsOnlyRow line ms bytes

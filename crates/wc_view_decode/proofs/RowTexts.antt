@@ -1,9 +1,9 @@
 -- Texts that are put together part by part.
-use Rattle.std.proofs.Common.{◌≡◌, ◌+◌, ◌==◌, ℕ, Bool, false, if◌then◌else◌, codes, suc, ℤ, List, [], ◌∷◌, ◌++◌, length, get_or, refl, sym, ap, ◌∙◌, arith, rules}
+use Rattle.std.proofs.Common.{◌≡◌, ◌+◌, ℕ, suc, ℤ, List, [], ◌∷◌, ◌++◌, length, get_or, refl, ap, ◌∙◌, arith, rules}
 use Rattle.std.proofs.lemmas.List.{append_assoc, append-nil}
-use Rattle.std.proofs.lemmas.Bool.{ne_eqb}
 use Rattle.std.specs.Fmt.{signed_decimal}
-use Rattle.wc_view_decode.specs.Formats.{bit_column, bit_name, bits_row, bits_text, named_words, of_bits}
+use Rattle.wc_view_decode.specs.Formats.{bit_text, bits_text, named_words, none_text, of_bits}
+use Rattle.wc_view_decode.specs.declared.format.DecodeFormat.{DecodeFormat}
 
 -- a part more after a text
 pub one_more : (old p q t u : List ℕ) → t ≡ old ++ p → u ≡ t ++ q → u ≡ old ++ (p ++ q)
@@ -17,26 +17,17 @@ two_more old p q r t u e f = one_more old (p ++ q) r (t ++ q) u (one_more old p 
 pub named_more : (old p q s t u : List ℕ) → t ≡ old ++ p → u ≡ t ++ s → s ≡ q → u ≡ old ++ (p ++ q)
 named_more old p q s t u e f g = one_more old p q t u e (f ∙ ap (λ x. t ++ x) g)
 
-if_false : (b : Bool) (p q : List ℕ) → b ≡ false → (if b then p else q) ≡ q
-if_false b p q e = rw e
-
 -- one bit more
 pub bit_more : (of_bit : ℕ → List ℕ) (i : ℕ) (old t u : List ℕ) → t ≡ old ++ of_bits of_bit i → u ≡ t ++ of_bit i → u ≡ old ++ of_bits of_bit (i + 1)
 bit_more of_bit i old t u e f =
     let next : i + 1 ≡ suc i = omega arith in
     rw next (one_more old (of_bits of_bit i) (of_bit i) t u e f)
 
--- the names of all bits that are set, if one is
-pub all_names : (bits n : ℕ) (old text : List ℕ) → ¬ (bits ≡ 0) → n ≡ 16 → text ≡ old ++ of_bits (bit_name bits) n → text ≡ old ++ bits_text bits
+-- all bits
+pub all_bits : (format : DecodeFormat) (bits n : ℕ) (old t text : List ℕ) → n ≡ 16 → t ≡ old ++ none_text format bits
+    → text ≡ t ++ of_bits (bit_text format bits) n → text ≡ old ++ bits_text format bits
 unfolding bits_text
-all_names bits n old text some all e =
-    let names : bits_text bits ≡ of_bits (bit_name bits) 16 = if_false (bits == 0) (codes " none") (of_bits (bit_name bits) 16) (ne_eqb bits 0 some) in
-    e ∙ ap (λ part. old ++ part) (ap (of_bits (bit_name bits)) all ∙ sym names)
-
--- the columns of all bits
-pub all_columns : (bits n : ℕ) (old text : List ℕ) → n ≡ 16 → text ≡ old ++ of_bits (bit_column bits) n → text ≡ old ++ bits_row bits
-unfolding bits_row
-all_columns bits n old text all e = e ∙ ap (λ k. old ++ of_bits (bit_column bits) k) all
+all_bits format bits n old t text all none e = one_more old (none_text format bits) (of_bits (bit_text format bits) 16) t text none (e ∙ ap (λ k. t ++ of_bits (bit_text format bits) k) all)
 
 -- four words, each after its name
 pub four_words : (old t1 t2 t3 t4 n1 n2 n3 n4 : List ℕ) (ws : List ℤ) (d : ℤ) → length ws ≡ 4

@@ -22,26 +22,24 @@ Puts old new result bytes = OnOk result (new.items ≡ old.items ++ bytes) × Is
 abbrev pub is_bit_on : ℕ → ℕ → Bool
 is_bit_on bits i = (bits / 2 ^ i) % 2 == 1
 
--- the name of a bit that is set
-abbrev pub bit_name : ℕ → ℕ → List ℕ
-bit_name bits i = if is_bit_on bits i then codes " %QX0." ++ decimal i else []
+-- for people the name of a bit that is set, in a table the column of each
+abbrev pub bit_text : DecodeFormat → ℕ → ℕ → List ℕ
+bit_text Text bits i = if is_bit_on bits i then codes " %QX0." ++ decimal i else []
+bit_text Table bits i = if is_bit_on bits i then codes ",1" else codes ",0"
 
 -- what is written of each of the first n bits, one after the other
 abbrev pub of_bits : (ℕ → List ℕ) → ℕ → List ℕ
 of_bits of_bit zero = []
 of_bits of_bit (suc i) = of_bits of_bit i ++ of_bit i
 
--- the names of all sixteen that are set, or that there are none
-unfoldable pub bits_text : ℕ → List ℕ
-bits_text bits = if bits == 0 then codes " none" else of_bits (bit_name bits) 16
+-- for people, that no bit is set
+abbrev pub none_text : DecodeFormat → ℕ → List ℕ
+none_text Text bits = if bits == 0 then codes " none" else []
+none_text Table bits = []
 
--- the column of a bit
-abbrev pub bit_column : ℕ → ℕ → List ℕ
-bit_column bits i = if is_bit_on bits i then codes ",1" else codes ",0"
-
--- those of all sixteen
-unfoldable pub bits_row : ℕ → List ℕ
-bits_row bits = of_bits (bit_column bits) 16
+-- what is written of all sixteen
+unfoldable pub bits_text : DecodeFormat → ℕ → List ℕ
+bits_text format bits = none_text format bits ++ of_bits (bit_text format bits) 16
 
 -- words, each after its name
 unfoldable pub named_words : List (List ℕ) → List ℤ → List ℕ
@@ -57,14 +55,14 @@ word_names Table = codes "," ∷ codes "," ∷ codes "," ∷ codes "," ∷ []
 -- a scan for people, up to its words
 abbrev pub scan_prefix : ℕ → ℕ → Outputs → List ℕ
 scan_prefix ms steps outputs =
-    codes "S " ++ decimal ms ++ codes "  " ++ decimal steps ++ codes " steps  on:" ++ bits_text outputs.bits
+    codes "S " ++ decimal ms ++ codes "  " ++ decimal steps ++ codes " steps  on:" ++ bits_text Text outputs.bits
 
 -- the line of a scan
 abbrev pub scan_line : DecodeFormat → ℕ → ℕ → Outputs → List ℕ
 scan_line Text ms steps outputs =
     scan_prefix ms steps outputs ++ named_words (word_names Text) outputs.words ++ (10 ∷ [])
 scan_line Table ms steps outputs =
-    decimal ms ++ codes ",S," ++ decimal steps ++ bits_row outputs.bits ++ named_words (word_names Table) outputs.words
+    decimal ms ++ codes ",S," ++ decimal steps ++ bits_text Table outputs.bits ++ named_words (word_names Table) outputs.words
     ++ codes ",\n"
 
 -- the line of an answer

@@ -1,15 +1,17 @@
 -- The lines of a report, and what each says. (The form is the profile's own.)
-use Rattle.std.specs.Prelude.{◌≡◌, ℕ, ◌^◌, ◌<◌, true, List, [], ◌∷◌, length, Option, Some, None, FitsSigned, ℤ}
+use Rattle.std.specs.Prelude.{◌≡◌, ℕ, ◌^◌, ◌<◌, true, List, [], ◌∷◌, length, Option, Some, None, FitsSigned, ℤ, Result, IfOk, IsOkUnless, option_map}
 use mir.Syntax.{w32}
 use Rattle.wc_view_decode.specs.AnswerBytes.{AreAllAnswers, bytes_of_answers}
 use Rattle.wc_view_decode.specs.declared.answer.Answer.{Answer}
-use Rattle.wc_view_decode.specs.declared.entry.ReportEntry.{ReportEntry}
-use Rattle.wc_view_decode.specs.declared.entry.ReportEntry.TheVariants.{Scan, Answers, Refusal}
-use Rattle.wc_view_decode.specs.declared.entry.RefusalRow.{RefusalRow}
-use Rattle.wc_view_decode.specs.declared.entry.ScanRow.{ScanRow}
+use Rattle.wc_view_decode.specs.declared.answer.ReportEntry.{ReportEntry}
+use Rattle.wc_view_decode.specs.declared.answer.ReportEntry.TheVariants.{Scan, Answers, Refusal}
+use Rattle.wc_view_decode.specs.declared.answer.RefusalRow.{RefusalRow}
+use Rattle.wc_view_decode.specs.declared.answer.ScanRow.{ScanRow}
 use Rattle.wc_diag_texts.specs.Numbers.{is_refusal}
 use Rattle.wc_model.specs.Say.Job.{refused_text}
 use Rattle.wc_model.specs.Say.Report.{AnswerLine, ScanLine, line_text}
+use Rattle.wc_model.specs.declared.fault.Fault.{Fault}
+use Rattle.wc_model.specs.declared.fault.Fault.TheVariants as fault
 use Rattle.wc_model.specs.declared.image.Outputs.{Outputs}
 
 -- what a line says: a scan, the answers to a row, or the refusal at the report's end
@@ -29,7 +31,7 @@ refusal_content row = RefusalContent row.number row.place
 -- what an entry says
 abbrev pub entry_content : ReportEntry → LineContent
 entry_content (Scan row) = scan_content row
-entry_content (Answers row) = AnswersContent row.ms row.answers.items
+entry_content (Answers ms answers) = AnswersContent ms answers.items
 entry_content (Refusal row) = refusal_content row
 
 -- the line that says it: those that a run and a refusal print
@@ -55,6 +57,10 @@ abbrev pub IsContentOf : Option LineContent → List ℕ → Type 0
 IsContentOf (Some reported) line =
     InRange reported × (line ≡ content_text reported) × ((other : LineContent) → InRange other → line ≡ content_text other → reported ≡ other)
 IsContentOf None line = (reported : LineContent) → InRange reported → ¬ (line ≡ content_text reported)
+
+-- so of what is found of a line, or memory is refused
+abbrev pub IsEntryOf : Result (Option ReportEntry) Fault → List ℕ → Type 0
+IsEntryOf result line = IfOk result (λ found. IsContentOf (option_map entry_content found) line) × IsOkUnless result fault.Memory
 
 -- so of the answers of a row alone
 abbrev pub AreContentOf : ℕ → Option LineContent → List ℕ → Type 0

@@ -1,11 +1,13 @@
 -- Where a decoder is in a report.
-use Rattle.std.specs.Prelude.{◌≡◌, ℕ, ◌+◌, ◌<◌, ◌≤◌, Bool, true, false, List, [], ◌++◌, length, Result, OnOk}
+use Rattle.std.specs.Prelude.{◌≡◌, ℕ, ◌+◌, ◌<◌, ◌≤◌, Bool, true, false, List, [], ◌++◌, length, Result, OnOk, IsOkUnless}
 use Rattle.std.specs.List.{AllByRecursion}
 use Rattle.wc_view_decode.specs.Decoding.{AreDecoded, Decodes, IsDecodedLine, longest_line}
 use Rattle.wc_view_decode.specs.Formats.{heading, opening, passed_on}
 use Rattle.wc_view_decode.specs.declared.decoder.Decoder.{Decoder}
 use Rattle.wc_view_decode.specs.declared.format.DecodeFormat.{DecodeFormat}
 use Rattle.wc_model.specs.Run.JobSections.{whole_lines}
+use Rattle.wc_model.specs.declared.fault.Fault.{Fault}
+use Rattle.wc_model.specs.declared.fault.Fault.TheVariants as fault
 
 -- no line feed is among these bytes
 abbrev pub HasNoEnd : List ℕ → Type 0
@@ -32,10 +34,11 @@ pub record IsInState (format : DecodeFormat) (read kept : List ℕ) (is_long : B
 abbrev pub Represents : Decoder → List ℕ → List ℕ → Type 0
 Represents decoder read text = IsInState decoder.format read decoder.line.items decoder.is_long text
 
--- bytes more are taken, and what is written of them is appended to a text
-abbrev pub TakesBytes : {E : Type 0} → Decoder → Decoder → List ℕ → Result Unit E → (old new : List ℕ) → Type 0
+-- bytes more are taken in the same format, and what is written of them is appended to a text, or memory for it is refused
+abbrev pub TakesBytes : Decoder → Decoder → List ℕ → Result Unit Fault → (old new : List ℕ) → Type 0
 TakesBytes before after bytes result old new =
-    OnOk result ((read text : List ℕ) → Represents before read (text ++ old) → Represents after (read ++ bytes) (text ++ new))
+    (after.format ≡ before.format) × IsOkUnless result fault.Memory
+    × OnOk result ((read text : List ℕ) → Represents before read (text ++ old) → Represents after (read ++ bytes) (text ++ new))
 
 -- a line is appended to a text
 abbrev pub PutsLine : {E : Type 0} → DecodeFormat → List ℕ → Result Unit E → (old new : List ℕ) → Type 0

@@ -1,3 +1,4 @@
+use wc_model::{Outputs, Steps};
 use wc_sma::{MassUnit, Status, WeightKind};
 
 /// What an answer with a weight says.
@@ -18,4 +19,28 @@ pub enum Answer {
     Weight(Reading),
     /// The request is not one that the line knows.
     NotUnderstood,
+}
+
+/// The scan of a line.
+#[derive(Clone, Copy)]
+pub(crate) struct ScanRow {
+    pub(crate) ms: u64,
+    pub(crate) steps: Steps,
+    pub(crate) outputs: Outputs,
+}
+
+/// The refusal of a line.
+#[derive(Clone, Copy)]
+pub(crate) struct RefusalRow {
+    pub(crate) number: u16,
+    pub(crate) place: u32,
+}
+
+/// What a line of a report says.
+#[derive(Drop)]
+pub(crate) enum ReportEntry {
+    Scan(ScanRow),
+    /// The time in milliseconds, and the answers.
+    Answers(u64, Vec<Answer>),
+    Refusal(RefusalRow),
 }

@@ -57,11 +57,7 @@ fn spaces_before(weight: &[u8]) -> usize
     ensures spaces { result ≡ prefix_len (λ byte. byte == 32) weight.now }
     ensures within { result ≤ length weight.now }
 {
-    let mut count = 0;
-    'spaces: while count < weight.len() && weight[count] == b' ' {
-        count += 1;
-    }
-    count
+    weight.iter().take_while(|byte| **byte == b' ').count()
 }
 
 /// Appends the words for a weight to a text.

@@ -1,8 +1,7 @@
-ghost use Rattle.std.specs.Prelude.{◌≡◌, ◌≤◌, ◌==◌, ◌∷◌, [], true, false, length, IsOkUnless};
+ghost use Rattle.std.specs.Prelude.{◌≡◌, ◌≤◌, ◌==◌, ◌∷◌, [], false, length, IsOkUnless};
 ghost use Rattle.std.specs.List.{position_or_len};
 ghost use Rattle.wc_view_decode.specs.Decoding.{longest_line, without_end};
-ghost use Rattle.wc_view_decode.specs.Formats.{heading};
-ghost use Rattle.wc_view_decode.specs.Representation.{Finishes, PutsLine, Represents, TakesBytes};
+ghost use Rattle.wc_view_decode.specs.Representation.{Finishes, PutsLine, TakesBytes};
 
 use crate::entry_formats::put_entry;
 use crate::format::DecodeFormat;
@@ -22,35 +21,19 @@ pub(crate) struct Decoder {
     pub(crate) is_long: bool,
 }
 
-/// A decoder that has taken nothing.
-pub(crate) fn new_decoder(alloc: Global, format: DecodeFormat) -> Decoder
-    ensures format { result.format ≡ format }
-    ensures represents { Represents result [] (heading format) }
-{
-    Decoder {
-        format,
-        line: Vec::new(alloc),
-        is_long: false,
-    }
-}
-
 /// The number of bytes before the line feed.
 fn length_before_end(line: &[u8]) -> usize
     ensures before { result ≡ position_or_len (λ byte. byte == 10) line.now }
     ensures within { result ≤ length line.now }
 {
-    let mut count = 0;
-    'line: while count < line.len() && line[count] != b'\n' {
-        count += 1;
-    }
-    count
+    line.iter().take_while(|byte| **byte != b'\n').count()
 }
 
 /// A line without its line feed.
 fn without_end(line: &[u8]) -> &[u8]
     ensures { result.now ≡ without_end line.now }
 {
-    line.split_at(length_before_end(line)).0
+    &line[..length_before_end(line)]
 }
 
 /// Appends what is written for a line to a text.
@@ -63,20 +46,16 @@ fn put_line(
     ensures line { PutsLine format line.now result text.old.items text.new.items }
     ensures memory { IsOkUnless result Fault.Memory }
 {
-    match line_entry(alloc, line) {
-        Ok(Some(entry)) => put_entry(text, format, &entry),
-        Ok(None) => put_unknown(text, format, without_end(line)),
-        Err(fault) => Err(fault),
+    match line_entry(alloc, line)? {
+        Some(entry) => put_entry(text, format, &entry),
+        None => put_unknown(text, format, without_end(line)),
     }
 }
 
 /// Takes the line feed of the current line.
 fn end_line(alloc: Global, decoder: &mut Decoder, text: &mut Vec<u8>) -> Result<(), Fault>
     requires { decoder.old.is_long ≡ false }
-    ensures format { decoder.new.format ≡ decoder.old.format }
-    ensures takes { TakesBytes decoder.old decoder.new (10 ∷ []) result text.old.items
-        text.new.items }
-    ensures memory { IsOkUnless result Fault.Memory }
+    ensures { TakesBytes decoder.old decoder.new (10 ∷ []) result text.old.items text.new.items }
 {
     put_bytes(&mut decoder.line, b"\n")?;
     put_line(alloc, decoder.format, &decoder.line, text)?;
@@ -89,10 +68,7 @@ fn begin_long(decoder: &mut Decoder, byte: u8, text: &mut Vec<u8>) -> Result<(),
     requires short { decoder.old.is_long ≡ false }
     requires full { length decoder.old.line.items ≡ longest_line }
     requires inside { ¬ (byte ≡ 10) }
-    ensures format { decoder.new.format ≡ decoder.old.format }
-    ensures takes { TakesBytes decoder.old decoder.new (byte ∷ []) result text.old.items
-        text.new.items }
-    ensures memory { IsOkUnless result Fault.Memory }
+    ensures { TakesBytes decoder.old decoder.new (byte ∷ []) result text.old.items text.new.items }
 {
     put_opening(text, decoder.format)?;
     put_passed_on(text, decoder.format, &decoder.line)?;
@@ -102,21 +78,6 @@ fn begin_long(decoder: &mut Decoder, byte: u8, text: &mut Vec<u8>) -> Result<(),
     Ok(())
 }
 
-/// Takes a byte of a line that is too long.
-fn take_of_long(decoder: &mut Decoder, byte: u8, text: &mut Vec<u8>) -> Result<(), Fault>
-    requires { decoder.old.is_long ≡ true }
-    ensures format { decoder.new.format ≡ decoder.old.format }
-    ensures takes { TakesBytes decoder.old decoder.new (byte ∷ []) result text.old.items
-        text.new.items }
-    ensures memory { IsOkUnless result Fault.Memory }
-{
-    if byte == b'\n' {
-        decoder.is_long = false;
-        return put_closing(text, decoder.format);
-    }
-    put_passed(text, decoder.format, byte)
-}
-
 /// Takes a byte of a report.
 fn take_byte(
     alloc: Global,
@@ -124,13 +85,14 @@ fn take_byte(
     byte: u8,
     text: &mut Vec<u8>,
 ) -> Result<(), Fault>
-    ensures format { decoder.new.format ≡ decoder.old.format }
-    ensures takes { TakesBytes decoder.old decoder.new (byte ∷ []) result text.old.items
-        text.new.items }
-    ensures memory { IsOkUnless result Fault.Memory }
+    ensures { TakesBytes decoder.old decoder.new (byte ∷ []) result text.old.items text.new.items }
 {
     if decoder.is_long {
-        return take_of_long(decoder, byte, text);
+        if byte != b'\n' {
+            return put_passed(text, decoder.format, byte);
+        }
+        decoder.is_long = false;
+        return put_closing(text, decoder.format);
     }
     if byte == b'\n' {
         return end_line(alloc, decoder, text);
@@ -148,10 +110,7 @@ pub(crate) fn take_bytes(
     bytes: &[u8],
     text: &mut Vec<u8>,
 ) -> Result<(), Fault>
-    ensures format { decoder.new.format ≡ decoder.old.format }
-    ensures takes { TakesBytes decoder.old decoder.new bytes.now result text.old.items
-        text.new.items }
-    ensures memory { IsOkUnless result Fault.Memory }
+    ensures { TakesBytes decoder.old decoder.new bytes.now result text.old.items text.new.items }
 {
     for byte in bytes {
         take_byte(alloc, decoder, *byte, text)?;

@@ -1,10 +1,10 @@
-ghost use Rattle.std.specs.Prelude.{◌≡◌, ◌<◌, ◌≤◌, ◌^◌, IfErr, IfOk, IsErrOf, length, take};
+ghost use Rattle.std.specs.Prelude.{◌≡◌, ◌<◌, ◌^◌, IfErr, IfOk, IsErrOf, length};
 ghost use Rattle.wc_view_decode.specs.Decoding.{DecodesAll, HasReadCause, is_exhausted};
 ghost use Rattle.wc_view_decode.specs.Formats.{heading};
 ghost use Rattle.wc_view_decode.specs.Running.{DecodesChunk, DecodesRest, Ends, ReadsChunk, ReadsOr, WritesOnly, WritesOr, WritesText};
 ghost use Rattle.wc_model.specs.Run.Writing.{HasFailedSince};
 
-use crate::decoder::{Decoder, finish, new_decoder, take_bytes};
+use crate::decoder::{Decoder, finish, take_bytes};
 use crate::format::{DecodeFault, DecodeFormat};
 use std::alloc::Global;
 use wc_model::{ByteIn, ByteOut, write_whole};
@@ -40,14 +40,6 @@ fn read_chunk<R: ByteIn>(input: &mut R, start: u64, buffer: &mut [u8]) -> Result
         Ok(count) => Ok(count),
         Err(_) => Err(DecodeFault::Read),
     }
-}
-
-/// The first n bytes.
-fn first_bytes(bytes: &[u8], count: usize) -> &[u8]
-    requires { count ≤ length bytes.now }
-    ensures { result.now ≡ take count bytes.now }
-{
-    bytes.split_at(count).0
 }
 
 /// Writes a text.
@@ -120,8 +112,7 @@ fn decode_rest<R: ByteIn, W: ByteOut>(
         if count == 0 {
             return finish_report(alloc, decoder, output);
         }
-        let chunk = first_bytes(&buffer, count);
-        decode_chunk(alloc, decoder, chunk, output)?;
+        decode_chunk(alloc, decoder, &buffer[..count], output)?;
     }
 }
 
@@ -161,7 +152,11 @@ pub fn decode<R: ByteIn, W: ByteOut>(
     ensures steady { ¬ IsErrOf result DecodeFault.Write
         → W.failure_count output.new ≡ W.failure_count output.old }
 {
-    let mut decoder = new_decoder(alloc, format);
+    let mut decoder = Decoder {
+        format,
+        line: Vec::new(alloc),
+        is_long: false,
+    };
     write_text(output, heading(format))?;
     decode_rest(alloc, &mut decoder, input, output)
 }

@@ -1,16 +1,99 @@
-ghost use Rattle.std.specs.Prelude.{◌≡◌};
+ghost use Rattle.std.specs.Prelude.{◌≡◌, ◌<◌, ◌++◌, decimal, IsOkUnless, OnOk};
+ghost use Rattle.std.specs.Fmt.{signed_decimal};
+ghost use Rattle.wc_view_decode.specs.declared.format.DecodeFormat.TheVariants.{Table, Text};
 ghost use Rattle.wc_view_decode.specs.Lines.{entry_content};
-ghost use Rattle.wc_view_decode.specs.Formats.{Puts, answer_line, answer_lines, decoded, refusal_line, refusal_mark, scan_line, scan_prefix};
+ghost use Rattle.wc_view_decode.specs.Formats.{Puts, answer_line, answer_lines, bit_text, bits_text, decoded, is_bit_on, named_words, none_text, refusal_line, refusal_mark, scan_line, scan_prefix, word_names};
 
-use crate::answer::Answer;
+use crate::answer::{Answer, RefusalRow, ReportEntry, ScanRow};
 use crate::answer_texts::put_answer;
-use crate::entry::{RefusalRow, ReportEntry, ScanRow};
 use crate::format::DecodeFormat;
-use crate::row_formats::{
-    put_bit_columns, put_bits, put_number_after, put_word_columns, put_words,
-};
 use wc_model::{Fault, put_bytes};
-use wc_report::put_number;
+use wc_report::{put_number, put_signed};
+
+/// Appends a number after its label to a text.
+fn put_number_after(text: &mut Vec<u8>, label: &[u8], number: u64) -> Result<(), Fault>
+    ensures number { OnOk result (text.new.items
+        ≡ text.old.items ++ label.now ++ decimal number) }
+    ensures memory { IsOkUnless result Fault.Memory }
+{
+    put_bytes(text, label)?;
+    put_number(text, number)
+}
+
+/// Whether a bit is set.
+fn is_bit_on(bits: u16, index: u16) -> bool
+    requires { index < 16 }
+    ensures { result ≡ is_bit_on bits index }
+{
+    (bits >> index) % 2 == 1
+}
+
+/// What says that no bit is set, if none is.
+fn none_text(format: DecodeFormat, bits: u16) -> &'static [u8]
+    ensures { result.now ≡ none_text format bits }
+{
+    match (format, bits) {
+        (DecodeFormat::Text, 0) => b" none",
+        _ => b"",
+    }
+}
+
+/// Appends the name of a bit to a text, if it is set, or its column.
+fn put_bit(text: &mut Vec<u8>, format: DecodeFormat, bits: u16, index: u16) -> Result<(), Fault>
+    requires { index < 16 }
+    ensures { Puts text.old text.new result (bit_text format bits index) }
+{
+    match (format, is_bit_on(bits, index)) {
+        (DecodeFormat::Text, true) => put_number_after(text, b" %QX0.", u64::from(index)),
+        (DecodeFormat::Text, false) => Ok(()),
+        (DecodeFormat::Table, true) => put_bytes(text, b",1"),
+        (DecodeFormat::Table, false) => put_bytes(text, b",0"),
+    }
+}
+
+/// Appends the names of the bits that are set to a text, or the columns of all.
+#[tactic(auto, unfolding(crate::specs::Formats::bits_text))]
+fn put_bits(text: &mut Vec<u8>, format: DecodeFormat, bits: u16) -> Result<(), Fault>
+    ensures { Puts text.old text.new result (bits_text format bits) }
+{
+    put_bytes(text, none_text(format, bits))?;
+    for index in 0..16 {
+        put_bit(text, format, bits, index)?;
+    }
+    Ok(())
+}
+
+/// Appends a word after its name to a text.
+fn put_word(text: &mut Vec<u8>, name: &[u8], word: &i32) -> Result<(), Fault>
+    ensures word { OnOk result (text.new.items
+        ≡ text.old.items ++ name.now ++ signed_decimal word.now) }
+    ensures memory { IsOkUnless result Fault.Memory }
+{
+    put_bytes(text, name)?;
+    put_signed(text, i64::from(*word))
+}
+
+/// Appends the words by name to a text.
+fn put_words(text: &mut Vec<u8>, words: &[i32; 4]) -> Result<(), Fault>
+    ensures { Puts text.old text.new result (named_words (word_names Text) words.now) }
+{
+    let [first, second, third, fourth] = words;
+    put_word(text, b"  %QD0 ", first)?;
+    put_word(text, b"  %QD1 ", second)?;
+    put_word(text, b"  %QD2 ", third)?;
+    put_word(text, b"  %QD3 ", fourth)
+}
+
+/// Appends the columns of the words to a text.
+fn put_word_columns(text: &mut Vec<u8>, words: &[i32; 4]) -> Result<(), Fault>
+    ensures { Puts text.old text.new result (named_words (word_names Table) words.now) }
+{
+    let [first, second, third, fourth] = words;
+    put_word(text, b",", first)?;
+    put_word(text, b",", second)?;
+    put_word(text, b",", third)?;
+    put_word(text, b",", fourth)
+}
 
 /// Appends the moment, the steps and the bits of a scan to a text.
 fn put_scan_prefix(text: &mut Vec<u8>, row: &ScanRow) -> Result<(), Fault>
@@ -20,7 +103,7 @@ fn put_scan_prefix(text: &mut Vec<u8>, row: &ScanRow) -> Result<(), Fault>
     put_number_after(text, b"S ", row.ms)?;
     put_number_after(text, b"  ", u64::from(row.steps.0))?;
     put_bytes(text, b" steps  on:")?;
-    put_bits(text, row.outputs.bits)
+    put_bits(text, DecodeFormat::Text, row.outputs.bits)
 }
 
 /// Appends an answer to a text.
@@ -96,7 +179,7 @@ fn put_scan(text: &mut Vec<u8>, format: DecodeFormat, row: &ScanRow) -> Result<(
         DecodeFormat::Table => {
             put_number(text, row.ms)?;
             put_number_after(text, b",S,", u64::from(row.steps.0))?;
-            put_bit_columns(text, row.outputs.bits)?;
+            put_bits(text, format, row.outputs.bits)?;
             put_word_columns(text, &row.outputs.words)?;
             put_bytes(text, b",\n")
         }
@@ -113,7 +196,7 @@ pub(crate) fn put_entry(
 {
     match entry {
         ReportEntry::Scan(row) => put_scan(text, format, row),
-        ReportEntry::Answers(row) => put_answers(text, format, row.ms, &row.answers),
+        ReportEntry::Answers(ms, answers) => put_answers(text, format, *ms, answers),
         ReportEntry::Refusal(row) => put_refusal(text, format, row),
     }
 }

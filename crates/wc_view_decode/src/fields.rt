@@ -1,5 +1,5 @@
 // The fields of a line. A field that is not a number is read as one all the same: what is read is written again and compared.
-ghost use Rattle.std.specs.Prelude.{◌≡◌, ◌<◌, ◌≤◌, ◌^◌, ◌∷◌, ◌↔◌, ℕ, ℤ, List, IsTrue, nat_lt, true, length, decimal, FitsSigned};
+ghost use Rattle.std.specs.Prelude.{◌≡◌, ◌<◌, ◌≤◌, ◌^◌, ℕ, ℤ, nat_lt, true, length, decimal, FitsSigned};
 ghost use Rattle.std.specs.Fmt.{signed_decimal};
 ghost use Rattle.std.specs.List.{prefix_len};
 ghost use Rattle.wc_diag_texts.specs.Numbers.{is_refusal};
@@ -15,22 +15,7 @@ fn field_length(text: &[u8]) -> usize
     ensures first { result ≡ prefix_len (λ byte. nat_lt 32 byte) text.now }
     ensures within { result ≤ length text.now }
 {
-    let mut count = 0;
-    'field: while count < text.len() && text[count] > b' ' {
-        count += 1;
-    }
-    count
-}
-
-/// What follows the first byte.
-fn following_first(text: &[u8]) -> &[u8]
-    ensures { (first : ℕ) (rest : List ℕ) → text.now ≡ first ∷ rest → result.now ≡ rest }
-{
-    if text.is_empty() {
-        text
-    } else {
-        text.split_at(1).1
-    }
+    text.iter().take_while(|byte| **byte > b' ').count()
 }
 
 /// The first field, and what follows the space or the line feed that ends it.
@@ -38,7 +23,7 @@ pub(crate) fn cut_field(text: &[u8]) -> (&[u8], &[u8])
     ensures { CutsField text.now result.0.now result.1.now }
 {
     let (field, rest) = text.split_at(field_length(text));
-    (field, following_first(rest))
+    (field, rest.get(1..).unwrap_or(rest))
 }
 
 /// The number of a field.
@@ -58,13 +43,6 @@ pub(crate) fn small_number(field: &[u8]) -> u32
     u32::try_from(number(field)).unwrap_or(0)
 }
 
-/// The same in 16 bits.
-fn short_number(field: &[u8]) -> u16
-    ensures { (n : ℕ) → n < 2 ^ 16 → field.now ≡ decimal n → result ≡ n }
-{
-    u16::try_from(number(field)).unwrap_or(0)
-}
-
 /// The moment of a field: none is above 1099511627775.
 pub(crate) fn moment(field: &[u8]) -> u64
     ensures within { result < 2 ^ 40 }
@@ -79,7 +57,7 @@ pub(crate) fn refusal_number(field: &[u8]) -> u16
     ensures known { is_refusal result ≡ true }
     ensures number { (n : ℕ) → is_refusal n ≡ true → field.now ≡ decimal n → result ≡ n }
 {
-    let number = short_number(field);
+    let number = u16::try_from(number(field)).unwrap_or(0);
     if entry_of(number).is_some() {
         number
     } else {
@@ -107,11 +85,4 @@ pub(crate) fn bits(field: &[u8]) -> u16
         Ok(()) => u16::from_be_bytes(bytes),
         Err(_) => 0,
     }
-}
-
-/// Whether these are the same bytes.
-pub(crate) fn is_same(one: &[u8], other: &[u8]) -> bool
-    ensures { IsTrue result ↔ (one.now ≡ other.now) }
-{
-    one == other
 }

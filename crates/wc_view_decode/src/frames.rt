@@ -1,5 +1,5 @@
 // Answers in the bytes of a row.
-ghost use Rattle.std.specs.Prelude.{◌≡◌, ◌≤◌, drop, length, option_map, IfOk, IsOkUnless};
+ghost use Rattle.std.specs.Prelude.{◌≡◌, length, option_map, IfOk, IsOkUnless};
 ghost use Rattle.std.specs.List.{list_all};
 ghost use Rattle.wc_view_decode.specs.AnswerBytes.{IsAnswer, answer_bytes, is_framed, is_weight_byte};
 ghost use Rattle.wc_view_decode.specs.Found.{AreAnswersOf, IsAnswerOf, IsFirstAnswer};
@@ -49,9 +49,7 @@ fn weight_in(frame: &[u8]) -> Option<Answer>
     let status = Status::of_letter(frame[1])?;
     let kind = WeightKind::of_letter(frame[3])?;
     let is_stable = stable_of_letter(frame[4])?;
-    let Some(unit) = MassUnit::of_letters(&frame[16..19]) else {
-        return None;
-    };
+    let unit = MassUnit::of_letters(&frame[16..19])?;
     let mut weight = [0; 10];
     weight.copy_from_slice(&frame[6..16]);
     Some(Answer::Weight(Reading {
@@ -86,14 +84,6 @@ pub fn answer_length(answer: &Answer) -> usize
     }
 }
 
-/// What follows n bytes.
-fn following(bytes: &[u8], count: usize) -> &[u8]
-    requires { count ≤ length bytes.now }
-    ensures { result.now ≡ drop count bytes.now }
-{
-    bytes.split_at(count).1
-}
-
 /// The answers that these bytes are, if they are answers.
 pub(crate) fn answers_of(alloc: Global, bytes: &[u8]) -> Result<Option<Vec<Answer>>, Fault>
     ensures answers { IfOk result
@@ -110,7 +100,7 @@ pub(crate) fn answers_of(alloc: Global, bytes: &[u8]) -> Result<Option<Vec<Answe
         let Ok(()) = answers.push(answer) else {
             return Err(Fault::Memory);
         };
-        rest = following(rest, answer_length(&answer));
+        rest = &rest[answer_length(&answer)..];
     }
     Ok(Some(answers))
 }

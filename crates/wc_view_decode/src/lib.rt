@@ -3,18 +3,13 @@
 
 mod answer;
 mod answer_texts;
-mod answers;
 mod decoder;
 mod decoding;
-mod entry;
 mod entry_formats;
 mod fields;
 mod format;
 mod frames;
 mod lines;
-mod refusals;
-mod row_formats;
-mod scans;
 mod unknown_lines;
 
 pub use answer::{Answer, Reading};

@@ -32,28 +32,19 @@ fn is_shown(byte: u8) -> bool
     byte >= 32 && byte <= 126 && byte != b'\\'
 }
 
-/// Appends a byte of such a line for people: nothing on which a terminal acts.
-fn put_shown(text: &mut Vec<u8>, byte: u8) -> Result<(), Fault>
-    ensures { Puts text.old text.new result (passed_on DecodeFormat.Text (byte ∷ [])) }
-{
-    if is_shown(byte) {
-        return put_bytes(text, &[byte]);
-    }
-    put_bytes(text, b"\\x")?;
-    put_hex(text, &[byte])
-}
-
-/// Appends a byte of such a line to a text.
+/// Appends a byte of such a line to a text: for people nothing on which a terminal acts.
 pub(crate) fn put_passed(text: &mut Vec<u8>, format: DecodeFormat, byte: u8) -> Result<(), Fault>
     ensures { Puts text.old text.new result (passed_on format (byte ∷ [])) }
 {
-    if format == DecodeFormat::Text {
-        return put_shown(text, byte);
+    match format {
+        DecodeFormat::Text if is_shown(byte) => put_bytes(text, &[byte]),
+        DecodeFormat::Text => {
+            put_bytes(text, b"\\x")?;
+            put_hex(text, &[byte])
+        }
+        DecodeFormat::Table if byte == b'"' => put_bytes(text, b"\"\""),
+        DecodeFormat::Table => put_bytes(text, &[byte]),
     }
-    if byte == b'"' {
-        return put_bytes(text, b"\"\"");
-    }
-    put_bytes(text, &[byte])
 }
 
 /// Appends bytes of such a line to a text.

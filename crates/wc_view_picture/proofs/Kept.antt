@@ -18,7 +18,7 @@ use Rattle.wc_view_columns.specs.Happened.{counted}
 use Rattle.wc_view_columns.specs.Held.{Held, IsStateOf, held_at}
 use Rattle.wc_view_columns.specs.Rows.{AreFrom, Row}
 use Rattle.wc_view_columns.specs.TimeLines.{row_at}
-use Rattle.wc_view_columns.specs.declared.columns.Column.{Column}
+use Rattle.wc_view_columns.specs.declared.line.Column.{Column}
 use Rattle.wc_view_picture.specs.declared.view.ScanSteps.{ScanSteps}
 use Rattle.wc_view_picture.specs.Seen.{AreNamesOf, AreRowsOf, HasHappened, HasSeen, IsTimeOf, list_of, most_after, numbers_after, most_at, most_of, most_with, outputs_after, outputs_with, replaced_at}
 use Rattle.wc_view_picture.specs.declared.picture.Picture.{Picture}

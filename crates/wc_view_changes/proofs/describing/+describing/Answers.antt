@@ -1,5 +1,6 @@
-use Rattle.std.proofs.Common.{◌≡◌, ◌++◌, Some, ap, sym, subst, ◌∙◌, map, arith}
+use Rattle.std.proofs.Common.{◌≡◌, ◌++◌, ◌∷◌, [], Some, ap, sym, subst, ◌∙◌, map, arith}
 use Rattle.std.proofs.lemmas.Grind.{common_steps}
+use Rattle.std.proofs.lemmas.List.{append_assoc}
 use Rattle.std.specs.List.{flat_map}
 use Rattle.wc_model.specs.Language.Names.{name_of}
 use Rattle.wc_model.specs.Language.Scopes.{type_of}
@@ -106,5 +107,5 @@ describe_variable-returns-in_ok-describe_unit-in-Block-clause-lines t c = λ sid
     let i = into source c.args.units.unit c.in-Block.block before u n at (ap Some (sym c.in-Block.is) ∙ in_unit source c.args.units.unit before u _ _ c.tables.ensures.tables c.tables.ensures.occur at c.in-Some.ensures.declared) in
     let there = subst (λ k. IsSide other k following) (sym (c.unit_of.ensures ∙ ap unit_numbered (c.other_type.ensures side h))) (side_is other c.args.units.other side n h) in
     c.in_ok-describe_unit-in-Block.ensures.lines following i.code.earlier i.code.unit there i.at
-    ∙ ap (λ p. c.args.out.now.items ++ lines_between c.args.texts.pass following i.code.earlier i.code.unit p (declared_of i.code.unit)) c.in_ok-go_into-in-Block.ensures.0
+    ∙ ap (λ p. c.args.out.now.items ++ lines_between c.args.texts.pass following i.code.earlier i.code.unit p (declared_of i.code.unit)) (c.in_ok-put_bytes-in-Block-2.ensures.bytes ∙ ap (λ p. p ++ (46 ∷ [])) c.in_ok-put_bytes-in-Block.ensures.bytes ∙ append_assoc c.args.names.now.items c.args.name.now (46 ∷ []))
     ∙ ap (λ x. c.args.out.now.items ++ x) (block_lines source c.args.units.unit c.in-Block.block c.args.texts.pass side before u c.args.names.now.items c.args.name.now initial i)

@@ -17,9 +17,9 @@ pub returns-in-New-2-clause-line : goal.returns-in-New-2-clause-line
 returns-in-New-2-clause-line c =
     on_ok c.put_first.result
     (λ w side h e.
-    let n = name_of c.args.name.now in
+    let n = name_of c.args.path.1.now in
     rw (c.in-New-2.is, sym c.is_kept.ensures ∙ c.if-is_kept.false)
-    (w ∙ ap (λ was. c.args.out.now.items ++ line_text false (c.args.prefix.now ++ c.args.name.now) (shape_view c.args.shape) was)
+    (w ∙ ap (λ was. c.args.out.now.items ++ line_text false (c.args.path.0.now ++ c.args.path.1.now) (shape_view c.args.shape) was)
     (c.type_text-was.ensures c.args.there.unit side n h e)))
     c.put_first.ensures.0
 
@@ -28,7 +28,7 @@ pub returns-in-Old-clause-line : goal.returns-in-Old-clause-line
 returns-in-Old-clause-line c = λ side h e.
     rw (
       c.in-Old.is,
-      line_there (text_view c.args.texts.other.now.source) c.args.there.unit side (name_of c.args.name.now) c.args.there.declared h e ∙ sym c.is_line.ensures ∙ c.if-is_line.true,
+      line_there (text_view c.args.texts.other.now.source) c.args.there.unit side (name_of c.args.path.1.now) c.args.there.declared h e ∙ sym c.is_line.ensures ∙ c.if-is_line.true,
     ) (sym (append-nil c.args.out.now.items))
 
 -- one that is lost
@@ -37,7 +37,7 @@ returns-in-Old-2-clause-line c =
     on_ok c.put_lost.result
     (λ w side h e. rw (
       c.in-Old-2.is,
-      line_there (text_view c.args.texts.other.now.source) c.args.there.unit side (name_of c.args.name.now) c.args.there.declared h e ∙ sym c.is_line.ensures ∙ c.if-is_line.false,
+      line_there (text_view c.args.texts.other.now.source) c.args.there.unit side (name_of c.args.path.1.now) c.args.there.declared h e ∙ sym c.is_line.ensures ∙ c.if-is_line.false,
     ) w)
     c.put_lost.ensures.0
 

@@ -1,6 +1,6 @@
 use Rattle.std.proofs.Common.{◌≡◌, ℕ, ◌*◌, ◌<◌, ◌≤◌, length, get_or, vec_capacity}
 use Rattle.wc_view_columns.specs.Rows.{IsPairOf}
-use Rattle.wc_view_columns.specs.declared.columns.Column.{Column}
+use Rattle.wc_view_columns.specs.declared.line.Column.{Column}
 use Rattle.wc_view_columns.proofs.time_line.pair_up.Given as goal
 
 -- the columns before the index are pairs, and the others are as they were

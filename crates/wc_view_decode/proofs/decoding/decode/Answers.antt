@@ -1,7 +1,11 @@
-use Rattle.std.proofs.Common.{◌∙◌, Result, sym, subst}
+use Rattle.std.proofs.Common.{◌∙◌, [], Result, false, refl, sym, subst}
 use Rattle.std.specs.Io.KnownBytes.{Appends}
 use Rattle.wc_view_decode.proofs.Chunks.{all_decoded, heading_unwritten, propagated}
+use Rattle.wc_view_decode.proofs.Standings.{nothing_read}
 use Rattle.wc_view_decode.specs.Decoding.{DecodesAll}
+use Rattle.wc_view_decode.specs.Formats.{heading}
+use Rattle.wc_view_decode.specs.Representation.{IsInState, Represents}
+use Rattle.wc_view_decode.specs.declared.decoder.Decoder.{Decoder}
 use Rattle.wc_view_decode.specs.declared.format.DecodeFault.{DecodeFault}
 use Rattle.wc_view_decode.proofs.decoding.decode.Goals as goal
 
@@ -9,9 +13,11 @@ pub returns-clause-decoded : goal.returns-clause-decoded
 returns-clause-decoded g c =
     let before = g.W.ByteOut.bytes_taken c.args.output.now in
     let after = g.W.ByteOut.bytes_taken c.write_text.new.output in
-    all_decoded c.decode_rest.result c.new_decoder-decoder.result c.args.format
+    let decoder : Decoder = record { format = c.args.format; line = c.new.result; is_long = false } in
+    let represents : Represents decoder [] (heading c.args.format) = subst (λ kept. IsInState c.args.format [] kept false (heading c.args.format)) (sym c.new.ensures.items) (nothing_read c.args.format) in
+    all_decoded c.decode_rest.result decoder c.args.format
     (g.R.ByteIn.bytes_left c.args.input.now) (g.R.ByteIn.bytes_left c.decode_rest.new.input) before after (g.W.ByteOut.bytes_taken c.decode_rest.new.output)
-    c.new_decoder-decoder.ensures.format c.new_decoder-decoder.ensures.represents (subst (Appends before after) c.heading.ensures c.in_ok-write_text.ensures.text)
+    refl represents (subst (Appends before after) c.heading.ensures c.in_ok-write_text.ensures.text)
     c.decode_rest.ensures.rest
 
 pub returns-in_err-write_text-clause-decoded : goal.returns-in_err-write_text-clause-decoded

@@ -1,4 +1,4 @@
-use Rattle.std.proofs.Common.{◌∙◌, Result, take, sym, subst, arith, rules}
+use Rattle.std.proofs.Common.{◌∙◌, Result, take, subst, arith, rules}
 use Rattle.std.specs.Io.KnownBytes.{Consumes}
 use Rattle.wc_view_decode.proofs.Chunks.{goes_more, propagated, rest_ended, rest_unread, rest_unwritten}
 use Rattle.wc_view_decode.specs.Running.{DecodesRest}
@@ -35,11 +35,11 @@ returns-in_err-decode_chunk-clause-rest g c =
     let taken = g.W.ByteOut.bytes_taken in
     propagated (λ (r : Result Unit DecodeFault). DecodesRest c.args.decoder.now r (g.R.ByteIn.bytes_left c.args.input.now) after (taken c.args.output.now) (taken c.decode_chunk.new.output))
     c.in_err-decode_chunk.field-0.0 c.from_residual-in_err-decode_chunk.result c.from_residual-in_err-decode_chunk.ensures
-    (rest_unwritten c.args.decoder.now c.chunks.decoder c.first_bytes-chunk.result.now
+    (rest_unwritten c.args.decoder.now c.chunks.decoder (take c.in_ok-count.count c.read_chunk.new.buffer)
     (g.R.ByteIn.bytes_left c.args.input.now) before after
     (taken c.args.output.now) (taken c.chunks.output) (taken c.decode_chunk.new.output)
     c.chunks.invariant.format c.chunks.invariant.goes
-    (subst (Consumes before after) (sym c.first_bytes-chunk.ensures) c.in_ok-count.ensures.chunk.1) c.in_err-decode_chunk.ensures.chunk)
+    c.in_ok-count.ensures.chunk.1 c.in_err-decode_chunk.ensures.chunk)
 
 pub chunks-smaller : goal.chunks-smaller
 chunks-smaller g c = omega (arith, c.in_ok-count.ensures.spends.0, c.in_ok-count.ensures.spends.1)
@@ -50,10 +50,10 @@ chunks-preserved g c =
     let after = g.R.ByteIn.bytes_left c.read_chunk.new.input in
     record {
       format = c.in_ok-decode_chunk.ensures.format ∙ c.chunks.invariant.format;
-      goes = goes_more c.args.decoder.now c.chunks.decoder c.decode_chunk.new.decoder c.first_bytes-chunk.result.now
+      goes = goes_more c.args.decoder.now c.chunks.decoder c.decode_chunk.new.decoder (take c.in_ok-count.count c.read_chunk.new.buffer)
           (g.R.ByteIn.bytes_left c.args.input.now) before after
           (g.W.ByteOut.bytes_taken c.args.output.now) (g.W.ByteOut.bytes_taken c.chunks.output) (g.W.ByteOut.bytes_taken c.decode_chunk.new.output)
-          c.chunks.invariant.goes (subst (Consumes before after) (sym c.first_bytes-chunk.ensures) c.in_ok-count.ensures.chunk.1) c.in_ok-decode_chunk.ensures.chunk;
+          c.chunks.invariant.goes c.in_ok-count.ensures.chunk.1 c.in_ok-decode_chunk.ensures.chunk;
       reads = c.in_ok-count.ensures.steady ∙ c.chunks.invariant.reads;
       writes = c.in_ok-decode_chunk.ensures.faults.0.1 (λ err. search rules) ∙ c.chunks.invariant.writes;
     }

@@ -1,4 +1,5 @@
-use Rattle.std.proofs.Common.{◌∙◌, ◌++◌, ◌∷◌, [], sym, subst, ap, drop}
+use Rattle.std.proofs.Common.{◌∙◌, ◌≤◌, ◌-◌, length, sym, subst, drop, arith}
+use Rattle.std.proofs.lemmas.List.{length-drop, take_all}
 use Rattle.wc_view_decode.proofs.Several.{LeavesRest, at_end, at_none, is_empty, is_not_empty, one_taken}
 use Rattle.wc_view_decode.specs.Found.{IsFirstAnswer}
 use Rattle.wc_view_decode.proofs.frames.answers_of.Goals as goal
@@ -15,9 +16,10 @@ loop-rest-preserved c =
     let taken = one_taken c.args.bytes.now c.loop-rest.answers.items c.in-Some.answer c.loop-rest.rest.now
     (is_not_empty c.loop-rest.rest.now (sym c.is_empty.ensures ∙ c.loop-rest-test.true))
     first c.loop-rest.invariant in
-    let rest = c.following-rest.ensures ∙ ap (λ n. drop n c.loop-rest.rest.now) (c.answer_length.ensures first.0) in
-    subst (λ items. LeavesRest c.args.bytes.now items c.following-rest.result.now) (sym c.in-Ok.ensures.items)
-    (subst (λ r. LeavesRest c.args.bytes.now (c.loop-rest.answers.items ++ c.in-Some.answer ∷ []) r) (sym rest) taken)
+    let left = drop c.answer_length.result c.loop-rest.rest.now in
+    let whole : length left ≤ length c.loop-rest.rest.now - c.answer_length.result = omega (arith, length-drop c.answer_length.result c.loop-rest.rest.now) in
+    subst (λ rest. LeavesRest c.args.bytes.now c.push.new.self.items rest) (sym (take_all (length c.loop-rest.rest.now - c.answer_length.result) left whole))
+    (subst (λ items. LeavesRest c.args.bytes.now items left) (sym c.in-Ok.ensures.items) (rw (c.answer_length.ensures first.0) taken))
 
 pub returns-clause-answers : goal.returns-clause-answers
 returns-clause-answers c =

@@ -1,0 +1,13 @@
+use Rattle.std.proofs.Common.{◌≡◌, codes, length, pos, arith}
+use Rattle.std.proofs.lemmas.Grind.{common_steps}
+use Rattle.std.proofs.lemmas.Result.{on_ok_weaker}
+use Rattle.wc_view_decode.proofs.RowTexts.{four_words}
+use Rattle.wc_view_decode.proofs.entry_formats.put_word_columns.Goals as goal
+
+pub returns : goal.returns
+returns c =
+    let words : length c.args.words.now ≡ 4 = grind (arith, common_steps) in (
+      on_ok_weaker c.put_word-4.result (four_words _ _ _ _ _ (codes ",") (codes ",") (codes ",") (codes ",") c.args.words.now (pos 0) words
+          c.in_ok-put_word.ensures.word c.in_ok-put_word-2.ensures.word c.in_ok-put_word-3.ensures.word) c.put_word-4.ensures.word,
+      c.put_word-4.ensures.memory,
+    )
