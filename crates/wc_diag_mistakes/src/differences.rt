@@ -12,13 +12,12 @@ fn name_of(kind: Kind) -> &'static str {
     }
 }
 
-/// An operand of another type than the result before it.
-fn unlike_said(refused: &Refused<'_, '_>, kind: Kind) -> Said {
+/// An operand of another type than the result before it, or an operator that takes another one.
+fn result_said(refused: &Refused<'_, '_>, verb: &str, wanted: &str) -> Said {
     let before = refused.span.result?;
     let (result, line) = (name_of(before.kind), before.line);
-    let kind = name_of(kind);
     Some(format!(in refused.alloc;
-        "is a {kind}, but the current result is a {result} since line {line}"
+        "{verb} {wanted}, but the current result is a {result} since line {line}"
     ))
 }
 
@@ -27,16 +26,6 @@ fn untaken_said(refused: &Refused<'_, '_>, kind: Kind) -> Said {
     let (operator, kind) = (words(refused.operator())?, name_of(kind));
     let taken = taken_by(family_of(refused.operator()))?;
     Some(format!(in refused.alloc; "is a {kind}, but {operator} takes {taken}"))
-}
-
-/// A result that the operator does not take.
-fn result_said(refused: &Refused<'_, '_>) -> Said {
-    let before = refused.span.result?;
-    let taken = taken_by(family_of(refused.token()))?;
-    let (result, line) = (name_of(before.kind), before.line);
-    Some(format!(in refused.alloc;
-        "needs {taken}, but the current result is a {result} since line {line}"
-    ))
 }
 
 /// A parenthesis that ends with another type than the result before it.
@@ -51,25 +40,20 @@ fn closing_said(refused: &Refused<'_, '_>) -> Said {
 
 /// A value for an input, or a target of an output, of another type.
 fn unpassed_said(refused: &Refused<'_, '_>, kind: Kind, wanted: Kind) -> Said {
-    let (name, block) = (refused.word_at(refused.span.formal)?, refused.block()?);
-    let (kind, formal) = (name_of(kind), name_of(wanted));
-    let what = if refused.span.is_passed {
-        "input"
-    } else {
-        "output"
-    };
+    let (span, kind, formal) = (refused.span, name_of(kind), name_of(wanted));
+    let (name, block) = (refused.word_at(span.formal)?, refused.block()?);
+    let what = if span.is_passed { "input" } else { "output" };
     Some(format!(in refused.alloc; "is a {kind}, but the {what} {name} of {block} is a {formal}"))
 }
 
 /// A name that a block does not have, or has otherwise.
 fn name_said(refused: &Refused<'_, '_>, case: Case) -> Said {
     let block = refused.block()?;
+    let is_passed = refused.span.is_passed;
     let (is, more) = match case {
         Case::OutputAssigned => ("is an output of", ", and `:=` passes an input"),
         Case::InputArrow => ("is an input of", ", and `=>` reads an output"),
-        Case::NotOfBlock(_) | Case::NotOfOwnBlock if refused.span.is_passed => {
-            ("is not an input of", "")
-        }
+        Case::NotOfBlock(_) | Case::NotOfOwnBlock if is_passed => ("is not an input of", ""),
         Case::Field if refused.is_stored() => ("is not an input of", ""),
         Case::NotOfBlock(_) | Case::NotOfOwnBlock | Case::Field => ("is not an output of", ""),
         _ => return None,
@@ -81,9 +65,9 @@ fn name_said(refused: &Refused<'_, '_>, case: Case) -> Said {
 pub fn difference_said(refused: &Refused<'_, '_>, case: Case) -> Said {
     match (refused.number, refused.span.case) {
         (401 | 409, _) => name_said(refused, case),
-        (402, Case::Unlike(kind)) => unlike_said(refused, kind),
+        (402, Case::Unlike(kind)) => result_said(refused, "is a", name_of(kind)),
         (402, Case::Untaken(kind)) => untaken_said(refused, kind),
-        (402, Case::Result) => result_said(refused),
+        (402, Case::Result) => result_said(refused, "needs", taken_by(family_of(refused.token()))?),
         (402, Case::Closing) => closing_said(refused),
         (402, Case::Unpassed(kind, wanted)) => unpassed_said(refused, kind, wanted),
         _ => None,

@@ -1,4 +1,4 @@
-use wc_built_in::{Keyword, elementary_type, keyword_named, standard_block};
+use wc_built_in::{Keyword, is_type_word, keyword_named};
 use wc_diag_stops::is_among;
 use wc_diag_texts::{Case, Mistake, mistake_among};
 
@@ -50,19 +50,16 @@ const UNITS: [Row; 3] = rows! {
     b"organization_block function_block_end data_block begin network" => Worded "this looks like Siemens STL (AWL): write PROGRAM P in place of ORGANIZATION_BLOCK and BEGIN, and END_PROGRAM at the end";
 };
 
-/// Words in the place of an operator; the inputs of standard blocks the standard also writes as operators.
-const OPERATORS: [Row; 6] = rows! {
+/// Words in the place of an operator, with what to write for each: the inputs of standard blocks, which the standard also writes as
+/// operators, and operators of other tools and languages. Without these a name that is spelled almost as one of them, and does
+/// something else, would be suggested.
+const OPERATORS: [Row; 53] = rows! {
     b"end be" => Worded "a PROGRAM ends with END_PROGRAM, a FUNCTION_BLOCK with END_FUNCTION_BLOCK: if that is below, delete this line";
     b"cd" => DownCounter "";
     b"network title begin nop bld rem" => Worded "leave this out, or make it a comment, such as (* NETWORK 1 *); a label may be alone on its line";
     b"method end_method action end_action property end_property" => Worded says "is not supported", "there are no methods and actions: make the lines a FUNCTION_BLOCK of their own above this unit, or jump over them: LD a, JMPCN skip; the lines; `skip:`";
     b"extends implements" => Worded says "is not supported", "a block has nothing after its name: declare an instance of the other block in VAR, and call it with CAL";
     b"cu pv in pt clk s1 r1" => Worded says "is an input of a block, not an operator", "set an input in CAL, such as CAL c(CU := a): a store alone does not call the block";
-};
-
-/// Operators of other tools and languages, with what to write for each. Without these a name that is spelled almost as one of them, and does
-/// something else, would be suggested.
-const OTHERS: [Row; 47] = rows! {
     b"ldi ldnot strn" => OtherOperator "did you mean `LDN`?";
     b"ani andi and_not andnot" => OtherOperator "did you mean `ANDN`?";
     b"adn" => OtherOperator "did you mean `ANDN`, or `AND`?";
@@ -124,15 +121,6 @@ pub(crate) const TYPES: [Row; 8] = rows! {
     b"ctud" => Worded "count in n : DINT, with up and down as R_TRIG: CAL up(CLK := a), CAL down(CLK := b); LD up.Q, JMPCN next; LD n, ADD 1, ST n; `next:` LD down.Q, JMPCN skip; LD n, SUB 1, ST n; `skip:` LD n, GE 10 is QU; LD n, LE 0 is QD; LD 0, ST n resets";
 };
 
-/// Fields of standard blocks, by the block that has them.
-const FIELDS: [(&str, &str); 5] = [
-    ("q et in pt", "TON"),
-    ("cv cu pv", "CTU"),
-    ("clk", "R_TRIG"),
-    ("q1 s1", "SR"),
-    ("r1", "RS"),
-];
-
 /// The mistake that a word is by one of these rows.
 pub(crate) fn row_of(rows: &[Row], word: &[u8]) -> Option<Mistake> {
     let (_, mistake) = rows.iter().find(|(words, _)| is_among(words, word))?;
@@ -182,23 +170,23 @@ pub(crate) fn mistaken_unit(word: &[u8]) -> Mistake {
     }
 }
 
-/// Whether a word is the name of a type.
-pub(crate) fn is_type(word: &[u8]) -> bool {
-    elementary_type(word).is_some() || standard_block(word).is_some()
-}
-
 /// A word in the place of an operator that is no function.
 pub(crate) fn mistaken_name(word: &[u8]) -> Mistake {
     match row_of(&OPERATORS, word).or(row_of(&FRAMES, word)) {
         Some(mistake) => mistake,
-        None if is_type(word) => Mistake::of(Case::InstanceCall),
-        None => row_of(&OTHERS, word).unwrap_or(Mistake::of(Case::NoOperator)),
+        None if is_type_word(word) => Mistake::of(Case::InstanceCall),
+        None => Mistake::of(Case::NoOperator),
     }
 }
 
 /// The standard block that has a field of that name; nothing if none has, or if that is not sure.
 pub fn block_with(field: &[u8]) -> Option<&'static str> {
-    let mut rows = FIELDS.iter();
-    let (_, block) = rows.find(|(fields, _)| is_among(fields.as_bytes(), field))?;
-    Some(*block)
+    match field {
+        _ if is_among(b"q et in pt", field) => Some("TON"),
+        _ if is_among(b"cv cu pv", field) => Some("CTU"),
+        _ if is_among(b"clk", field) => Some("R_TRIG"),
+        _ if is_among(b"q1 s1", field) => Some("SR"),
+        _ if is_among(b"r1", field) => Some("RS"),
+        _ => None,
+    }
 }

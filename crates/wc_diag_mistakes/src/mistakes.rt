@@ -1,10 +1,8 @@
-use crate::foreign::{
-    TYPES, is_type, left_out, mistaken_function, mistaken_name, mistaken_unit, row_of,
-};
+use crate::foreign::{TYPES, left_out, mistaken_function, mistaken_name, mistaken_unit, row_of};
 use crate::refused::Refused;
 use crate::types::{is_conditional, mistaken_kind, mistaken_reset};
 use crate::unreached::{block_line, follows_leaving, is_unreached};
-use wc_built_in::{Keyword, elementary_type, keyword_named, standard_block};
+use wc_built_in::{Keyword, elementary_type, is_type_word, keyword_named, standard_block};
 use wc_diag_stops::{
     following, is_among, is_bare_duration, is_digit, is_line_end, is_near, is_operator, is_shape,
     last_line, mistaken_byte, mistaken_duration, mistaken_number, mistaken_statement, operator_on,
@@ -90,9 +88,9 @@ fn mistaken_before(refused: &Refused<'_, '_>) -> Option<Mistake> {
         (Expected::LineEnd | Expected::PointOrLineEnd, Some(Keyword::Load(_))) if is_opened => Worded "the operand is right after the `(`, without LD, such as AND( a";
         (Expected::CommaPointOrClosing | Expected::CommaOrClosing, Some(Keyword::Not)) if is_taken => Worded "negate an output below the call: LDN t.Q, and on the next line ST a";
         (Expected::CommaPointOrClosing | Expected::CommaOrClosing, Some(Keyword::Not)) => Worded "negate the value before the call: LDN a, ST b, and pass b";
-        (Expected::CommaOrColon, _) if is_among(b"end input output", before) && is_shape(refused.tokens.get(refused.index), Shape::Identifier) && !is_type(refused.token()) => Worded "END_VAR, VAR_INPUT and VAR_OUTPUT are one word each, with an underscore";
+        (Expected::CommaOrColon, _) if is_among(b"end input output", before) && is_shape(refused.tokens.get(refused.index), Shape::Identifier) && !is_type_word(refused.token()) => Worded "END_VAR, VAR_INPUT and VAR_OUTPUT are one word each, with an underscore";
         (Expected::CommaOrColon, _)
-            if word.is_some() && !is_type(before) || is_among(b"end var_end", before) || is_near(b"END_VAR", before) => OpenSection "";
+            if word.is_some() && !is_type_word(before) || is_among(b"end var_end", before) || is_near(b"END_VAR", before) => OpenSection "";
     }
 }
 
@@ -124,7 +122,7 @@ fn mistaken_in_unit(token: &[u8], next: Option<&Token<'_>>, expected: Expected) 
         (Expected::Literal, _, _) => Worded "an initial value is one literal, such as TRUE, 500 or T#5s; an address is read in the lines of the PROGRAM, or passed in a CAL";
         (_, Some(b';'), _) => Worded "an instruction ends with its line, without a semicolon; a comment is (* .. *)";
         (Expected::InstructionOrLineEnd, _, Some(Keyword::UnitEnd(_))) => Worded "a label may be alone on its line: write this word on the next line";
-        (Expected::InstructionOrLineEnd, _, _) if is_type(token) => Worded "declarations go between VAR and END_VAR, before the first instruction";
+        (Expected::InstructionOrLineEnd, _, _) if is_type_word(token) => Worded "declarations go between VAR and END_VAR, before the first instruction";
         (Expected::LineEnd | Expected::PointOrLineEnd, Some(b','), _) if is_operator(text_of(next)) => Worded "write each instruction on a line of its own, without commas";
         (Expected::LineEnd | Expected::PointOrLineEnd, Some(b','), _) => Worded "an operator has one operand, on a line of its own, and works on the current result: a + b is LD a, then ADD b; a > b is LD a, then GT b; ADD a, then ADD b adds both to the result above";
         (Expected::LineEnd | Expected::PointOrLineEnd, _, Some(Keyword::Load(_) | Keyword::Store(_) | Keyword::Jump(_) | Keyword::Call(_) | Keyword::Return(_))) => Worded "write each instruction on a line of its own";
@@ -144,19 +142,15 @@ fn mistaken_in_unit(token: &[u8], next: Option<&Token<'_>>, expected: Expected) 
 /// A mistake that an unexpected token shows, by the token after it.
 fn mistaken_token(refused: &Refused<'_, '_>) -> Mistake {
     let (token, expected) = (refused.token(), refused.span.expected);
-    if matches!(expected, Expected::Nothing | Expected::UnitWord) {
-        return match (expected, mistaken_unit(token)) {
-            (Expected::Nothing, mistake) if !matches!(mistake.case, Case::Configuration) => {
-                Mistake::of(Case::AfterProgram)
-            }
-            (_, mistake) => mistake,
-        };
-    }
-    match mistaken_in_unit(token, refused.next(), expected) {
-        Some(mistake) => mistake,
-        None if matches!(keyword_named(token), Some(Keyword::Kept)) => left_out(token),
-        None if matches!(expected, Expected::InstructionOrLineEnd) => mistaken_operator(refused),
-        None => Mistake::of(Case::Unknown),
+    let unit = mistaken_unit(token);
+    match (expected, mistaken_in_unit(token, refused.next(), expected)) {
+        (Expected::Nothing, _) if matches!(unit.case, Case::Configuration) => unit,
+        (Expected::Nothing, _) => Mistake::of(Case::AfterProgram),
+        (Expected::UnitWord, _) => unit,
+        (_, Some(mistake)) => mistake,
+        _ if matches!(keyword_named(token), Some(Keyword::Kept)) => left_out(token),
+        (Expected::InstructionOrLineEnd, None) => mistaken_operator(refused),
+        _ => Mistake::of(Case::Unknown),
     }
 }
 
@@ -171,11 +165,12 @@ fn is_decimal_comma(refused: &Refused<'_, '_>) -> bool {
 }
 
 /// A mistake in an instruction by what is before a token on its line.
-fn mistaken_after(before: &[Token<'_>], token: &[u8], expected: Expected) -> Option<Mistake> {
+fn mistaken_after(refused: &Refused<'_, '_>) -> Option<Mistake> {
+    let (before, token) = (refused.line_before(), refused.token());
     let last = before.last();
     let is_unnamed = is_shape(last, Shape::Arrow) || is_shape(last, Shape::Assign);
     mistake_among! {
-        (expected, keyword_named(operator_on(before)), token.first());
+        (refused.span.expected, keyword_named(operator_on(before)), token.first());
         (Expected::Label, _, _) => Worded "a jump names a label without parentheses, which begins with a letter, such as JMPC done; `done:` begins a line below";
         (Expected::LineEnd, Some(Keyword::Jump(_)), Some(b':')) => Worded "write the label here without its colon, such as JMPC done; the line to which it leads begins with `done:`";
         (Expected::LineEnd, Some(Keyword::Return(_)), Some(b'A'..=b'Z' | b'a'..=b'z' | b'_')) => Worded "RET has no operand: for a condition write LD and the operand on the line above, and RETC alone";
@@ -185,16 +180,6 @@ fn mistaken_after(before: &[Token<'_>], token: &[u8], expected: Expected) -> Opt
         (Expected::Operand, Some(Keyword::Store(_)), Some(b'(')) => Worded "a target has no parentheses, such as ST a";
         (Expected::Operand, Some(Keyword::Load(true)), Some(b'(')) => Worded "for LDN( a, then OR b, then `)` write LD a, then OR b, then NOT; LDN (a) is LDN a";
         (Expected::Operand, _, Some(b',' | b')')) if is_unnamed => Worded "leave out an input or output that is not used, such as CAL t(IN := a)";
-    }
-}
-
-/// What a token shows on its line, before what the word before it shows.
-fn mistaken_first(refused: &Refused<'_, '_>) -> Option<Mistake> {
-    let (expected, mistake) = (refused.span.expected, left_out(refused.token()));
-    match (expected, mistake.case) {
-        (Expected::CommaOrColon, Case::Lasting) => Some(mistake),
-        (Expected::CommaOrColon, _) => None,
-        _ => mistaken_after(refused.line_before(), refused.token(), expected),
     }
 }
 
@@ -210,9 +195,9 @@ fn mistaken_on_line(refused: &Refused<'_, '_>) -> Option<Mistake> {
     mistake_among! {
         (refused.span.expected, refused.token().first());
         (Expected::FormalOrClosing | Expected::AssignOrArrow, _) if matches!(line, [_, name, ..] if matches!(mistaken_function(name.text), Some(Mistake { case: Case::Function, .. })) && !is_above(refused, name.text)) => Worded "CAL calls an instance that VAR declares, and there are no functions: write lines in its place, such as LD a, ST y, LT b, JMPCN done; LD b, ST y; `done:` LD y for the larger of a and b";
-        (Expected::OpeningOrLineEnd, _) if is_type(before) || block_line(refused.tokens, before).is_some() => Worded "a call names the instance alone, without its type, such as CAL t(IN := a)";
+        (Expected::OpeningOrLineEnd, _) if is_type_word(before) || block_line(refused.tokens, before).is_some() => Worded "a call names the instance alone, without its type, such as CAL t(IN := a)";
         (Expected::OpeningOrLineEnd | Expected::LineEnd, _) if is_among(b"c cn", before) && matches!(line, [_, _]) && matches!(first, Some(Keyword::Jump(_) | Keyword::Call(_))) => Worded "an operator is one word, such as CALC or JMPCN";
-        (Expected::InstructionOrLineEnd, _) if is_type(refused.token()) && matches!(refused.before(), [.., word, colon, _, _, _] if colon.shape == Shape::Colon && matches!(keyword_named(word.text), Some(Keyword::SectionStart(_)))) => Worded "delete the colon after the VAR, VAR_INPUT or VAR_OUTPUT above";
+        (Expected::InstructionOrLineEnd, _) if is_type_word(refused.token()) && matches!(refused.before(), [.., word, colon, _, _, _] if colon.shape == Shape::Colon && matches!(keyword_named(word.text), Some(Keyword::SectionStart(_)))) => Worded "delete the colon after the VAR, VAR_INPUT or VAR_OUTPUT above";
         (Expected::Instruction | Expected::InstructionOrLineEnd, Some(b'(')) if !begins_unit && !matches!(keyword_named(operator_on(last_line(without_line_ends(refused.before())))), Some(Keyword::Call(_))) => Worded "a parenthesis opens on the line of its operator, such as AND( a; at the start begin with LD and its operand, without a parenthesis";
         (Expected::OperandOrOpening, Some(b'\n')) if is_shape(refused.next(), Shape::Opening) => Worded "write the `(` on the line of its operator, such as AND( a";
         (Expected::OperandOrOpening, Some(b'\n')) if matches!(first, Some(Keyword::Apply(_))) => Worded "write the operand on this line, and no LD of it above: LD n, then GE 5000; to join the result of lines below write OR( and the operand of their LD, and `)` on a line of its own below them";
@@ -238,10 +223,14 @@ fn mistaken_on_line(refused: &Refused<'_, '_>) -> Option<Mistake> {
 
 /// A mistake that an unexpected token shows by where it is, and else by itself.
 fn mistaken_at(refused: &Refused<'_, '_>) -> Mistake {
-    mistaken_first(refused)
-        .or(mistaken_before(refused))
-        .or(mistaken_on_line(refused))
-        .unwrap_or(mistaken_token(refused))
+    let word = left_out(refused.token());
+    match (refused.span.expected, word.case) {
+        (Expected::CommaOrColon, Case::Lasting) => word,
+        _ => mistaken_after(refused)
+            .or(mistaken_before(refused))
+            .or(mistaken_on_line(refused))
+            .unwrap_or(mistaken_token(refused)),
+    }
 }
 
 /// A mistake of a unit that is not closed or not alone, or of a list that is not closed.

@@ -169,14 +169,9 @@ impl<'a, 't> Refused<'a, 't> {
 
     /// The tokens from the first offending one on, also if it is on a line below.
     fn offending_tokens(&self) -> &'t [Token<'a>] {
-        let start = match self.span.below {
-            Some(below) => below.start,
-            None => self.span.start,
-        };
-        let (_, tokens) = self
-            .tokens
-            .split_at(count_before(self.tokens, start).min(self.tokens.len()));
-        tokens
+        let start = self.span.below.map_or(self.span.start, |below| below.start);
+        let from = count_before(self.tokens, start);
+        self.tokens.get(from..).unwrap_or(self.tokens)
     }
 
     /// The first offending token, also if it is on a line below.
@@ -205,11 +200,8 @@ impl<'a, 't> Refused<'a, 't> {
 
     /// The block of the instance that is referred to, if it is a block.
     pub fn block(&self) -> Option<&'a str> {
-        let block = self.word_at(self.span.block)?;
-        match elementary_type(block.as_bytes()) {
-            Some(_) => None,
-            None => Some(block),
-        }
+        let block = self.word_at(self.span.block);
+        block.filter(|block| elementary_type(block.as_bytes()).is_none())
     }
 
     /// Whether it is what a call names.

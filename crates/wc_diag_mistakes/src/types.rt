@@ -5,32 +5,20 @@ use wc_diag_texts::{Case, Mistake, mistake_among};
 use wc_lexer::Token;
 use wc_model::{Condition, Kind, Operator, StandardBlock, Storing, is_word};
 
-/// What operators do, as far as types are asked.
+/// What operators do, as far as types are asked: `family_of` has those of each.
 #[derive(Clone, Copy, PartialEq, Eq)]
 pub(crate) enum Family {
-    /// LDN.
     Negate,
-    /// ST.
     Store,
-    /// STN.
     StoreNegated,
-    /// S and R.
     Set,
-    /// AND, OR, XOR and their variants with N.
     Logic,
-    /// GT, GE, LE, LT.
     Order,
-    /// EQ, NE.
     Equal,
-    /// ADD, SUB.
     Add,
-    /// MUL.
     Multiply,
-    /// DIV and MOD.
     Divide,
-    /// NOT, and instructions with a condition.
     Condition,
-    /// Any other.
     Other,
 }
 
@@ -90,10 +78,17 @@ fn follows_bit(before: &[Token<'_>]) -> bool {
     }
 }
 
-/// What to write for an operand, or a target, by the family of its operator, its type and that of the result before it.
+/// What to write for an operand, a target, or an operator that does not take the result: by the family of the operator, the type of
+/// the operand and that of the result before it.
 fn mistaken_operand(case: Case, family: Family, before: Option<Kind>) -> Option<Mistake> {
     mistake_among! {
         (case, family, before);
+        (Case::Result, Family::Order, Some(_)) => OrderedBool "";
+        (Case::Result, _, Some(Kind::Bool)) => CountedBool "";
+        (Case::Result, Family::Multiply, Some(_)) => MultipliedTime "";
+        (Case::Result, Family::Divide, Some(_)) => DividedTime "";
+        (Case::Result, _, Some(Kind::Dint)) => ComparedNumber "";
+        (Case::Result, _, Some(Kind::Time)) => ComparedTime "";
         (Case::Untaken(Kind::Time), Family::Negate, _) => Worded "load the time with LD; its negative is LD T#0s, then SUB and the time";
         (Case::Untaken(_), Family::Negate, _) => Worded "load the number with LD; whether it is 0 is LD n, then EQ 0, and its negative is LD 0, then SUB n";
         (Case::Untaken(_), Family::StoreNegated, _) => Worded "STN stores a negated BOOL to a BOOL, such as STN %QX0.0; for the negative of a number LD 0, SUB the number, and ST";
@@ -120,19 +115,6 @@ fn mistaken_operand(case: Case, family: Family, before: Option<Kind>) -> Option<
         (Case::Unlike(_), Family::Store, Some(Kind::Dint)) => Worded "a number cannot be converted to a TIME: load a duration, such as LD T#500ms, or store to a DINT";
         (Case::Unlike(_), _, Some(Kind::Time)) => ComparedTime "";
         (Case::Unlike(_), _, Some(Kind::Dint)) => ComparedNumber "";
-    }
-}
-
-/// What to write if an operator does not take the result.
-fn mistaken_result(family: Family, before: Option<Kind>) -> Option<Mistake> {
-    mistake_among! {
-        (family, before);
-        (Family::Order, Some(_)) => OrderedBool "";
-        (_, Some(Kind::Bool)) => CountedBool "";
-        (Family::Multiply, Some(_)) => MultipliedTime "";
-        (Family::Divide, Some(_)) => DividedTime "";
-        (_, Some(Kind::Dint)) => ComparedNumber "";
-        (_, Some(Kind::Time)) => ComparedTime "";
     }
 }
 
@@ -170,9 +152,9 @@ pub(crate) fn mistaken_reset(refused: &Refused<'_, '_>) -> Option<Mistake> {
 pub(crate) fn mistaken_kind(refused: &Refused<'_, '_>) -> Option<Mistake> {
     let span = refused.span;
     let before = span.result.map(|made| made.kind);
-    let found = match span.case {
-        Case::Result => mistaken_result(family_of(refused.token()), before),
-        case => mistaken_operand(case, family_of(refused.operator()), before),
+    let operator = match span.case {
+        Case::Result => refused.token(),
+        _ => refused.operator(),
     };
     let reset = match span.case {
         Case::Instance if refused.sets() => mistaken_reset(refused),
@@ -180,5 +162,5 @@ pub(crate) fn mistaken_kind(refused: &Refused<'_, '_>) -> Option<Mistake> {
     };
     reset
         .or(mistaken_without_operator(refused, before))
-        .or(found)
+        .or(mistaken_operand(span.case, family_of(operator), before))
 }

@@ -1,5 +1,5 @@
 ghost use Rattle.std.specs.Prelude.{◌≡◌, ◌&&◌, ◌↔◌, ◌<◌, ◌≤◌, ℕ, IsTrue, IfNone, IfSome, Some, if◌then◌else◌, is_some, length};
-ghost use Rattle.wc_diag_mistakes.specs.Unreached.{FollowsLeaving, IsDeclaredOnce, IsLeft, IsUnreached, begins_block, count_above, declares, has_label, is_colon_shape, is_frame, is_leaving, keyword_of, leaves, may_pass};
+ghost use Rattle.wc_diag_mistakes.specs.Unreached.{FollowsLeaving, IsDeclaredOnce, IsLeft, IsUnreached, begins_block, count_above, declares, has_label, is_colon_shape, is_frame, keyword_of, leaves, may_pass};
 
 use wc_built_in::{Keyword, keyword_named};
 use wc_lexer::{Shape, Token};
@@ -18,16 +18,6 @@ fn keyword_of(token: &Token<'_>) -> Option<Keyword>
     ensures { result ≡ keyword_of token.now }
 {
     keyword_named(token.text)
-}
-
-/// Whether the line below is not next after this word.
-fn is_leaving(word: Option<Keyword>) -> bool
-    ensures { result ≡ is_leaving word }
-{
-    matches!(
-        word,
-        Some(Keyword::Jump(Condition::Always) | Keyword::Return(Condition::Always))
-    )
 }
 
 /// Whether this word begins or ends a unit or a section.
@@ -63,7 +53,10 @@ fn may_pass(token: &Token<'_>) -> bool
 fn leaves(token: &Token<'_>) -> bool
     ensures { result ≡ leaves token.now }
 {
-    is_leaving(keyword_of(token))
+    matches!(
+        keyword_of(token),
+        Some(Keyword::Jump(Condition::Always) | Keyword::Return(Condition::Always))
+    )
 }
 
 /// Whether some tokens leave by a jump or a return, after which none may pass: the last that does either decides.
@@ -93,10 +86,7 @@ pub fn follows_leaving(tokens: &[Token<'_>], line: u32) -> bool
 fn has_label(tokens: &[Token<'_>]) -> bool
     ensures { result ≡ has_label tokens.now }
 {
-    match tokens.get(1) {
-        Some(token) => is_colon(token),
-        None => false,
-    }
+    tokens.get(1).is_some_and(is_colon)
 }
 
 /// Whether surely nothing leads to a line of a body.
