@@ -11,7 +11,7 @@ use Rattle.wc_view_decode.proofs.fields.cut_field.Goals as goal
 -- what follows the byte that ends a field
 after_end : (text : Bor (List ℕ)) (end : ℕ) (more : List ℕ) (got : Option (Bor (List ℕ))) → text.now ≡ end ∷ more → IsGetRangeResult text.now 1 (length text.now) got → (unwrap_or got text).now ≡ more
 after_end text end more (Some part) e is = is.0.2 ∙ ap (λ t. slice_range t 1 (length t)) e ∙ take_all _ more (omega arith)
-after_end text end more None e is = absurd (elim is.0 [ | inl short ↦ omega (arith, short, ap length e) | inr short ↦ omega (arith, short) ])
+after_end text end more None e is = absurd (elim is.0 [ inl short ↦ omega (arith, short, ap length e) | inr short ↦ omega (arith, short) ])
 
 pub returns : goal.returns
 returns c bytes more end are ends e =
