@@ -49,6 +49,12 @@ place_of_none (byte ∷ line) (other, single) = rw (no_end byte other) (omega (a
 before_end : (line : List ℕ) → HasNoEnd line → without_end (line ++ 10 ∷ []) ≡ line
 before_end line single = ap (λ n. take n (line ++ 10 ∷ [])) (place_of_end line [] single) ∙ take-append_seam line (10 ∷ [])
 
+-- a line without its last byte
+pub cut_end : (line kept : List ℕ) (n : ℕ) → n + 1 ≡ length line → line ≡ kept ++ 10 ∷ [] → HasNoEnd kept → take n line ≡ without_end line
+cut_end line kept n size is single =
+    let whole : n ≡ length kept = omega (arith, size, ap length is, length-append kept (10 ∷ [])) in
+    ap (λ m. take m line) whole ∙ ap (take (length kept)) is ∙ take-append_seam kept (10 ∷ []) ∙ sym (ap without_end is ∙ before_end kept single)
+
 without_none : (line : List ℕ) → HasNoEnd line → without_end line ≡ line
 without_none line single = ap (λ n. take n line) (place_of_none line single) ∙ take-length line
 

@@ -1,5 +1,5 @@
 -- Where a decoder is in a report.
-use Rattle.std.specs.Prelude.{◌≡◌, ℕ, ◌+◌, ◌<◌, ◌≤◌, Bool, true, false, List, [], ◌++◌, length, Result, OnOk, IsOkUnless}
+use Rattle.std.specs.Prelude.{◌≡◌, ℕ, ◌+◌, ◌<◌, ◌≤◌, Bool, true, false, List, [], ◌∷◌, ◌++◌, length, Result, OnOk, IsOkUnless}
 use Rattle.std.specs.List.{AllByRecursion}
 use Rattle.wc_view_decode.specs.Decoding.{AreDecoded, Decodes, IsDecodedLine, longest_line}
 use Rattle.wc_view_decode.specs.Formats.{heading, opening, passed_on}
@@ -40,10 +40,11 @@ TakesBytes before after bytes result old new =
     (after.format ≡ before.format) × IsOkUnless result fault.Memory
     × OnOk result ((read text : List ℕ) → Represents before read (text ++ old) → Represents after (read ++ bytes) (text ++ new))
 
--- a line is appended to a text
+-- what is written for a line is appended to a text, if its only line feed is at its end
 abbrev pub PutsLine : {E : Type 0} → DecodeFormat → List ℕ → Result Unit E → (old new : List ℕ) → Type 0
 PutsLine format line result old new =
-    OnOk result ((shown : List ℕ) × (new ≡ old ++ shown) × (length line ≤ longest_line + 1 → IsDecodedLine format line shown))
+    OnOk result ((shown : List ℕ) × (new ≡ old ++ shown)
+    × ((kept : List ℕ) → line ≡ kept ++ 10 ∷ [] → HasNoEnd kept → length line ≤ longest_line + 1 → IsDecodedLine format line shown))
 
 -- what is missing at a report's end is appended to a text
 abbrev pub Finishes : {E : Type 0} → Decoder → Result Unit E → (old new : List ℕ) → Type 0

@@ -1,6 +1,5 @@
-ghost use Rattle.std.specs.Prelude.{◌≡◌, ◌≤◌, ◌==◌, ◌∷◌, [], false, length, IsOkUnless};
-ghost use Rattle.std.specs.List.{position_or_len};
-ghost use Rattle.wc_view_decode.specs.Decoding.{longest_line, without_end};
+ghost use Rattle.std.specs.Prelude.{◌≡◌, ◌<◌, ◌∷◌, [], false, length, IsOkUnless};
+ghost use Rattle.wc_view_decode.specs.Decoding.{longest_line};
 ghost use Rattle.wc_view_decode.specs.Representation.{Finishes, PutsLine, TakesBytes};
 
 use crate::entry_formats::put_entry;
@@ -21,34 +20,20 @@ pub(crate) struct Decoder {
     pub(crate) is_long: bool,
 }
 
-/// The number of bytes before the line feed.
-fn length_before_end(line: &[u8]) -> usize
-    ensures before { result ≡ position_or_len (λ byte. byte == 10) line.now }
-    ensures within { result ≤ length line.now }
-{
-    line.iter().take_while(|byte| **byte != b'\n').count()
-}
-
-/// A line without its line feed.
-fn without_end(line: &[u8]) -> &[u8]
-    ensures { result.now ≡ without_end line.now }
-{
-    &line[..length_before_end(line)]
-}
-
-/// Appends what is written for a line to a text.
+/// Appends what is written for a line with its line feed to a text.
 fn put_line(
     alloc: Global,
     format: DecodeFormat,
     line: &[u8],
     text: &mut Vec<u8>,
 ) -> Result<(), Fault>
+    requires { 0 < length line.now }
     ensures line { PutsLine format line.now result text.old.items text.new.items }
     ensures memory { IsOkUnless result Fault.Memory }
 {
     match line_entry(alloc, line)? {
         Some(entry) => put_entry(text, format, &entry),
-        None => put_unknown(text, format, without_end(line)),
+        None => put_unknown(text, format, &line[..line.len() - 1]),
     }
 }
 

@@ -1,7 +1,7 @@
-use crate::sheet::{Sheet, put};
-use crate::values::{Moment, Tenths};
-use crate::view::{LEFT, RIGHT, TOP, View};
+use crate::sheet::{Moment, Sheet, Tenths, put};
+use crate::view::{LEFT, RIGHT, Range, TOP, View};
 use std::fmt::Write;
+use wc_view_columns::{Column, Span};
 
 /// The least of 1, 2, 5, 10, 20 and so on of which at most n make up a range.
 fn round_step(range: u64, most: u64) -> u64 {
@@ -49,10 +49,8 @@ fn put_weights(out: &mut Sheet, view: &View<'_>) {
         if units <= range.high {
             put_line(out, view, "grid", units);
             let (y, weight) = (range.y(units).plus(40), view.weight(units));
-            put!(
-                out,
-                "<text class=\"name\" x=\"122\" y=\"{y}\">{weight}</text>\n"
-            );
+            put!(out, "<text class=\"name\" x=\"122\" y=\"{y}\">");
+            put!(out, "{weight}</text>\n");
         }
     }
 }
@@ -70,10 +68,8 @@ fn put_limits(out: &mut Sheet, view: &View<'_>) {
     }
     let (y, weight) = (view.weights.y(max).plus(40), view.weight(max));
     let end = if is_seen { "" } else { ", above" };
-    put!(
-        out,
-        "<text x=\"858\" y=\"{y}\">Max {weight} {unit}{end}</text>\n"
-    );
+    put!(out, "<text x=\"858\" y=\"{y}\">");
+    put!(out, "Max {weight} {unit}{end}</text>\n");
 }
 
 /// Puts a line at each round moment down to the bottom, and the moment below it.
@@ -86,10 +82,8 @@ fn put_moments(out: &mut Sheet, view: &View<'_>, bottom: Tenths) {
         if view.start <= ms && ms <= end {
             let (x, y, moment) = (view.x_at(ms), bottom.plus(140), Moment(ms, step));
             put!(out, "<path class=\"grid\" d=\"M{x} {bottom}V{TOP}\"/>\n");
-            put!(
-                out,
-                "<text class=\"time\" x=\"{x}\" y=\"{y}\">{moment}</text>\n"
-            );
+            put!(out, "<text class=\"time\" x=\"{x}\" y=\"{y}\">");
+            put!(out, "{moment}</text>\n");
         }
     }
 }
@@ -103,4 +97,65 @@ pub(crate) fn put_axes(out: &mut Sheet, view: &View<'_>, bottom: Tenths) {
     }
     put_limits(out, view);
     put!(out, "</g>\n");
+}
+
+/// A number that is drawn over time.
+#[derive(Clone, Copy)]
+pub(crate) enum Curve {
+    Gross,
+    Net,
+    /// An output word.
+    Word(usize),
+    /// A variable.
+    Variable(usize),
+}
+
+impl Curve {
+    /// What it has of a column.
+    pub(crate) fn span(self, column: &Column) -> Option<Span> {
+        match self {
+            Curve::Gross => column.state.gross,
+            Curve::Net => column.state.net,
+            Curve::Word(number) => column.state.words.get(number).copied(),
+            Curve::Variable(number) => *column.state.variables.get(number)?,
+        }
+    }
+}
+
+/// Puts a stroke up or down over all that a column has reached, to where it ends.
+fn put_span(out: &mut Sheet, range: &Range, span: Span) {
+    if span.least < span.last {
+        put!(out, "V{}", range.y(span.least));
+    }
+    if span.last < span.greatest {
+        put!(out, "V{}", range.y(span.greatest));
+    }
+    put!(out, "V{}", range.y(span.last));
+}
+
+/// Goes on with a curve at a column, after what it had of the column before.
+fn put_step(out: &mut Sheet, range: &Range, x: Tenths, before: Option<Span>, span: Option<Span>) {
+    match (before, span) {
+        (Some(before), Some(span)) if span.varies() || span.last != before.last => {
+            put!(out, "H{x}");
+            put_span(out, range, span);
+        }
+        (Some(_), None) => put!(out, "H{x}"),
+        (None, Some(span)) => {
+            put!(out, "M{x} {}", range.y(span.least));
+            put_span(out, range, span);
+        }
+        _ => {}
+    }
+}
+
+/// Puts the path of a curve: a stroke up or down where its number changes, else to the right.
+pub(crate) fn put_curve(out: &mut Sheet, view: &View<'_>, range: &Range, curve: Curve) {
+    let mut before = None;
+    for (index, column) in view.columns.iter().enumerate() {
+        let span = curve.span(column);
+        put_step(out, range, view.x(index), before, span);
+        before = span;
+    }
+    put_step(out, range, view.x(view.columns.len()), before, None);
 }

@@ -1,25 +1,56 @@
-use crate::axes::put_axes;
-use crate::curves::{Curve, put_curve};
+use crate::axes::{Curve, put_axes, put_curve};
 use crate::lane_rows::{bottom_of, put_lanes, put_levels};
 use crate::marks::put_marks;
 use crate::readings::put_readings;
-use crate::sheet::{Sheet, put};
-use crate::style::STYLE;
-use crate::values::{Several, Tenths, exactly};
+use crate::sheet::{Several, Sheet, Tenths, exactly, put};
 use crate::view::{HEIGHT, TOP, View};
 use std::alloc::{AllocError, Global};
 use std::fmt::Write;
 use wc_view_columns::{Column, Lane, lanes_of};
 
+/// The looks of a picture: it takes the reader's light or dark paper, and says nothing by colour alone.
+const STYLE: &str = "<style>
+svg{color:#1a1a1a;font:11px sans-serif}
+text{fill:currentColor}
+path{fill:none;stroke:currentColor;pointer-events:none}
+.paper{fill:#fff;stroke:none}
+@media (prefers-color-scheme:dark){svg{color:#e6e6e6}.paper{fill:#16181b}}
+rect{fill:none;pointer-events:all}
+.heading{font-size:14px}
+.small{opacity:.7}
+.name{text-anchor:end}
+.time,.mark text,.refused text,.request text{text-anchor:middle}
+.curve{stroke-width:1.4}
+.net{stroke-dasharray:5 3}
+.grid{opacity:.2}
+.zero{stroke-width:.8}
+.max,.bound{stroke-dasharray:9 4;stroke-width:.8}
+.mark path{stroke-dasharray:4 3;pointer-events:stroke}
+.refused path{stroke-dasharray:1 3;pointer-events:stroke}
+.request path{stroke-width:1.5;pointer-events:stroke}
+.full{fill:currentColor;fill-opacity:.45;stroke-width:.8}
+.bars{fill:currentColor;fill-opacity:.55;stroke:none}
+.none{fill:currentColor;fill-opacity:.06;stroke:none}
+.dots{fill:url(#dots);stroke-width:.6}
+.rising{fill:url(#rising);stroke-width:.6}
+.falling{fill:url(#falling);stroke-width:.6}
+.crossed{fill:url(#crossed);stroke-width:.6}
+</style>
+<defs>
+<pattern id=\"dots\" width=\"4\" height=\"4\" patternUnits=\"userSpaceOnUse\"><path d=\"M1 2H2\"/></pattern>
+<pattern id=\"rising\" width=\"6\" height=\"6\" patternUnits=\"userSpaceOnUse\"><path d=\"M0 6L6 0\"/></pattern>
+<pattern id=\"falling\" width=\"6\" height=\"6\" patternUnits=\"userSpaceOnUse\"><path d=\"M0 0L6 6\"/></pattern>
+<pattern id=\"crossed\" width=\"6\" height=\"6\" patternUnits=\"userSpaceOnUse\"><path d=\"M0 0L6 6M0 6L6 0\"/></pattern>
+</defs>
+";
+
 /// Puts what precedes all that is drawn, with the name of the picture for a reader who does not see it.
 fn put_head(out: &mut Sheet, view: &View<'_>, rows: u32, bottom: Tenths) {
     let height = bottom.plus(240).0 / 10;
-    put!(
-        out,
-        "<svg xmlns=\"http://www.w3.org/2000/svg\" viewBox=\"0 0 1000 "
-    );
-    put!(out, "{height}\" width=\"1000\" height=\"{height}\"");
-    put!(out, " role=\"img\" aria-label=\"A run of a scale: ");
+    put!(out, "<svg xmlns=\"http://www.w3.org/2000/svg\" viewBox=");
+    put!(out, "\"0 0 1000 {height}\" width=\"1000\" ");
+    put!(out, "height=\"{height}\" role=\"img\" ");
+    put!(out, "aria-label=\"A run of a scale: ");
     put_counts(out, view, rows);
     put!(out, "\">\n{STYLE}<path class=\"paper\" d=\"");
     put!(out, "M0 0H1000V{height}H0Z\"/>\n");
@@ -40,11 +71,9 @@ fn put_counts(out: &mut Sheet, view: &View<'_>, rows: u32) {
 fn put_heading(out: &mut Sheet, view: &View<'_>, rows: u32, refusal: Option<(u16, u32)>) {
     put!(out, "<text class=\"heading\" x=\"130\" y=\"26\">");
     put_counts(out, view, rows);
-    put!(
-        out,
-        "</text>\n<text class=\"small\" x=\"130\" y=\"42\">a column is "
-    );
-    put!(out, "{}; point at one to read it", exactly(view.width));
+    put!(out, "</text>\n<text class=\"small\" x=\"130\" y=\"42\">");
+    let width = exactly(view.width);
+    put!(out, "a column is {width}; point at one to read it");
     if let Some((number, row)) = refusal {
         put!(out, "; row {row} is refused ({number})");
     }
@@ -78,32 +107,8 @@ fn put_weights(out: &mut Sheet, view: &View<'_>, look: &str, curve: Curve) {
     put!(out, "\"/>\n");
 }
 
-/// Puts all that is drawn; of a log that has no rows the axes alone.
-fn put_all(
-    out: &mut Sheet,
-    view: &View<'_>,
-    rows: u32,
-    refusal: Option<(u16, u32)>,
-    lanes: &[Lane],
-) {
-    let bottom = bottom_of(lanes);
-    put_head(out, view, rows, bottom);
-    let Some(all) = &view.all else {
-        put_axes(out, view, bottom);
-        return;
-    };
-    put_heading(out, view, rows, refusal);
-    put_legend(out, all);
-    put_bands(out, view, all);
-    put_axes(out, view, bottom);
-    put_weights(out, view, "gross", Curve::Gross);
-    put_weights(out, view, "net", Curve::Net);
-    put_readings(out, view, bottom);
-    put_marks(out, view);
-    put_lanes(out, view, all, lanes);
-}
-
-/// The text of a picture. It is bounded, since the numbers of columns and lanes are bounded.
+/// The text of a picture; of a log that has no rows the axes alone. It is bounded, since the numbers of columns and lanes are
+/// bounded.
 pub fn draw(
     alloc: Global,
     view: &View<'_>,
@@ -118,7 +123,21 @@ pub fn draw(
         string: String::new(alloc),
         is_full: false,
     };
-    put_all(&mut out, view, rows, refusal, &lanes);
+    let bottom = bottom_of(&lanes);
+    put_head(&mut out, view, rows, bottom);
+    if let Some(all) = &view.all {
+        put_heading(&mut out, view, rows, refusal);
+        put_legend(&mut out, all);
+        put_bands(&mut out, view, all);
+    }
+    put_axes(&mut out, view, bottom);
+    if let Some(all) = &view.all {
+        put_weights(&mut out, view, "gross", Curve::Gross);
+        put_weights(&mut out, view, "net", Curve::Net);
+        put_readings(&mut out, view, bottom);
+        put_marks(&mut out, view);
+        put_lanes(&mut out, view, all, &lanes);
+    }
     put!(out, "</svg>\n");
     if out.is_full {
         return Err(AllocError);

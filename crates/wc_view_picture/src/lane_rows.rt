@@ -1,7 +1,6 @@
-use crate::curves::{Curve, put_curve};
-use crate::requests::put_requests;
-use crate::sheet::{Sheet, put};
-use crate::values::Tenths;
+use crate::axes::{Curve, put_curve};
+use crate::marks::put_requests;
+use crate::sheet::{Sheet, Tenths, put};
 use crate::view::{BASE, LEFT, RIGHT, Range, ScanSteps, View, part};
 use std::fmt::Write;
 use wc_view_columns::{Column, Lane, Level};
@@ -121,10 +120,8 @@ fn put_bound(out: &mut Sheet, view: &View<'_>, top: Tenths) {
 /// Puts the most steps of a program's scans and their bound at a height, after a word.
 fn put_steps(out: &mut Sheet, y: Tenths, word: &str, steps: ScanSteps) {
     let ScanSteps { most, bound } = steps;
-    put!(
-        out,
-        "<text x=\"858\" y=\"{y}\">{word}{most} of {bound}</text>\n"
-    );
+    put!(out, "<text x=\"858\" y=\"{y}\">{word}{most}");
+    put!(out, " of {bound}</text>\n");
 }
 
 /// Puts the lane of the scans, with the most steps of a scan and the bound, of the first program, and below of the next
@@ -163,10 +160,8 @@ fn put_lane(out: &mut Sheet, view: &View<'_>, all: &Column, lane: Lane, top: Ten
     put_name(out, view, lane);
     put!(out, "\">\n<text class=\"name\" x=\"122\" y=\"{y}\">");
     put_name(out, view, lane);
-    put!(
-        out,
-        "</text>\n<path class=\"grid\" d=\"M{LEFT} {base}H{RIGHT}\"/>\n"
-    );
+    put!(out, "</text>\n<path class=\"grid\" ");
+    put!(out, "d=\"M{LEFT} {base}H{RIGHT}\"/>\n");
     match lane {
         Lane::Requests => put_requests(out, view, top, height),
         Lane::Word(number) => put_numbers(out, view, all, Curve::Word(number), top),

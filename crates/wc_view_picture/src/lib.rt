@@ -3,18 +3,14 @@
 #![tactic(auto)]
 
 mod axes;
-mod curves;
 mod drawing;
 mod lane_rows;
 mod marks;
 mod picture;
 mod readings;
-mod requests;
 mod rows;
 mod sheet;
 mod showing;
-mod style;
-mod values;
 mod view;
 
 pub use drawing::draw;

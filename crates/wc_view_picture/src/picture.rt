@@ -170,14 +170,6 @@ impl<'n> Picture<'n> {
         let row = Column { state, events };
         keep(self.alloc, &mut self.line, seen.row.ms, row)
     }
-
-    /// The text of the picture, with the number and the row of a refusal.
-    fn draw(&self, refusal: Option<(u16, u32)>) -> Result<String, AllocError> {
-        let names = self.list.unwrap_or(b"");
-        let line = self.line.as_ref();
-        let view = View::new(line, self.plate, self.before, self.running, names);
-        draw(self.alloc, &view, self.rows, refusal)
-    }
 }
 
 impl<W: ByteOut> Observer<SlotStore, W> for Picture<'_> {
@@ -236,7 +228,10 @@ impl<W: ByteOut> Observer<SlotStore, W> for Picture<'_> {
     }
 
     fn end(&mut self, refused: Option<(u16, u32)>, writer: &mut W) -> Result<(), RunFault> {
-        let text = self.draw(refused)?;
+        let names = self.list.unwrap_or(b"");
+        let line = self.line.as_ref();
+        let view = View::new(line, self.plate, self.before, self.running, names);
+        let text = draw(self.alloc, &view, self.rows, refused)?;
         write_text(text.as_bytes(), writer)
     }
 }

@@ -1,5 +1,4 @@
-use crate::sheet::{Sheet, put};
-use crate::values::{Tenths, exactly};
+use crate::sheet::{Sheet, Tenths, exactly, put};
 use crate::view::{TOP, View};
 use std::fmt::Write;
 use wc_view_columns::{Span, State};

@@ -1,4 +1,4 @@
-use crate::values::{Tenths, Weight};
+use crate::sheet::{Tenths, Weight};
 use std::str;
 use wc_plate::Plate;
 use wc_sma::MassUnit;
@@ -37,11 +37,6 @@ pub(crate) struct Range {
     pub(crate) high: i64,
 }
 
-/// How far above one number another is, 0 if it is not.
-fn above(high: i64, low: i64) -> u64 {
-    if low < high { high.abs_diff(low) } else { 0 }
-}
-
 /// The part of a length that so much of a whole is.
 pub(crate) fn part(length: u64, some: u64, whole: u64) -> u64 {
     length.saturating_mul(some).checked_div(whole).unwrap_or(0)
@@ -51,10 +46,7 @@ impl Range {
     /// The height of the curves, with space for all weights and zero, for Max if it is not far above, and a little more.
     fn of_weights(all: Option<Column>, max: i64) -> Range {
         let weights = all.and_then(|all| join(all.state.gross, all.state.net));
-        let (least, greatest) = match weights {
-            Some(span) => (span.least, span.greatest),
-            None => (0, 0),
-        };
+        let (least, greatest) = weights.map_or((0, 0), |span| (span.least, span.greatest));
         let is_far = greatest.saturating_mul(3) < max && max < greatest.saturating_mul(100);
         let low = least.min(0);
         let high = if is_far { greatest } else { greatest.max(max) };
@@ -69,8 +61,8 @@ impl Range {
 
     /// Where a number is.
     pub(crate) fn y(&self, number: i64) -> Tenths {
-        let below = above(self.high, number.max(self.low));
-        let whole = above(self.high, self.low);
+        let below = self.high.abs_diff(number.max(self.low).min(self.high));
+        let whole = self.high.abs_diff(self.low.min(self.high));
         self.top.plus(part(self.height, below, whole))
     }
 }
