@@ -1,5 +1,4 @@
-use crate::fields::{address_advice, point_advice};
-use crate::members::member_advice;
+use crate::members::{address_advice, member_advice, point_advice};
 use crate::near::{
     Wanted, called_advice, instance_advice, label_advice, likely, near_name, near_word,
     operator_advice, type_advice,
@@ -42,10 +41,9 @@ fn name_advice(refused: &Refused<'_, '_>) -> Said {
         return point_advice(refused);
     };
     let name = refused.offending();
-    Some(if refused.number == 409 {
-        member_advice(refused, block, refused.span.is_passed, (b"", name))
-    } else {
-        member_advice(refused, block, refused.sets(), (name, refused.field()))
+    Some(match refused.number {
+        409 => member_advice(refused, block, refused.span.is_passed, (b"", name)),
+        _ => member_advice(refused, block, refused.sets(), (name, refused.field())),
     })
 }
 
@@ -65,12 +63,10 @@ fn undeclared_advice(refused: &Refused<'_, '_>) -> Said {
 
 /// What to write instead, with the available values; nothing beyond the hint, if nothing is found.
 pub fn advice_at(refused: &Refused<'_, '_>, mistake: Mistake) -> Said {
+    let token = refused.token();
     match (refused.number, mistake.case) {
         (201, Case::NoOperator) => operator_advice(refused),
-        (201, Case::NoUnit) => likely(
-            refused,
-            near_word("PROGRAM FUNCTION_BLOCK", refused.token()),
-        ),
+        (201, Case::NoUnit) => likely(refused, near_word("PROGRAM FUNCTION_BLOCK", token)),
         (201, Case::OpenSection) => section_advice(refused),
         (201, Case::NoAddress) => address_advice(refused),
         (302, Case::Plain) => type_advice(refused),

@@ -3,7 +3,6 @@
 #![tactic(auto)]
 
 mod advice;
-mod fields;
 mod members;
 mod near;
 

@@ -1,28 +1,14 @@
+use crate::near::{Wanted, likely, near_name};
 use std::alloc::AllocError;
 use std::fmt::Write;
-use wc_built_in::standard_block;
-use wc_diag_mistakes::{Refused, words};
-use wc_diag_stops::same_prefix;
+use wc_built_in::{standard_block, standard_fields, variable_at};
+use wc_diag_mistakes::{Refused, Said, block_with, words};
+use wc_diag_stops::{same_prefix, without_line_ends};
 use wc_diag_texts::{Case, hint_of};
 use wc_model::{Decl, Section, StandardBlock, Unit};
 
 /// This number of bytes of a list of names is printed at most.
 const LONGEST_LIST: usize = 40;
-
-/// The inputs of a standard block, or its outputs.
-fn members_of(block: StandardBlock, is_input: bool) -> &'static [&'static str] {
-    match (block, is_input) {
-        (StandardBlock::Ton | StandardBlock::Tof | StandardBlock::Tp, true) => &["IN", "PT"],
-        (StandardBlock::Ton | StandardBlock::Tof | StandardBlock::Tp, false) => &["Q", "ET"],
-        (StandardBlock::Ctu, true) => &["CU", "R", "PV"],
-        (StandardBlock::Ctu, false) => &["Q", "CV"],
-        (StandardBlock::RTrig, true) => &["CLK"],
-        (StandardBlock::RTrig, false) => &["Q"],
-        (StandardBlock::Sr, true) => &["S1", "R"],
-        (StandardBlock::Rs, true) => &["S", "R1"],
-        (StandardBlock::Sr | StandardBlock::Rs, false) => &["Q1"],
-    }
-}
 
 /// Nearness of short names, of which one letter may be all: the last letter differs at most.
 fn is_near_member(member: &[u8], name: &[u8]) -> bool {
@@ -31,36 +17,30 @@ fn is_near_member(member: &[u8], name: &[u8]) -> bool {
 }
 
 /// The block of the text that has that name.
-pub(crate) fn block_named<'a, 't>(refused: &Refused<'a, 't>, block: &str) -> Option<&'t Unit<'a>> {
+fn block_named<'a, 't>(refused: &Refused<'a, 't>, block: &str) -> Option<&'t Unit<'a>> {
     let mut units = refused.units.iter();
     units.find(|unit| unit.name.text.eq_ignore_ascii_case(block.as_bytes()))
 }
 
-/// The names that a block of the text declares in a kind of section, with commas between, as long as they are not too long.
-fn names_in(refused: &Refused<'_, '_>, block: &str, wanted: Section) -> Result<String, AllocError> {
-    let mut list = String::new(refused.alloc);
-    let Some(unit) = block_named(refused, block) else {
-        return Ok(list);
-    };
-    let declarations = unit.declarations.iter();
-    for declaration in declarations.filter(|declaration| declaration.section == wanted) {
-        for name in &declaration.names {
-            if list.len() <= LONGEST_LIST {
-                let mark = if list.is_empty() { "" } else { ", " };
-                write!(list, "{mark}{}", words(name.text).unwrap_or(""))?;
-            }
-        }
-    }
-    Ok(list)
-}
-
-/// The inputs of a block of the text, or its outputs, in words.
+/// The inputs of a block of the text, or its outputs, in words, with commas between, as long as they are not too long.
 fn own_members(
     refused: &Refused<'_, '_>,
     block: &str,
     wanted: Section,
 ) -> Result<String, AllocError> {
-    let names = names_in(refused, block, wanted)?;
+    let mut names = String::new(refused.alloc);
+    let declarations = match block_named(refused, block) {
+        Some(unit) => unit.declarations.as_slice(),
+        None => &[],
+    };
+    for declaration in declarations {
+        for name in &declaration.names {
+            if declaration.section == wanted && names.len() <= LONGEST_LIST {
+                let mark = if names.is_empty() { "" } else { ", " };
+                write!(names, "{mark}{}", words(name.text).unwrap_or(""))?;
+            }
+        }
+    }
     let (word, sign) = match wanted {
         Section::Input => ("input", ":="),
         _ => ("output", "=>"),
@@ -88,13 +68,71 @@ pub(crate) fn member_advice(
     let said = hint_of(409, Case::NotOfBlock(standard)).unwrap_or("");
     // by the names of the inputs of SR and RS it is not known which of the two is meant
     let is_sure = !is_input || !matches!(standard, StandardBlock::Sr | StandardBlock::Rs);
-    let mut members = members_of(standard, is_input).iter();
-    let near = members.find(|member| is_sure && is_near_member(member.as_bytes(), name));
-    match (near, words(instance)) {
-        (None, _) => format!(in refused.alloc; "{said}"),
-        (Some(near), None) => format!(in refused.alloc; "did you mean `{near}`? {said}"),
-        (Some(near), Some(instance)) => {
-            format!(in refused.alloc; "did you mean `{instance}.{near}`? {said}")
-        }
+    let wanted = match is_input {
+        true => Section::Input,
+        false => Section::Output,
+    };
+    let mut fields = standard_fields(standard).iter();
+    let near = fields.find(|field| {
+        is_sure && field.section == wanted && is_near_member(field.name, name)
+    });
+    let Some(near) = near.and_then(|field| words(field.name)) else {
+        return format!(in refused.alloc; "{said}");
+    };
+    let near = near.to_ascii_uppercase(refused.alloc)?;
+    match words(instance) {
+        None => format!(in refused.alloc; "did you mean `{near}`? {said}"),
+        Some(instance) => format!(in refused.alloc; "did you mean `{instance}.{near}`? {said}"),
     }
+}
+
+/// What to write for a name before a point that is not of an instance.
+pub(crate) fn point_advice(refused: &Refused<'_, '_>) -> Said {
+    let (alloc, name) = (refused.alloc, words(refused.offending())?);
+    let field = words(refused.field())?;
+    if let Some(kind) = refused.word_at(refused.span.block) {
+        return Some(format!(in alloc;
+            "`{name}` is a {kind}, and has no fields: only an instance has, such as t.Q of t : TON;"
+        ));
+    }
+    let instance = near_name(refused, name.as_bytes(), Wanted::InstanceOf);
+    if let Some(near) = instance.or(near_name(refused, name.as_bytes(), Wanted::Instance)) {
+        return Some(format!(in alloc; "did you mean `{near}.{field}`?"));
+    }
+    if standard_block(name.as_bytes()).is_some() || block_named(refused, name).is_some() {
+        return Some(format!(in alloc;
+            "{name} is a type: declare an instance in VAR, such as v : {name}; and write v.{field}"
+        ));
+    }
+    Some(match block_with(field.as_bytes()) {
+        Some(block) => {
+            format!(in alloc; "declare the instance in VAR, such as {name} : {block};")
+        }
+        None if refused.is_in_program() => {
+            format!(in alloc;
+                "there are no global variables: write {field}, declared in VAR, without `{name}.`"
+            )
+        }
+        None => {
+            format!(in alloc;
+                "a block sees no variables of other units: declare {field} in VAR_INPUT, write it without `{name}.`, and pass it in the CAL"
+            )
+        }
+    })
+}
+
+/// The address that a number after a point is of, if it is one without its `%`.
+pub(crate) fn address_advice(refused: &Refused<'_, '_>) -> Said {
+    let digits = words(refused.token()).unwrap_or("");
+    let [.., name, _] = without_line_ends(refused.before()) else {
+        return None;
+    };
+    let name = words(name.text).unwrap_or("");
+    let Ok(address) = format!(in refused.alloc; "%{name}.{digits}") else {
+        return Some(Err(AllocError));
+    };
+    if variable_at(address.as_bytes()).is_none() {
+        return None;
+    }
+    likely(refused, Some(&address))
 }

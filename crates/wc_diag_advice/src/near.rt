@@ -13,14 +13,11 @@ const OPERATORS: &str =
 
 /// Which of some words another may be a misspelling of, if one is near: the nearest.
 pub(crate) fn near_word(words: &'static str, word: &[u8]) -> Option<&'static str> {
-    for wanted in 0_u8..4 {
+    let mut differences = 0_u8..4;
+    differences.find_map(|wanted| {
         let mut others = words.split(' ');
-        let found = others.find(|other| difference(other.as_bytes(), word) == Some(wanted));
-        if found.is_some() {
-            return found;
-        }
-    }
-    None
+        others.find(|other| difference(other.as_bytes(), word) == Some(wanted))
+    })
 }
 
 /// What to write for what is near, if something is.
@@ -32,10 +29,9 @@ pub(crate) fn likely(refused: &Refused<'_, '_>, near: Option<&str>) -> Said {
 /// What to write for a word that begins a line and is neither an operator nor a keyword: one that it may be a misspelling of.
 pub(crate) fn operator_advice(refused: &Refused<'_, '_>) -> Said {
     let word = refused.token();
-    let end = if refused.is_in_program() {
-        "END_PROGRAM"
-    } else {
-        "END_FUNCTION_BLOCK"
+    let end = match refused.is_in_program() {
+        true => "END_PROGRAM",
+        false => "END_FUNCTION_BLOCK",
     };
     if is_near(end.as_bytes(), word) {
         return likely(refused, Some(end));
@@ -136,10 +132,9 @@ pub(crate) fn called_advice(refused: &Refused<'_, '_>) -> Said {
 pub fn watched_advice(alloc: Global, units: &[Unit<'_>], name: &[u8]) -> Said {
     let word = first_word(name);
     let rest = str::from_utf8(following(name, word.len())).unwrap_or("");
-    let wanted = if word.len() < name.len() {
-        Wanted::Instance
-    } else {
-        Wanted::Value
+    let wanted = match word.len() < name.len() {
+        true => Wanted::Instance,
+        false => Wanted::Value,
     };
     let near = near_in_unit(units, word, usize::MAX, wanted)?;
     Some(format!(in alloc; "did you mean `{near}{rest}`?"))

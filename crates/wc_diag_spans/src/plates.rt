@@ -97,21 +97,15 @@ fn point_to(diagnostic: &mut Diagnostic, text: &[u8], name: &str, is_key: bool) 
     }
 }
 
-/// The scale intervals that are allowed with a unit and decimals, with commas between.
-fn allowed_intervals(alloc: Global, unit: [u8; 3], decimals: u32) -> Result<String, AllocError> {
-    let mut list = String::new(alloc);
-    for e in &INTERVALS {
-        if allows_interval(unit, decimals, *e) {
-            let mark = if list.is_empty() { "" } else { ", " };
-            write!(list, "{mark}{e}")?;
-        }
-    }
-    Ok(list)
-}
-
 /// Which scale intervals are allowed with a unit and decimals.
 fn interval_advice(alloc: Global, unit: [u8; 3], decimals: u32) -> Result<String, AllocError> {
-    let allowed = allowed_intervals(alloc, unit, decimals)?;
+    let mut allowed = String::new(alloc);
+    for e in &INTERVALS {
+        if allows_interval(unit, decimals, *e) {
+            let mark = if allowed.is_empty() { "" } else { ", " };
+            write!(allowed, "{mark}{e}")?;
+        }
+    }
     let unit = str::from_utf8(&unit).unwrap_or("g").trim();
     if allowed.is_empty() {
         return format!(in alloc;

@@ -35,20 +35,18 @@ fn case_of_token(token: &[u8], expected: Expected) -> Case {
     }
 }
 
-/// Whether it is the name of a standard block, or a call names a function block of the text.
-fn names_block(refused: &Refused<'_, '_>) -> bool {
-    let token = refused.token();
-    standard_block(token).is_some()
-        || refused.is_called() && block_line(refused.tokens, token).is_some()
-}
-
 /// In which way a rule is broken at the slice of a text.
 fn case_at(refused: &Refused<'_, '_>) -> Case {
     let (number, token, span) = (refused.number, refused.token(), refused.span);
     match number {
         101..=107 => case_of_lexeme(number, refused.lexeme, token),
         201..=208 => case_of_token(token, span.expected),
-        401 if refused.names_one() && names_block(refused) => Case::BlockType,
+        401
+            if refused.names_one()
+                && (standard_block(token).is_some()
+                    || refused.is_called() && block_line(refused.tokens, token).is_some()) => {
+            Case::BlockType
+        }
         _ => span.case,
     }
 }
@@ -81,12 +79,9 @@ fn expected_at(expected: Expected, mistake: Case) -> Expected {
 
 /// The number of bytes with which the character at a place of a text begins, if the text goes on with one above ASCII.
 fn character_length(text: &[u8]) -> usize {
-    for length in 2..5 {
-        if str::from_utf8(prefix(text, length)).is_ok() {
-            return length;
-        }
-    }
-    1
+    let mut lengths = 2..5;
+    let found = lengths.find(|length| str::from_utf8(prefix(text, *length)).is_ok());
+    found.unwrap_or(1)
 }
 
 /// The number of bytes of a slice that are quoted: none if its sentence is given alone.
@@ -145,31 +140,21 @@ fn words_brought(tokens: &[Token<'_>], path: PathToLabel) -> &'static str {
     }
 }
 
-/// What is said of the paths to a label that brings no single result.
-fn paths_found<'a>(
-    tokens: &[Token<'_>],
-    label: &'a str,
-    line: u32,
-    LabelPaths { first, other }: LabelPaths,
-) -> Paths<'a> {
-    let brought = words_brought(tokens, first);
-    match (other, first.brought) {
-        (Some(other), _) => {
-            let different = words_brought(tokens, other);
-            Paths::Two(label, first.line, brought, other.line, different)
-        }
-        (None, Brought::Nothing) => Paths::Empty(label, first.line),
-        (None, _) => Paths::Unsure(label, line),
-    }
-}
-
 /// Which paths to the label before the slice bring what, if that is sure.
 fn label_said(refused: &Refused<'_, '_>) -> Said {
     let (tokens, found) = (refused.tokens, refused.label_before()?);
-    let (label, line) = (words(found.text).unwrap_or(""), found.line);
+    let label = words(found.text).unwrap_or("");
     let paths = match refused.span.paths {
-        Some(paths) => paths_found(tokens, label, line, paths),
-        None if follows_leaving(tokens, line) => Paths::None(label),
+        Some(LabelPaths { first, other }) => match (other, first.brought) {
+            (Some(other), _) => {
+                let brought = words_brought(tokens, first);
+                let different = words_brought(tokens, other);
+                Paths::Two(label, first.line, brought, other.line, different)
+            }
+            (None, Brought::Nothing) => Paths::Empty(label, first.line),
+            (None, _) => Paths::Unsure(label, found.line),
+        },
+        None if follows_leaving(tokens, found.line) => Paths::None(label),
         None => return None,
     };
     Some(paths_text(refused.alloc, paths))
@@ -263,20 +248,15 @@ fn point_to_span(
 fn fault_of(
     found: Option<RefusalSpan>,
     number: u16,
-    line: u32,
+    place: u32,
 ) -> Result<Option<RefusalSpan>, AllocError>
     ensures { IfOk result (λ kept. IfSome kept
-        (λ span. (found ≡ Some span) × (span.fault ≡ Fault.Refused number line))) }
+        (λ span. (found ≡ Some span) × (span.fault ≡ Fault.Refused number place))) }
 {
-    let Some(span) = found else {
-        return Ok(None);
-    };
-    match span.fault {
-        Fault::Refused {
-            number: reported,
-            place,
-        } if reported == number && place == line => Ok(Some(span)),
-        Fault::Memory => Err(AllocError),
+    let wanted = Fault::Refused { number, place };
+    match found {
+        Some(span) if span.fault == wanted => Ok(Some(span)),
+        Some(span) if span.fault == Fault::Memory => Err(AllocError),
         _ => Ok(None),
     }
 }
@@ -294,16 +274,14 @@ fn find_stop(
     let Some(stopped) = stop_of(alloc, text)? else {
         return Ok(());
     };
-    match fault_of(Some(stopped.span), number, diagnostic.line)? {
-        Some(span) => {
-            // What can't be cut into tokens goes on from the malformed lexeme.
-            let rest = if number < 200 { span.start } else { text.len() };
-            let lexeme = following(text, rest);
-            let refused = Refused::new(alloc, &stopped.tokens, lexeme, &[], number, span);
-            point_to_span(diagnostic, text, &refused)
-        }
-        None => Ok(()),
-    }
+    let Some(span) = fault_of(Some(stopped.span), number, diagnostic.line)? else {
+        return Ok(());
+    };
+    // What can't be cut into tokens goes on from the malformed lexeme.
+    let rest = if number < 200 { span.start } else { text.len() };
+    let lexeme = following(text, rest);
+    let refused = Refused::new(alloc, &stopped.tokens, lexeme, &[], number, span);
+    point_to_span(diagnostic, text, &refused)
 }
 
 /// Finds the fault of a text that was read on its line: where a later pass refuses it.
@@ -319,14 +297,11 @@ fn find_later_fault<'a>(
     ensures { IfOk result
         (λ _. HasLaterSpan text.now number diagnostic.old.line diagnostic.new) }
 {
-    match fault_of(span_in(alloc, read), number, diagnostic.line)? {
-        Some(span) => {
-            let units = &read.source.units;
-            let refused = Refused::new(alloc, &read.tokens, b"", units, number, span);
-            point_to_span(diagnostic, text, &refused)
-        }
-        None => Ok(()),
-    }
+    let Some(span) = fault_of(span_in(alloc, read), number, diagnostic.line)? else {
+        return Ok(());
+    };
+    let refused = Refused::new(alloc, &read.tokens, b"", &read.source.units, number, span);
+    point_to_span(diagnostic, text, &refused)
 }
 
 /// Finds the fault of a program's text on its line: where a pass refuses it.

@@ -93,27 +93,21 @@ fn are_digits(bytes: &[u8]) -> bool {
 fn hexadecimal_length(text: &[u8]) -> usize
     ensures { result ≤ length text.now }
 {
-    for count in 0..text.len() {
-        if !text[count].is_ascii_hexdigit() {
-            return count;
-        }
-    }
-    text.len()
+    text.iter()
+        .take_while(|byte| byte.is_ascii_hexdigit())
+        .count()
 }
 
 /// Says what is wrong with hexadecimal data.
 fn report_hexadecimal(diagnostic: &mut Diagnostic, row: &RefusedRow) -> Result<(), AllocError>
     ensures { IfSome diagnostic.new.span (IsInField (fields_reported row.now) 2) }
 {
-    let data = shown_field(row, 2);
-    let start = field_start(row, 2);
+    let (data, start) = (shown_field(row, 2), field_start(row, 2));
     let digits = hexadecimal_length(data);
     if digits < data.len() {
         diagnostic.point(start + digits, 1);
-        return diagnostic.report(
-            bytes_at(data, digits, 1),
-            Some("is not a hexadecimal digit"),
-        );
+        let digit = bytes_at(data, digits, 1);
+        return diagnostic.report(digit, Some("is not a hexadecimal digit"));
     }
     diagnostic.point(start, digits.max(1));
     diagnostic.sentence = match shown_field(row, 1) {
@@ -126,11 +120,8 @@ fn report_hexadecimal(diagnostic: &mut Diagnostic, row: &RefusedRow) -> Result<(
 
 /// What is said of the offending field.
 fn said_of_field(number: u16, row: &RefusedRow) -> Option<&'static str> {
-    let (time, kind, data) = (
-        shown_field(row, 0),
-        shown_field(row, 1),
-        shown_field(row, 2),
-    );
+    let (time, kind) = (shown_field(row, 0), shown_field(row, 1));
+    let data = shown_field(row, 2);
     let counts = data.strip_prefix(b"-").unwrap_or(data);
     Some(match (number, kind) {
         (602 | 603, _) if time.is_empty() => "the time is missing",

@@ -51,25 +51,6 @@ fn line_of_part(refusal: &Refusal<'_>, found: u32) -> u32
     }
 }
 
-/// Keeps the bytes of the line of that number, and no span if the text has no such line.
-fn keep_bytes(diagnostic: &mut Diagnostic, text: &[u8], line: u32) -> Result<(), AllocError>
-    ensures line { IfOk result
-        (λ _. ShowsLine text.now diagnostic.new.line diagnostic.new.shown.items) }
-    ensures known { diagnostic.new.line ≡ known_line text.now line }
-    ensures span { IfSome diagnostic.new.span
-        (λ span. (diagnostic.old.span ≡ Some span) × (diagnostic.new.line ≡ line)) }
-    ensures subject { diagnostic.new.subject.items ≡ diagnostic.old.subject.items }
-{
-    diagnostic.shown.clear();
-    let Some(shown) = line_at(text, line) else {
-        diagnostic.line = 0;
-        diagnostic.span = None;
-        return Ok(());
-    };
-    diagnostic.line = line;
-    diagnostic.shown.extend_from_slice(shown)
-}
-
 /// Moves a span after the line's end to that end.
 fn keep_span(diagnostic: &mut Diagnostic)
     ensures within { IfSome diagnostic.new.span
@@ -87,7 +68,7 @@ fn keep_span(diagnostic: &mut Diagnostic)
     }
 }
 
-/// Keeps the bytes of the line that is shown, and no span outside it.
+/// Keeps the bytes of the line of that number, and no span outside it; none if the text has no such line.
 fn keep_line(diagnostic: &mut Diagnostic, text: &[u8], line: u32) -> Result<(), AllocError>
     ensures within { IfOk result
         (λ _. IfSome diagnostic.new.span
@@ -99,7 +80,14 @@ fn keep_line(diagnostic: &mut Diagnostic, text: &[u8], line: u32) -> Result<(), 
         (λ _. IfSome diagnostic.new.span
         (λ span. IsKept diagnostic.old diagnostic.new line span)) }
 {
-    keep_bytes(diagnostic, text, line)?;
+    diagnostic.shown.clear();
+    let Some(shown) = line_at(text, line) else {
+        diagnostic.line = 0;
+        diagnostic.span = None;
+        return Ok(());
+    };
+    diagnostic.line = line;
+    diagnostic.shown.extend_from_slice(shown)?;
     keep_span(diagnostic);
     Ok(())
 }
@@ -133,22 +121,18 @@ fn find_text(alloc: Global, refusal: &Refusal<'_>, text: &[u8]) -> Result<Diagno
     Ok(diagnostic)
 }
 
-/// Which variable of a program that was read a watched name may be, if one is near, and the program does not have its first word.
-fn near_advice(alloc: Global, read: &SpannedSource<'_>, name: &[u8]) -> Said {
+/// Which variable of a program a watched name may be, if it can be read, one is near, and it does not have the first word of the name.
+fn name_advice(alloc: Global, read: &Result<SpannedSource<'_>, Fault>, name: &[u8]) -> Said {
+    let read = match read {
+        Ok(read) => read,
+        Err(Fault::Memory) => return Some(Err(AllocError)),
+        Err(_) => return None,
+    };
     let (mut tokens, word) = (read.tokens.iter(), first_word(name));
     if tokens.any(|token| token.text.eq_ignore_ascii_case(word)) {
         return None;
     }
     watched_advice(alloc, &read.source.units, name)
-}
-
-/// Which variable of a program's text a watched name may be, if the text can be read.
-fn name_advice(alloc: Global, program: &[u8], name: &[u8]) -> Said {
-    match read_by_places(alloc, program) {
-        Ok(read) => near_advice(alloc, &read, name),
-        Err(Fault::Memory) => Some(Err(AllocError)),
-        Err(_) => None,
-    }
 }
 
 /// What is wrong with a list of names: no program has the one that is there.
@@ -167,7 +151,8 @@ fn find_name(
     if !name.is_empty() {
         diagnostic.report(name, Some("is not a variable of the program"))?;
     }
-    diagnostic.advice = said_text(alloc, name_advice(alloc, program, name))?;
+    let advice = name_advice(alloc, &read_by_places(alloc, program), name);
+    diagnostic.advice = said_text(alloc, advice)?;
     diagnostic.hint =
         "name a variable, or a field after its instance, such as `t.ET`, with commas and no spaces between";
     diagnostic.point(start, length);
