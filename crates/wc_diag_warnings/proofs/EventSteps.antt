@@ -1,5 +1,6 @@
 -- One event more of a body. (No rule of the language.)
-use Rattle.std.proofs.Common.{◌≡◌, ℕ, Bool, not, ◌&&◌, ◌||◌, List, ◌∷◌, ◌++◌, Option, append_assoc, arith}
+use Rattle.std.proofs.Common.{◌≡◌, ℕ, ◌+◌, ◌<◌, Bool, not, ◌&&◌, ◌||◌, List, [], ◌∷◌, ◌++◌, Option, append_assoc, length, get_or, reverse, take, ap, ◌∙◌, arith}
+use Rattle.std.proofs.lemmas.List.{map_push, reverse-append, take_more}
 use Rattle.std.specs.Prelude.{if◌then◌else◌}
 use Rattle.std.specs.List.{flat_map, list_any}
 use Rattle.wc_model.specs.Language.Checks.{positions_after}
@@ -7,6 +8,15 @@ use Rattle.wc_diag_warnings.specs.Addresses.{reads_valid, reads_weight}
 use Rattle.wc_diag_warnings.specs.Events.{Happening}
 use Rattle.wc_diag_warnings.specs.Warnings.{Caution, address_of, begins_stretch, caution, doing_begins, event_cautions, event_number, is_above_reached, is_stored_again, is_unasked}
 use Rattle.wc_diag_warnings.specs.Edges.{is_reached}
+use Rattle.wc_diag_warnings.specs.Seen.{event_view, events_view}
+use Rattle.wc_diag_warnings.specs.declared.event.Event.{Event}
+
+-- the events before the next, newest first
+pub one_more_before : (events : List Event) (i : ℕ) (other : Event) → i < length events →
+    reverse (events_view (take (i + 1) events)) ≡ event_view (get_or events i other) ∷ reverse (events_view (take i events))
+one_more_before events i other below =
+    ap (λ es. reverse (events_view es)) (take_more events i other below) ∙ ap reverse (map_push event_view (take i events) (get_or events i other))
+    ∙ reverse-append (events_view (take i events)) (event_view (get_or events i other) ∷ [])
 
 -- a truth that comes last may come before the second
 swapped : (v b w : Bool) → ((v || b) || w) ≡ (v || (w || b))

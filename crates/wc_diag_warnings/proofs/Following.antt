@@ -1,47 +1,50 @@
--- One event more that is followed. (No rule of the language.)
-use Rattle.std.proofs.Common.{◌≡◌, ℕ, ◌+◌, ◌<◌, Bool, ◌&&◌, ◌||◌, List, [], ◌∷◌, ◌++◌, length, get_or, map, reverse, take, sym, subst, ap, ◌∙◌}
-use Rattle.std.proofs.lemmas.List.{map_push, reverse-append, take_more}
-use Rattle.std.proofs.Math.Bool.{or_comm}
-use Rattle.wc_model.specs.Language.DeclarationRules.{is_among}
+-- One event more of a body. (No rule of the language.)
+use Rattle.std.proofs.Common.{◌≡◌, ℕ, Bool, false, ◌&&◌, ◌||◌, not, List, ◌∷◌, Option, None, Some, unwrap_or, Bor, refl, ap, ◌∙◌, arith}
+use Rattle.std.proofs.lemmas.Slice.Eq.{bytes_eq-Decides}
+use Rattle.std.specs.Option.{option_map_or}
+use Rattle.indexmap.specs.IndexMap.{IndexMap, Updates, get}
+use Rattle.wc_model.specs.Language.Declarations.{same_name}
 use Rattle.wc_model.specs.Language.Names.{Name}
-use Rattle.wc_names.specs.declared.names.Names.{Names}
-use Rattle.wc_diag_warnings.specs.Edges.{Passed, arrives, comes_by_jump, doing_jumps, passed}
-use Rattle.wc_diag_warnings.specs.Events.{Happening, Labels}
-use Rattle.wc_diag_warnings.specs.Places.{IsFollowed}
-use Rattle.wc_diag_warnings.specs.Seen.{event_view, events_view, known_view, marks, starts}
-use Rattle.wc_diag_warnings.specs.declared.edges.Asked.{Asked}
-use Rattle.wc_diag_warnings.specs.declared.edges.Known.{Known}
-use Rattle.wc_diag_warnings.specs.declared.event.Event.{Event}
+use Rattle.wc_model.specs.declared.operator.Condition.{Condition}
+use Rattle.wc_names.specs.Keys.{name_of_key, same_key}
+use Rattle.wc_names.specs.declared.key.Key.{Key}
+use Rattle.wc_diag_warnings.specs.Edges.{doing_jumps, doing_leaves, is_on}
+use Rattle.wc_diag_warnings.specs.Events.{Happening}
+use Rattle.wc_diag_warnings.specs.Paths.{Source, AreFrom, IsFollowed, is_from, leads, marks, starts}
+use Rattle.wc_diag_warnings.specs.Seen.{deed_view}
+use Rattle.wc_diag_warnings.specs.declared.edges.Ahead.{Ahead}
+use Rattle.wc_diag_warnings.specs.declared.event.Deed.{Deed}
+use Rattle.wc_diag_warnings.specs.declared.event.Deed.TheVariants.{Jump}
+use Rattle.wc_diag_warnings.specs.declared.paths.Paths.{Paths}
 
--- the events before the next, newest first
-one_more_turned : (events : List Event) (i : ℕ) (other : Event) → i < length events →
-    reverse (events_view (take (i + 1) events)) ≡ event_view (get_or events i other) ∷ reverse (events_view (take i events))
-one_more_turned events i other below =
-    ap (λ es. reverse (events_view es)) (take_more events i other below) ∙ ap reverse (map_push event_view (take i events) (get_or events i other))
-    ∙ reverse-append (events_view (take i events)) (event_view (get_or events i other) ∷ [])
+-- the paths to an event go on to the next one, and to the label to which it jumps
+pub followed_more : (before : List Happening) (e : Happening) (old new : Ahead) (paths : Paths) → IsFollowed before old → AreFrom paths before e →
+    ((source : Source) → is_from new.next source ≡ (not (doing_leaves e.doing) && (is_from paths source || marks source e))) →
+    ((source : Source) (key : Key) → leads new.labels (name_of_key key) source ≡ ((is_from paths source && doing_jumps e.doing (name_of_key key)) || leads old.labels (name_of_key key) source)) →
+    IsFollowed (e ∷ before) new
+followed_more before e old new paths so_far from goes led = record {
+  next = λ source. goes source ∙ ap (λ b. not (doing_leaves e.doing) && (b || marks source e)) (from source);
+  labels = λ source key.
+      let jumps = doing_jumps e.doing (name_of_key key) in
+      led source key ∙ ap (λ b. (b && jumps) || leads old.labels (name_of_key key) source) (from source)
+      ∙ ap (λ b. (is_on (starts source) (marks source) before e && jumps) || b) (so_far.labels source key);
+}
 
-pub followed_more : (asked : Asked) (events : List Event) (i : ℕ) (other : Event) (known more : List Known) (led next : Names) → i < length events →
-    ((before : List Happening) → IsFollowed asked before (map known_view known) led → IsFollowed asked (event_view (get_or events i other) ∷ before) (map known_view more) next) →
-    IsFollowed asked (reverse (events_view (take i events))) (map known_view known) led →
-    IsFollowed asked (reverse (events_view (take (i + 1) events))) (map known_view more) next
-followed_more asked events i other known more led next below goes so_far =
-    subst (λ before. IsFollowed asked before (map known_view more) next) (sym (one_more_turned events i other below))
-    (goes (reverse (events_view (take i events))) so_far)
+-- what is no jump leads to no label
+pub not_led : (deed : Deed) → ((condition : Condition) (label : Bor (List ℕ)) → deed ≡ Jump condition label → ⊥) → (name : Name) (from led : Bool) → led ≡ ((from && doing_jumps (deed_view deed) name) || led)
+not_led (Jump condition label) other name from led = absurd (other condition label refl)
+not_led deed other name from led = grind arith
 
--- an event is added with whether a path comes to it, and the label to which such a path goes on
-pub known_followed : (asked : Asked) (before : List Happening) (known more : List Known) (event : Event) (on : Bool) (led next : Names) →
-    more ≡ known ++ record { event = event; on = on } ∷ [] →
-    on ≡ arrives (starts asked) (marks asked) (passed (starts asked) (marks asked) before) (event_view event) →
-    ((name : Name) → is_among next name ≡ (is_among led name || (on && doing_jumps (event_view event).doing name))) →
-    IsFollowed asked before (map known_view known) led → IsFollowed asked (event_view event ∷ before) (map known_view more) next
-known_followed asked before known more event on led next pushed arrived led_is so_far =
-    let earlier = passed (starts asked) (marks asked) before in
-    let item : Known = record { event = event; on = on } in
-    record {
-      edges = ap (λ ks. reverse (map known_view ks)) pushed ∙ ap reverse (map_push known_view known item)
-          ∙ reverse-append (map known_view known) (known_view item ∷ []) ∙ ap (λ ps. known_view item ∷ ps) so_far.edges
-          ∙ ap (λ b. let p : Passed = record { event = event_view event; on = b } in p ∷ earlier) arrived;
-      labels = λ name. led_is name ∙ or_comm (is_among led name) (on && doing_jumps (event_view event).doing name)
-          ∙ ap (λ b. (on && doing_jumps (event_view event).doing name) || b) (so_far.labels name)
-          ∙ ap (λ b. (b && doing_jumps (event_view event).doing name) || comes_by_jump earlier (Labels name)) arrived;
-    }
+-- paths that are kept, or none
+kept_is : (none : Paths) (source : Source) (kept : Option Paths) → is_from none source ≡ false → is_from (unwrap_or kept none) source ≡ option_map_or (λ paths. is_from paths source) kept false
+kept_is none source None e = e
+kept_is none source (Some paths) e = refl
+
+-- more paths are kept for a label
+pub led_more : {S : Type 0} (old new : IndexMap Key Paths S) (label : Key) (none kept paths all : Paths) → Updates same_key old new label (Some all) →
+    ((source : Source) → is_from none source ≡ false) → kept ≡ unwrap_or (get same_key old label) none → ((source : Source) → is_from all source ≡ (is_from paths source || is_from kept source)) →
+    (source : Source) (other : Key) → leads new (name_of_key other) source ≡ ((is_from paths source && same_name (name_of_key label) (name_of_key other)) || leads old (name_of_key other) source)
+led_more old new label none kept paths all update empty had both source other =
+    let found = update.0 other in
+    let was = ap (λ p. is_from p source) had ∙ kept_is none source (get same_key old label) (empty source) in
+    grind (arith, both source, bytes_eq-Decides (name_of_key label) (name_of_key other), bytes_eq-Decides (name_of_key other) (name_of_key label))

@@ -1,9 +1,9 @@
+pub mod Again
 pub mod DeclaredLaws
 pub mod DeclaredViews
 pub mod EventLaws
-pub mod EventPlaces
 pub mod EventSteps
 pub mod Following
 pub mod NameSets
-pub mod RowLists
+pub mod Sources
 pub mod WayLaws

@@ -4,5 +4,5 @@ pub mod Addresses
 pub mod Edges
 pub mod Warnings
 pub mod Seen
-pub mod Places
+pub mod Paths
 pub mod Laws

@@ -1,5 +1,5 @@
 -- What the code's values represent. (No rule of the language.)
-use Rattle.std.specs.Prelude.{◌≡◌, ℕ, Bool, true, false, List, [], ◌∷◌, ◌++◌, map, Option, None, codes}
+use Rattle.std.specs.Prelude.{◌≡◌, ℕ, Bool, List, [], ◌∷◌, ◌++◌, map, Option, None, codes}
 use Rattle.std.specs.Option.{option_map, option_map_or}
 use Rattle.wc_model.specs.Language.Declarations.{Variable}
 use Rattle.wc_model.specs.declared.operand.Word.{Word as Spelled}
@@ -12,10 +12,8 @@ use Rattle.wc_model.specs.Language.Views.{assignment_view, lines_view, term_view
 use Rattle.wc_model.specs.declared.tree.Instr.{Instr, out-Instr}
 use Rattle.wc_model.specs.declared.tree.Instr.TheOpen.{Instr-F}
 use Rattle.wc_model.specs.declared.tree.Line.{Line}
-use Rattle.wc_diag_warnings.specs.Addresses.{stores}
 use Rattle.wc_diag_warnings.specs.Events.{Doing, Begins, Labels, Reads, Stores, Sets, Calls, Gives, Jumps, Returns, Happening, at}
 use Rattle.wc_diag_warnings.specs.Uses.{Used, doing_calls, doing_gives, doing_reads, doing_writes}
-use Rattle.wc_diag_warnings.specs.Edges.{Passed}
 use Rattle.wc_diag_warnings.specs.Warnings.{Caution}
 use Rattle.wc_diag_warnings.specs.declared.event.Deed.{Deed}
 use Rattle.wc_diag_warnings.specs.declared.event.Deed.TheVariants as deeds
@@ -24,9 +22,6 @@ use Rattle.wc_diag_warnings.specs.declared.used.Uses.{Uses}
 use Rattle.wc_diag_warnings.specs.declared.uses.Use.{Use}
 use Rattle.wc_diag_warnings.specs.declared.uses.Use.TheVariants.{Read, Written, Called, Given}
 use Rattle.wc_diag_warnings.specs.declared.warning.Warning.{Warning}
-use Rattle.wc_diag_warnings.specs.declared.edges.Asked.{Asked}
-use Rattle.wc_diag_warnings.specs.declared.edges.Asked.TheVariants.{StartedLine, Stored}
-use Rattle.wc_diag_warnings.specs.declared.edges.Known.{Known}
 
 abbrev pub deed_view : Deed → Doing
 deed_view deeds.Begin = Begins
@@ -53,9 +48,6 @@ events_view events = map event_view events
 abbrev pub Adds : (old new : List Event) → List Happening → Type 0
 Adds old new added = events_view new ≡ events_view old ++ added
 
-abbrev pub known_view : Known → Passed
-known_view known = record { event = event_view known.event; on = known.on }
-
 abbrev pub warning_view : Warning → Caution
 warning_view warning = record { number = warning.number; line = warning.line; name = name_of warning.name.now }
 
@@ -81,15 +73,6 @@ uses_view uses name = record {
   called = is_among uses.called name;
   given = is_among uses.given name;
 }
-
--- what is asked of the paths to an event: how they begin
-abbrev pub starts : Asked → Bool
-starts StartedLine = true
-starts (Stored number) = false
-
-abbrev pub marks : Asked → Happening → Bool
-marks StartedLine e = false
-marks (Stored number) e = stores number e
 
 -- an instruction as a line of a body that has no label
 abbrev pub opened_view : Instr-F Instr Line → BodyLine

@@ -1,5 +1,6 @@
-ghost use Rattle.std.specs.Prelude.{◌≡◌, ◌<◌, Bool, IfSome, option_map};
+ghost use Rattle.std.specs.Prelude.{◌≡◌, ◌<◌, ℕ, Bool, false, IfSome, nat_eq, option_map};
 ghost use Rattle.std.specs.List.{list_any};
+ghost use Rattle.std.specs.Option.{option_map_or};
 ghost use Rattle.wc_built_in.specs.Direct.{direct_at};
 ghost use Rattle.wc_model.specs.Language.DirectVariables.{DirectVariable};
 ghost use Rattle.wc_model.specs.Language.Views.{term_view};
@@ -10,11 +11,8 @@ use crate::event::{Deed, Event};
 use wc_built_in::variable_at;
 use wc_model::Operand;
 
-/// The number of the first output among the directly represented variables.
+/// The number of the first output among the directly represented variables; the outputs are the last of them.
 pub(crate) const FIRST_OUTPUT: u8 = 25;
-
-/// The number of directly represented variables; the outputs are the last of them.
-pub(crate) const DIRECT_VARIABLES: u8 = 45;
 
 /// The number of the directly represented variable that an operand is.
 fn direct_of(operand: &Operand<'_>) -> Option<u8>
@@ -28,13 +26,15 @@ fn direct_of(operand: &Operand<'_>) -> Option<u8>
     }
 }
 
-/// Whether the event stores the directly represented variable of that number.
-pub(crate) fn stores(event: &Event<'_>, number: u8) -> bool
-    ensures { result ≡ stores number (event_view event.now) }
+/// The number of the directly represented variable that the event stores.
+pub(crate) fn stored(event: &Event<'_>) -> Option<u8>
+    ensures number { (number : ℕ)
+        → option_map_or (nat_eq number) result false ≡ stores number (event_view event.now) }
+    ensures small { IfSome result (λ number. number < 45) }
 {
     match &event.deed {
-        Deed::Store(target) => direct_of(target) == Some(number),
-        _ => false,
+        Deed::Store(target) => direct_of(target),
+        _ => None,
     }
 }
 

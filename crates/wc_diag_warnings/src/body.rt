@@ -1,14 +1,16 @@
-ghost use Rattle.std.specs.Prelude.{◌≡◌, ℕ, not, ◌&&◌, ◌||◌, if◌then◌else◌, ◌++◌, List, IfOk, OnOk, IsOkUnless, map};
+ghost use Rattle.std.specs.Prelude.{◌≡◌, ◌<◌, nat_eq, not, ◌&&◌, ◌||◌, if◌then◌else◌, [], List, OnOk, IsOkUnless};
+ghost use Rattle.std.specs.List.{list_any};
 ghost use Rattle.wc_model.specs.Language.Names.{name_of};
-ghost use Rattle.wc_diag_warnings.specs.Places.{AreEdges, row_view, edges_from};
-ghost use Rattle.wc_diag_warnings.specs.Seen.{event_view, events_view, known_view, warnings_view, Warns};
-ghost use Rattle.wc_diag_warnings.specs.Warnings.{address_of, all_event_cautions, body_cautions, caution, doing_begins, event_number, outputs_in};
+ghost use Rattle.wc_diag_warnings.specs.Events.{Happening};
+ghost use Rattle.wc_diag_warnings.specs.Paths.{AreFrom, IsFollowed};
+ghost use Rattle.wc_diag_warnings.specs.Seen.{event_view, events_view, Warns};
+ghost use Rattle.wc_diag_warnings.specs.Warnings.{address_of, body_cautions, caution, doing_begins, event_number, is_stored_again, outputs_in};
 
-use crate::addresses::{is_asked, reads_weight};
-use crate::again::{Row, is_on, rows, stored_again};
+use crate::addresses::{FIRST_OUTPUT, is_asked, reads_weight, stored};
 use crate::declared::warn;
-use crate::edges::{Asked, Known, edges};
+use crate::edges::{Ahead, at_start, follow, paths_to};
 use crate::event::{Deed, Event};
+use crate::paths::{Paths, is_stored};
 use crate::warning::Warning;
 use std::alloc::Global;
 use wc_model::{Fault, Operand, UnitKind};
@@ -32,7 +34,7 @@ fn address_of<'a>(event: &Event<'a>) -> &'a [u8]
 
 /// What is known of an event and of those before it.
 #[derive(Clone, Copy)]
-struct Representation {
+struct Known {
     /// An instruction begins.
     begins: bool,
     /// The instruction before it is reached, or there is none.
@@ -48,7 +50,7 @@ struct Representation {
 }
 
 /// The warning of an event: it begins a stretch that no run reaches, stores an output again, or reads a weight unasked.
-fn number_of(event: Representation) -> Option<u8>
+fn number_of(event: Known) -> Option<u8>
     ensures { result ≡ event_number (event.begins && event.above && not event.reached) event.again
         (event.weighs && not event.asked) }
 {
@@ -64,7 +66,7 @@ fn number_of(event: Representation) -> Option<u8>
 }
 
 /// Whether the last instruction is reached, after an event.
-fn is_above(event: Representation) -> bool
+fn is_above(event: Known) -> bool
     ensures { result ≡ (if event.begins then event.reached else event.above) }
 {
     if event.begins {
@@ -75,7 +77,7 @@ fn is_above(event: Representation) -> bool
 }
 
 /// Whether a weight is read or `%IX1.5` anywhere, after an event.
-fn is_asked_now(event: Representation) -> bool
+fn is_asked_now(event: Known) -> bool
     ensures { result ≡ (event.asked || event.weighs) }
 {
     event.asked || event.weighs
@@ -97,47 +99,57 @@ fn warn_event<'a>(
     }
 }
 
-/// The rows of the outputs that a unit may store: outputs are in the program alone.
-fn rows_in<'a>(alloc: Global, kind: UnitKind, events: &[Event<'a>]) -> Result<Vec<Row<'a>>, Fault>
-    ensures found { IfOk result (λ rows. map row_view rows.items
-        ≡ map (edges_from (events_view events.now)) (outputs_in kind)) }
-    ensures memory { IsOkUnless result Fault.Memory }
+/// Whether the directly represented variable of that number is an output of the unit: the program alone has outputs.
+#[tactic(auto, using(crate::proofs::Again::output_is))]
+fn is_output(kind: UnitKind, number: u8) -> bool
+    requires { number < 45 }
+    ensures { result ≡ list_any (nat_eq number) (outputs_in kind) }
 {
     match kind {
-        UnitKind::FunctionBlock => Ok(Vec::new(alloc)),
-        UnitKind::Program => rows(alloc, events),
+        UnitKind::FunctionBlock => false,
+        UnitKind::Program => FIRST_OUTPUT <= number,
     }
 }
 
-/// Adds the warnings of a body's events, of which the paths from the start and from stores are known.
+/// Whether the event stores an output that is stored on a path to it.
+fn is_again(kind: UnitKind, event: &Event<'_>, paths: Paths) -> bool
+    ensures { (before : List Happening) → AreFrom paths before (event_view event.now)
+        → result ≡ is_stored_again (outputs_in kind) before (event_view event.now) }
+{
+    match stored(event) {
+        Some(number) => is_output(kind, number) & is_stored(paths, number),
+        None => false,
+    }
+}
+
+/// Adds the warnings of a body's events, from its start on.
 fn warn_events<'a>(
     warnings: &mut Vec<Warning<'a>>,
-    started: &[Known<'a>],
-    stored: &[Row<'a>],
+    kind: UnitKind,
+    ahead: &mut Ahead<'a>,
     events: &[Event<'a>],
 ) -> Result<(), Fault>
-    ensures added { OnOk result ((numbers : List ℕ)
-        → AreEdges (events_view events.now) (map known_view started.now)
-        → map row_view stored.now ≡ map (edges_from (events_view events.now)) numbers
-        → warnings_view warnings.new.items
-        ≡ warnings_view warnings.old.items
-        ++ all_event_cautions numbers (events_view events.now)) }
+    requires { IsFollowed [] ahead.old }
+    ensures added { OnOk result (Warns warnings.old.items warnings.new.items
+        (body_cautions kind (events_view events.now))) }
     ensures memory { IsOkUnless result Fault.Memory }
 {
     let mut above = true;
     let mut asked = is_asked(events);
-    for (index, event) in events.iter().enumerate() {
-        let entity_at = Representation {
+    for event in events {
+        let paths = paths_to(ahead, event);
+        let known = Known {
             begins: begins(event),
             above,
-            reached: is_on(started, index),
-            again: stored_again(stored, index),
+            reached: paths.started,
+            again: is_again(kind, event, paths),
             weighs: reads_weight(event),
             asked,
         };
-        warn_event(warnings, event, number_of(entity_at))?;
-        above = is_above(entity_at);
-        asked = is_asked_now(entity_at);
+        warn_event(warnings, event, number_of(known))?;
+        follow(ahead, event, paths)?;
+        above = is_above(known);
+        asked = is_asked_now(known);
     }
     Ok(())
 }
@@ -153,7 +165,6 @@ pub(crate) fn warn_body<'a>(
         (body_cautions kind (events_view events.now))) }
     ensures memory { IsOkUnless result Fault.Memory }
 {
-    let started = edges(alloc, Asked::StartedLine, events)?;
-    let stored = rows_in(alloc, kind, events)?;
-    warn_events(warnings, &started, &stored, events)
+    let mut ahead = at_start(alloc);
+    warn_events(warnings, kind, &mut ahead, events)
 }

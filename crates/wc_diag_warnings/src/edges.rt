@@ -1,53 +1,40 @@
-ghost use Rattle.std.specs.Prelude.{◌≡◌, ◌&&◌, [], ◌∷◌, List, IfOk, OnOk, IsOkUnless, map, option_map, reverse};
-ghost use Rattle.wc_model.specs.Language.Names.{Name, name_of};
+ghost use Rattle.std.specs.Prelude.{◌≡◌, ◌&&◌, ◌||◌, not, [], ◌∷◌, List, OnOk, IsOkUnless};
+ghost use Rattle.wc_model.specs.Language.Declarations.{same_name};
+ghost use Rattle.wc_model.specs.Language.Names.{name_of};
+ghost use Rattle.wc_names.specs.Keys.{name_of_key};
+ghost use Rattle.wc_names.specs.declared.key.Key.{Key as Keyed};
+ghost use Rattle.wc_diag_warnings.specs.Edges.{doing_leaves};
 ghost use Rattle.wc_diag_warnings.specs.Events.{Happening};
-ghost use Rattle.wc_diag_warnings.specs.Places.{AreLed, IsFollowed};
-ghost use Rattle.wc_diag_warnings.specs.Seen.{event_view, events_view, known_view, marks, starts};
-ghost use Rattle.wc_diag_warnings.specs.Uses.{is_this};
-ghost use Rattle.wc_diag_warnings.specs.Edges.{Passed, comes_by_jump, comes_down, doing_jumps, doing_leaves, passed};
+ghost use Rattle.wc_diag_warnings.specs.Paths.{Source, AreFrom, IsFollowed, is_from, leads, marks};
+ghost use Rattle.wc_diag_warnings.specs.Seen.{event_view};
 
-use crate::addresses::stores;
+use crate::addresses::stored;
 use crate::event::{Deed, Event};
-use crate::used::add;
+use crate::paths::{Paths, both, from_store, no_paths};
+use indexmap::IndexMap;
 use std::alloc::Global;
 use wc_model::{Condition, Fault};
-use wc_names::Names;
+use wc_names::Key;
 
-/// What is asked of the paths to an event.
-#[derive(Clone, Copy)]
-pub(crate) enum Asked {
-    /// Whether one comes from the body's start.
-    StartedLine,
-    /// Whether one comes from a store of the output of that number.
-    Stored(u8),
+/// Where the paths to the events before go on.
+#[derive(Drop)]
+pub(crate) struct Ahead<'a> {
+    /// Those to the next event.
+    next: Paths,
+    /// Those by jumps to each label.
+    labels: IndexMap<Key<'a>, Paths>,
 }
 
-/// An event, and whether a path to it is as it is asked.
-#[derive(Clone, Copy)]
-pub(crate) struct Known<'a> {
-    /// The event.
-    pub(crate) event: Event<'a>,
-    /// Whether there is such a path.
-    pub(crate) on: bool,
-}
-
-/// Whether the start of a body is such a path.
-fn starts(asked: Asked) -> bool
-    ensures { result ≡ starts asked }
+/// What is ahead at the start of a body.
+pub(crate) fn at_start<'a>(alloc: Global) -> Ahead<'a>
+    ensures { IsFollowed [] result }
 {
-    match asked {
-        Asked::StartedLine => true,
-        Asked::Stored(_) => false,
-    }
-}
-
-/// Whether such a path begins with the event.
-fn marks(asked: Asked, event: &Event<'_>) -> bool
-    ensures { result ≡ marks asked (event_view event.now) }
-{
-    match asked {
-        Asked::StartedLine => false,
-        Asked::Stored(number) => stores(event, number),
+    Ahead {
+        next: Paths {
+            started: true,
+            stored: 0,
+        },
+        labels: IndexMap::new(alloc),
     }
 }
 
@@ -62,104 +49,79 @@ fn leaves(event: &Event<'_>) -> bool
     }
 }
 
-/// The label to which the event jumps.
-fn label_of<'a>(event: &Event<'a>) -> Option<&'a [u8]>
-    ensures { (name : Name) → doing_jumps (event_view event.now).doing name
-        ≡ is_this (option_map (λ text. name_of text.now) result) name }
+/// The paths to the event that go on to the next, and one that begins with the event if it stores an output.
+fn onward(event: &Event<'_>, paths: Paths) -> Paths
+    ensures { (source : Source) → is_from result source
+        ≡ (not (doing_leaves (event_view event.now).doing)
+        && (is_from paths source || marks source (event_view event.now))) }
+{
+    if leaves(event) {
+        return no_paths();
+    }
+    match stored(event) {
+        Some(output) => from_store(paths, output),
+        None => paths,
+    }
+}
+
+/// The paths by jumps to a label.
+fn to_label(labels: &IndexMap<Key<'_>, Paths>, label: &[u8]) -> Paths
+    ensures { (source : Source) → is_from result source
+        ≡ leads labels.now (name_of label.now) source }
+{
+    match labels.get(&Key { text: label }) {
+        Some(paths) => *paths,
+        None => no_paths(),
+    }
+}
+
+/// The paths to the event after those before.
+pub(crate) fn paths_to(ahead: &Ahead<'_>, event: &Event<'_>) -> Paths
+    ensures { (before : List Happening) → IsFollowed before ahead.now
+        → AreFrom result before (event_view event.now) }
 {
     match event.deed {
-        Deed::Jump { label, .. } => Some(label),
-        _ => None,
+        Deed::Label(label) => both(ahead.next, to_label(&ahead.labels, label)),
+        _ => ahead.next,
     }
 }
 
-/// The label to which such a path goes on by a jump.
-fn label_ahead<'a>(known: &Known<'a>) -> Option<&'a [u8]>
-    ensures { (name : Name) → (known.now.on
-        && doing_jumps (event_view known.now.event).doing name)
-        ≡ is_this (option_map (λ text. name_of text.now) result) name }
-{
-    if known.on {
-        label_of(&known.event)
-    } else {
-        None
-    }
-}
-
-/// Whether such a path comes from the event right before.
-fn comes_down(asked: Asked, known: &[Known<'_>]) -> bool
-    ensures { result
-        ≡ comes_down (starts asked) (marks asked) (reverse (map known_view known.now)) }
-{
-    match known.last() {
-        Some(last) => !leaves(&last.event) && (last.on || marks(asked, &last.event)),
-        None => starts(asked),
-    }
-}
-
-/// Whether such a path comes by a jump to a label that is here, if those are the labels to which such paths go on.
-fn comes_by_jump(led: &Names<'_>, event: &Event<'_>) -> bool
-    ensures { (earlier : List Passed) → AreLed earlier led.now
-        → result ≡ comes_by_jump earlier (event_view event.now).doing }
-{
-    match event.deed {
-        Deed::Label(name) => led.contains(name),
-        _ => false,
-    }
-}
-
-/// Adds an event, with whether a path to it is as it is asked, and the label to which such a path goes on by a jump.
-fn add_known<'a>(
-    asked: Asked,
-    known: &mut Vec<Known<'a>>,
-    led: &mut Names<'a>,
-    event: &Event<'a>,
+/// Adds paths by a jump to a label.
+fn lead<'a>(
+    labels: &mut IndexMap<Key<'a>, Paths>,
+    label: &'a [u8],
+    paths: Paths,
 ) -> Result<(), Fault>
-    ensures added { OnOk result ((before : List Happening)
-        → IsFollowed asked before (map known_view known.old.items) led.old
-        → IsFollowed asked (event_view event.now ∷ before) (map known_view known.new.items)
-        led.new) }
+    ensures led { OnOk result ((source : Source) (key : Keyed)
+        → leads labels.new (name_of_key key) source
+        ≡ ((is_from paths source && same_name (name_of label.now) (name_of_key key))
+        || leads labels.old (name_of_key key) source)) }
     ensures memory { IsOkUnless result Fault.Memory }
 {
-    let on = comes_down(asked, known) || comes_by_jump(led, event);
-    let next = Known { event: *event, on };
-    add(led, label_ahead(&next))?;
-    match known.push(next) {
-        Ok(()) => Ok(()),
+    match labels.entry(Key { text: label }) {
+        Ok(entry) => {
+            let kept = entry.or_insert(no_paths());
+            *kept = both(paths, *kept);
+            Ok(())
+        }
         Err(_) => Err(Fault::Memory),
     }
 }
 
-/// Adds events, in text order, when there are none yet.
-fn follow<'a>(
-    asked: Asked,
-    known: &mut Vec<Known<'a>>,
-    led: &mut Names<'a>,
-    events: &[Event<'a>],
+/// Goes on from an event, to which there are these paths.
+pub(crate) fn follow<'a>(
+    ahead: &mut Ahead<'a>,
+    event: &Event<'a>,
+    paths: Paths,
 ) -> Result<(), Fault>
-    ensures followed { OnOk result (IsFollowed asked [] (map known_view known.old.items) led.old
-        → IsFollowed asked (reverse (events_view events.now)) (map known_view known.new.items)
-        led.new) }
+    ensures followed { OnOk result ((before : List Happening) → IsFollowed before ahead.old
+        → AreFrom paths before (event_view event.now)
+        → IsFollowed (event_view event.now ∷ before) ahead.new) }
     ensures memory { IsOkUnless result Fault.Memory }
 {
-    for event in events {
-        add_known(asked, known, led, event)?;
+    ahead.next = onward(event, paths);
+    match event.deed {
+        Deed::Jump { label, .. } => lead(&mut ahead.labels, label, paths),
+        _ => Ok(()),
     }
-    Ok(())
-}
-
-/// The events of a body, in text order, each with whether a path to it is as it is asked.
-pub(crate) fn edges<'a>(
-    alloc: Global,
-    asked: Asked,
-    events: &[Event<'a>],
-) -> Result<Vec<Known<'a>>, Fault>
-    ensures found { IfOk result (λ known. reverse (map known_view known.items)
-        ≡ passed (starts asked) (marks asked) (reverse (events_view events.now))) }
-    ensures memory { IsOkUnless result Fault.Memory }
-{
-    let mut known = Vec::new(alloc);
-    let mut led = Names::new(alloc);
-    follow(asked, &mut known, &mut led, events)?;
-    Ok(known)
 }

@@ -3,7 +3,6 @@
 #![tactic(auto)]
 
 mod addresses;
-mod again;
 mod body;
 mod declared;
 mod diagnostic;
@@ -11,6 +10,7 @@ mod edges;
 mod event;
 mod events;
 mod laws;
+mod paths;
 mod used;
 mod uses;
 mod warning;

@@ -1,16 +1,12 @@
-use Rattle.std.proofs.Common.{map, reverse, subst}
-use Rattle.std.proofs.lemmas.List.{take_all}
-use Rattle.wc_diag_warnings.proofs.Following.{followed_more}
-use Rattle.wc_diag_warnings.specs.Places.{IsFollowed}
-use Rattle.wc_diag_warnings.specs.Seen.{events_view, known_view}
+use Rattle.wc_diag_warnings.proofs.Following.{followed_more, not_led}
+use Rattle.wc_names.specs.Keys.{name_of_key}
+use Rattle.wc_diag_warnings.specs.Paths.{is_from, leads}
+use Rattle.wc_diag_warnings.specs.Seen.{event_view}
 use Rattle.wc_diag_warnings.proofs.edges.follow.Goals as goal
 
-pub loop-event-preserved : goal.loop-event-preserved
-loop-event-preserved c start =
-    followed_more c.args.asked c.args.events.now c.loop-event.event-index _ c.loop-event.known.items c.add_known.new.known.items c.loop-event.led c.add_known.new.led
-    c.loop-event-test.true c.in_ok-add_known.ensures.added (c.loop-event.invariant start)
-
-pub returns-clause-followed : goal.returns-clause-followed
-returns-clause-followed c start =
-    subst (λ events. IsFollowed c.args.asked (reverse (events_view events)) (map known_view c.loop-event.known.items) c.loop-event.led)
-    (take_all c.loop-event.event-index c.args.events.now c.loop-event-test.false) (c.loop-event.invariant start)
+pub returns-in_default : goal.returns-in_default
+returns-in_default c = record {
+  followed = λ before so_far from. followed_more before (event_view c.args.event.now) c.args.ahead.now (record { next = c.onward-ahead.result; labels = c.args.ahead.now.labels }) c.args.paths so_far from
+      c.onward-ahead.ensures (λ source key. not_led c.args.event.now.deed c.in_default.not-Jump (name_of_key key) (is_from c.args.paths source) (leads c.args.ahead.now.labels (name_of_key key) source));
+  memory = tt;
+}
