@@ -1,4 +1,4 @@
-ghost use Rattle.std.specs.Prelude.{◌≡◌, ◌&&◌, ◌↔◌, ◌<◌, ◌≤◌, ℕ, IsTrue, IfNone, IfSome, Some, if◌then◌else◌, is_some, length};
+ghost use Rattle.std.specs.Prelude.{◌≡◌, ◌↔◌, ◌<◌, ◌≤◌, ℕ, IsTrue, IfNone, IfSome, length};
 ghost use Rattle.wc_diag_mistakes.specs.Unreached.{FollowsLeaving, IsDeclaredOnce, IsLeft, IsUnreached, begins_block, count_above, declares, has_label, is_colon_shape, is_frame, keyword_of, leaves, may_pass};
 
 use wc_built_in::{Keyword, keyword_named};
@@ -118,20 +118,6 @@ fn declares(tokens: &[Token<'_>], name: &[u8], index: usize) -> bool
     }
 }
 
-/// Whether a token is one that declares a block, and another is found already.
-fn is_second(found: Option<u32>, is_one: bool) -> bool
-    ensures { result ≡ (is_one && is_some found) }
-{
-    is_one && found.is_some()
-}
-
-/// The line that is found, or that of a token, if it is one that declares a block.
-fn found_with(found: Option<u32>, is_one: bool, line: u32) -> Option<u32>
-    ensures { result ≡ (if is_one then Some line else found) }
-{
-    if is_one { Some(line) } else { found }
-}
-
 /// The line on which a text declares a function block, if surely one line does so.
 pub fn block_line(tokens: &[Token<'_>], name: &[u8]) -> Option<u32>
     ensures found { IfSome result (IsDeclaredOnce tokens.now name.now) }
@@ -139,11 +125,12 @@ pub fn block_line(tokens: &[Token<'_>], name: &[u8]) -> Option<u32>
 {
     let mut found = None;
     for index in 0..tokens.len() {
-        let is_one = declares(tokens, name, index);
-        if is_second(found, is_one) {
-            return None;
+        if declares(tokens, name, index) {
+            if found.is_some() {
+                return None;
+            }
+            found = Some(tokens[index].line);
         }
-        found = found_with(found, is_one, tokens[index].line);
     }
     found
 }

@@ -48,11 +48,14 @@ fn first_line(spanned: &SpannedSource<'_>, number: u16, tokens: &[Token<'_>], pl
     }
 }
 
-/// A refusal whose slice is the token at a place.
-fn span_of_token(spanned_source: &SpannedSource<'_>, number: u16, place: u32) -> RefusalSpan
-    ensures { PointsTo number (tokens_from spanned_source.now.tokens.items place)
-        (operator_of (tokens_from spanned_source.now.tokens.items place)) result }
+/// A refusal of pass 3 or of the costs: its slice is the token at the place.
+fn span_of_name(spanned_source: &SpannedSource<'_>, fault: Fault) -> RefusalSpan
+    ensures { OfRead spanned_source.now (λ bytes text. OfRefusal fault (IsTokenFault text)
+        → RefusesLater bytes result.fault result.start result.length) }
 {
+    let Fault::Refused { number, place } = fault else {
+        return RefusalSpan::new(Fault::Memory, 0, 0);
+    };
     let tokens = tokens_from(&spanned_source.tokens, place);
     let case = match number {
         306 => case_of_capacity(&spanned_source.source, place),
@@ -188,17 +191,6 @@ fn span_of_instruction<'a>(
         block: block_in(&spanned_source.source, unit, tokens, offending, call.case),
         below: below.filter(|slice| slice.line != line_at(tokens.first())),
         ..span_at(tokens, number, on_line(tokens, offending))
-    }
-}
-
-/// A refusal of pass 3 or of the costs.
-fn span_of_name(spanned_source: &SpannedSource<'_>, fault: Fault) -> RefusalSpan
-    ensures { OfRead spanned_source.now (λ bytes text. OfRefusal fault (IsTokenFault text)
-        → RefusesLater bytes result.fault result.start result.length) }
-{
-    match fault {
-        Fault::Refused { number, place } => span_of_token(spanned_source, number, place),
-        Fault::Memory => RefusalSpan::new(Fault::Memory, 0, 0),
     }
 }
 
