@@ -158,6 +158,7 @@ class Extent:
     def __init__(self, text, parts, number, line):
         self.text, self.parts, self.number, self.line = text, parts, number, line
         self.gaps, self.words, self.units = [], set(), set()
+        self.labels = {part.word for part in parts if part.label}
         for at, part in enumerate(parts):
             # what is missing is refused at what follows; after a declaration without a semicolon END_VAR may be read as its type
             following = parts[at + (2 if part.where == "section" and not part.whole else 1) :][:1] or [part]
@@ -174,7 +175,7 @@ class Extent:
     def take(self, found, what, skipped=0):
         """Takes tokens out, but for the first bytes."""
         if found:
-            what = LABEL if what == LINE and any(token.kind == ":" for token in found) else what
+            what = LABEL if what <= LINE and any(token.kind == ":" for token in found) else what
             self.gaps.append(Gap(found[0].start + skipped, found[-1].end, found[0].line, found[-1].line, what))
 
     def is_on(self, first, last):
@@ -191,6 +192,11 @@ class Extent:
         if part.where == "section" and (here or ahead and not part.whole):
             self.declaration(part)
             return not here
+        if part.where == "section" and ahead:
+            # words after the last semicolon are read with the next line
+            more = part.tokens[len(part.kinds) - part.kinds[::-1].index(";") :]
+            self.words |= names(more)
+            self.take(more, ASIDE)
         if part.where == "body" and here:
             self.instruction(part)
         if part.where == "outside" and self.is_on(part.first, part.first):
@@ -250,8 +256,11 @@ class Extent:
         elif self.line and is_all and found[1:2] and found[1].word() in OPERATORS:
             # a word more before an operator is no store and no call
             what = LINE
-        elif self.line and is_all and (part.operator == "CAL" or part.operator in STORING and self.number not in (402, 403, 404)):
+        elif self.line and is_all and part.operator == "CAL" and any(token.kind == "(" for token in found):
             what = ASIDE
+        elif self.line and is_all and part.operator in STORING and self.number not in (402, 403, 404):
+            # a store to a label may be a jump
+            what = LINE if names(found[1:2]) & self.labels else ASIDE
         self.take(found, what)
         self.take(closing, what)
 
@@ -287,15 +296,18 @@ class Extent:
 
 def shows_names(found):
     """Whether the names of a declaration that can't be read are seen: before each comma and colon is one, or an address, up to the first
-    colon no two are next to one another, and no line has two colons."""
+    colon no two are next to one another and no point is, each line has a colon or ends with a comma, and none has two colons."""
     was_name, colon = False, 0
     for at, (token, following) in enumerate(zip(found, [*found[1:], None])):
         is_name = token.kind == "name" and token.word() not in RESERVED
-        if was_name and is_name and not colon or token.kind == ":" and colon == token.line:
+        if was_name and is_name and not colon or token.kind == ":" and colon == token.line or token.kind == "." and not colon:
             return False
         was_name, colon = is_name, token.line if token.kind == ":" else colon
         ends = following is not None and following.kind in (",", ":")
         if not is_name and (at == 0 or ends and token.kind != "address"):
+            return False
+        is_last = following is None or following.kind == "eol"
+        if is_last and token.kind not in (",", "eol") and colon != token.line:
             return False
     return any(token.kind == ":" for token in found)
 
@@ -322,18 +334,19 @@ def may_follow(text, found, parts, number, line):
         ends = [part.first for part in parts if part.where == "head" and part.first > line]
         return text.was(line, min(ends, default=MOST_BYTES), LABEL)
     missing = {gap.what for gap in text.gaps}
-    return number in (401, 409) and bool(missing & {NAMES, SLICE}) or number in (405, 409) and SECTION in missing
+    return number in (401, 409) and bool(missing & {NAMES, SLICE}) or number in (404, 405, 409) and SECTION in missing
 
 
 def is_result_unsure(text, parts, line):
     """Whether the result at a line may come from what was taken out above."""
-    above, broken, unsure = 0, False, False
+    above, broken, unsure, left = 0, False, False, False
     for part in parts:
         is_body = part.where == "body"
         here = is_body and text.was(above + 1, min(part.last, line - 1), LINE)
         broken = is_body and broken or here
-        unsure = (unsure or here or broken and part.label) and is_body and part.operator not in ("LD", "LDN")
-        above = part.last
+        # a label may be missing below a jump or a return
+        unsure = (unsure or here or broken and (part.label or left)) and is_body and part.operator not in ("LD", "LDN")
+        above, left = part.last, part.operator in ("JMP", "RET")
         if above >= line:
             return unsure and part.operator != "CAL"
     return False

@@ -9,13 +9,12 @@ use wc_lexer::{Shape, Token};
 use wc_model::Condition;
 use wc_names::Key;
 
-/// What is taken out of a text, the names that are then unknown with whether each may be that of a unit, and whether each unit and
-/// each section begins and ends.
+/// What is taken out of a text with these lines, and the names that are then unknown with whether each may be that of a unit.
 #[derive(Drop)]
-struct TakenOut<'a> {
+struct TakenOut<'a, 't> {
+    lines: &'t [LogicalLine<'a, 't>],
     blanks: Vec<Blank>,
     names: IndexMap<Key<'a>, bool>,
-    is_framed: bool,
 }
 
 /// Which lines a fault is on: one, or those that are marked.
@@ -36,7 +35,7 @@ impl<'m> Faulty<'m> {
     }
 }
 
-impl<'a> TakenOut<'a> {
+impl<'a, 't> TakenOut<'a, 't> {
     /// Takes tokens out, but for the first bytes. With a colon there may be a label among them.
     fn take(&mut self, some: &[Token<'a>], skipped: usize, mark: Mark) -> Result<(), AllocError> {
         let (Some(first), Some(last)) = (some.first(), some.last()) else {
@@ -45,7 +44,7 @@ impl<'a> TakenOut<'a> {
         let start = (first.start as usize).saturating_add(skipped);
         let end = (last.start as usize).saturating_add(last.text.len());
         let (place, lines) = ((start, end.saturating_sub(start)), (first.line, last.line));
-        let is_labelled = mark == Mark::Taken && has(some, Shape::Colon);
+        let is_labelled = mark <= Mark::Taken && has(some, Shape::Colon);
         let mark = if is_labelled { Mark::Unlabelled } else { mark };
         Ok(self.blanks.push(Blank { place, lines, mark })?)
     }
@@ -69,9 +68,15 @@ impl<'a> TakenOut<'a> {
         })
     }
 
+    /// Whether a word is a label.
+    fn is_label(&self, word: &[u8]) -> bool {
+        let mut labelled = self.lines.iter().filter(|line| line.has_label());
+        labelled.any(|line| text_of(line.all.first()).eq_ignore_ascii_case(word))
+    }
+
     /// Takes each declaration with one of these names of units, and each instruction with one of all of them among its operands.
-    fn take_named(&mut self, lines: &[LogicalLine<'a, '_>]) -> Result<(), AllocError> {
-        for line in lines {
+    fn take_named(&mut self) -> Result<(), AllocError> {
+        for line in self.lines {
             let some = line.after_label();
             match line.region {
                 Region::Section if self.is_named(some, true) => self.keep_names(some, false)?,
@@ -93,7 +98,7 @@ fn on_lines<'a, 't>(some: &'t [Token<'a>], first: u32, last: u32) -> &'t [Token<
 /// Takes each parenthesis that is not closed out of an instruction, with the word before it and the rest of its line. Of a fault on
 /// another line nothing is taken out, but it is known.
 fn take_unpaired<'a>(
-    taken: &mut TakenOut<'a>,
+    taken: &mut TakenOut<'a, '_>,
     some: &[Token<'a>],
     faulty: Faulty<'_>,
 ) -> Result<(), AllocError> {
@@ -147,6 +152,7 @@ fn parts_of<'a, 't>(
 
 /// What is taken out with these tokens of an instruction, which may be a word alone that is no operator.
 fn mark_of(
+    taken: &TakenOut<'_, '_>,
     line: &LogicalLine<'_, '_>,
     part: &[Token<'_>],
     faulty: Faulty<'_>,
@@ -156,8 +162,13 @@ fn mark_of(
     let is_aside = match line.operator() {
         // a word more before an operator is no store and no call
         _ if is_operator(text_of(part.get(1))) => false,
-        Some(Keyword::Store(_)) => !matches!(faulty.number, 402 | 403 | 404),
-        Some(Keyword::Call(condition)) => condition == Condition::Always,
+        // a store to a label may be a jump
+        Some(Keyword::Store(_)) => {
+            !matches!(faulty.number, 402..=404) && !taken.is_label(text_of(part.get(1)))
+        }
+        Some(Keyword::Call(condition)) => {
+            condition == Condition::Always && has(part, Shape::Opening)
+        }
         _ => false,
     };
     match faulty.number {
@@ -171,7 +182,7 @@ fn mark_of(
 
 /// Takes an instruction with a fault out, without its label, if it can stay. Nothing is taken out of a declaration outside all sections.
 fn take_instruction<'a>(
-    taken: &mut TakenOut<'a>,
+    taken: &mut TakenOut<'a, '_>,
     line: &LogicalLine<'a, '_>,
     faulty: Faulty<'_>,
 ) -> Result<(), AllocError> {
@@ -196,7 +207,7 @@ fn take_instruction<'a>(
     if is_word {
         taken.keep_names(part.get(..1).unwrap_or(&[]), false)?;
     }
-    let mark = mark_of(line, part, faulty, is_word);
+    let mark = mark_of(taken, line, part, faulty, is_word);
     taken.take(part, 0, mark)?;
     taken.take(closing, 0, mark)
 }
@@ -207,32 +218,36 @@ fn is_name(token: &Token<'_>) -> bool {
 }
 
 /// Whether the names of a declaration that can't be read are seen: each is a word before a comma or a colon, up to the first colon
-/// no two are next to one another, and no line has two colons.
+/// no two are next to one another and no point is, each line has a colon or ends with a comma, and none has two colons.
 fn shows_names(some: &[Token<'_>]) -> bool {
     let (mut colon, mut was_name) = (0_u32, false);
     for (index, token) in some.iter().enumerate() {
         let next = some.get(index.saturating_add(1));
         let is_last = is_shape(next, Shape::Colon) || is_shape(next, Shape::Comma);
-        let (is_word, is_colon) = (is_name(token), token.shape == Shape::Colon);
-        let is_unsure = match is_word {
-            true => was_name && colon == 0,
-            false if is_colon && colon == token.line => true,
-            false => index == 0 || is_last && token.shape != Shape::Address,
+        let is_word = is_name(token);
+        let is_unsure = match token.shape {
+            _ if is_word => was_name && colon == 0,
+            Shape::Colon if colon == token.line => true,
+            Shape::Point if colon == 0 => true,
+            Shape::Address => index == 0,
+            _ => index == 0 || is_last,
         };
-        if is_unsure {
+        if token.shape == Shape::Colon {
+            colon = token.line;
+        }
+        let goes_on = matches!(token.shape, Shape::Comma | Shape::LineEnd);
+        let is_line = next.is_none() || is_shape(next, Shape::LineEnd);
+        if is_unsure || is_line && !goes_on && colon != token.line {
             return false;
         }
         was_name = is_word;
-        if is_colon {
-            colon = token.line;
-        }
     }
     colon > 0
 }
 
 /// Takes a declaration with a fault out, or at first its initial value alone. Nothing is taken out of an instruction in a section.
 fn take_declaration<'a>(
-    taken: &mut TakenOut<'a>,
+    taken: &mut TakenOut<'a, '_>,
     line: &LogicalLine<'a, '_>,
     faulty: Faulty<'_>,
 ) -> Result<(), AllocError> {
@@ -257,12 +272,22 @@ fn take_declaration<'a>(
     taken.take(some, 0, if is_sure { Mark::Taken } else { Mark::Unnamed })
 }
 
-/// Takes a line outside all units out, which may be the head of one.
+/// Takes a line outside all units out, which may be the head of one. An instruction or a section there lacks the head of its unit.
 fn take_outside<'a>(
-    taken: &mut TakenOut<'a>,
+    taken: &mut TakenOut<'a, '_>,
     line: &LogicalLine<'a, '_>,
+    faulty: Faulty<'_>,
 ) -> Result<(), AllocError> {
-    let is_section = is_foreign_section(text_of(line.all.first()));
+    let word = text_of(line.all.first());
+    let is_lost = taken
+        .lines
+        .last()
+        .is_some_and(|last| last.region == Region::Lost);
+    let is_inside = is_operator(word) || matches!(line.operator(), Some(Keyword::SectionStart(_)));
+    if is_lost && faulty.line.is_some() || is_inside {
+        return Ok(());
+    }
+    let is_section = is_foreign_section(word);
     let head = on_lines(line.all, line.first, line.first);
     let head = slice(head, 0, before(head, Shape::Colon));
     taken.keep_names(if is_section { line.all } else { head }, !is_section)?;
@@ -272,7 +297,7 @@ fn take_outside<'a>(
 /// Takes a line out if a fault is on it, before the line of the text that the next one begins on: whether it is the beginning of a
 /// section, which is refused at what follows it, as a declaration that is not ended.
 fn take_faulty<'a>(
-    taken: &mut TakenOut<'a>,
+    taken: &mut TakenOut<'a, '_>,
     line: &LogicalLine<'a, '_>,
     next: u32,
     faulty: Faulty<'_>,
@@ -284,10 +309,6 @@ fn take_faulty<'a>(
         return Ok(false);
     }
     let word = text_of(line.all.first());
-    // an instruction or a section outside all units lacks the head of its unit
-    let is_inside = is_cut && !taken.is_framed
-        || is_operator(word)
-        || matches!(line.operator(), Some(Keyword::SectionStart(_)));
     match line.region {
         Region::Edge if is_before && (line.all.len() > 1 || is_foreign_section(word)) => {
             // VAR stays, or END_VAR
@@ -299,9 +320,15 @@ fn take_faulty<'a>(
             take_declaration(taken, line, faulty)?;
             return Ok(!is_here);
         }
+        Region::Section if is_before => {
+            // words after the last semicolon are read with the next line
+            let more = line.after_semicolon();
+            taken.keep_names(more, false)?;
+            taken.take(more, 0, Mark::Aside)?;
+        }
         Region::Body if is_here => take_instruction(taken, line, faulty)?,
-        Region::Outside if faulty.is_on(line.first, line.first) && !is_inside => {
-            take_outside(taken, line)?
+        Region::Outside if faulty.is_on(line.first, line.first) => {
+            take_outside(taken, line, faulty)?
         }
         _ => {}
     }
@@ -310,15 +337,15 @@ fn take_faulty<'a>(
 
 /// What is taken out of a text with these lines, so that it is read on: each with a fault, and each instruction with a name that is
 /// unknown then; nothing if what follows could not be read.
-pub(crate) fn taken_out(
+pub(crate) fn taken_out<'a, 't>(
     alloc: Global,
-    lines: &[LogicalLine<'_, '_>],
+    lines: &'t [LogicalLine<'a, 't>],
     faulty: Faulty<'_>,
 ) -> Result<Option<Vec<Blank>>, AllocError> {
     let mut taken = TakenOut {
+        lines,
         blanks: Vec::new(alloc),
         names: IndexMap::new(alloc),
-        is_framed: !lines.last().is_some_and(|line| line.region == Region::Lost),
     };
     for (index, line) in lines.iter().enumerate() {
         // after the last declaration, if it is not ended, END_VAR may be read as its type
@@ -333,7 +360,7 @@ pub(crate) fn taken_out(
         return Ok(None);
     }
     if !taken.names.is_empty() {
-        taken.take_named(lines)?;
+        taken.take_named()?;
     }
     Ok(Some(taken.blanks))
 }

@@ -7,15 +7,20 @@ use wc_model::Condition;
 
 /// Whether the current result at a line of the text may depend on what was taken out above. A call asks for none.
 fn is_result_unsure(lines: &[LogicalLine<'_, '_>], broken: &Marks, number: u32) -> bool {
-    let (mut passed, mut is_broken, mut is_unsure) = (0_u32, false, false);
+    let (mut passed, mut is_broken, mut is_unsure, mut was_left) = (0_u32, false, false, false);
     for line in lines {
         let is_body = line.region == Region::Body;
         let last = line.last.min(number.saturating_sub(1));
         let is_here = is_body && broken.any(passed.saturating_add(1), last, Mark::Taken);
         let word = line.operator();
         is_broken = is_body && is_broken || is_here;
-        is_unsure = is_unsure || is_here || is_broken && line.has_label();
+        // a label may be missing below a jump or a return
+        is_unsure = is_unsure || is_here || is_broken && (line.has_label() || was_left);
         is_unsure = is_unsure && is_body && !matches!(word, Some(Keyword::Load(_)));
+        was_left = matches!(
+            word,
+            Some(Keyword::Jump(Condition::Always) | Keyword::Return(Condition::Always))
+        );
         passed = line.last;
         if passed >= number {
             return is_unsure && !matches!(word, Some(Keyword::Call(Condition::Always)));
@@ -68,8 +73,8 @@ pub(crate) fn may_follow(
         204 | 205 | 207 => changed.any(|it| it.first <= line && line <= it.last),
         401 => is_unnamed,
         402 | 403 => has(Mark::Unpaired) || is_result_unsure(lines, broken, line),
-        // a section that became VAR has no outputs
-        405 => has(Mark::Section),
+        // a section that became VAR has neither inputs nor outputs
+        404 | 405 => has(Mark::Section),
         406 => broken.any(line, end_of_unit(lines, line), Mark::Unlabelled),
         409 => is_unnamed || has(Mark::Section),
         _ => false,

@@ -66,6 +66,21 @@ impl<'a, 't> LogicalLine<'a, 't> {
         slice(self.all, label, self.all.len())
     }
 
+    /// Its tokens after its last semicolon.
+    pub(crate) fn after_semicolon(&self) -> &'t [Token<'a>] {
+        let words = self
+            .all
+            .iter()
+            .rev()
+            .take_while(|it| it.shape != Shape::Semicolon)
+            .count();
+        slice(
+            self.all,
+            self.all.len().saturating_sub(words),
+            self.all.len(),
+        )
+    }
+
     /// The meaning of its first word after its label.
     pub(crate) fn operator(&self) -> Option<Keyword> {
         keyword_named(text_of(self.after_label().first()))
