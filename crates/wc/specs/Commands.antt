@@ -26,7 +26,7 @@ observed_with (Drawn names) plate program next log =
     Some (show plate program next log (option_map (λ list. list.now) names))
 observed_with observed plate program next log = None
 
--- the same of files at these paths
+-- what asks for it with files at these paths, if anything does
 abbrev pub observed_of : RunPaths → Observed → Option Asked
 observed_of paths observed = observed_with observed paths.plate.now
     (option_map (λ path. path.now) paths.program) (option_map (λ path. path.now) paths.next)

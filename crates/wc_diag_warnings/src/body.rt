@@ -1,4 +1,4 @@
-ghost use Rattle.std.specs.Prelude.{◌≡◌, ◌<◌, nat_eq, not, ◌&&◌, ◌||◌, if◌then◌else◌, [], List, OnOk, IsOkUnless};
+ghost use Rattle.std.specs.Prelude.{◌≡◌, ◌<◌, nat_eq, not, ◌&&◌, ◌||◌, if◌then◌else◌, [], List, OnOk};
 ghost use Rattle.std.specs.List.{list_any};
 ghost use Rattle.wc_model.specs.Language.Names.{name_of};
 ghost use Rattle.wc_diag_warnings.specs.Events.{Happening};
@@ -12,8 +12,8 @@ use crate::edges::{Ahead, at_start, follow, paths_to};
 use crate::event::{Deed, Event};
 use crate::paths::{Paths, is_stored};
 use crate::warning::Warning;
-use std::alloc::Global;
-use wc_model::{Fault, Operand, UnitKind};
+use std::alloc::{AllocError, Global};
+use wc_model::{Operand, UnitKind};
 
 /// Whether an instruction begins.
 fn begins(event: &Event<'_>) -> bool
@@ -88,10 +88,9 @@ fn warn_event<'a>(
     warnings: &mut Vec<Warning<'a>>,
     event: &Event<'a>,
     number: Option<u8>,
-) -> Result<(), Fault>
+) -> Result<(), AllocError>
     ensures added { OnOk result (Warns warnings.old.items warnings.new.items
         (caution number event.now.line (address_of (event_view event.now).doing))) }
-    ensures memory { IsOkUnless result Fault.Memory }
 {
     match number {
         Some(number) => warn(warnings, number, event.line, address_of(event)),
@@ -128,11 +127,10 @@ fn warn_events<'a>(
     kind: UnitKind,
     ahead: &mut Ahead<'a>,
     events: &[Event<'a>],
-) -> Result<(), Fault>
+) -> Result<(), AllocError>
     requires { IsFollowed [] ahead.old }
     ensures added { OnOk result (Warns warnings.old.items warnings.new.items
         (body_cautions kind (events_view events.now))) }
-    ensures memory { IsOkUnless result Fault.Memory }
 {
     let mut above = true;
     let mut asked = is_asked(events);
@@ -160,10 +158,9 @@ pub(crate) fn warn_body<'a>(
     warnings: &mut Vec<Warning<'a>>,
     kind: UnitKind,
     events: &[Event<'a>],
-) -> Result<(), Fault>
+) -> Result<(), AllocError>
     ensures added { OnOk result (Warns warnings.old.items warnings.new.items
         (body_cautions kind (events_view events.now))) }
-    ensures memory { IsOkUnless result Fault.Memory }
 {
     let mut ahead = at_start(alloc);
     warn_events(warnings, kind, &mut ahead, events)

@@ -1,4 +1,4 @@
-ghost use Rattle.std.specs.Prelude.{◌≡◌, OnOk, IsOkUnless};
+ghost use Rattle.std.specs.Prelude.{◌≡◌, OnOk};
 ghost use Rattle.wc_model.specs.Language.Declarations.{declared_by, variables_of};
 ghost use Rattle.wc_model.specs.Language.Names.{name_of};
 ghost use Rattle.wc_model.specs.Language.Views.{declaration_view, unit_view};
@@ -7,8 +7,9 @@ ghost use Rattle.wc_diag_warnings.specs.Warnings.{caution, declared_cautions, in
 
 use crate::used::Uses;
 use crate::warning::Warning;
+use std::alloc::AllocError;
 use wc_built_in::{elementary_type, standard_block};
-use wc_model::{Decl, Fault, Section, StandardBlock, Unit, UnitKind, Word};
+use wc_model::{Decl, Section, StandardBlock, Unit, UnitKind, Word};
 
 /// The warning of a variable that is neither read nor written, only written, or only read.
 fn use_number(read: bool, written: bool, first: bool) -> Option<u8>
@@ -92,15 +93,11 @@ pub(crate) fn warn<'a>(
     number: u8,
     line: u32,
     name: &'a [u8],
-) -> Result<(), Fault>
+) -> Result<(), AllocError>
     ensures added { OnOk result (Warns warnings.old.items warnings.new.items
         (caution (Some number) line (name_of name.now))) }
-    ensures memory { IsOkUnless result Fault.Memory }
 {
-    match warnings.push(Warning { number, line, name }) {
-        Ok(()) => Ok(()),
-        Err(_) => Err(Fault::Memory),
-    }
+    Ok(warnings.push(Warning { number, line, name })?)
 }
 
 /// Adds the warning of a name, if there is one.
@@ -110,10 +107,9 @@ fn warn_name<'a>(
     declaration: &Decl<'a>,
     word: Word<'a>,
     uses: &Uses<'_>,
-) -> Result<(), Fault>
+) -> Result<(), AllocError>
     ensures added { OnOk result (Warns warnings.old.items warnings.new.items
         (variable_cautions kind (uses_view uses.now) (variable_view declaration.now word.entry))) }
-    ensures memory { IsOkUnless result Fault.Memory }
 {
     match number_of(kind, declaration, word, uses) {
         Some(number) => warn(warnings, number, word.line, word.text),
@@ -127,11 +123,10 @@ fn warn_declaration<'a>(
     kind: UnitKind,
     declaration: &Decl<'a>,
     uses: &Uses<'_>,
-) -> Result<(), Fault>
+) -> Result<(), AllocError>
     ensures added { OnOk result (Warns warnings.old.items warnings.new.items
         (declared_cautions kind (uses_view uses.now)
         (declared_by (declaration_view declaration.now)))) }
-    ensures memory { IsOkUnless result Fault.Memory }
 {
     for word in &declaration.names {
         warn_name(warnings, kind, declaration, *word, uses)?;
@@ -144,11 +139,10 @@ pub(crate) fn warn_declared<'a>(
     warnings: &mut Vec<Warning<'a>>,
     unit: &Unit<'a>,
     uses: &Uses<'_>,
-) -> Result<(), Fault>
+) -> Result<(), AllocError>
     ensures added { OnOk result (Warns warnings.old.items warnings.new.items
         (declared_cautions unit.now.kind (uses_view uses.now)
         (variables_of (unit_view unit.now)))) }
-    ensures memory { IsOkUnless result Fault.Memory }
 {
     for declaration in &unit.declarations {
         warn_declaration(warnings, unit.kind, declaration, uses)?;

@@ -11,7 +11,7 @@ use crate::event::Event;
 use crate::events::events_of;
 use crate::used::{fill, unused};
 use crate::warning::Warning;
-use std::alloc::Global;
+use std::alloc::{AllocError, Global};
 use wc_model::{Fault, Source, Unit};
 
 /// Adds the warnings of what a unit declares, with what its events use.
@@ -20,11 +20,10 @@ fn warn_names<'a>(
     warnings: &mut Vec<Warning<'a>>,
     unit: &Unit<'a>,
     events: &[Event<'a>],
-) -> Result<(), Fault>
+) -> Result<(), AllocError>
     ensures added { OnOk result (Warns warnings.old.items warnings.new.items
         (declared_cautions unit.now.kind (used_in (events_view events.now))
         (variables_of (unit_view unit.now)))) }
-    ensures memory { IsOkUnless result Fault.Memory }
 {
     let mut uses = unused(alloc);
     fill(&mut uses, events)?;
@@ -36,10 +35,9 @@ fn warn_unit<'a>(
     alloc: Global,
     warnings: &mut Vec<Warning<'a>>,
     unit: &Unit<'a>,
-) -> Result<(), Fault>
+) -> Result<(), AllocError>
     ensures added { OnOk result
         (Warns warnings.old.items warnings.new.items (unit_cautions (unit_view unit.now))) }
-    ensures memory { IsOkUnless result Fault.Memory }
 {
     let events = events_of(alloc, &unit.body)?;
     warn_names(alloc, warnings, unit, &events)?;
@@ -54,7 +52,10 @@ pub fn find_warnings<'a>(alloc: Global, source: &Source<'a>) -> Result<Vec<Warni
 {
     let mut warnings = Vec::new(alloc);
     for unit in &source.units {
-        warn_unit(alloc, &mut warnings, unit)?;
+        match warn_unit(alloc, &mut warnings, unit) {
+            Ok(()) => {}
+            Err(_) => return Err(Fault::Memory),
+        }
     }
     Ok(warnings)
 }

@@ -1,4 +1,4 @@
-ghost use Rattle.std.specs.Prelude.{◌≡◌, ◌&&◌, ◌||◌, not, [], ◌∷◌, List, OnOk, IsOkUnless};
+ghost use Rattle.std.specs.Prelude.{◌≡◌, ◌&&◌, ◌||◌, not, [], ◌∷◌, List, OnOk};
 ghost use Rattle.wc_model.specs.Language.Declarations.{same_name};
 ghost use Rattle.wc_model.specs.Language.Names.{name_of};
 ghost use Rattle.wc_names.specs.Keys.{name_of_key};
@@ -12,8 +12,8 @@ use crate::addresses::stored;
 use crate::event::{Deed, Event};
 use crate::paths::{Paths, both, from_store, no_paths};
 use indexmap::IndexMap;
-use std::alloc::Global;
-use wc_model::{Condition, Fault};
+use std::alloc::{AllocError, Global};
+use wc_model::Condition;
 use wc_names::Key;
 
 /// Where the paths to the events before go on.
@@ -91,21 +91,16 @@ fn lead<'a>(
     labels: &mut IndexMap<Key<'a>, Paths>,
     label: &'a [u8],
     paths: Paths,
-) -> Result<(), Fault>
+) -> Result<(), AllocError>
     ensures led { OnOk result ((source : Source) (key : Keyed)
         → leads labels.new (name_of_key key) source
         ≡ ((is_from paths source && same_name (name_of label.now) (name_of_key key))
         || leads labels.old (name_of_key key) source)) }
-    ensures memory { IsOkUnless result Fault.Memory }
 {
-    match labels.entry(Key { text: label }) {
-        Ok(entry) => {
-            let kept = entry.or_insert(no_paths());
-            *kept = both(paths, *kept);
-            Ok(())
-        }
-        Err(_) => Err(Fault::Memory),
-    }
+    let entry = labels.entry(Key { text: label })?;
+    let kept = entry.or_insert(no_paths());
+    *kept = both(paths, *kept);
+    Ok(())
 }
 
 /// Goes on from an event, to which there are these paths.
@@ -113,11 +108,10 @@ pub(crate) fn follow<'a>(
     ahead: &mut Ahead<'a>,
     event: &Event<'a>,
     paths: Paths,
-) -> Result<(), Fault>
+) -> Result<(), AllocError>
     ensures followed { OnOk result ((before : List Happening) → IsFollowed before ahead.old
         → AreFrom paths before (event_view event.now)
         → IsFollowed (event_view event.now ∷ before) ahead.new) }
-    ensures memory { IsOkUnless result Fault.Memory }
 {
     ahead.next = onward(event, paths);
     match event.deed {

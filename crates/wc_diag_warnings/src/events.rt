@@ -1,4 +1,4 @@
-ghost use Rattle.std.specs.Prelude.{◌≡◌, ℕ, [], ◌∷◌, ◌++◌, IfOk, OnOk, IsOkUnless, map, option_map};
+ghost use Rattle.std.specs.Prelude.{◌≡◌, ℕ, [], ◌∷◌, ◌++◌, IfOk, OnOk, map, option_map};
 ghost use Rattle.std.specs.List.{flat_map};
 ghost use Rattle.wc_model.specs.Language.Names.{name_of};
 ghost use Rattle.wc_model.specs.Language.Tree.{Lines};
@@ -7,19 +7,15 @@ ghost use Rattle.wc_diag_warnings.specs.Events.{Begins, argument_events, at, cal
 ghost use Rattle.wc_diag_warnings.specs.Seen.{deed_events, deed_view, events_view, instr_view, Adds};
 
 use crate::event::{Deed, Event};
-use std::alloc::Global;
-use wc_model::{Argument, Direction, Fault, Instr, Line, Operand, Storing, Word};
+use std::alloc::{AllocError, Global};
+use wc_model::{Argument, Direction, Instr, Line, Operand, Storing, Word};
 
 /// Adds an event.
-fn put<'a>(events: &mut Vec<Event<'a>>, line: u32, deed: Deed<'a>) -> Result<(), Fault>
+fn put<'a>(events: &mut Vec<Event<'a>>, line: u32, deed: Deed<'a>) -> Result<(), AllocError>
     ensures added { OnOk result
         (Adds events.old.items events.new.items (at line (deed_view deed.entry) ∷ [])) }
-    ensures memory { IsOkUnless result Fault.Memory }
 {
-    match events.push(Event { line, deed }) {
-        Ok(()) => Ok(()),
-        Err(_) => Err(Fault::Memory),
-    }
+    Ok(events.push(Event { line, deed })?)
 }
 
 /// What a store does.
@@ -38,10 +34,9 @@ fn put_argument<'a>(
     line: u32,
     instance: &'a [u8],
     argument: &Argument<'a>,
-) -> Result<(), Fault>
+) -> Result<(), AllocError>
     ensures added { OnOk result (Adds events.old.items events.new.items
         (argument_events line (name_of instance.now) (assignment_view argument.now))) }
-    ensures memory { IsOkUnless result Fault.Memory }
 {
     match argument.direction {
         Direction::Into => {
@@ -59,11 +54,10 @@ fn put_arguments<'a>(
     line: u32,
     instance: &'a [u8],
     arguments: &[Argument<'a>],
-) -> Result<(), Fault>
+) -> Result<(), AllocError>
     ensures added { OnOk result (Adds events.old.items events.new.items
         (flat_map (argument_events line (name_of instance.now))
         (map assignment_view arguments.now))) }
-    ensures memory { IsOkUnless result Fault.Memory }
 {
     for argument in arguments {
         put_argument(events, line, instance, argument)?;
@@ -72,10 +66,13 @@ fn put_arguments<'a>(
 }
 
 /// Adds the beginning of an instruction, and its one deed if it has one.
-fn put_step<'a>(events: &mut Vec<Event<'a>>, line: u32, deed: Option<Deed<'a>>) -> Result<(), Fault>
+fn put_step<'a>(
+    events: &mut Vec<Event<'a>>,
+    line: u32,
+    deed: Option<Deed<'a>>,
+) -> Result<(), AllocError>
     ensures added { OnOk result
         (Adds events.old.items events.new.items (at line Begins ∷ deed_events line deed.entry)) }
-    ensures memory { IsOkUnless result Fault.Memory }
 {
     put(events, line, Deed::Begin)?;
     match deed {
@@ -85,10 +82,9 @@ fn put_step<'a>(events: &mut Vec<Event<'a>>, line: u32, deed: Option<Deed<'a>>) 
 }
 
 /// Adds the label of a line, if it has one.
-fn put_label<'a>(events: &mut Vec<Event<'a>>, label: Option<Word<'a>>) -> Result<(), Fault>
+fn put_label<'a>(events: &mut Vec<Event<'a>>, label: Option<Word<'a>>) -> Result<(), AllocError>
     ensures added { OnOk result
         (Adds events.old.items events.new.items (label_events (option_map word_view label.entry))) }
-    ensures memory { IsOkUnless result Fault.Memory }
 {
     match label {
         Some(word) => put(events, word.line, Deed::Label(word.text)),
@@ -102,11 +98,10 @@ fn put_call<'a>(
     line: u32,
     instance: &'a [u8],
     arguments: &[Argument<'a>],
-) -> Result<(), Fault>
+) -> Result<(), AllocError>
     ensures added { OnOk result (Adds events.old.items events.new.items
         (at line Begins ∷ call_events line (name_of instance.now)
         (map assignment_view arguments.now))) }
-    ensures memory { IsOkUnless result Fault.Memory }
 {
     put_step(events, line, Some(Deed::Call(instance)))?;
     put_arguments(events, line, instance, arguments)
@@ -125,11 +120,10 @@ fn first_read<'a>(operand: &Option<Operand<'a>>) -> Option<Deed<'a>>
 
 /// Adds the events of a line, and of the lines in its parenthesis.
 #[cycle(putting)]
-fn put_line<'a>(events: &mut Vec<Event<'a>>, line: &Line<'a>) -> Result<(), Fault>
+fn put_line<'a>(events: &mut Vec<Event<'a>>, line: &Line<'a>) -> Result<(), AllocError>
     ensures added { OnOk result ((rest : Lines)
         → events_view events.new.items ++ events_of rest
         ≡ events_view events.old.items ++ events_of (line_view line.now rest)) }
-    ensures memory { IsOkUnless result Fault.Memory }
 {
     put_label(events, line.label)?;
     match &line.instr {
@@ -140,10 +134,9 @@ fn put_line<'a>(events: &mut Vec<Event<'a>>, line: &Line<'a>) -> Result<(), Faul
 
 /// Adds the events of an instruction, and of the lines in its parenthesis.
 #[cycle(putting)]
-fn put_instr<'a>(events: &mut Vec<Event<'a>>, instr: &Instr<'a>) -> Result<(), Fault>
+fn put_instr<'a>(events: &mut Vec<Event<'a>>, instr: &Instr<'a>) -> Result<(), AllocError>
     ensures added { OnOk result
         (Adds events.old.items events.new.items (line_events (instr_view instr.now))) }
-    ensures memory { IsOkUnless result Fault.Memory }
 {
     match instr {
         Instr::Load { operand, line, .. } => put_step(events, *line, Some(Deed::Read(*operand))),
@@ -185,10 +178,9 @@ fn put_instr<'a>(events: &mut Vec<Event<'a>>, instr: &Instr<'a>) -> Result<(), F
 
 /// Adds the events of lines, in text order.
 #[cycle(putting)]
-fn put_lines<'a>(events: &mut Vec<Event<'a>>, lines: &[Line<'a>]) -> Result<(), Fault>
+fn put_lines<'a>(events: &mut Vec<Event<'a>>, lines: &[Line<'a>]) -> Result<(), AllocError>
     ensures added { OnOk result
         (Adds events.old.items events.new.items (events_of (lines_view lines.now))) }
-    ensures memory { IsOkUnless result Fault.Memory }
 {
     for line in lines {
         put_line(events, line)?;
@@ -197,10 +189,9 @@ fn put_lines<'a>(events: &mut Vec<Event<'a>>, lines: &[Line<'a>]) -> Result<(), 
 }
 
 /// The events of a body, in text order.
-pub(crate) fn events_of<'a>(alloc: Global, lines: &[Line<'a>]) -> Result<Vec<Event<'a>>, Fault>
+pub(crate) fn events_of<'a>(alloc: Global, lines: &[Line<'a>]) -> Result<Vec<Event<'a>>, AllocError>
     ensures found { IfOk result (λ events. events_view events.items
         ≡ events_of (lines_view lines.now)) }
-    ensures memory { IsOkUnless result Fault.Memory }
 {
     let mut events = Vec::new(alloc);
     put_lines(&mut events, lines)?;

@@ -1,4 +1,4 @@
-ghost use Rattle.std.specs.Prelude.{◌≡◌, ◌||◌, [], OnOk, IsOkUnless, option_map};
+ghost use Rattle.std.specs.Prelude.{◌≡◌, ◌||◌, [], OnOk, option_map};
 ghost use Rattle.std.specs.List.{list_any};
 ghost use Rattle.wc_model.specs.Language.DeclarationRules.{is_among};
 ghost use Rattle.wc_model.specs.Language.Names.{Name, name_of};
@@ -7,32 +7,29 @@ ghost use Rattle.wc_diag_warnings.specs.Uses.{is_this, used_in};
 
 use crate::event::Event;
 use crate::uses::{Use, name_used};
-use std::alloc::Global;
-use wc_model::Fault;
+use std::alloc::{AllocError, Global};
 use wc_names::Names;
 
 /// Adds a name, if there is one.
-pub(crate) fn add<'a>(names: &mut Names<'a>, name: Option<&'a [u8]>) -> Result<(), Fault>
+pub(crate) fn add<'a>(names: &mut Names<'a>, name: Option<&'a [u8]>) -> Result<(), AllocError>
     ensures added { OnOk result ((other : Name) → is_among names.new other
         ≡ (is_among names.old other
         || is_this (option_map (λ text. name_of text.now) name.entry) other)) }
-    ensures memory { IsOkUnless result Fault.Memory }
 {
     match name {
         Some(name) => match names.add(name) {
             Ok(_) => Ok(()),
-            Err(_) => Err(Fault::Memory),
+            Err(_) => Err(AllocError),
         },
         None => Ok(()),
     }
 }
 
 /// Adds the names that events use so.
-fn add_used<'a>(names: &mut Names<'a>, wanted: Use, events: &[Event<'a>]) -> Result<(), Fault>
+fn add_used<'a>(names: &mut Names<'a>, wanted: Use, events: &[Event<'a>]) -> Result<(), AllocError>
     ensures added { OnOk result ((name : Name) → is_among names.new name
         ≡ (is_among names.old name
         || list_any (λ e. does wanted e.doing name) (events_view events.now))) }
-    ensures memory { IsOkUnless result Fault.Memory }
 {
     for event in events {
         add(names, name_used(wanted, event))?;
@@ -66,11 +63,10 @@ pub(crate) fn unused<'a>(alloc: Global) -> Uses<'a>
 }
 
 /// Adds the names that events use, when there are none yet.
-pub(crate) fn fill<'a>(uses: &mut Uses<'a>, events: &[Event<'a>]) -> Result<(), Fault>
+pub(crate) fn fill<'a>(uses: &mut Uses<'a>, events: &[Event<'a>]) -> Result<(), AllocError>
     ensures found { OnOk result
         (((name : Name) → uses_view uses.old name ≡ used_in [] name) → (name : Name)
         → uses_view uses.new name ≡ used_in (events_view events.now) name) }
-    ensures memory { IsOkUnless result Fault.Memory }
 {
     add_used(&mut uses.read, Use::Read, events)?;
     add_used(&mut uses.written, Use::Written, events)?;

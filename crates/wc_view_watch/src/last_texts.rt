@@ -29,13 +29,8 @@ fn empty_texts(alloc: Global, number: u16, length: usize) -> Result<Vec<Vec<u8>>
 {
     let mut texts = Vec::new(alloc);
     for _index in 0..number {
-        let Ok(text) = Vec::with_capacity(alloc, length) else {
-            return Err(Fault::Memory);
-        };
-        match texts.push(text) {
-            Ok(()) => {}
-            Err(_) => return Err(Fault::Memory),
-        }
+        let text = Vec::with_capacity(alloc, length).map_err(|_| Fault::Memory)?;
+        texts.push(text).map_err(|_| Fault::Memory)?;
     }
     Ok(texts)
 }

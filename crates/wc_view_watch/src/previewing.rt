@@ -46,22 +46,10 @@ fn write_preview<W: ByteOut>(
     ensures failures { ReportsWriteFaults (raised result) (W.failure_count writer.old)
         (W.failure_count writer.new) }
 {
-    let text = match preview_text(alloc, paths, old, new) {
-        Ok(text) => text,
-        Err(fault) => {
-            return Err(Stopped {
-                input: Input::Next,
-                fault,
-            });
-        }
-    };
-    match write_whole(writer, &text) {
-        Ok(()) => Ok(()),
-        Err(_) => Err(Stopped {
-            input: Input::Next,
-            fault: RunFault::Write,
-        }),
-    }
+    let input = Input::Next;
+    let text = preview_text(alloc, paths, old, new).map_err(|fault| Stopped { input, fault })?;
+    let fault = RunFault::Write;
+    write_whole(writer, &text).map_err(|_| Stopped { input, fault })
 }
 
 /// Loads the new program after the old one, and writes what is reported about both.

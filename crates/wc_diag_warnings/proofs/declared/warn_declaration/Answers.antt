@@ -5,15 +5,17 @@ use Rattle.wc_diag_warnings.specs.Seen.{uses_view, variable_view, warnings_view}
 use Rattle.wc_diag_warnings.specs.Warnings.{declared_cautions}
 use Rattle.wc_diag_warnings.proofs.declared.warn_declaration.Goals as goal
 
-pub returns-clause-added : goal.returns-clause-added
-returns-clause-added c =
-    let uses = uses_view c.args.uses.now in
-    let declaration = c.args.declaration.now in
-    let found = warnings_view c.loop-word.warnings.items in
-    let past : length declaration.names.items ≤ c.loop-word.word-index =
-    subst (λ xs. length xs ≤ c.loop-word.word-index) c.deref-word-items.ensures.value c.loop-word-test.false in
-    sym (append-nil found)
-    ∙ sym (ap (λ ws. found ++ declared_cautions c.args.kind uses (map (variable_view declaration) ws))
-    (drop_all c.loop-word.word-index declaration.names.items past))
-    ∙ c.loop-word.invariant
-    ∙ sym (ap (λ vs. warnings_view c.args.warnings.now.items ++ declared_cautions c.args.kind uses vs) (declared_views declaration))
+pub returns : goal.returns
+returns c = record {
+  added =
+      let uses = uses_view c.args.uses.now in
+      let declaration = c.args.declaration.now in
+      let found = warnings_view c.loop-word.warnings.items in
+      let past : length declaration.names.items ≤ c.loop-word.word-index =
+      subst (λ xs. length xs ≤ c.loop-word.word-index) c.deref-word-items.ensures.value c.loop-word-test.false in
+      sym (append-nil found)
+      ∙ sym (ap (λ ws. found ++ declared_cautions c.args.kind uses (map (variable_view declaration) ws))
+      (drop_all c.loop-word.word-index declaration.names.items past))
+      ∙ c.loop-word.invariant
+      ∙ sym (ap (λ vs. warnings_view c.args.warnings.now.items ++ declared_cautions c.args.kind uses vs) (declared_views declaration));
+}

@@ -15,5 +15,5 @@ loop-unit-preserved c =
     let rest = flat_map unit_cautions (map unit_view (drop (i + 1) units)) in
     let left : drop i units ≡ unit ∷ drop (i + 1) units =
     drop_more units i unit c.loop-unit-test.true ∙ ap (λ u. u ∷ drop (i + 1) units) (sym c.unit-item.is) in
-    ap (λ l. l ++ rest) c.in_ok-warn_unit.ensures.added ∙ append_assoc found (unit_cautions (unit_view unit)) rest
+    ap (λ l. l ++ rest) c.in-Ok.ensures.added ∙ append_assoc found (unit_cautions (unit_view unit)) rest
     ∙ sym (ap (λ us. found ++ flat_map unit_cautions (map unit_view us)) left) ∙ c.loop-unit.invariant

@@ -7,10 +7,12 @@ use Rattle.wc_diag_warnings.specs.Seen.{warnings_view}
 use Rattle.wc_diag_warnings.specs.Warnings.{declared_cautions}
 use Rattle.wc_diag_warnings.proofs.diagnostic.warn_names.Goals as goal
 
-pub returns-clause-added : goal.returns-clause-added
-returns-clause-added c =
-    let unit = c.args.unit.now in
-    let so_far = warnings_view c.args.warnings.now.items in
-    on_ok_weaker c.warn_declared.result
-    (λ added. added ∙ ap (λ uses. so_far ++ declared_cautions unit.kind uses (variables_of (unit_view unit))) (fun_ext (c.in_ok-fill.ensures.found c.unused-uses.ensures)))
-    c.warn_declared.ensures.added
+pub returns : goal.returns
+returns c = record {
+  added =
+      let unit = c.args.unit.now in
+      let so_far = warnings_view c.args.warnings.now.items in
+      on_ok_weaker c.warn_declared.result
+      (λ added. added ∙ ap (λ uses. so_far ++ declared_cautions unit.kind uses (variables_of (unit_view unit))) (fun_ext (c.in_ok-fill.ensures.found c.unused-uses.ensures)))
+      c.warn_declared.ensures.added;
+}
