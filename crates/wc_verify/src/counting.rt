@@ -1,7 +1,7 @@
 ghost use Rattle.std.specs.Prelude.{◌≡◌, ◌<◌, OnOk, IfOk, IsOkUnless, option_map, []};
 ghost use Rattle.wc_model.specs.Language.Kinds.{lines_of};
 ghost use Rattle.wc_model.specs.Language.Meaning.{carries};
-ghost use Rattle.wc_model.specs.Language.Names.{Name, name_of};
+ghost use Rattle.wc_model.specs.Language.Names.{Name};
 ghost use Rattle.wc_model.specs.Language.Scopes.{Scope};
 ghost use Rattle.wc_model.specs.Language.Views.{lines_view, word_view};
 ghost use Rattle.wc_verify.specs.Rows.{counted_row, row_at, row_named};
@@ -9,24 +9,6 @@ ghost use Rattle.wc_verify.specs.Rows.{counted_row, row_at, row_named};
 use crate::labels::{Labels, Row};
 use std::alloc::Global;
 use wc_model::{Fault, Line, Word};
-
-/// Counts one more line that carries a label.
-fn count_label<'a>(labels: &mut Labels<'a>, word: &Word<'a>) -> Result<(), Fault>
-    requires { (row_named labels.old (name_of word.now.text.now)).ahead < usize.MAX }
-    ensures counted { OnOk result
-        ((name : Name)
-        → row_named labels.new name
-        ≡ counted_row (carries (Some (word_view word.now)) name) (row_named labels.old name)) }
-    ensures memory { IsOkUnless result Fault.Memory }
-{
-    let row = labels.row(word.text);
-    let counted = Row {
-        ahead: row.ahead + 1,
-        given: row.given,
-        way: row.way,
-    };
-    labels.set(word.text, counted)
-}
 
 /// Counts one more line, which may carry a label.
 fn count<'a>(labels: &mut Labels<'a>, label: &Option<Word<'a>>) -> Result<(), Fault>
@@ -37,10 +19,15 @@ fn count<'a>(labels: &mut Labels<'a>, label: &Option<Word<'a>>) -> Result<(), Fa
         ≡ counted_row (carries (option_map word_view label.now) name) (row_named labels.old name)) }
     ensures memory { IsOkUnless result Fault.Memory }
 {
-    match label {
-        Some(word) => count_label(labels, word),
-        None => Ok(()),
-    }
+    let Some(word) = label else {
+        return Ok(());
+    };
+    let row = labels.row(word.text);
+    let counted = Row {
+        ahead: row.ahead + 1,
+        ..row
+    };
+    labels.set(word.text, counted)
 }
 
 /// The labels of a body, before its first line.

@@ -11,8 +11,8 @@ ghost use Rattle.wc_verify.specs.Rows.{entered_row, row_named, way_to};
 ghost use Rattle.wc_verify.specs.Edges.{joined_edges, kind_of_way};
 
 use crate::edges::{Way, joined_edges, kind_of};
-use crate::first::refusal;
 use crate::labels::{Labels, Row};
+use crate::refusals::refusal;
 use wc_model::{Fault, Kind, Word};
 
 /// Enters a line with a label, from the path above: 407 if the label was given already.

@@ -7,7 +7,6 @@ mod checked;
 mod counting;
 mod edges;
 mod entering;
-mod first;
 mod inside;
 mod instructions;
 mod jumps;
