@@ -13,12 +13,10 @@ ghost use Rattle.wc_verify.specs.Rows.{jumped_row, row_named};
 ghost use Rattle.wc_verify.specs.Seeing.{IsScope};
 ghost use Rattle.wc_verify.specs.Edges.{labelled_way};
 
-use crate::counting::count_labels;
 use crate::edges::Way;
-use crate::entering::enter;
 use crate::inside::validate_instr;
 use crate::jumps::{leaves, note, target};
-use crate::labels::Labels;
+use crate::labels::{Labels, count_labels, enter};
 use std::alloc::Global;
 use wc_model::{Fault, Instr, Kind, Line, Word};
 use wc_names::Tables;

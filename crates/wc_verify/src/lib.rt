@@ -4,9 +4,7 @@
 mod bodies;
 mod calls;
 mod checked;
-mod counting;
 mod edges;
-mod entering;
 mod inside;
 mod instructions;
 mod jumps;
