@@ -1,4 +1,4 @@
-ghost use Rattle.std.specs.Prelude.{◌≡◌, ◌++◌, List, IfErr, map, option_map};
+ghost use Rattle.std.specs.Prelude.{◌≡◌, ◌++◌, List, map, option_map};
 ghost use Rattle.std.specs.List.{flat_map};
 ghost use Rattle.wc_model.specs.Language.Checks.{Check, first_broken};
 ghost use Rattle.wc_model.specs.Language.DeclarationRules.{body_name_checks, label_checks, operand_checks, term_checks};
@@ -6,6 +6,7 @@ ghost use Rattle.wc_model.specs.Language.Declarations.{is_block};
 ghost use Rattle.wc_model.specs.Language.Tree.{Lines, ProgramUnit};
 ghost use Rattle.wc_model.specs.Language.Views.{assignment_view, line_view, lines_view, term_view, word_view};
 ghost use Rattle.wc_model.specs.Language.Validation.{Validates};
+ghost use Rattle.wc_declare.specs.SoFar.{TakesNoMemory};
 
 use crate::word::refusal;
 use wc_built_in::{is_reserved, variable_at};
@@ -16,18 +17,11 @@ fn validate_label<'a>(label: Option<Word<'a>>) -> Result<(), Fault>
     ensures validated { (rest : List Check)
         → Validates (first_broken (label_checks (option_map word_view label.entry) ++ rest))
         (first_broken rest) result }
-    // It takes no memory, so a refusal is not reported as out of memory.
-    ensures refuses { IfErr result (λ fault. fault ≡ Fault.Memory → ⊥) }
+    ensures refuses { TakesNoMemory result }
 {
     match label {
-        Some(word) => {
-            if is_reserved(word.text) {
-                Err(refusal(307, word.line))
-            } else {
-                Ok(())
-            }
-        }
-        None => Ok(()),
+        Some(word) if is_reserved(word.text) => Err(refusal(307, word.line)),
+        _ => Ok(()),
     }
 }
 
@@ -36,8 +30,7 @@ fn validate_operand<'a>(in_block: bool, operand: &Operand<'a>) -> Result<(), Fau
     ensures validated { (unit : ProgramUnit) (rest : List Check) → in_block ≡ is_block unit
         → Validates (first_broken (term_checks unit (term_view operand.now) ++ rest))
         (first_broken rest) result }
-    // It takes no memory, so a refusal is not reported as out of memory.
-    ensures refuses { IfErr result (λ fault. fault ≡ Fault.Memory → ⊥) }
+    ensures refuses { TakesNoMemory result }
 {
     let Operand::Address(word) = operand else {
         return Ok(());
@@ -58,8 +51,7 @@ fn validate_arguments<'a>(in_block: bool, arguments: &[Argument<'a>]) -> Result<
         (first_broken
         (flat_map (λ a. term_checks unit a.actual) (map assignment_view arguments.now) ++ rest))
         (first_broken rest) result }
-    // It takes no memory, so a refusal is not reported as out of memory.
-    ensures refuses { IfErr result (λ fault. fault ≡ Fault.Memory → ⊥) }
+    ensures refuses { TakesNoMemory result }
 {
     for argument in arguments {
         validate_operand(in_block, &argument.value)?;
@@ -72,8 +64,7 @@ fn validate_first<'a>(in_block: bool, operand: &Option<Operand<'a>>) -> Result<(
     ensures validated { (unit : ProgramUnit) (rest : List Check) → in_block ≡ is_block unit
         → Validates (first_broken (operand_checks unit (option_map term_view operand.now) ++ rest))
         (first_broken rest) result }
-    // It takes no memory, so a refusal is not reported as out of memory.
-    ensures refuses { IfErr result (λ fault. fault ≡ Fault.Memory → ⊥) }
+    ensures refuses { TakesNoMemory result }
 {
     match operand {
         Some(operand) => validate_operand(in_block, operand),
@@ -87,8 +78,7 @@ fn validate_line<'a>(in_block: bool, line: &Line<'a>) -> Result<(), Fault>
         → in_block ≡ is_block unit
         → Validates (first_broken (body_name_checks unit (line_view line.now others) ++ rest))
         (first_broken (body_name_checks unit others ++ rest)) result }
-    // It takes no memory, so a refusal is not reported as out of memory.
-    ensures refuses { IfErr result (λ fault. fault ≡ Fault.Memory → ⊥) }
+    ensures refuses { TakesNoMemory result }
 {
     validate_label(line.label)?;
     let Some(instr) = &line.instr else {
@@ -119,8 +109,7 @@ pub(crate) fn validate_body<'a>(in_block: bool, lines: &[Line<'a>]) -> Result<()
     ensures validated { (unit : ProgramUnit) (rest : List Check) → in_block ≡ is_block unit
         → Validates (first_broken (body_name_checks unit (lines_view lines.now) ++ rest))
         (first_broken rest) result }
-    // It takes no memory, so a refusal is not reported as out of memory.
-    ensures refuses { IfErr result (λ fault. fault ≡ Fault.Memory → ⊥) }
+    ensures refuses { TakesNoMemory result }
 {
     for line in lines {
         validate_line(in_block, line)?;

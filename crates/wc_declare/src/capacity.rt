@@ -46,10 +46,7 @@ fn push_field<'a>(
         kind,
         place: Place(variable.first),
     };
-    let Ok(()) = fields.push(field) else {
-        return Err(Fault::Memory);
-    };
-    Ok(())
+    fields.push(field).map_err(|_| Fault::Memory)
 }
 
 /// Adds a variable, named already, after the others: 306 if there is no space.

@@ -10,7 +10,7 @@ ghost use Rattle.wc_names.specs.Numbered.{is_allowed_in};
 ghost use Rattle.wc_names.specs.Spelled.{is_elementary, is_plain, spelled_in, spelled_in_table, spelled_of_unit, spelled_where};
 ghost use Rattle.wc_declare.specs.Rows.{HasTaken, HoldsRows, IsEmptyOf, SameNames, suits_numbered};
 ghost use Rattle.wc_names.specs.RepresentsText.{AreDifferent, IsTableOf, type_at};
-ghost use Rattle.wc_declare.specs.SoFar.{AreUnitsOf};
+ghost use Rattle.wc_declare.specs.SoFar.{AreUnitsOf, TakesNoMemory};
 
 use crate::capacity::add_variable;
 use crate::types::{block, type_at, width};
@@ -79,13 +79,7 @@ fn is_closed_before<'a>(units: &Units<'a>, name: &[u8]) -> bool
 fn is_allowed_in(section: Section, declared: DeclaredType) -> bool
     ensures { result ≡ is_allowed_in section declared }
 {
-    match declared {
-        DeclaredType::Elementary(_) => true,
-        _ => match section {
-            Section::Own => true,
-            _ => false,
-        },
-    }
+    matches!(declared, DeclaredType::Elementary(_)) || matches!(section, Section::Own)
 }
 
 /// Checks the type of a declaration by 308 and 302.
@@ -102,8 +96,7 @@ fn validate_type<'a>(units: &Units<'a>, declaration: &Decl<'a>) -> Result<Declar
         ≡ true) }
     ensures plain { IfOk result
         (λ declared. is_elementary declared ≡ is_plain declaration.now.type_name) }
-    // It takes no memory, so a refusal is not reported as out of memory.
-    ensures refuses { IfErr result (λ fault. fault ≡ Fault.Memory → ⊥) }
+    ensures refuses { TakesNoMemory result }
 {
     let word = declaration.type_name;
     if !is_closed_before(units, word.text) {
@@ -123,20 +116,11 @@ fn validate_type<'a>(units: &Units<'a>, declaration: &Decl<'a>) -> Result<Declar
 fn suits_kind(kind: Kind, value: Value) -> bool
     ensures { result ≡ suits_kind kind value }
 {
-    match kind {
-        Kind::Bool => match value {
-            Value::Bool(_) => true,
-            Value::Dint(number) => number == 0 || number == 1,
-            Value::Time(_) => false,
-        },
-        Kind::Dint => match value {
-            Value::Dint(_) => true,
-            _ => false,
-        },
-        Kind::Time => match value {
-            Value::Time(_) => true,
-            _ => false,
-        },
+    match (kind, value) {
+        (Kind::Bool, Value::Bool(_)) => true,
+        (Kind::Bool, Value::Dint(number)) => number == 0 || number == 1,
+        (Kind::Dint, Value::Dint(_)) | (Kind::Time, Value::Time(_)) => true,
+        _ => false,
     }
 }
 
@@ -157,8 +141,7 @@ fn validate_initial<'a>(declaration: &Decl<'a>, declared: DeclaredType) -> Resul
         → Validates (first_broken (initial_checks before (declaration_view declaration.now)
         ++ rest))
         (first_broken rest) result }
-    // It takes no memory, so a refusal is not reported as out of memory.
-    ensures refuses { IfErr result (λ fault. fault ≡ Fault.Memory → ⊥) }
+    ensures refuses { TakesNoMemory result }
 {
     let Some(initial) = declaration.initial else {
         return Ok(());
@@ -174,10 +157,7 @@ fn validate_initial<'a>(declaration: &Decl<'a>, declared: DeclaredType) -> Resul
 fn literal(initial: Option<Initial>) -> Option<Value>
     ensures { result ≡ option_map (λ i. i.value) initial }
 {
-    match initial {
-        Some(initial) => Some(initial.value),
-        None => None,
-    }
+    Some(initial?.value)
 }
 
 /// Adds the variables of a declaration, named already, after the others: 306 at the first for which there is no

@@ -91,20 +91,6 @@ pub fn tables<'a>(alloc: Global, source: &Source<'a>) -> Result<Tables<'a>, Faul
     ensures validated { Validates (declaration_fault (text_view source.now)) None result }
 {
     let mut units = no_units(alloc, source)?;
-    match validate_units(alloc, &mut units, source) {
-        Ok(()) => {
-            let Units {
-                blocks,
-                names,
-                tables,
-            } = units;
-            drop(blocks);
-            drop(names);
-            Ok(Tables::new(tables))
-        }
-        Err(fault) => {
-            drop(units);
-            Err(fault)
-        }
-    }
+    validate_units(alloc, &mut units, source)?;
+    Ok(Tables::new(units.tables))
 }

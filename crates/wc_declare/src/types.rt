@@ -18,12 +18,8 @@ pub(crate) fn block<'a>(units: &Units<'a>, name: &[u8]) -> Option<usize>
     ensures { (text : Text) (before : List ProgramUnit) → AreUnitsOf text before units.now
         → result ≡ option_map (λ found. length found.1) (block_named before (name_of name.now)) }
 {
-    let Some(number) = units.names.number(name) else {
-        return None;
-    };
-    let Some(table) = units.tables.get(number) else {
-        return None;
-    };
+    let number = units.names.number(name)?;
+    let table = units.tables.get(number)?;
     if table.is_block { Some(number) } else { None }
 }
 
@@ -41,10 +37,8 @@ pub(crate) fn type_at<'a>(units: &Units<'a>, name: &[u8]) -> Option<DeclaredType
     if let Some(block) = standard_block(name) {
         return Some(DeclaredType::Standard(block));
     }
-    match block(units, name) {
-        Some(number) => Some(DeclaredType::Block(number)),
-        None => None,
-    }
+    let number = block(units, name)?;
+    Some(DeclaredType::Block(number))
 }
 
 /// The number of places an instance of a standard function block has.

@@ -1,4 +1,4 @@
-ghost use Rattle.std.specs.Prelude.{◌≡◌, [], ◌∷◌, ◌++◌, List, OnOk, IfErr, IfOk, IsOkUnless, false};
+ghost use Rattle.std.specs.Prelude.{◌≡◌, [], ◌∷◌, ◌++◌, List, OnOk, IfOk, IsOkUnless, false};
 ghost use Rattle.wc_model.specs.Language.Checks.{Check, first_broken};
 ghost use Rattle.wc_model.specs.Language.DeclarationRules.{is_among, is_new, not_reserved, unit_checks};
 ghost use Rattle.wc_model.specs.Language.Declarations.{is_block};
@@ -9,7 +9,7 @@ ghost use Rattle.wc_model.specs.Language.Validation.{Validates};
 ghost use Rattle.wc_declare.specs.Rows.{SameNames};
 ghost use Rattle.wc_names.specs.Spelled.{spelled_in_table, spelled_of_unit};
 ghost use Rattle.wc_names.specs.RepresentsText.{IsTableOf};
-ghost use Rattle.wc_declare.specs.SoFar.{AreUnitsOf};
+ghost use Rattle.wc_declare.specs.SoFar.{AreUnitsOf, TakesNoMemory};
 
 use crate::body::validate_body;
 use crate::declaration::validate_declarations;
@@ -24,10 +24,7 @@ use wc_names::{Names, UnitTable};
 pub(crate) fn is_block<'a>(unit: &Unit<'a>) -> bool
     ensures { result ≡ is_block (unit_view unit.now) }
 {
-    match unit.kind {
-        UnitKind::FunctionBlock => true,
-        UnitKind::Program => false,
-    }
+    matches!(unit.kind, UnitKind::FunctionBlock)
 }
 
 /// Checks the name of a unit by 307 and 301.
@@ -38,8 +35,7 @@ fn validate_name<'a>(names: &Names<'a>, word: Word<'a>) -> Result<(), Fault>
         (not_reserved (word_view word.entry) ∷ is_new known (word_view word.entry) ∷ rest))
         (first_broken rest) result }
     ensures new { OnOk result (is_among names.now (name_view word.entry) ≡ false) }
-    // It takes no memory, so a refusal is not reported as out of memory.
-    ensures refuses { IfErr result (λ fault. fault ≡ Fault.Memory → ⊥) }
+    ensures refuses { TakesNoMemory result }
 {
     if is_reserved(word.text) {
         return Err(refusal(307, word.line));
@@ -69,19 +65,9 @@ pub(crate) fn validate_unit<'a>(
     validate_name(&units.names, unit.name)?;
     let in_block = is_block(unit);
     let mut table = UnitTable::new(alloc, in_block);
-    match validate_declarations(units, &mut table, unit) {
-        Ok(()) => match validate_body(in_block, &unit.body) {
-            Ok(()) => Ok(table),
-            Err(fault) => {
-                drop(table);
-                Err(fault)
-            }
-        },
-        Err(fault) => {
-            drop(table);
-            Err(fault)
-        }
-    }
+    validate_declarations(units, &mut table, unit)?;
+    validate_body(in_block, &unit.body)?;
+    Ok(table)
 }
 
 /// Adds a unit, whose name is new, after those so far.

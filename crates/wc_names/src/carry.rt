@@ -42,16 +42,10 @@ fn variable_with<'a>(table: &UnitTable<'a>, number: u16) -> Option<Named<'a>>
         → MatchOption result ⊥
         (λ found. HasPlace before u number entry (name_of found.name.now) found.row) }
 {
-    let Some(at) = count_at_or_before(&table.rows, number).checked_sub(1) else {
-        return None;
-    };
-    let Some(name) = table.names.at(at) else {
-        return None;
-    };
-    match table.rows.get(at) {
-        Some(row) => Some(Named { name, row: *row }),
-        None => None,
-    }
+    let at = count_at_or_before(&table.rows, number).checked_sub(1)?;
+    let name = table.names.at(at)?;
+    let row = table.rows.get(at)?;
+    Some(Named { name, row: *row })
 }
 
 /// The number of a plain variable's place among those of a variable of a type, if it keeps its value.
@@ -91,15 +85,9 @@ pub(crate) fn kept_number<'a, 'o>(
         → slice_get (unit_places before u) (number - first_place u) ≡ Some entry
         → result ≡ kept_from before u old_before old entry.0 }
 {
-    let Some(table) = units.get(unit) else {
-        return None;
-    };
-    let Some(found) = variable_with(table, number) else {
-        return None;
-    };
-    let Some(old) = row(old_units, old_unit, found.name) else {
-        return None;
-    };
+    let table = units.get(unit)?;
+    let found = variable_with(table, number)?;
+    let old = row(old_units, old_unit, found.name)?;
     let inner = number.saturating_sub(found.row.first);
     match found.row.declared {
         DeclaredType::Elementary(kind) => offset_by(old.first, plain_within(kind, old.declared)),

@@ -44,17 +44,11 @@ pub(crate) fn formal_of<'a>(
         → result ≡ option_and_then (numbered_formal before type)
         (formal_named direction (members_of before type) (name_of name.now)) }
 {
-    let Some(member) = member_of(units, declared, name) else {
-        return None;
-    };
+    let member = member_of(units, declared, name)?;
     if !passes(direction, member.section) {
         return None;
     }
-    let Some(kind) = member.kind else {
-        return None;
-    };
-    match member.place {
-        Some(place) => Some(Formal { kind, place }),
-        None => None,
-    }
+    let kind = member.kind?;
+    let place = member.place?;
+    Some(Formal { kind, place })
 }

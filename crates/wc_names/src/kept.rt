@@ -86,13 +86,11 @@ impl<'a> Tables<'a> {
             → IsUnit text unit scope
             → option_map (λ v. v.first) result ≡ first_number scope (name_of name.now) }
     {
-        match row(&self.units, unit, name) {
-            Some(row) => Some(Located {
-                declared: row.declared,
-                first: row.first,
-            }),
-            None => None,
-        }
+        let row = row(&self.units, unit, name)?;
+        Some(Located {
+            declared: row.declared,
+            first: row.first,
+        })
     }
 
     /// The input or output of that name of what has this type, with its kind and its place, counted from

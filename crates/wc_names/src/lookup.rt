@@ -24,16 +24,10 @@ pub(crate) fn row<'a>(units: &[UnitTable<'a>], unit: usize, name: &[u8]) -> Opti
         → length table.names ≡ length table.rows.items
         → result ≡ row_named table.names table.rows.items (name_of name.now) }
 {
-    let Some(table) = units.get(unit) else {
-        return None;
-    };
-    let Some(number) = table.names.number(name) else {
-        return None;
-    };
-    match table.rows.get(number) {
-        Some(row) => Some(*row),
-        None => None,
-    }
+    let table = units.get(unit)?;
+    let number = table.names.number(name)?;
+    let row = table.rows.get(number)?;
+    Some(*row)
 }
 
 /// The number of a path's place within a standard function block.
@@ -49,10 +43,8 @@ fn field_at(block: StandardBlock, names: &[&[u8]]) -> Option<u16>
     if let Some(_) = rest.split_first() {
         return None;
     }
-    match field_named(block, name) {
-        Some(found) => Some(found.number),
-        None => None,
-    }
+    let found = field_named(block, name)?;
+    Some(found.number)
 }
 
 /// The number of a path's place within a variable of an elementary type.
@@ -72,10 +64,7 @@ pub(crate) fn offset_by(first: u16, inner: Option<u16>) -> Option<u16>
         → result ≡ Some (first + n) }
     ensures none { inner ≡ None → result ≡ None }
 {
-    match inner {
-        Some(inner) => first.checked_add(inner),
-        None => None,
-    }
+    first.checked_add(inner?)
 }
 
 /// The number of a path's place in a unit's frame.
@@ -91,9 +80,7 @@ pub(crate) fn number<'a>(units: &[UnitTable<'a>], unit: usize, names: &[&[u8]]) 
     let Some((name, rest)) = names.split_first() else {
         return None;
     };
-    let Some(row) = row(units, unit, name) else {
-        return None;
-    };
+    let row = row(units, unit, name)?;
     number_after(units, row, rest)
 }
 
@@ -125,9 +112,7 @@ pub(crate) fn direct_number<'a>(units: &[UnitTable<'a>], unit: usize, number: u8
         → unit ≡ length scope.before → number < 45
         → result ≡ place_number (frame_of scope) (Direct (direct_at number)) }
 {
-    let Some(table) = units.get(unit) else {
-        return None;
-    };
+    let table = units.get(unit)?;
     if table.is_block {
         return None;
     }
@@ -142,8 +127,6 @@ pub(crate) fn address<'a>(units: &[UnitTable<'a>], unit: usize, text: &[u8]) -> 
         ≡ option_and_then (place_number (frame_of scope))
         (option_map Direct (variable_at (name_of text.now))) }
 {
-    match variable_at(text) {
-        Some(number) => direct_number(units, unit, number),
-        None => None,
-    }
+    let number = variable_at(text)?;
+    direct_number(units, unit, number)
 }

@@ -52,10 +52,7 @@ fn value_kind(slot: SlotKind) -> Option<Kind>
 fn is_named(section: Section) -> bool
     ensures { result ≡ is_named section }
 {
-    match section {
-        Section::Input | Section::Output => true,
-        Section::Own => false,
-    }
+    !matches!(section, Section::Own)
 }
 
 /// The input or output of that name of a standard function block.
@@ -66,9 +63,7 @@ fn standard_member(block: StandardBlock, name: &[u8]) -> Option<Member>
         (λ m. m.place
         ≡ position_from (λ f. same_name f.0 (name_of name.now)) 0 (standard_fields block)) }
 {
-    let Some(found) = field_named(block, name) else {
-        return None;
-    };
+    let found = field_named(block, name)?;
     if !is_named(found.field.section) {
         return None;
     }
@@ -92,14 +87,12 @@ fn block_member<'a>(units: &[UnitTable<'a>], block: usize, name: &[u8]) -> Optio
         ≡ position_from (λ e. same_path e.0 (name_of name.now ∷ [])) (first_place u)
         (unit_places before u)) }
 {
-    match row(units, block, name) {
-        Some(row) => Some(Member {
-            section: row.section,
-            kind: kind_of(row.declared),
-            place: number_after(units, row, &[]),
-        }),
-        None => None,
-    }
+    let row = row(units, block, name)?;
+    Some(Member {
+        section: row.section,
+        kind: kind_of(row.declared),
+        place: number_after(units, row, &[]),
+    })
 }
 
 /// The member of that name of what has this type.

@@ -44,10 +44,8 @@ impl<'a> Names<'a> {
     pub fn at(&self, number: usize) -> Option<&'a [u8]>
         ensures { option_map (λ name. name_of name.now) result ≡ slice_get self.now number }
     {
-        match self.keys.get_index(number) {
-            Some(key) => Some(key.text),
-            None => None,
-        }
+        let key = self.keys.get_index(number)?;
+        Some(key.text)
     }
 
     /// Whether a name is among them.

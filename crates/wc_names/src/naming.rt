@@ -20,10 +20,7 @@ pub(crate) fn place_at(number: Option<u16>) -> Option<Place>
     ensures number { option_map (λ p. p.0) result ≡ number }
     ensures place { result ≡ option_map (λ n. record { 0 = n }) number }
 {
-    match number {
-        Some(number) => Some(Place(number)),
-        None => None,
-    }
+    Some(Place(number?))
 }
 
 /// The kind of a literal.
@@ -60,20 +57,14 @@ fn is_output(number: u8) -> bool
 pub(crate) fn is_input(section: Section) -> bool
     ensures { result ≡ is_input section }
 {
-    match section {
-        Section::Input => true,
-        _ => false,
-    }
+    matches!(section, Section::Input)
 }
 
 /// Whether variables of a section are outputs.
 pub(crate) fn is_result(section: Section) -> bool
     ensures { result ≡ is_result section }
 {
-    match section {
-        Section::Output => true,
-        _ => false,
-    }
+    matches!(section, Section::Output)
 }
 
 /// What an address names in the body of a unit.
@@ -83,15 +74,13 @@ fn address_entity<'a>(units: &[UnitTable<'a>], unit: usize, word: Word<'_>) -> O
         → result
         ≡ option_map (numbered_entity scope) (entity_of scope (Address (word_view word.entry))) }
 {
-    match variable_at(word.text) {
-        Some(number) => Some(Entity {
-            kind: Some(kind_of_direct(number)),
-            readable: true,
-            writable: is_output(number),
-            place: place_at(direct_number(units, unit, number)),
-        }),
-        None => None,
-    }
+    let number = variable_at(word.text)?;
+    Some(Entity {
+        kind: Some(kind_of_direct(number)),
+        readable: true,
+        writable: is_output(number),
+        place: place_at(direct_number(units, unit, number)),
+    })
 }
 
 /// What a name names in the body of a unit.
@@ -101,15 +90,13 @@ fn name_entity<'a>(units: &[UnitTable<'a>], unit: usize, name: &[u8]) -> Option<
         → result
         ≡ option_map (numbered_entity scope) (entity_of scope (NameOf (name_of name.now))) }
 {
-    match row(units, unit, name) {
-        Some(row) => Some(Entity {
-            kind: kind_of(row.declared),
-            readable: true,
-            writable: !is_input(row.section),
-            place: place_at(number_after(units, row, &[])),
-        }),
-        None => None,
-    }
+    let row = row(units, unit, name)?;
+    Some(Entity {
+        kind: kind_of(row.declared),
+        readable: true,
+        writable: !is_input(row.section),
+        place: place_at(number_after(units, row, &[])),
+    })
 }
 
 /// What a field of an instance names in the body of a unit.
@@ -125,18 +112,14 @@ fn field_entity<'a>(
         ≡ option_map (numbered_entity scope)
         (entity_of scope (Field (name_of instance.now) (name_of field.now))) }
 {
-    let Some(row) = row(units, unit, instance) else {
-        return None;
-    };
-    match member_of(units, row.declared, field) {
-        Some(member) => Some(Entity {
-            kind: member.kind,
-            readable: is_result(member.section),
-            writable: is_input(member.section),
-            place: place_at(offset_by(row.first, member.place)),
-        }),
-        None => None,
-    }
+    let row = row(units, unit, instance)?;
+    let member = member_of(units, row.declared, field)?;
+    Some(Entity {
+        kind: member.kind,
+        readable: is_result(member.section),
+        writable: is_input(member.section),
+        place: place_at(offset_by(row.first, member.place)),
+    })
 }
 
 /// What an operand names in the body of a unit.

@@ -2,7 +2,7 @@
 use Rattle.std.proofs.Common.{◌≡◌, ℕ, Bool, true, false, List, [], ◌∷◌, Some, None, refl, ap, sym, ◌∙◌}
 use Rattle.std.specs.Prelude.{slice_get}
 use Rattle.wc_laws_grammar.specs.LineMoves.{Start, line_move}
-use Rattle.wc_laws_grammar.specs.Moves.{started_line, body_move, inside_move, is_colon, colon_next}
+use Rattle.wc_laws_grammar.specs.Moves.{started_line, body_move, inside_move, is_colon, colon_next, word_move}
 use Rattle.wc_lexer.specs.Views.{shape_view}
 use Rattle.wc_lexer.specs.declared.shape.Shape.{Shape}
 use Rattle.wc_lexer.specs.declared.shape.Shape.TheVariants.{Identifier, Whole, Duration, Truth, Address, And, AndNot, Opening, Closing, Comma, Colon}
@@ -32,6 +32,18 @@ pub body-other : (p : Position) (line : ℕ) (colon : Bool) (shape : Shape) (byt
 body-other p line colon Identifier bytes h = absurd (h refl)
 body-other p line colon (Whole value) bytes h = refl
 body-other p line colon another bytes h = refl
+
+-- with a colon after it, whatever it is
+pub body-colon : (p : Position) (line : ℕ) (shape : Shape) (bytes : List ℕ) → body_move p (symbol_of (shape_view shape) bytes) line true ≡ started_line p (line_move InBody Start (symbol_of (shape_view shape) bytes) line true)
+body-colon p line Identifier bytes = refl
+body-colon p line (Whole value) bytes = refl
+body-colon p line (Duration value) bytes = refl
+body-colon p line (Truth value) bytes = refl
+body-colon p line another bytes = refl
+
+-- an identifier with none
+pub body-word : (p : Position) (line : ℕ) (shape : Shape) (bytes : List ℕ) → shape ≡ Identifier → body_move p (symbol_of (shape_view shape) bytes) line false ≡ word_move p bytes line
+body-word p line shape bytes e = ap (λ s. body_move p (symbol_of (shape_view s) bytes) line false) e
 
 -- whether a colon is first
 is_colon-other : (shape : Shape) (bytes : List ℕ) → (shape ≡ Colon → ⊥) → false ≡ is_colon (symbol_of (shape_view shape) bytes)

@@ -32,10 +32,6 @@ abbrev pub IsUnexpected : Option State → (line : ℕ) → Fault → Type 0
 IsUnexpected next line Memory = Unit {0}
 IsUnexpected next line (Refused number place) = (next ≡ None) × (number ≡ 201) × (place ≡ line)
 
--- the fault says that a token of that line is unexpected
-abbrev pub IsUnexpectedAt : (line : ℕ) → Fault → Type 0
-IsUnexpectedAt line fault = fault ≡ Refused 201 line
-
 -- A walk that is at that state stops there at the next token: what it meets has this number and line.
 pub record IsStoppedAt (state : State) (marks : List Mark) (number place : ℕ) : Type 0 where
   pub raised : Raised

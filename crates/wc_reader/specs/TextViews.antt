@@ -1,5 +1,5 @@
 -- What the reader's states in a text represent.
-use Rattle.std.specs.Prelude.{◌≡◌, List, map}
+use Rattle.std.specs.Prelude.{◌≡◌, List, map, Option, option_map, Result, IfOk}
 use Rattle.wc_laws_grammar.specs.Moves as moves
 use Rattle.wc_laws_grammar.specs.Moves.{State}
 use Rattle.wc_model.specs.Language.Tree.{ProgramUnit}
@@ -7,6 +7,7 @@ use Rattle.wc_model.specs.Text.Positions.{Position}
 use Rattle.wc_model.specs.Language.Views.{unit_view}
 use Rattle.wc_model.specs.declared.source.Section.{Section}
 use Rattle.wc_text_bodies.specs.BodyViews.{IsCounted, position_view}
+use Rattle.wc_text_bodies.specs.declared.bodies.Body.{Body}
 use Rattle.wc_text_bodies.specs.SectionViews.{declaring_view}
 use Rattle.wc_text_bodies.specs.declared.declarations.DeclarationState.TheVariants.{Undeclared}
 use Rattle.wc_text_lines.specs.LineViews.{line_state_view}
@@ -29,6 +30,10 @@ abbrev pub place_view : Position → BodyPlace → State
 place_view p (Within place) = line_place_view p place
 place_view p (InSection section) = moves.Declaring p.before p.unit section moves.Undeclared
 place_view p AfterUnit = moves.after_unit p
+
+-- a token of a body leads, with the body after it, where the move from the body before it does
+abbrev pub LeadsOn : {E : Type 0} → Body → Body → Result (Option BodyPlace) E → (Position → Option State) → Type 0
+LeadsOn old new result moved = IfOk result (λ next. (units : List ProgramUnit) → option_map (place_view (position_view units new)) next ≡ moved (position_view units old))
 
 -- how far a text has been read after these units
 abbrev pub state_view : List ProgramUnit → TextState → State

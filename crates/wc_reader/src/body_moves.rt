@@ -1,13 +1,11 @@
 ghost use Rattle.std.specs.Prelude.{◌≡◌, ◌∷◌, [], ℕ, Bool, IfOk, IfSome, List, OnOk, Some, option_map};
 ghost use Rattle.wc_laws_grammar.specs.Moves as moves;
 ghost use Rattle.wc_model.specs.Text.Marks as marks;
-ghost use Rattle.wc_model.specs.Language.Names.{name_of};
 ghost use Rattle.wc_model.specs.Text.Positions as positions;
 ghost use Rattle.wc_model.specs.Language.Tree.{ProgramUnit};
-ghost use Rattle.wc_model.specs.Language.Views.{lines_view};
 ghost use Rattle.wc_text_lines.specs.LineViews.{started_view, in_line_view, line_state_view};
 ghost use Rattle.wc_text_bodies.specs.BodyViews.{IsCounted, position_view};
-ghost use Rattle.wc_reader.specs.TextViews.{line_place_view, place_view};
+ghost use Rattle.wc_reader.specs.TextViews.{LeadsOn, line_place_view, place_view};
 ghost use Rattle.wc_text_lines.specs.Words.{symbol_view};
 
 use crate::text_state::{BodyPlace, LinePlace};
@@ -75,11 +73,8 @@ fn on_line<'a>(
     line: Option<LineState<'a>>,
 ) -> Result<Option<BodyPlace<'a>>, AllocError>
     requires { IsCounted body.old }
-    ensures following { IfOk result
-        (λ next. (units : List ProgramUnit)
-        → option_map (place_view (position_view units body.new)) next
-        ≡ moves.started_line (position_view units body.old)
-        (option_map line_state_view line.entry)) }
+    ensures following { LeadsOn body.old body.new result
+        (λ p. moves.started_line p (option_map line_state_view line.entry)) }
     ensures counted { IfOk result (λ next. IfSome next (λ place. IsCounted body.new)) }
 {
     match line {
@@ -91,32 +86,8 @@ fn on_line<'a>(
     }
 }
 
-/// After the first word of a line of a body with no parenthesis open, which does not end the unit
-/// and which no colon follows.
-#[inline(always)]
-fn at_word<'a>(
-    alloc: Global,
-    body: &mut Body<'a>,
-    token: Token<'a>,
-) -> Result<Option<BodyPlace<'a>>, AllocError>
-    requires counted { IsCounted body.old }
-    requires identifier { symbol_view token ≡ marks.Identifier token.text.now }
-    ensures following { IfOk result
-        (λ next. (units : List ProgramUnit)
-        → option_map (place_view (position_view units body.new)) next
-        ≡ moves.section_or_line
-        (position_view units body.old) token.entry.text.now token.entry.line
-        (moves.section_of_word (lines_view body.old.done.items) (name_of token.entry.text.now))) }
-    ensures counted { IfOk result (λ next. IfSome next (λ place. IsCounted body.new)) }
-{
-    match section_of_word(&body.done, token.text) {
-        Some(section) => Ok(Some(BodyPlace::InSection(section))),
-        None => on_line(alloc, body, at_start(token, false)),
-    }
-}
-
 /// After the first word of a line of a body with no parenthesis open, which no colon follows: it
-/// may end the unit.
+/// may end the unit, or begin a section.
 #[inline(always)]
 fn at_body_word<'a>(
     alloc: Global,
@@ -125,41 +96,16 @@ fn at_body_word<'a>(
 ) -> Result<Option<BodyPlace<'a>>, AllocError>
     requires counted { IsCounted body.old }
     requires identifier { symbol_view token ≡ marks.Identifier token.text.now }
-    ensures following { IfOk result
-        (λ next. (units : List ProgramUnit)
-        → option_map (place_view (position_view units body.new)) next
-        ≡ moves.word_move (position_view units body.old)
-        token.entry.text.now token.entry.line) }
+    ensures following { LeadsOn body.old body.new result
+        (λ p. moves.word_move p token.entry.text.now token.entry.line) }
     ensures counted { IfOk result (λ next. IfSome next (λ place. IsCounted body.new)) }
 {
     if ends_unit(token.text, body.unit.kind) {
-        Ok(Some(BodyPlace::AfterUnit))
-    } else {
-        at_word(alloc, body, token)
+        return Ok(Some(BodyPlace::AfterUnit));
     }
-}
-
-/// After the first identifier of a line of a body with no parenthesis open.
-#[inline(always)]
-fn at_body_identifier<'a>(
-    alloc: Global,
-    body: &mut Body<'a>,
-    token: Token<'a>,
-    colon: bool,
-) -> Result<Option<BodyPlace<'a>>, AllocError>
-    requires counted { IsCounted body.old }
-    requires identifier { symbol_view token ≡ marks.Identifier token.text.now }
-    ensures following { IfOk result
-        (λ next. (units : List ProgramUnit)
-        → option_map (place_view (position_view units body.new)) next
-        ≡ moves.body_move (position_view units body.old)
-        (marks.Identifier token.entry.text.now) token.entry.line colon) }
-    ensures counted { IfOk result (λ next. IfSome next (λ place. IsCounted body.new)) }
-{
-    if colon {
-        on_line(alloc, body, at_start(token, true))
-    } else {
-        at_body_word(alloc, body, token)
+    match section_of_word(&body.done, token.text) {
+        Some(section) => Ok(Some(BodyPlace::InSection(section))),
+        None => on_line(alloc, body, at_start(token, false)),
     }
 }
 
@@ -172,16 +118,16 @@ fn at_body_line<'a>(
     colon: bool,
 ) -> Result<Option<BodyPlace<'a>>, AllocError>
     requires { IsCounted body.old }
-    ensures following { IfOk result
-        (λ next. (units : List ProgramUnit)
-        → option_map (place_view (position_view units body.new)) next
-        ≡ moves.body_move (position_view units body.old)
-        (symbol_view token.entry) token.entry.line colon) }
+    ensures following { LeadsOn body.old body.new result
+        (λ p. moves.body_move p (symbol_view token.entry) token.entry.line colon) }
     ensures counted { IfOk result (λ next. IfSome next (λ place. IsCounted body.new)) }
 {
+    if colon {
+        return on_line(alloc, body, at_start(token, true));
+    }
     match token.shape {
-        Shape::Identifier => at_body_identifier(alloc, body, token, colon),
-        _ => on_line(alloc, body, at_start(token, colon)),
+        Shape::Identifier => at_body_word(alloc, body, token),
+        _ => on_line(alloc, body, at_start(token, false)),
     }
 }
 
@@ -236,11 +182,9 @@ fn at_line_start<'a>(
     colon: bool,
 ) -> Result<Option<BodyPlace<'a>>, AllocError>
     requires { IsCounted body.old }
-    ensures following { IfOk result
-        (λ next. (units : List ProgramUnit)
-        → option_map (place_view (position_view units body.new)) next
-        ≡ moves.start_move (position_view units body.old)
-        (position_view [] body.old).openings (symbol_view token.entry) token.entry.line colon) }
+    ensures following { LeadsOn body.old body.new result
+        (λ p. moves.start_move p (position_view [] body.old).openings (symbol_view token.entry)
+        token.entry.line colon) }
     ensures counted { IfOk result (λ next. IfSome next (λ place. IsCounted body.new)) }
 {
     if body.openings.is_empty() {
@@ -259,11 +203,8 @@ fn at_line<'a>(
     colon: bool,
 ) -> Result<Option<BodyPlace<'a>>, AllocError>
     requires { IsCounted body.old }
-    ensures following { IfOk result
-        (λ next. (units : List ProgramUnit)
-        → option_map (place_view (position_view units body.new)) next
-        ≡ moves.move (moves.AtLine (position_view units body.old))
-        (symbol_view token.entry) token.entry.line colon) }
+    ensures following { LeadsOn body.old body.new result
+        (λ p. moves.move (moves.AtLine p) (symbol_view token.entry) token.entry.line colon) }
     ensures counted { IfOk result (λ next. IfSome next (λ place. IsCounted body.new)) }
 {
     match token.shape {
@@ -315,11 +256,9 @@ pub(crate) fn place_move<'a>(
     colon: bool,
 ) -> Result<Option<BodyPlace<'a>>, AllocError>
     requires { IsCounted body.old }
-    ensures following { IfOk result
-        (λ next. (units : List ProgramUnit)
-        → option_map (place_view (position_view units body.new)) next
-        ≡ moves.move (line_place_view (position_view units body.old) place.entry)
-        (symbol_view token.entry) token.entry.line colon) }
+    ensures following { LeadsOn body.old body.new result
+        (λ p. moves.move (line_place_view p place.entry) (symbol_view token.entry) token.entry.line
+        colon) }
     ensures counted { IfOk result (λ next. IfSome next (λ place. IsCounted body.new)) }
 {
     match place {

@@ -1,9 +1,7 @@
 ghost use Rattle.std.specs.Prelude.{◌≡◌, Bool, List, Option, Some, None, length, map, nat_le, option_map};
 ghost use Rattle.std.specs.List.{list_any};
 ghost use Rattle.wc_laws_grammar.specs.Moves as moves;
-ghost use Rattle.wc_laws_grammar.specs.Words as words;
 ghost use Rattle.wc_model.specs.Text.Limits.{most_units};
-ghost use Rattle.wc_model.specs.Language.Names.{name_of};
 ghost use Rattle.wc_model.specs.Text.ReadingFaults as faults;
 ghost use Rattle.wc_model.specs.Language.Tree.{ProgramUnit};
 ghost use Rattle.wc_model.specs.Language.Views.{unit_view};
@@ -22,10 +20,7 @@ use wc_text_lines::unit_kind;
 fn is_program(unit: &Unit) -> bool
     ensures { result ≡ is_program unit.now }
 {
-    match unit.kind {
-        UnitKind::FunctionBlock => false,
-        UnitKind::Program => true,
-    }
+    matches!(unit.kind, UnitKind::Program)
 }
 
 /// Whether there is a program among the units.
@@ -42,23 +37,6 @@ pub fn has_program(units: &[Unit]) -> bool
     any_program(units)
 }
 
-/// One unit too many, if the text has as many as it may.
-fn too_many(units: &[Unit], line: u32) -> Option<Fault>
-    ensures { result
-        ≡ option_map fault_of
-        (moves.fault_if (nat_le most_units (length (map unit_view units.now))) faults.TooMany
-        line) }
-{
-    if units.len() >= MOST_UNITS {
-        Some(Fault::Refused {
-            number: 208,
-            place: line,
-        })
-    } else {
-        None
-    }
-}
-
 /// What is wrong with a unit's first word: a program precedes it, or it is one too many.
 fn word_fault(units: &[Unit], line: u32) -> Option<Fault>
     ensures { result
@@ -73,21 +51,13 @@ fn word_fault(units: &[Unit], line: u32) -> Option<Fault>
             number: 203,
             place: line,
         })
+    } else if units.len() >= MOST_UNITS {
+        Some(Fault::Refused {
+            number: 208,
+            place: line,
+        })
     } else {
-        too_many(units, line)
-    }
-}
-
-/// What is wrong with a word between units, if it begins one.
-fn unit_fault(units: &[Unit], token: Token) -> Option<Fault>
-    ensures { result
-        ≡ option_map fault_of
-        (moves.fault_at_unit (map unit_view units.now) token.entry.line
-        (words.found words.unit_kinds (name_of token.entry.text.now))) }
-{
-    match unit_kind(token.text) {
-        Some(_) => word_fault(units, token.line),
-        None => None,
+        None
     }
 }
 
@@ -100,7 +70,10 @@ fn outside_fault(units: &[Unit], token: Token) -> Option<Fault>
         (symbol_view token.entry) token.entry.line colon) }
 {
     match token.shape {
-        Shape::Identifier => unit_fault(units, token),
+        Shape::Identifier => {
+            unit_kind(token.text)?;
+            word_fault(units, token.line)
+        }
         _ => None,
     }
 }

@@ -1,4 +1,4 @@
-ghost use Rattle.std.specs.Prelude.{◌≡◌, ◌+◌, ◌==◌, ◌≤◌, ◌<◌, ◌∷◌, IfErr, IfOk, IfSome, List, None, OnOk, Some, count_by, drop, false, length, map};
+ghost use Rattle.std.specs.Prelude.{◌≡◌, ◌+◌, ◌==◌, ◌≤◌, ◌<◌, ◌∷◌, IfErr, IfOk, IfSome, List, OnOk, Some, count_by, drop, false, length, map};
 ghost use Rattle.wc_laws_grammar.specs.Moves as moves;
 ghost use Rattle.wc_laws_grammar.specs.Moves.{at_first, colon_next};
 ghost use Rattle.wc_model.specs.Text.Marks.{Mark};
@@ -11,7 +11,7 @@ ghost use Rattle.wc_reader.specs.ReadTexts.{IsRefusedAs};
 ghost use Rattle.wc_text_short_lines.specs.Several.{GoesOn};
 ghost use Rattle.wc_text_short_lines.specs.Walks.{walk};
 ghost use Rattle.wc_reader.specs.TextViews.{IsUndeclared, IsStateCounted, reading_view, state_view};
-ghost use Rattle.wc_reader.specs.Reported.{IsUnexpected, IsUnexpectedAt, StopsWith, ReportsReading};
+ghost use Rattle.wc_reader.specs.Reported.{IsUnexpected, StopsWith, ReportsReading};
 ghost use Rattle.wc_text_lines.specs.Words.{marks_of, symbol_view};
 
 use crate::ends::at_text_end;
@@ -33,24 +33,6 @@ fn is_colon_next(tokens: &[Token]) -> bool
     match tokens.first() {
         Some(token) => matches!(token.shape, Shape::Colon),
         None => false,
-    }
-}
-
-/// Takes what follows a token of that line, which is unexpected if there is nothing.
-#[inline(always)]
-fn go_on<'a>(state: &mut TextState<'a>, next: Option<TextState<'a>>, line: u32) -> Result<(), Fault>
-    ensures there { OnOk result (next.entry ≡ Some state.new) }
-    ensures nothing { IfErr result (λ fault. (next.entry ≡ None) × IsUnexpectedAt line fault) }
-{
-    match next {
-        Some(next) => {
-            *state = next;
-            Ok(())
-        }
-        None => Err(Fault::Refused {
-            number: 201,
-            place: line,
-        }),
     }
 }
 
@@ -76,7 +58,16 @@ fn move_on<'a>(
 {
     let state = mem::replace(&mut reading.state, TextState::Outside);
     match text_move(alloc, &mut reading.units, state, token, colon) {
-        Ok(next) => go_on(&mut reading.state, next, token.line),
+        Ok(next) => match next {
+            Some(next) => {
+                reading.state = next;
+                Ok(())
+            }
+            None => Err(Fault::Refused {
+                number: 201,
+                place: token.line,
+            }),
+        },
         Err(_) => Err(Fault::Memory),
     }
 }
@@ -163,28 +154,6 @@ fn take_in_section<'a>(
     }
 }
 
-/// Reads a short line of a body in place, and returns the number of its tokens: none if no such
-/// line is here.
-#[inline(always)]
-fn take_in_body<'a>(
-    alloc: Global,
-    state: &mut TextState<'a>,
-    tokens: &[Token<'a>],
-) -> Result<usize, AllocError>
-    requires { IsStateCounted state.old }
-    ensures goes_on { IfOk result
-        (λ taken. (units : List ProgramUnit)
-        → GoesOn (state_view units state.old) (marks_of tokens.now) (state_view units state.new)
-        (marks_of (drop taken tokens.now))) }
-    ensures counted { OnOk result (IsStateCounted state.new) }
-    ensures within { IfOk result (λ taken. taken ≤ length tokens.now) }
-{
-    match state {
-        TextState::InBody(body, LinePlace::AtLine) => take_line_and_call(alloc, body, tokens),
-        _ => Ok(0),
-    }
-}
-
 /// Reads a short line in place, and returns the number of its tokens: none if no such line is
 /// here.
 #[inline(always)]
@@ -201,34 +170,13 @@ fn take_prefix<'a>(
     ensures counted { OnOk result (IsStateCounted state.new) }
     ensures within { IfOk result (λ taken. taken ≤ length tokens.now) }
 {
-    match section_at(state) {
-        Some(section) => take_in_section(alloc, state, section, tokens),
-        None => take_in_body(alloc, state, tokens),
+    if let Some(section) = section_at(state) {
+        return take_in_section(alloc, state, section, tokens);
     }
-}
-
-/// Reads a short line at that index in place, if one is there, and says where the next token
-/// is.
-#[inline(always)]
-fn take_at<'a>(
-    alloc: Global,
-    reading: &mut Reading<'a>,
-    tokens: &[Token<'a>],
-    index: usize,
-) -> Result<usize, AllocError>
-    requires counted { IsStateCounted reading.old.state }
-    requires within { index ≤ length tokens.now }
-    ensures goes_on { IfOk result
-        (λ next.
-        GoesOn (reading_view reading.old) (marks_of (drop index tokens.now))
-        (reading_view reading.new) (marks_of (drop next tokens.now))) }
-    ensures counted { OnOk result (IsStateCounted reading.new.state) }
-    ensures on { IfOk result (λ next. index ≤ next) }
-    ensures within { IfOk result (λ next. next ≤ length tokens.now) }
-{
-    let (_, left) = tokens.split_at(index);
-    let taken = take_prefix(alloc, &mut reading.state, left)?;
-    Ok(index + taken)
+    match state {
+        TextState::InBody(body, LinePlace::AtLine) => take_line_and_call(alloc, body, tokens),
+        _ => Ok(0),
+    }
 }
 
 /// Reads short lines in place from that index on, as many as are there, and says where the next
@@ -251,11 +199,12 @@ pub fn take_lines<'a>(
 {
     let mut place = from;
     for _index in from..tokens.len() {
-        let next = take_at(alloc, reading, tokens, place)?;
-        if next == place {
+        let (_, left) = tokens.split_at(place);
+        let taken = take_prefix(alloc, &mut reading.state, left)?;
+        if taken == 0 {
             return Ok(place);
         }
-        place = next;
+        place += taken;
     }
     Ok(place)
 }
@@ -357,11 +306,7 @@ pub fn read<'a>(alloc: Global, text: &'a [u8]) -> Result<Source<'a>, Fault>
     ensures read { IfOk result (λ source. IsRead text.now (text_view source)) }
     ensures refused { IfErr result (λ fault. IsRefusedAs text.now fault) }
 {
-    match tokens(alloc, text) {
-        Ok(tokens) => {
-            let last_line = line_at_end(text, &tokens);
-            read_tokens(alloc, &tokens, last_line)
-        }
-        Err(fault) => Err(fault),
-    }
+    let tokens = tokens(alloc, text)?;
+    let last_line = line_at_end(text, &tokens);
+    read_tokens(alloc, &tokens, last_line)
 }

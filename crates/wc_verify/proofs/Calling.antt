@@ -3,14 +3,14 @@ use Rattle.std.proofs.Common.{◌≡◌, ℕ, Bool, true, false, not, List, [], 
 use Rattle.std.proofs.lemmas.List.Folds.{list_any-append}
 use Rattle.std.specs.List.{flat_map, list_any}
 use Rattle.std.specs.Prelude.{◌||◌, option_and_then, option_map, is_some, OnOk}
-use Rattle.wc_model.specs.Language.BodyRules.{actual_checks, argument_checks, condition_checks, formal_named, is_instance, members_called}
+use Rattle.wc_model.specs.Language.BodyRules.{actual_checks, argument_checks, condition_checks, formal_named, is_instance, is_of, members_called, suits_output}
 use Rattle.wc_model.specs.Language.Checks.{Check, Position, asks, first_broken, positions_after, positions_of}
 use Rattle.wc_model.specs.Language.DeclarationRules.{is_among}
 use Rattle.wc_model.specs.Language.Declarations.{Member, VariableType, Elementary, Standard, Block, block_named, members_of, same_name}
-use Rattle.wc_model.specs.Language.Kinds.{elementary_kind}
+use Rattle.wc_model.specs.Language.Kinds.{elementary_kind, is_kind, term_kind}
 use Rattle.wc_model.specs.Language.Names.{Name}
 use Rattle.wc_model.specs.Language.Scopes.{Scope}
-use Rattle.wc_model.specs.Language.Tree.{Assignment, ProgramUnit}
+use Rattle.wc_model.specs.Language.Tree.{Assignment, ProgramUnit, Term}
 use Rattle.wc_model.specs.declared.kind.Kind.{Kind}
 use Rattle.wc_model.specs.declared.operator.Condition.{Condition}
 use Rattle.wc_names.specs.Numbered.{number_within, numbered_formal, numbered_type}
@@ -21,7 +21,7 @@ use Rattle.wc_names.specs.declared.kept.Tables.{Tables}
 use Rattle.wc_verify.specs.Calls.{HoldsNames, is_numbered_instance}
 use Rattle.wc_names.specs.Keys.{same_name_laws}
 use Rattle.wc_verify.specs.Seeing.{IsScope}
-use Rattle.wc_verify.proofs.Found.{Finds}
+use Rattle.wc_verify.specs.Found.{Finds}
 
 -- an input or output that is found is a member of its kind
 pub record IsFormal (o : Option Member) (kind : Kind) : Type 0 where
@@ -37,6 +37,11 @@ kind_parts (Some kind) (Some n) formal h = ap (λ o. option_map (λ (i : Formal)
 pub formal_parts : (scope : Scope) (type : VariableType) (o : Option Member) (formal : Formal) → Some formal ≡ option_and_then (numbered_formal scope.before type) o → IsFormal o formal.kind
 formal_parts scope type None formal h = absurd (cc)
 formal_parts scope type (Some m) formal h = record { member = m; is = refl; kind_is = kind_parts (elementary_kind m.type) (number_within scope.before type (m.name ∷ [])) formal h }
+
+-- whether a target suits an output of this kind
+pub output_suits : (scope : Scope) (m : Member) (term : Term) (kind : Kind) (seen : Option Kind) → elementary_kind m.type ≡ Some kind → term_kind scope term ≡ seen → suits_output scope (Some m) term ≡ is_of (is_kind kind) seen
+output_suits scope m term kind seen e k =
+    ap (λ (o : Option Kind). elim o as (λ x. Bool) [ Some kind ↦ is_of (is_kind kind) (term_kind scope term) | None ↦ false ]) e ∙ ap (is_of (is_kind kind)) k
 
 -- the rules of one of a call's list whose input or output there is, and which is not named before
 pub argument_found : (scope : Scope) (members : List Member) (position : Position Assignment) (kind : Kind) (r : Option ℕ) → IsFormal (formal_named position.item.direction members position.item.formal) kind →

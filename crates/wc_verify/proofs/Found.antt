@@ -1,7 +1,7 @@
 -- What is found first at a line, rule by rule.
 use Rattle.std.proofs.Common.{◌≡◌, ℕ, Bool, List, [], ◌∷◌, ◌++◌, Option, append_assoc, sym, ap, ◌∙◌}
 use Rattle.wc_model.specs.Language.Checks.{Check, Refusal, asks, first_broken}
-use Rattle.wc_verify.specs.Found.{first_at}
+use Rattle.wc_verify.specs.Found.{Finds, first_at}
 
 -- a rule's number is what is found of it
 abbrev pub Asked : ℕ → Bool → Option ℕ → Type 0
@@ -16,10 +16,6 @@ pub pair_found : (n m : ℕ) (a b a' b' : Bool) (p q r : Option ℕ) → Asked n
     first_broken (asks n line a' ∷ asks m line b' ∷ rest) ≡ first_at r line (first_broken rest)
 pair_found n m a b a' b' p q r asked asked' both e e' line rest =
     (λ i. first_broken (asks n line (e i) ∷ asks m line (e' i) ∷ rest)) ∙ asked line (asks m line b ∷ rest) ∙ ap (first_at p line) (asked' line rest) ∙ sym (both line (first_broken rest))
-
--- what is found of rules that are asked at one line
-abbrev pub Finds : (ℕ → List Check) → Option ℕ → Type 0
-Finds checks found = (line : ℕ) (rest : List Check) → first_broken (checks line ++ rest) ≡ first_at found line (first_broken rest)
 
 -- rules, and others after them
 pub joined : (these those : ℕ → List Check) (p q r : Option ℕ) → Finds these p → Finds those q → Both p q r → Finds (λ line. these line ++ those line) r

@@ -1,5 +1,5 @@
 -- What an instruction represents as a line of a body. (No rule of the language.)
-use Rattle.std.specs.Prelude.{◌≡◌, Bool, List, ◌++◌, map, Option, Some, None, option_map, Result, Ok, Err}
+use Rattle.std.specs.Prelude.{◌≡◌, ℕ, Bool, List, ◌++◌, map, Option, Some, None, option_map, Result, Ok, Err}
 use Rattle.wc_model.specs.Language.BodyRules.{inside_rules, is_ahead, line_rules}
 use Rattle.wc_model.specs.Language.Checks.{Check, first_broken}
 use Rattle.wc_model.specs.Language.Kinds.{BodyLine, AloneLine, PlainLine, NestedLine, kind_after, kind_following}
@@ -54,6 +54,10 @@ abbrev pub GoesOn : Scope → BodyLine → List BodyLine → Option Kind → Lis
 GoesOn scope line following kind more (Ok after) = (first_broken (line_rules scope line following kind ++ more) ≡ first_broken more) × (after ≡ kind_after scope line kind)
 GoesOn scope line following kind more (Err (Refused number place)) = first_broken (line_rules scope line following kind ++ more) ≡ Some (record { number = number; line = place })
 GoesOn scope line following kind more (Err Memory) = Unit {0}
+
+-- a plain line with this step is, whatever its label and the lines after it
+abbrev pub StepGoesOn : Scope → ℕ → Step → Option Kind → Result (Option Kind) Fault → Type 0
+StepGoesOn scope line step kind result = (label : Option Word) (following : List BodyLine) (more : List Check) → GoesOn scope (PlainLine label line step) following kind more result
 
 -- lines inside a parenthesis are checked as far as the rest
 abbrev pub GoesInside : Scope → Lines → Option Kind → Lines → List Check → Result (Option Kind) Fault → Type 0

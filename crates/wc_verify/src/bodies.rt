@@ -1,8 +1,8 @@
-ghost use Rattle.std.specs.Prelude.{◌≡◌, ◌++◌, List, Option, OnOk, option_map, if◌then◌else◌};
+ghost use Rattle.std.specs.Prelude.{◌≡◌, ◌++◌, List, Option, OnOk, option_map};
 ghost use Rattle.wc_model.specs.Language.BodyRules.{body_rules};
 ghost use Rattle.wc_model.specs.Language.Checks.{Check, first_broken};
 ghost use Rattle.wc_model.specs.Language.Validation.{Validates};
-ghost use Rattle.wc_model.specs.Language.Kinds.{BodyLine, jumps_to, leaves, lines_of};
+ghost use Rattle.wc_model.specs.Language.Kinds.{BodyLine, jumps_to, lines_of};
 ghost use Rattle.wc_model.specs.Language.Names.{Name, name_of};
 ghost use Rattle.wc_model.specs.Language.Scopes.{Scope};
 ghost use Rattle.wc_model.specs.Language.Tree.{Lines, Word as LabelWord};
@@ -13,12 +13,10 @@ ghost use Rattle.wc_verify.specs.Rows.{jumped_row, row_named};
 ghost use Rattle.wc_verify.specs.Seeing.{IsScope};
 ghost use Rattle.wc_verify.specs.Edges.{labelled_way};
 
-use crate::counting::count_labels;
 use crate::edges::Way;
-use crate::entering::enter;
 use crate::inside::validate_instr;
 use crate::jumps::{leaves, note, target};
-use crate::labels::Labels;
+use crate::labels::{Labels, count_labels, enter};
 use std::alloc::Global;
 use wc_model::{Fault, Instr, Kind, Line, Word};
 use wc_names::Tables;
@@ -31,18 +29,6 @@ fn is_ahead(labels: &Labels<'_>, target: Option<&[u8]>) -> bool
     match target {
         Some(name) => labels.row(name).ahead > 0,
         None => false,
-    }
-}
-
-/// What an instruction passes on to the next line.
-fn propagated(instr: &Instr<'_>, after: Option<Kind>) -> Way
-    ensures { (label : Option LabelWord)
-        → result ≡ (if leaves (instr_line instr.now label) then Way.Unseen else Way.Agreed after) }
-{
-    if leaves(instr) {
-        Way::Unseen
-    } else {
-        Way::Agreed(after)
     }
 }
 
@@ -68,7 +54,11 @@ fn validate_step<'a>(
     let is_ahead = is_ahead(labels, target);
     let after = validate_instr(alloc, tables, unit, instr, is_ahead, kind)?;
     note(labels, target, kind)?;
-    Ok(propagated(instr, after))
+    if leaves(instr) {
+        Ok(Way::Unseen)
+    } else {
+        Ok(Way::Agreed(after))
+    }
 }
 
 /// What a line with no instruction passes on.

@@ -7,8 +7,8 @@ ghost use Rattle.wc_model.specs.Language.Views.{line_view, lines_view, term_view
 ghost use Rattle.wc_verify.specs.Instructions.{GoesInside, GoesOn, SaysAhead, instr_line};
 ghost use Rattle.wc_verify.specs.Seeing.{IsScope, IsSeenIfAny};
 
-use crate::first::refuse;
-use crate::instructions::{apply, call, jump, kind_following, leave, load, negate, store};
+use crate::instructions::{apply, call, jump, kind_following, load, store};
+use crate::refusals::{refuse, validate_condition, validate_truth};
 use crate::seen::{Seen, see};
 use crate::steps::{validate_closing, validate_opening};
 use std::alloc::Global;
@@ -32,10 +32,7 @@ fn opening_kind(seen: Option<Seen>) -> Option<Kind>
     ensures { (scope : Scope) (term : Option Term) → IsSeenIfAny scope term seen
         → opening_kind scope term ≡ result }
 {
-    match seen {
-        Some(seen) => seen.kind,
-        None => None,
-    }
+    seen?.kind
 }
 
 /// Checks an opening line, the lines inside, and the `)`.
@@ -105,7 +102,7 @@ pub(crate) fn validate_instr<'a>(
         } => validate_nested(
             alloc, tables, unit, *operator, operand, inside, *line, *close, kind,
         ),
-        Instr::Not { line } => negate(*line, kind),
+        Instr::Not { line } => kind_following(refuse(validate_truth(kind), *line), kind),
         Instr::Jump {
             condition,
             label,
@@ -119,7 +116,10 @@ pub(crate) fn validate_instr<'a>(
         } => call(
             alloc, tables, unit, *condition, instance, arguments, *line, kind,
         ),
-        Instr::Return { condition, line } => leave(*condition, *line, kind),
+        Instr::Return { condition, line } => kind_following(
+            refuse(validate_condition(*condition, kind), *line),
+            kind,
+        ),
     }
 }
 

@@ -4,15 +4,14 @@ ghost use Rattle.wc_model.specs.Language.Checks.{Check, first_broken};
 ghost use Rattle.wc_model.specs.Language.Kinds.{BodyLine, PlainLine, kind_after};
 ghost use Rattle.wc_model.specs.Language.Names.{name_of};
 ghost use Rattle.wc_model.specs.Language.Scopes.{Scope};
-ghost use Rattle.wc_model.specs.Language.Tree.{Word, Load, Store, Apply, Negate, Jump, Call, Return};
+ghost use Rattle.wc_model.specs.Language.Tree.{Word, Load, Store, Apply, Jump, Call};
 ghost use Rattle.wc_model.specs.Language.Views.{assignment_view, term_view};
 ghost use Rattle.wc_model.specs.Language.Validation.{Validates};
-ghost use Rattle.wc_verify.specs.Instructions.{GoesOn, step_ahead};
+ghost use Rattle.wc_verify.specs.Instructions.{GoesOn, StepGoesOn, step_ahead};
 ghost use Rattle.wc_verify.specs.Seeing.{IsScope};
 
 use crate::calls::validate_call;
-use crate::first::{first_of, refuse, unless};
-use crate::refusals::{validate_condition, validate_truth};
+use crate::refusals::{first_of, refuse, unless, validate_condition};
 use crate::seen::see;
 use crate::steps::{validate_apply, validate_load, validate_store};
 use std::alloc::Global;
@@ -50,10 +49,8 @@ pub(crate) fn load<'a>(
     operand: &Operand<'a>,
     line: u32,
 ) -> Result<Option<Kind>, Fault>
-    ensures { (scope : Scope) (label : Option Word) (following : List BodyLine) (kind : Option Kind)
-        (more : List Check) → IsScope tables.now unit scope
-        → GoesOn scope
-        (PlainLine label line (Load negated (term_view operand.now))) following kind more result }
+    ensures { (scope : Scope) (kind : Option Kind) → IsScope tables.now unit scope
+        → StepGoesOn scope line (Load negated (term_view operand.now)) kind result }
 {
     let seen = see(tables, unit, operand);
     let after = kind_loaded(negated, seen.kind);
@@ -69,10 +66,8 @@ pub(crate) fn store<'a>(
     line: u32,
     kind: Option<Kind>,
 ) -> Result<Option<Kind>, Fault>
-    ensures { (scope : Scope) (label : Option Word) (following : List BodyLine) (more : List Check)
-        → IsScope tables.now unit scope
-        → GoesOn scope
-        (PlainLine label line (Store storing (term_view target.now))) following kind more result }
+    ensures { (scope : Scope) → IsScope tables.now unit scope
+        → StepGoesOn scope line (Store storing (term_view target.now)) kind result }
 {
     let seen = see(tables, unit, target);
     kind_following(refuse(validate_store(storing, seen, kind), line), kind)
@@ -87,10 +82,8 @@ pub(crate) fn apply<'a>(
     line: u32,
     kind: Option<Kind>,
 ) -> Result<Option<Kind>, Fault>
-    ensures { (scope : Scope) (label : Option Word) (following : List BodyLine) (more : List Check)
-        → IsScope tables.now unit scope
-        → GoesOn scope
-        (PlainLine label line (Apply operator (term_view operand.now))) following kind more result }
+    ensures { (scope : Scope) → IsScope tables.now unit scope
+        → StepGoesOn scope line (Apply operator (term_view operand.now)) kind result }
 {
     let seen = see(tables, unit, operand);
     let after = kind_after_operator(operator, kind);
@@ -98,14 +91,6 @@ pub(crate) fn apply<'a>(
         refuse(validate_apply(operator, operand, seen, kind), line),
         after,
     )
-}
-
-/// NOT.
-pub(crate) fn negate(line: u32, kind: Option<Kind>) -> Result<Option<Kind>, Fault>
-    ensures { (scope : Scope) (label : Option Word) (following : List BodyLine) (more : List Check)
-        → GoesOn scope (PlainLine label line Negate) following kind more result }
-{
-    kind_following(refuse(validate_truth(kind), line), kind)
 }
 
 /// A jump: 406 if its label is not ahead, and then the condition.
@@ -137,27 +122,12 @@ pub(crate) fn call<'a>(
     line: u32,
     kind: Option<Kind>,
 ) -> Result<Option<Kind>, Fault>
-    ensures { (scope : Scope) (label : Option Word) (following : List BodyLine) (more : List Check)
-        → IsScope tables.now unit scope
-        → GoesOn scope
-        (PlainLine label line
-        (Call condition (name_of instance.now) (map assignment_view arguments.now)))
-        following kind more result }
+    ensures { (scope : Scope) → IsScope tables.now unit scope
+        → StepGoesOn scope line
+        (Call condition (name_of instance.now) (map assignment_view arguments.now)) kind result }
 {
     let validated = validate_call(
         alloc, tables, unit, condition, instance, arguments, line, kind,
     );
     kind_following(validated, kind)
-}
-
-/// A return.
-pub(crate) fn leave(
-    condition: Condition,
-    line: u32,
-    kind: Option<Kind>,
-) -> Result<Option<Kind>, Fault>
-    ensures { (scope : Scope) (label : Option Word) (following : List BodyLine) (more : List Check)
-        → GoesOn scope (PlainLine label line (Return condition)) following kind more result }
-{
-    kind_following(refuse(validate_condition(condition, kind), line), kind)
 }

@@ -1,5 +1,4 @@
 ghost use Rattle.std.specs.Prelude.{◌≡◌, Bool, List, Option, OnOk, IsOkUnless, option_map};
-ghost use Rattle.wc_model.specs.Language.Declarations.{same_name};
 ghost use Rattle.wc_model.specs.Language.Kinds.{BodyLine, jumps_to, leaves, step_leaves};
 ghost use Rattle.wc_model.specs.Language.Names.{Name, name_of};
 ghost use Rattle.wc_model.specs.Language.Tree.{Word, Return};
@@ -35,11 +34,7 @@ pub(crate) fn target<'a>(instr: &Instr<'a>) -> Option<&'a [u8]>
 fn is_always(condition: Condition) -> bool
     ensures { result ≡ step_leaves (Return condition) }
 {
-    match condition {
-        Condition::Always => true,
-        Condition::IfTrue => false,
-        Condition::IfFalse => false,
-    }
+    matches!(condition, Condition::Always)
 }
 
 /// Whether the next line is never reached from an instruction.
@@ -58,24 +53,7 @@ pub(crate) fn leaves(instr: &Instr<'_>) -> bool
     }
 }
 
-/// Keeps a jump to a label, with the kind of the result that it brings.
-fn note_jump<'a>(labels: &mut Labels<'a>, name: &'a [u8], kind: Option<Kind>) -> Result<(), Fault>
-    ensures rows { OnOk result
-        ((other : Name)
-        → row_named labels.new other
-        ≡ jumped_row (same_name (name_of name.now) other) kind (row_named labels.old other)) }
-    ensures memory { IsOkUnless result Fault.Memory }
-{
-    let row = labels.row(name);
-    let jumped = Row {
-        ahead: row.ahead,
-        given: row.given,
-        way: with_way(kind, row.way),
-    };
-    labels.set(name, jumped)
-}
-
-/// Keeps a jump, if an instruction is one.
+/// Keeps a jump, if an instruction is one, with the kind of the result that it brings to its label.
 pub(crate) fn note<'a>(
     labels: &mut Labels<'a>,
     target: Option<&'a [u8]>,
@@ -88,8 +66,13 @@ pub(crate) fn note<'a>(
         (row_named labels.old name)) }
     ensures memory { IsOkUnless result Fault.Memory }
 {
-    match target {
-        Some(name) => note_jump(labels, name, kind),
-        None => Ok(()),
-    }
+    let Some(name) = target else {
+        return Ok(());
+    };
+    let row = labels.row(name);
+    let jumped = Row {
+        way: with_way(kind, row.way),
+        ..row
+    };
+    labels.set(name, jumped)
 }

@@ -1,14 +1,24 @@
-ghost use Rattle.std.specs.Prelude.{◌≡◌, [], List, Some, OnOk, IsOkUnless, if◌then◌else◌};
+ghost use Rattle.std.specs.Prelude.{◌≡◌, [], List, Some, OnOk, IsOkUnless, if◌then◌else◌, ◌<◌, IfOk, option_map, ◌++◌, Option};
 ghost use Rattle.wc_model.specs.Language.Declarations.{same_name};
 ghost use Rattle.wc_model.specs.Language.Names.{Name, name_of};
-ghost use Rattle.wc_verify.specs.Rows.{named_rows, row_named};
+ghost use Rattle.wc_verify.specs.Rows.{named_rows, row_named, counted_row, row_at, entered_row, way_to};
 ghost use Rattle.wc_verify.specs.declared.labels.Row.{Row};
+ghost use Rattle.wc_model.specs.Language.Kinds.{lines_of, BodyLine, label_of};
+ghost use Rattle.wc_model.specs.Language.Meaning.{carries};
+ghost use Rattle.wc_model.specs.Language.Scopes.{Scope};
+ghost use Rattle.wc_model.specs.Language.Views.{lines_view, word_view};
+ghost use Rattle.std.specs.List.{list_any};
+ghost use Rattle.wc_model.specs.Language.BodyRules.{label_rules};
+ghost use Rattle.wc_model.specs.Language.Checks.{Check, first_broken};
+ghost use Rattle.wc_model.specs.Language.Validation.{Validates};
+ghost use Rattle.wc_verify.specs.Edges.{joined_edges, kind_of_way};
 
-use crate::edges::Way;
+use crate::edges::{Way, joined_edges, kind_of};
+use crate::refusals::refusal;
 use indexmap::IndexMap;
 use std::alloc::Global;
 use std::marker::Model;
-use wc_model::Fault;
+use wc_model::{Fault, Kind, Line, Word};
 use wc_names::Key;
 
 /// What is known of a label.
@@ -71,4 +81,75 @@ impl<'a> Labels<'a> {
             Err(_) => Err(Fault::Memory),
         }
     }
+}
+
+/// Counts one more line, which may carry a label.
+fn count<'a>(labels: &mut Labels<'a>, label: &Option<Word<'a>>) -> Result<(), Fault>
+    requires { (name : Name) → (row_named labels.old name).ahead < usize.MAX }
+    ensures counted { OnOk result
+        ((name : Name)
+        → row_named labels.new name
+        ≡ counted_row (carries (option_map word_view label.now) name) (row_named labels.old name)) }
+    ensures memory { IsOkUnless result Fault.Memory }
+{
+    let Some(word) = label else {
+        return Ok(());
+    };
+    let row = labels.row(word.text);
+    let counted = Row {
+        ahead: row.ahead + 1,
+        ..row
+    };
+    labels.set(word.text, counted)
+}
+
+/// The labels of a body, before its first line.
+pub(crate) fn count_labels<'a>(alloc: Global, lines: &Vec<Line<'a>>) -> Result<Labels<'a>, Fault>
+    ensures rows { IfOk result
+        (λ labels. (scope : Scope) (name : Name)
+        → row_named labels name ≡ row_at scope [] (lines_of (lines_view lines.now.items)) name) }
+    ensures memory { IsOkUnless result Fault.Memory }
+{
+    let mut labels = Labels::new(alloc);
+    for line in lines {
+        count(&mut labels, &line.label)?;
+    }
+    Ok(labels)
+}
+
+/// Enters a line, from the path above: the kind of the result before its instruction, or 407 if the line's label was given
+/// already.
+pub(crate) fn enter<'a>(
+    labels: &mut Labels<'a>,
+    label: &Option<Word<'a>>,
+    above: Way,
+) -> Result<Option<Kind>, Fault>
+    ensures validated { (before : List BodyLine) (more : List Check)
+        → ((name : Name)
+        → (row_named labels.old name).given
+        ≡ list_any (λ line. carries (label_of line) name) before)
+        → Validates (first_broken (label_rules before (option_map word_view label.now) ++ more))
+        (first_broken more) result }
+    ensures kind { IfOk result
+        (λ kind. kind
+        ≡ kind_of_way (joined_edges above (way_to (option_map word_view label.now) labels.old))) }
+    ensures entered { OnOk result
+        ((name : Name)
+        → row_named labels.new name
+        ≡ entered_row (carries (option_map word_view label.now) name) (row_named labels.old name)) }
+{
+    let Some(word) = label else {
+        return Ok(kind_of(joined_edges(above, Way::Unseen)));
+    };
+    let row = labels.row(word.text);
+    if row.given {
+        return Err(refusal(407, word.line));
+    }
+    let entered = Row {
+        ahead: row.ahead.saturating_sub(1),
+        given: true,
+        way: Way::Unseen,
+    };
+    labels.set(word.text, entered)?;
+    Ok(kind_of(joined_edges(above, row.way)))
 }

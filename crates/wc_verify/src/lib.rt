@@ -4,10 +4,7 @@
 mod bodies;
 mod calls;
 mod checked;
-mod counting;
 mod edges;
-mod entering;
-mod first;
 mod inside;
 mod instructions;
 mod jumps;

@@ -1,32 +1,68 @@
-ghost use Rattle.std.specs.Prelude.{◌≡◌, ℕ, ◌++◌, List};
+ghost use Rattle.std.specs.Prelude.{◌≡◌, ℕ, [], ◌∷◌, IfErr, Option};
 ghost use Rattle.wc_model.specs.Language.BodyRules.{condition_checks, divisor_checks, is_of, takes, reading_checks, result_checks, suits_result, suits_target, truth_checks, writing_checks};
-ghost use Rattle.wc_model.specs.Language.Checks.{Check, first_broken};
+ghost use Rattle.wc_model.specs.Language.Checks.{Refusal, asks};
 ghost use Rattle.wc_model.specs.Language.Kinds.{is_kind};
 ghost use Rattle.wc_model.specs.Language.Scopes.{Scope};
 ghost use Rattle.wc_model.specs.Language.Tree.{Term};
 ghost use Rattle.wc_model.specs.Language.Views.{term_view};
-ghost use Rattle.wc_verify.specs.Found.{first_at};
+ghost use Rattle.wc_model.specs.Language.Validation.{Validates};
+ghost use Rattle.wc_verify.specs.Found.{Finds, first_at};
 ghost use Rattle.wc_verify.specs.Seeing.{IsSeen};
 
-use crate::first::{first_of, unless};
 use crate::seen::Seen;
 use wc_built_in::{divides, is_bit_literal, is_bool, is_divisor, is_kind, takes, takes_truth};
-use wc_model::{Condition, Kind, Operand, Operator};
+use wc_model::{Condition, Fault, Kind, Operand, Operator};
+
+/// The number of a rule that does not hold.
+pub(crate) fn unless(holds: bool, number: u16) -> Option<u16>
+    ensures { Finds (λ line. asks number line holds ∷ []) result }
+{
+    if holds { None } else { Some(number) }
+}
+
+/// The first of two rules that is broken.
+pub(crate) fn first_of(first: Option<u16>, then: Option<u16>) -> Option<u16>
+    ensures { (line : ℕ) (rest : Option Refusal)
+        → first_at result line rest ≡ first_at first line (first_at then line rest) }
+{
+    match first {
+        Some(number) => Some(number),
+        None => then,
+    }
+}
+
+/// A refusal.
+pub(crate) fn refusal(number: u16, place: u32) -> Fault
+    ensures { result ≡ Fault.Refused number place }
+{
+    Fault::Refused { number, place }
+}
+
+/// Refuses at a line what breaks a rule.
+pub(crate) fn refuse(number: Option<u16>, line: u32) -> Result<(), Fault>
+    ensures validates { (found rest : Option Refusal) → found ≡ first_at number line rest
+        → Validates found rest result }
+    // No memory is taken here, so out of memory is not reported.
+    ensures refuses { IfErr result (λ fault. fault ≡ Fault.Memory → ⊥) }
+{
+    match number {
+        Some(number) => Err(refusal(number, line)),
+        None => Ok(()),
+    }
+}
 
 /// What is read: 401, 405.
 pub(crate) fn validate_reading(seen: Seen) -> Option<u16>
-    ensures { (scope : Scope) (term : Term) (line : ℕ) (rest : List Check) → IsSeen scope term seen
-        → first_broken (reading_checks scope line term ++ rest)
-        ≡ first_at result line (first_broken rest) }
+    ensures { (scope : Scope) (term : Term) → IsSeen scope term seen
+        → Finds (λ line. reading_checks scope line term) result }
 {
     first_of(unless(seen.known, 401), unless(seen.readable, 405))
 }
 
 /// What is written: 401, 404.
 pub(crate) fn validate_writing(seen: Seen) -> Option<u16>
-    ensures { (scope : Scope) (term : Term) (line : ℕ) (rest : List Check) → IsSeen scope term seen
-        → first_broken (writing_checks scope line term ++ rest)
-        ≡ first_at result line (first_broken rest) }
+    ensures { (scope : Scope) (term : Term) → IsSeen scope term seen
+        → Finds (λ line. writing_checks scope line term) result }
 {
     first_of(unless(seen.known, 401), unless(seen.writable, 404))
 }
@@ -43,9 +79,7 @@ fn is_taken(operator: Operator, kind: Option<Kind>) -> bool
 
 /// The result before an operator: 403, 402.
 pub(crate) fn validate_result(operator: Operator, kind: Option<Kind>) -> Option<u16>
-    ensures { (line : ℕ) (rest : List Check)
-        → first_broken (result_checks operator line kind ++ rest)
-        ≡ first_at result line (first_broken rest) }
+    ensures { Finds (λ line. result_checks operator line kind) result }
 {
     first_of(
         unless(kind.is_some(), 403),
@@ -55,17 +89,14 @@ pub(crate) fn validate_result(operator: Operator, kind: Option<Kind>) -> Option<
 
 /// The result if a BOOL is wanted: 403, 402.
 pub(crate) fn validate_truth(kind: Option<Kind>) -> Option<u16>
-    ensures { (line : ℕ) (rest : List Check)
-        → first_broken (truth_checks line kind ++ rest) ≡ first_at result line (first_broken rest) }
+    ensures { Finds (λ line. truth_checks line kind) result }
 {
     first_of(unless(kind.is_some(), 403), unless(is_bool(kind), 402))
 }
 
 /// The result before a conditional: 403, 402.
 pub(crate) fn validate_condition(condition: Condition, kind: Option<Kind>) -> Option<u16>
-    ensures { (line : ℕ) (rest : List Check)
-        → first_broken (condition_checks condition line kind ++ rest)
-        ≡ first_at result line (first_broken rest) }
+    ensures { Finds (λ line. condition_checks condition line kind) result }
 {
     match condition {
         Condition::Always => None,
@@ -76,9 +107,7 @@ pub(crate) fn validate_condition(condition: Condition, kind: Option<Kind>) -> Op
 
 /// The divisor: 408.
 pub(crate) fn validate_divisor(operator: Operator, operand: &Operand<'_>) -> Option<u16>
-    ensures { (line : ℕ) (rest : List Check)
-        → first_broken (divisor_checks operator line (term_view operand.now) ++ rest)
-        ≡ first_at result line (first_broken rest) }
+    ensures { Finds (λ line. divisor_checks operator line (term_view operand.now)) result }
 {
     unless(!divides(operator) || is_divisor(operand), 408)
 }

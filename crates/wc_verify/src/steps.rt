@@ -1,16 +1,14 @@
-ghost use Rattle.std.specs.Prelude.{◌≡◌, ℕ, ◌++◌, List, Option, is_some, if◌then◌else◌};
+ghost use Rattle.std.specs.Prelude.{◌≡◌, Option, is_some, if◌then◌else◌};
 ghost use Rattle.wc_model.specs.Language.BodyRules.{apply_checks, closing_checks, is_bool, is_no_instance, load_checks, opening_checks, opening_operand_checks, store_checks};
-ghost use Rattle.wc_model.specs.Language.Checks.{Check, first_broken};
 ghost use Rattle.wc_model.specs.Language.Scopes.{Scope};
 ghost use Rattle.wc_model.specs.Language.Tree.{Term};
 ghost use Rattle.wc_model.specs.Language.Views.{term_view};
-ghost use Rattle.wc_verify.specs.Found.{first_at};
+ghost use Rattle.wc_verify.specs.Found.{Finds};
 ghost use Rattle.wc_verify.specs.Seeing.{IsSeen, IsSeenIfAny};
 
-use crate::first::{first_of, unless};
 use crate::refusals::{
-    suits_result, suits_target, validate_divisor, validate_reading, validate_result,
-    validate_truth, validate_writing,
+    first_of, suits_result, suits_target, unless, validate_divisor, validate_reading,
+    validate_result, validate_truth, validate_writing,
 };
 use crate::seen::Seen;
 use wc_built_in::{divides, is_bool, same_result};
@@ -29,9 +27,8 @@ fn is_loaded(negated: bool, kind: Option<Kind>) -> bool
 
 /// LD and LDN.
 pub(crate) fn validate_load(negated: bool, seen: Seen) -> Option<u16>
-    ensures { (scope : Scope) (term : Term) (line : ℕ) (rest : List Check) → IsSeen scope term seen
-        → first_broken (load_checks scope line negated term ++ rest)
-        ≡ first_at result line (first_broken rest) }
+    ensures { (scope : Scope) (term : Term) → IsSeen scope term seen
+        → Finds (λ line. load_checks scope line negated term) result }
 {
     first_of(
         validate_reading(seen),
@@ -39,40 +36,23 @@ pub(crate) fn validate_load(negated: bool, seen: Seen) -> Option<u16>
     )
 }
 
-/// ST.
-fn validate_plain_store(seen: Seen, kind: Option<Kind>) -> Option<u16>
-    ensures { (scope : Scope) (term : Term) (line : ℕ) (rest : List Check) → IsSeen scope term seen
-        → first_broken (store_checks scope line Storing.Result term kind ++ rest)
-        ≡ first_at result line (first_broken rest) }
-{
-    let stored = first_of(
-        unless(kind.is_some(), 403),
-        unless(suits_target(seen, kind), 402),
-    );
-    first_of(validate_writing(seen), stored)
-}
-
-/// STN, S and R.
-fn validate_truth_store(seen: Seen, kind: Option<Kind>) -> Option<u16>
-    ensures { (scope : Scope) (term : Term) (line : ℕ) (rest : List Check) → IsSeen scope term seen
-        → first_broken (store_checks scope line Storing.Negation term kind ++ rest)
-        ≡ first_at result line (first_broken rest) }
-{
-    let before = first_of(validate_writing(seen), validate_truth(kind));
-    first_of(before, unless(suits_target(seen, kind), 402))
-}
-
 /// ST, STN, S and R.
 pub(crate) fn validate_store(storing: Storing, seen: Seen, kind: Option<Kind>) -> Option<u16>
-    ensures { (scope : Scope) (term : Term) (line : ℕ) (rest : List Check) → IsSeen scope term seen
-        → first_broken (store_checks scope line storing term kind ++ rest)
-        ≡ first_at result line (first_broken rest) }
+    ensures { (scope : Scope) (term : Term) → IsSeen scope term seen
+        → Finds (λ line. store_checks scope line storing term kind) result }
 {
     match storing {
-        Storing::Result => validate_plain_store(seen, kind),
-        Storing::Negation => validate_truth_store(seen, kind),
-        Storing::Set => validate_truth_store(seen, kind),
-        Storing::Reset => validate_truth_store(seen, kind),
+        Storing::Result => {
+            let stored = first_of(
+                unless(kind.is_some(), 403),
+                unless(suits_target(seen, kind), 402),
+            );
+            first_of(validate_writing(seen), stored)
+        }
+        _ => {
+            let before = first_of(validate_writing(seen), validate_truth(kind));
+            first_of(before, unless(suits_target(seen, kind), 402))
+        }
     }
 }
 
@@ -83,10 +63,8 @@ pub(crate) fn validate_apply(
     seen: Seen,
     kind: Option<Kind>,
 ) -> Option<u16>
-    ensures { (scope : Scope) (line : ℕ) (rest : List Check)
-        → IsSeen scope (term_view operand.now) seen
-        → first_broken (apply_checks scope line operator (term_view operand.now) kind ++ rest)
-        ≡ first_at result line (first_broken rest) }
+    ensures { (scope : Scope) → IsSeen scope (term_view operand.now) seen
+        → Finds (λ line. apply_checks scope line operator (term_view operand.now) kind) result }
 {
     let before = first_of(validate_reading(seen), validate_result(operator, kind));
     let divided = first_of(before, validate_divisor(operator, operand));
@@ -98,10 +76,8 @@ pub(crate) fn validate_apply(
 
 /// The operand on an opening line: 401, 405.
 fn validate_opening_operand(seen: Option<Seen>) -> Option<u16>
-    ensures { (scope : Scope) (term : Option Term) (line : ℕ) (rest : List Check)
-        → IsSeenIfAny scope term seen
-        → first_broken (opening_operand_checks scope line term ++ rest)
-        ≡ first_at result line (first_broken rest) }
+    ensures { (scope : Scope) (term : Option Term) → IsSeenIfAny scope term seen
+        → Finds (λ line. opening_operand_checks scope line term) result }
 {
     match seen {
         Some(seen) => validate_reading(seen),
@@ -126,10 +102,8 @@ pub(crate) fn validate_opening(
     seen: Option<Seen>,
     kind: Option<Kind>,
 ) -> Option<u16>
-    ensures { (scope : Scope) (term : Option Term) (line : ℕ) (rest : List Check)
-        → IsSeenIfAny scope term seen
-        → first_broken (opening_checks scope line operator term kind ++ rest)
-        ≡ first_at result line (first_broken rest) }
+    ensures { (scope : Scope) (term : Option Term) → IsSeenIfAny scope term seen
+        → Finds (λ line. opening_checks scope line operator term kind) result }
 {
     let before = first_of(
         validate_opening_operand(seen),
@@ -144,9 +118,7 @@ pub(crate) fn validate_opening(
 
 /// A `)`.
 pub(crate) fn validate_closing(outer: Option<Kind>, inner: Option<Kind>) -> Option<u16>
-    ensures { (line : ℕ) (rest : List Check)
-        → first_broken (closing_checks line outer inner ++ rest)
-        ≡ first_at result line (first_broken rest) }
+    ensures { Finds (λ line. closing_checks line outer inner) result }
 {
     first_of(
         unless(inner.is_some(), 403),

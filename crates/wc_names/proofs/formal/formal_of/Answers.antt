@@ -5,28 +5,28 @@ use Rattle.wc_names.specs.Members.{found_seen}
 use Rattle.wc_names.proofs.Formals.{input_by, member_spelled, no_input, no_kind, no_member}
 use Rattle.wc_names.proofs.formal.formal_of.Goals as goal
 
-pub returns-in_default : goal.returns-in_default
-returns-in_default c = λ before u type h e.
-    no_member c.args.direction before type (member_named (members_of before type) (name_of c.args.name.now)) (sym (ap (option_map found_seen) c.in_default.is) ∙ c.member_of.ensures.seen before u type h e)
+pub returns-in_err-member : goal.returns-in_err-member
+returns-in_err-member c = λ before u type h e.
+    c.from_residual.ensures ∙ no_member c.args.direction before type (member_named (members_of before type) (name_of c.args.name.now)) (sym (ap (option_map found_seen) c.in_err-member.was) ∙ c.member_of.ensures.seen before u type h e)
 
 pub returns-then-not-passes : goal.returns-then-not-passes
 returns-then-not-passes c = λ before u type h e.
-    no_input c.args.direction before type (member_named (members_of before type) (name_of c.args.name.now)) (found_seen c.in-Some.member) (sym (ap (option_map found_seen) c.in-Some.is) ∙ c.member_of.ensures.seen before u type h e) (sym c.passes.ensures ∙ c.if-not-passes.true)
+    no_input c.args.direction before type (member_named (members_of before type) (name_of c.args.name.now)) (found_seen c.in_ok-member.member) (sym (ap (option_map found_seen) c.in_ok-member.was) ∙ c.member_of.ensures.seen before u type h e) (sym c.passes.ensures ∙ c.if-not-passes.true)
 
-pub returns-in_default-kind : goal.returns-in_default-kind
-returns-in_default-kind c = λ before u type h e.
-    no_kind c.args.direction before type (member_named (members_of before type) (name_of c.args.name.now)) (found_seen c.in-Some.member) (sym (ap (option_map found_seen) c.in-Some.is) ∙ c.member_of.ensures.seen before u type h e) (sym c.passes.ensures ∙ c.if-not-passes.false) c.in_default-kind.is
+pub returns-in_err-kind : goal.returns-in_err-kind
+returns-in_err-kind c = λ before u type h e.
+    c.from_residual-in_err-kind.ensures ∙ no_kind c.args.direction before type (member_named (members_of before type) (name_of c.args.name.now)) (found_seen c.in_ok-member.member) (sym (ap (option_map found_seen) c.in_ok-member.was) ∙ c.member_of.ensures.seen before u type h e) (sym c.passes.ensures ∙ c.if-not-passes.false) c.in_err-kind.was
 
-pub returns-in-Some-place : goal.returns-in-Some-place
-returns-in-Some-place c = λ before u type h e.
+pub returns : goal.returns
+returns c = λ before u type h e.
     let name = name_of c.args.name.now in
-    input_by c.args.direction before type name (member_named (members_of before type) name) (found_seen c.in-Some.member) c.in-Some-kind.kind (Some c.in-Some-place.place) (member_spelled (members_of before type) name)
-    (sym (ap (option_map found_seen) c.in-Some.is) ∙ c.member_of.ensures.seen before u type h e) (sym c.passes.ensures ∙ c.if-not-passes.false) c.in-Some-kind.is
-    (sym c.in-Some-place.is ∙ c.in-Some.ensures.place before u type h e)
+    input_by c.args.direction before type name (member_named (members_of before type) name) (found_seen c.in_ok-member.member) c.in_ok-kind.kind (Some c.in_ok-place.place) (member_spelled (members_of before type) name)
+    (sym (ap (option_map found_seen) c.in_ok-member.was) ∙ c.member_of.ensures.seen before u type h e) (sym c.passes.ensures ∙ c.if-not-passes.false) c.in_ok-kind.was
+    (sym c.in_ok-place.was ∙ c.in_ok-member.ensures.place before u type h e)
 
-pub returns-in-None : goal.returns-in-None
-returns-in-None c = λ before u type h e.
+pub returns-in_err-place : goal.returns-in_err-place
+returns-in_err-place c = λ before u type h e.
     let name = name_of c.args.name.now in
-    input_by c.args.direction before type name (member_named (members_of before type) name) (found_seen c.in-Some.member) c.in-Some-kind.kind None (member_spelled (members_of before type) name)
-    (sym (ap (option_map found_seen) c.in-Some.is) ∙ c.member_of.ensures.seen before u type h e) (sym c.passes.ensures ∙ c.if-not-passes.false) c.in-Some-kind.is
-    (sym c.in-None.is ∙ c.in-Some.ensures.place before u type h e)
+    c.from_residual-in_err-place.ensures ∙ input_by c.args.direction before type name (member_named (members_of before type) name) (found_seen c.in_ok-member.member) c.in_ok-kind.kind None (member_spelled (members_of before type) name)
+    (sym (ap (option_map found_seen) c.in_ok-member.was) ∙ c.member_of.ensures.seen before u type h e) (sym c.passes.ensures ∙ c.if-not-passes.false) c.in_ok-kind.was
+    (sym c.in_err-place.was ∙ c.in_ok-member.ensures.place before u type h e)

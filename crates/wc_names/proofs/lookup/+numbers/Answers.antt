@@ -12,19 +12,19 @@ pub number-returns-in_default : goal.number-returns-in_default
 number-returns-in_default t c = λ before u h e.
     sym (ap (λ xs. place_from before u (map (λ n. name_of n.now) xs)) (empty_list c.args.names.now c.in_default.ensures.cases) ∙ no_name before (first_place u) (variables_of u))
 
-pub number-returns-in_default-row : goal.number-returns-in_default-row
-number-returns-in_default-row t c = λ before u h e.
+pub number-returns-in_err-row : goal.number-returns-in_err-row
+number-returns-in_err-row t c = λ before u h e.
     let names = map (λ n. name_of n.now) c.in-Some.rest.now in
     let name = name_of c.in-Some.name.now.now in
     let there = ap (slice_get c.args.units.now) e ∙ h.there in
-    sym (ap (λ ns. place_from before u (map (λ n. name_of n.now) ns)) c.in-Some.ensures.cases.0
-    ∙ from_nothing c.args.units.now before u h name names (sym (c.row.ensures h.table there (named_rows c.args.units.now before u h)) ∙ c.in_default-row.is))
+    c.from_residual.ensures ∙ sym (ap (λ ns. place_from before u (map (λ n. name_of n.now) ns)) c.in-Some.ensures.cases.0
+    ∙ from_nothing c.args.units.now before u h name names (sym (c.row.ensures h.table there (named_rows c.args.units.now before u h)) ∙ c.in_err-row.was))
 
 pub number-returns : goal.number-returns
 number-returns t c = λ before u h e.
     let name = name_of c.in-Some.name.now.now in
     let there = ap (slice_get c.args.units.now) e ∙ h.there in
-    c.number_after.ensures before u h name (sym (c.row.ensures h.table there (named_rows c.args.units.now before u h)) ∙ c.in-Some-row.is)
+    c.number_after.ensures before u h name (sym (c.row.ensures h.table there (named_rows c.args.units.now before u h)) ∙ c.in_ok-row.was)
     ∙ sym (ap (λ xs. place_from before u (map (λ n. name_of n.now) xs)) c.in-Some.ensures.cases.0)
 
 pub number_after-returns-in-Elementary : goal.number_after-returns-in-Elementary

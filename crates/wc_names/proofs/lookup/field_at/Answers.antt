@@ -24,12 +24,12 @@ returns-in-Some-split_first c =
     field_of_more (standard_fields c.args.block) (name_of c.in-Some.name.now.now) (name_of next.0.now.now) (names_of next.1.now)
     ∙ ap (λ xs. field_of c.args.block (name_of c.in-Some.name.now.now ∷ names_of xs)) (sym c.in-Some-split_first.ensures.cases.0) ∙ ap (λ xs. field_of c.args.block (names_of xs)) (sym c.in-Some.ensures.cases.0)
 
-pub returns-in-Some-field_named : goal.returns-in-Some-field_named
-returns-in-Some-field_named c =
-    c.in-Some-field_named.ensures.number ∙ field_of_one (standard_fields c.args.block) (name_of c.in-Some.name.now.now)
+pub returns : goal.returns
+returns c =
+    c.in_ok-found.ensures.number ∙ field_of_one (standard_fields c.args.block) (name_of c.in-Some.name.now.now)
     ∙ ap (λ xs. field_of c.args.block (name_of c.in-Some.name.now.now ∷ names_of xs)) (sym (empty_list c.in-Some.rest.now c.in_default-split_first.ensures.cases)) ∙ ap (λ xs. field_of c.args.block (names_of xs)) (sym c.in-Some.ensures.cases.0)
 
-pub returns-in-None : goal.returns-in-None
-returns-in-None c =
-    c.in-None.ensures.number ∙ field_of_one (standard_fields c.args.block) (name_of c.in-Some.name.now.now)
+pub returns-in_err-found : goal.returns-in_err-found
+returns-in_err-found c =
+    c.from_residual.ensures ∙ c.in_err-found.ensures.number ∙ field_of_one (standard_fields c.args.block) (name_of c.in-Some.name.now.now)
     ∙ ap (λ xs. field_of c.args.block (name_of c.in-Some.name.now.now ∷ names_of xs)) (sym (empty_list c.in-Some.rest.now c.in_default-split_first.ensures.cases)) ∙ ap (λ xs. field_of c.args.block (names_of xs)) (sym c.in-Some.ensures.cases.0)

@@ -9,25 +9,25 @@ use Rattle.wc_names.proofs.Frames.{row_found, row_unknown}
 use Rattle.wc_names.proofs.Lists.{got_some, same_found}
 use Rattle.wc_names.proofs.lookup.row.Goals as goal
 
-pub returns-in_default-number : goal.returns-in_default-number
-returns-in_default-number c = λ table there long.
-    let e = same_found c.args.units.now c.args.units.now c.args.unit table c.in-Some.table.now refl there c.in-Some.ensures.lookup.3.0 c.in-Some.ensures.lookup.1 in
+pub returns-in_err-number : goal.returns-in_err-number
+returns-in_err-number c = λ table there long.
+    let e = same_found c.args.units.now c.args.units.now c.args.unit table c.in_ok-table.table.now refl there c.in_ok-table.ensures.lookup.3.0 c.in_ok-table.ensures.lookup.1 in
     let name = name_of c.args.name.now in
-    row_unknown table.names table.rows.items name long (ap (λ (t : UnitTable). position_from (λ n. same_name n name) 0 t.names) (sym e) ∙ sym c.number.ensures ∙ c.in_default-number.is)
+    c.from_residual-in_err-number.ensures ∙ row_unknown table.names table.rows.items name long (ap (λ (t : UnitTable). position_from (λ n. same_name n name) 0 t.names) (sym e) ∙ sym c.number.ensures ∙ c.in_err-number.was)
 
-pub returns-in-None : goal.returns-in-None
-returns-in-None c = λ table there long.
-    let e = same_found c.args.units.now c.args.units.now c.args.unit table c.in-Some.table.now refl there c.in-Some.ensures.lookup.3.0 c.in-Some.ensures.lookup.1 in
+pub returns-in_err-row : goal.returns-in_err-row
+returns-in_err-row c = λ table there long.
+    let e = same_found c.args.units.now c.args.units.now c.args.unit table c.in_ok-table.table.now refl there c.in_ok-table.ensures.lookup.3.0 c.in_ok-table.ensures.lookup.1 in
     let name = name_of c.args.name.now in
-    row_found table.names table.rows.items name c.in-Some-number.number None long
-    (ap (λ (t : UnitTable). position_from (λ n. same_name n name) 0 t.names) (sym e) ∙ sym c.number.ensures ∙ c.in-Some-number.is)
-    (slice_get_past table.rows.items c.in-Some-number.number (subst (λ xs. length xs ≤ c.in-Some-number.number) (c.deref.ensures.value ∙ ap (λ (t : UnitTable). t.rows.items) e) c.in-None.ensures.lookup.3))
+    c.from_residual-in_err-row.ensures ∙ row_found table.names table.rows.items name c.in_ok-number.number None long
+    (ap (λ (t : UnitTable). position_from (λ n. same_name n name) 0 t.names) (sym e) ∙ sym c.number.ensures ∙ c.in_ok-number.was)
+    (slice_get_past table.rows.items c.in_ok-number.number (subst (λ xs. length xs ≤ c.in_ok-number.number) (c.deref.ensures.value ∙ ap (λ (t : UnitTable). t.rows.items) e) c.in_err-row.ensures.lookup.3))
 
-pub returns-in-Some-get : goal.returns-in-Some-get
-returns-in-Some-get c = λ table there long.
-    let e = same_found c.args.units.now c.args.units.now c.args.unit table c.in-Some.table.now refl there c.in-Some.ensures.lookup.3.0 c.in-Some.ensures.lookup.1 in
+pub returns : goal.returns
+returns c = λ table there long.
+    let e = same_found c.args.units.now c.args.units.now c.args.unit table c.in_ok-table.table.now refl there c.in_ok-table.ensures.lookup.3.0 c.in_ok-table.ensures.lookup.1 in
     let name = name_of c.args.name.now in
-    row_found table.names table.rows.items name c.in-Some-number.number (Some c.in-Some-get.row.now) long
-    (ap (λ (t : UnitTable). position_from (λ n. same_name n name) 0 t.names) (sym e) ∙ sym c.number.ensures ∙ c.in-Some-number.is)
-    (ap (λ xs. slice_get xs c.in-Some-number.number) (sym (c.deref.ensures.value ∙ ap (λ (t : UnitTable). t.rows.items) e))
-    ∙ got_some c.deref.result.now c.in-Some-number.number c.in-Some-get.row.now c.in-Some-get.ensures.lookup.3.0 c.in-Some-get.ensures.lookup.1)
+    row_found table.names table.rows.items name c.in_ok-number.number (Some c.in_ok-row.row.now) long
+    (ap (λ (t : UnitTable). position_from (λ n. same_name n name) 0 t.names) (sym e) ∙ sym c.number.ensures ∙ c.in_ok-number.was)
+    (ap (λ xs. slice_get xs c.in_ok-number.number) (sym (c.deref.ensures.value ∙ ap (λ (t : UnitTable). t.rows.items) e))
+    ∙ got_some c.deref.result.now c.in_ok-number.number c.in_ok-row.row.now c.in_ok-row.ensures.lookup.3.0 c.in_ok-row.ensures.lookup.1)

@@ -1,6 +1,6 @@
-use Rattle.std.proofs.Common.{ap, ◌∙◌}
+use Rattle.std.proofs.Common.{ap, sym, ◌∙◌}
 use Rattle.std.specs.Prelude.{if◌then◌else◌}
-use Rattle.wc_model.specs.Language.Kinds.{leaves}
+use Rattle.wc_model.specs.Language.Kinds.{kind_after}
 use Rattle.wc_verify.specs.Instructions.{instr_line}
 use Rattle.wc_verify.specs.declared.edges.Way.TheVariants.{Unseen, Agreed}
 use Rattle.wc_names.proofs.HandedOn.{propagated}
@@ -14,7 +14,14 @@ returns-in_err-after-clause-validated c = λ scope label following more is count
     (hands_fault scope (instr_line c.args.instr.now label) following c.args.kind more c.in_err-after.field-0.0
     (c.in_err-after.ensures scope label following more is (c.target-target.ensures.asks label c.is_ahead-is_ahead.result following (c.is_ahead-is_ahead.ensures following counts))))
 
-pub returns-clause-validated : goal.returns-clause-validated
-returns-clause-validated c = λ scope label following more is counts.
+pub returns-then-leaves-clause-validated : goal.returns-then-leaves-clause-validated
+returns-then-leaves-clause-validated c = λ scope label following more is counts.
+    let line = instr_line c.args.instr.now label in
     let goes = c.in_ok-after.ensures scope label following more is (c.target-target.ensures.asks label c.is_ahead-is_ahead.result following (c.is_ahead-is_ahead.ensures following counts)) in
-    (goes.0, c.propagated.ensures label ∙ ap (λ kind. if leaves (instr_line c.args.instr.now label) then Unseen else Agreed kind) goes.1)
+    (goes.0, sym (ap (λ b. if b then Unseen else Agreed (kind_after scope line c.args.kind)) (c.leaves.ensures label ∙ c.if-leaves.true)))
+
+pub returns-else-leaves-clause-validated : goal.returns-else-leaves-clause-validated
+returns-else-leaves-clause-validated c = λ scope label following more is counts.
+    let line = instr_line c.args.instr.now label in
+    let goes = c.in_ok-after.ensures scope label following more is (c.target-target.ensures.asks label c.is_ahead-is_ahead.result following (c.is_ahead-is_ahead.ensures following counts)) in
+    (goes.0, ap Agreed goes.1 ∙ sym (ap (λ b. if b then Unseen else Agreed (kind_after scope line c.args.kind)) (c.leaves.ensures label ∙ c.if-leaves.false)))

@@ -18,7 +18,7 @@ returns-clause-validated c = λ scope type before following rest is num held.
     (argument_found scope (members_of scope.before type) position c.in-Some.formal.kind c.validate_actual-found.result
     (formal_parts scope type (formal_named c.args.argument.now.direction (members_of scope.before type) (name_of c.args.argument.now.name.now)) c.in-Some.formal (c.in-Some.ensures.found is.text c.args.unit scope type is.tables_are is.unit_is num))
     (is_new c.args.names.now before (name_of c.args.argument.now.name.now) held c.in_ok-new.new c.in_ok-new.ensures.new c.if-not-new.false)
-    (λ m kind line rest. c.validate_actual-found.ensures scope m line rest seen kind) c.args.line rest)
+    (λ m kind. c.validate_actual-found.ensures scope m seen kind) c.args.line rest)
 
 pub returns-clause-held : goal.returns-clause-held
 returns-clause-held c = on_ok c.refuse.result ((before : List Assignment) → HoldsNames c.args.names.now before → HoldsNames c.add.new.self (assignment_view c.args.argument.now ∷ before))

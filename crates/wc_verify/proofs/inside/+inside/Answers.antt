@@ -1,4 +1,4 @@
-use Rattle.std.proofs.Common.{◌≡◌, ◌+◌, List, [], ◌++◌, Ok, Err, map, drop, sym, ap, subst, ◌∙◌, option_map}
+use Rattle.std.proofs.Common.{◌≡◌, ◌+◌, List, [], ◌++◌, Ok, Err, map, drop, refl, sym, ap, subst, ◌∙◌, option_map}
 use Rattle.std.proofs.lemmas.List.{drop_all}
 use Rattle.wc_model.specs.Language.BodyRules.{inside_rules, line_rules, opening_checks}
 use Rattle.wc_model.specs.Language.Checks.{first_broken}
@@ -17,27 +17,27 @@ use Rattle.wc_verify.proofs.inside.+inside.Goals as goal
 pub validate_instr-returns-in-Load : goal.validate_instr-returns-in-Load
 validate_instr-returns-in-Load t c = λ scope label following more is ahead.
     same_line scope (instr_line c.args.instr.now label) (PlainLine label c.in-Load.line (Load c.in-Load.negated (term_view c.in-Load.operand))) following c.args.kind more c.load.result (ap (λ i. instr_line i label) c.in-Load.is ∙ line_load c.in-Load.negated c.in-Load.operand c.in-Load.line label)
-    (c.load.ensures scope label following c.args.kind more is)
+    (c.load.ensures scope c.args.kind is label following more)
 
 pub validate_instr-returns-in-Store : goal.validate_instr-returns-in-Store
 validate_instr-returns-in-Store t c = λ scope label following more is ahead.
     same_line scope (instr_line c.args.instr.now label) (PlainLine label c.in-Store.line (Store c.in-Store.storing (term_view c.in-Store.target))) following c.args.kind more c.store.result (ap (λ i. instr_line i label) c.in-Store.is ∙ line_store c.in-Store.storing c.in-Store.target c.in-Store.line label)
-    (c.store.ensures scope label following more is)
+    (c.store.ensures scope is label following more)
 
 pub validate_instr-returns-in-Apply : goal.validate_instr-returns-in-Apply
 validate_instr-returns-in-Apply t c = λ scope label following more is ahead.
     same_line scope (instr_line c.args.instr.now label) (PlainLine label c.in-Apply.line (Apply c.in-Apply.operator (term_view c.in-Apply.operand))) following c.args.kind more c.apply.result (ap (λ i. instr_line i label) c.in-Apply.is ∙ line_apply c.in-Apply.operator c.in-Apply.operand c.in-Apply.line label)
-    (c.apply.ensures scope label following more is)
+    (c.apply.ensures scope is label following more)
 
 pub validate_instr-returns-in-Not : goal.validate_instr-returns-in-Not
 validate_instr-returns-in-Not t c = λ scope label following more is ahead.
-    same_line scope (instr_line c.args.instr.now label) (PlainLine label c.in-Not.line Negate) following c.args.kind more c.negate.result (ap (λ i. instr_line i label) c.in-Not.is ∙ line_not c.in-Not.line label)
-    (c.negate.ensures scope label following more)
+    same_line scope (instr_line c.args.instr.now label) (PlainLine label c.in-Not.line Negate) following c.args.kind more c.kind_following.result (ap (λ i. instr_line i label) c.in-Not.is ∙ line_not c.in-Not.line label)
+    (c.kind_following.ensures scope (PlainLine label c.in-Not.line Negate) following c.args.kind more (c.refuse.ensures.validates _ (first_broken more) (c.validate_truth.ensures c.in-Not.line more)) refl)
 
 pub validate_instr-returns-in-Return : goal.validate_instr-returns-in-Return
 validate_instr-returns-in-Return t c = λ scope label following more is ahead.
-    same_line scope (instr_line c.args.instr.now label) (PlainLine label c.in-Return.line (Return c.in-Return.condition)) following c.args.kind more c.leave.result (ap (λ i. instr_line i label) c.in-Return.is ∙ line_return c.in-Return.condition c.in-Return.line label)
-    (c.leave.ensures scope label following more)
+    same_line scope (instr_line c.args.instr.now label) (PlainLine label c.in-Return.line (Return c.in-Return.condition)) following c.args.kind more c.kind_following-in-Return.result (ap (λ i. instr_line i label) c.in-Return.is ∙ line_return c.in-Return.condition c.in-Return.line label)
+    (c.kind_following-in-Return.ensures scope (PlainLine label c.in-Return.line (Return c.in-Return.condition)) following c.args.kind more (c.refuse-in-Return.ensures.validates _ (first_broken more) (c.validate_condition.ensures c.in-Return.line more)) refl)
 
 pub validate_instr-returns-in-Defer : goal.validate_instr-returns-in-Defer
 validate_instr-returns-in-Defer t c = λ scope label following more is ahead.
@@ -54,7 +54,7 @@ pub validate_instr-returns-in-Call : goal.validate_instr-returns-in-Call
 validate_instr-returns-in-Call t c = λ scope label following more is ahead.
     let call = λ (xs : List Argument). PlainLine label c.in-Call.line (Call c.in-Call.condition (name_of c.in-Call.instance.now) (map assignment_view xs)) in
     same_line scope (instr_line c.args.instr.now label) (call c.deref.result.now) following c.args.kind more c.call.result (ap (λ i. instr_line i label) c.in-Call.is ∙ line_call c.in-Call.condition c.in-Call.instance c.in-Call.arguments c.in-Call.line label ∙ ap call (sym c.deref.ensures.value))
-    (c.call.ensures scope label following more is)
+    (c.call.ensures scope is label following more)
 
 pub validate_inside_line-returns-in-Some : goal.validate_inside_line-returns-in-Some
 validate_inside_line-returns-in-Some t c = λ scope rest more is.
@@ -69,7 +69,7 @@ validate_nested-returns-in_err-refuse t c = λ scope label following more is.
     propagated (GoesOn scope (nesting.whole scope label c.args.line c.args.operator term inside c.args.close following c.args.kind more) following c.args.kind more) c.in_err-refuse.field-0.0 c.from_residual.result c.from_residual.ensures
     (nesting.opening_refused scope label c.args.line c.args.operator term inside c.args.close following c.args.kind more c.in_err-refuse.field-0.0
     (c.in_err-refuse.ensures.validates (first_broken (opening_checks scope c.args.line c.args.operator term c.args.kind ++ nesting.within scope label c.args.line c.args.operator term inside c.args.close following c.args.kind more)) (first_broken (nesting.within scope label c.args.line c.args.operator term inside c.args.close following c.args.kind more))
-    (c.validate_opening.ensures scope term c.args.line (nesting.within scope label c.args.line c.args.operator term inside c.args.close following c.args.kind more) (c.see_if_any-seen.ensures scope is))))
+    (c.validate_opening.ensures scope term (c.see_if_any-seen.ensures scope is) c.args.line (nesting.within scope label c.args.line c.args.operator term inside c.args.close following c.args.kind more))))
 
 pub validate_nested-returns : goal.validate_nested-returns
 validate_nested-returns t c = λ scope label following more is.
@@ -82,7 +82,7 @@ validate_nested-returns t c = λ scope label following more is.
     (c.refuse-2.ensures.validates (first_broken (line_rules scope whole following c.args.kind ++ more)) (first_broken more)
     (nesting.closing_found scope label c.args.line c.args.operator term inside c.args.close following c.args.kind more c.opening_kind.result c.in_ok-inner.inner c.validate_closing.result (c.opening_kind.ensures scope term seen)
     (validates_ok (first_broken (opening_checks scope c.args.line c.args.operator term c.args.kind ++ within)) (first_broken within) c.refuse.result c.in_ok-refuse.field-0 c.in_ok-refuse.was
-    (c.refuse.ensures.validates (first_broken (opening_checks scope c.args.line c.args.operator term c.args.kind ++ within)) (first_broken within) (c.validate_opening.ensures scope term c.args.line within seen)))
+    (c.refuse.ensures.validates (first_broken (opening_checks scope c.args.line c.args.operator term c.args.kind ++ within)) (first_broken within) (c.validate_opening.ensures scope term seen c.args.line within)))
     (c.in_ok-inner.ensures scope (nesting.closing scope label c.args.line c.args.operator term inside c.args.close following c.args.kind more) is)
     c.validate_closing.ensures))
     c.kind_after_operator.ensures
@@ -96,7 +96,7 @@ validate_nested-returns-in_err-inner t c = λ scope label following more is.
     propagated (GoesOn scope (nesting.whole scope label c.args.line c.args.operator term inside c.args.close following c.args.kind more) following c.args.kind more) c.in_err-inner.field-0.0 c.from_residual-in_err-inner.result c.from_residual-in_err-inner.ensures
     (nesting.inside_refused scope label c.args.line c.args.operator term inside c.args.close following c.args.kind more c.opening_kind.result c.in_err-inner.field-0.0 (c.opening_kind.ensures scope term seen)
     (validates_ok (first_broken (opening_checks scope c.args.line c.args.operator term c.args.kind ++ within)) (first_broken within) c.refuse.result c.in_ok-refuse.field-0 c.in_ok-refuse.was
-    (c.refuse.ensures.validates (first_broken (opening_checks scope c.args.line c.args.operator term c.args.kind ++ within)) (first_broken within) (c.validate_opening.ensures scope term c.args.line within seen)))
+    (c.refuse.ensures.validates (first_broken (opening_checks scope c.args.line c.args.operator term c.args.kind ++ within)) (first_broken within) (c.validate_opening.ensures scope term seen c.args.line within)))
     (c.in_err-inner.ensures scope (nesting.closing scope label c.args.line c.args.operator term inside c.args.close following c.args.kind more) is))
 
 pub validate_inside-returns-in_err-kind : goal.validate_inside-returns-in_err-kind

@@ -6,7 +6,8 @@ use Rattle.wc_model.specs.Language.Kinds.{term_kind}
 use Rattle.wc_model.specs.Language.Scopes.{Scope}
 use Rattle.wc_model.specs.Language.Tree.{Term}
 use Rattle.wc_model.specs.declared.kind.Kind.{Kind}
-use Rattle.wc_verify.proofs.Found.{Both, Finds, Asked, asked_as, joined}
+use Rattle.wc_verify.specs.Found.{Finds}
+use Rattle.wc_verify.proofs.Found.{Both, Asked, asked_as, joined}
 use Rattle.wc_verify.proofs.steps.validate_load.Goals as goal
 
 -- of either form
@@ -18,5 +19,5 @@ either scope term false b p q r kind reads asked both e k =
     joined (λ line. reading_checks scope line term) (λ line. asks 402 line (is_some (term_kind scope term)) ∷ []) p q r reads (asked_as 402 b (is_some (term_kind scope term)) q asked (ap is_some k ∙ sym e)) both
 
 pub returns : goal.returns
-returns c = λ scope term line rest seen.
-    either scope term c.args.negated c.is_loaded.result c.validate_reading.result c.unless.result c.first_of.result c.args.seen.kind (λ line rest. c.validate_reading.ensures scope term line rest seen) c.unless.ensures c.first_of.ensures c.is_loaded.ensures seen.kind line rest
+returns c = λ scope term seen line rest.
+    either scope term c.args.negated c.is_loaded.result c.validate_reading.result c.unless.result c.first_of.result c.args.seen.kind (c.validate_reading.ensures scope term seen) c.unless.ensures c.first_of.ensures c.is_loaded.ensures seen.kind line rest

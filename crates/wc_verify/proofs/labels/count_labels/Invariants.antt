@@ -2,7 +2,7 @@ use Rattle.std.proofs.Common.{drop}
 use Rattle.wc_model.specs.Language.Kinds.{lines_of}
 use Rattle.wc_model.specs.Language.Views.{lines_view}
 use Rattle.wc_verify.proofs.BodyLines.{AreCounted}
-use Rattle.wc_verify.proofs.counting.count_labels.Given as goal
+use Rattle.wc_verify.proofs.labels.count_labels.Given as goal
 
 -- the lines so far are counted
 abbrev pub invariant-loop-line : goal.invariant-loop-line

@@ -1,4 +1,4 @@
-use Rattle.std.proofs.Common.{ℕ, ◌+◌, ◌<◌, false, List, [], ◌∷◌, ◌++◌, length, map, drop, get_or, ap, subst, ◌∙◌, append_assoc}
+use Rattle.std.proofs.Common.{ℕ, ◌+◌, ◌<◌, false, List, [], ◌∷◌, ◌++◌, length, map, drop, get_or, ap, sym, subst, ◌∙◌, append_assoc}
 use Rattle.std.specs.List.{flat_map}
 use Rattle.wc_model.specs.Language.BodyRules.{argument_checks}
 use Rattle.wc_model.specs.Language.Checks.{first_broken, positions_after, positions_of}
@@ -12,10 +12,10 @@ use Rattle.wc_model.specs.declared.tree.Argument.{Argument}
 use Rattle.wc_model.specs.declared.value.Value.TheVariants.{Bool as Truth}
 use Rattle.wc_names.specs.declared.declared_type.DeclaredType.{DeclaredType}
 use Rattle.wc_names.specs.declared.kept.Tables.{Tables}
-use Rattle.wc_verify.proofs.Calling.{ArgumentsAfter, one_after}
+use Rattle.wc_verify.proofs.Calling.{ArgumentsAfter, at_first, one_after}
 use Rattle.wc_declare.proofs.Validation.{validates_on, validates_ok}
 use Rattle.wc_names.proofs.Lists.{from_index_or}
-use Rattle.wc_verify.proofs.calls.validate_each.Goals as goal
+use Rattle.wc_verify.proofs.calls.validate_arguments.Goals as goal
 
 -- the arguments that are left begin with this one
 abbrev one : Argument
@@ -24,6 +24,11 @@ one = record { direction = Into; name = record { ref_ptr = (0, 0); now = [] }; v
 begin : (tables : Tables) (unit : ℕ) (declared : DeclaredType) (line : ℕ) (names : List Name) (all : List Assignment) (items : List Argument) (i : ℕ) → i < length items →
     ArgumentsAfter tables unit declared line names all (map assignment_view (drop i items)) → ArgumentsAfter tables unit declared line names all (assignment_view (get_or items i one) ∷ map assignment_view (drop (i + 1) items))
 begin tables unit declared line names all items i below h = subst (λ xs. ArgumentsAfter tables unit declared line names all (map assignment_view xs)) (from_index_or items i one below) h
+
+pub loop-argument-init : goal.loop-argument-init
+loop-argument-init c =
+    let all = map assignment_view c.args.arguments.now in
+    subst (λ names. ArgumentsAfter c.args.tables.now c.args.unit c.args.declared c.args.line names all all) (sym c.new-names.ensures) (at_first c.args.tables.now c.args.unit c.args.declared c.args.line all)
 
 pub returns-in_err-validate_argument-clause-validated : goal.returns-in_err-validate_argument-clause-validated
 returns-in_err-validate_argument-clause-validated c = λ scope type rest is num.

@@ -1,7 +1,7 @@
 use Rattle.std.proofs.Common.{map, drop}
 use Rattle.wc_model.specs.Language.Views.{assignment_view}
 use Rattle.wc_verify.proofs.Calling.{ArgumentsAfter}
-use Rattle.wc_verify.proofs.calls.validate_each.Given as goal
+use Rattle.wc_verify.proofs.calls.validate_arguments.Given as goal
 
 -- the arguments that are left follow those so far
 abbrev pub invariant-loop-argument : goal.invariant-loop-argument

@@ -5,7 +5,7 @@ use Rattle.wc_model.specs.Language.Views.{lines_view}
 use Rattle.wc_verify.specs.Rows.{row_at}
 use Rattle.wc_verify.proofs.BodyLines.{AreCounted, all_counted, one_counted}
 use Rattle.wc_verify.proofs.InstrLines.{first_seen}
-use Rattle.wc_verify.proofs.counting.count_labels.Goals as goal
+use Rattle.wc_verify.proofs.labels.count_labels.Goals as goal
 
 pub loop-line-preserved : goal.loop-line-preserved
 loop-line-preserved c =
