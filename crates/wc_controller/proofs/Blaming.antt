@@ -46,12 +46,6 @@ taken_alongside None (Some next) text bytes is = absurd is
 taken_alongside (Some known) None text bytes is = absurd is
 taken_alongside (Some known) (Some next) text bytes is = refl
 
--- of bytes that are known it is said at once
-pub stops_known : {X : Type 0} (at : Input) (refuses : List ℕ → RunFault → Type 0) (bytes : List ℕ) (result : Result X Stopped) → StopsFor at refuses (Some bytes) result
-    → IfErr result (λ stopped. stopped.input ≡ at → refuses bytes stopped.fault)
-stops_known at refuses bytes (Ok done) h = tt
-stops_known at refuses bytes (Err stopped) h = h
-
 -- if no text is loaded, it is refused so
 pub text_refused : (bytes : List ℕ) (why : RunFault) → IsUnloaded bytes why → RefusesText bytes why
 text_refused bytes (Refused number place) h = h

@@ -1,5 +1,5 @@
 -- What an observer that refused to begin holds of the programs with which it did.
-use Rattle.std.proofs.Common.{◌≡◌, ℕ, List, Bool, false, Option, Some, None, Result, Ok, Err, sym, subst, ◌∙◌}
+use Rattle.std.proofs.Common.{◌≡◌, ℕ, List, Bool, false, true, Option, Some, None, Result, Ok, Err, sym, subst, ◌∙◌}
 use Rattle.std.specs.Prelude.{IfSome}
 use Rattle.wc_endings.specs.Endings.{EndsAfter, EndsAfterFault, IsAt, StopsAt, begin_fault_input}
 use Rattle.wc_controller.specs.InputStates.{Reader}
@@ -37,6 +37,11 @@ next_refused first (Some bytes) None begins held why is at h = absurd is
 next_refused first (Some bytes) (Some loaded) begins held why is at h =
     let next : Text = text_view loaded.source in
     (next, is, refused_at_names (begins (Some (first_logic first (Some next)))) (held (Some (first_logic first (Some next)))) why at h)
+
+-- an observer that begins with each logic refuses none
+pub none_refused : (first : Text) (bytes : Option (List ℕ)) (held : Option Logic → Type 0) → OfLogic first bytes (λ logic. (true ≡ false) × held logic) → ⊥
+none_refused first None held h = cc (h.0)
+none_refused first (Some bytes) held h = cc (h.2.0)
 
 -- of inputs that were read
 pub programs_read : (program next : Option Reader) (text : List ℕ) (known : Option (List ℕ)) (first : Text) (holds : Option Logic → Type 0)

@@ -1,8 +1,9 @@
 -- What an observer says of the bytes that were written of a run that came to its log's end, or to a refused row. (The profile's own.)
-use Rattle.std.specs.Prelude.{◌≡◌, ◌≢◌, ⊤, ℕ, List, Option, Some, None, IfSome, Result, Ok, Err}
+use Rattle.std.specs.Prelude.{◌≡◌, ◌≢◌, ⊤, ℕ, List, Option, Some, None, IfSome, Result, Ok, Err, option_map}
 use Rattle.std.specs.Io.KnownBytes.{Appends, Keeps}
 use Rattle.wc_controller.specs.InputStates.{InputStates, Reader}
 use Rattle.wc_controller.specs.TakenLogs.{IfKnown, OfLogic, log_by}
+use Rattle.wc_controller.specs.declared.loaded.RunPrograms.{RunPrograms}
 use Rattle.wc_endings.specs.declared.ending.Ending.{Ending}
 use Rattle.wc_endings.specs.declared.ending.Ending.TheVariants as ended
 use Rattle.wc_endings.specs.declared.input.Input.TheVariants as input
@@ -16,9 +17,18 @@ use Rattle.wc_model.specs.Say.Job.{refused_text}
 use Rattle.wc_model.specs.Say.ProgramReport.{Logic}
 use Rattle.wc_plate.specs.TomlTable.{table_read}
 use Rattle.wc_run.specs.Doing.{Ended}
-use Rattle.wc_run.specs.Observing.{Start}
+use Rattle.wc_run.specs.Observing.{Start, loaded_of, logic_of}
 use Rattle.wc_run.specs.declared.fault.RunFault.{RunFault}
 use Rattle.wc_run.specs.declared.fault.RunFault.TheVariants.{Refused}
+use Rattle.wc_run.specs.declared.program.Program.{Program}
+
+-- the text of the next program of a run, if there is one
+abbrev pub next_text : RunPrograms → Option (List ℕ)
+next_text programs = option_map (λ text. text.now) programs.next
+
+-- the logic of the programs that an observer is shown
+abbrev pub logic_shown : Option Program → Option Program → Option Logic
+logic_shown first next = logic_of (loaded_of first) (loaded_of next)
 
 -- this holds of what a run begins with, and of its logic, if the bytes of its programs are known
 abbrev pub OfStart : Option Reader → Option Reader → Option (List ℕ) → (Start → Option Logic → Type 0) → Type 0

@@ -1,20 +1,14 @@
-ghost use Rattle.std.specs.Prelude.{◌≡◌, ◌⊎◌, ℕ, List, Some, IfErr, IfSome, Ok, is_some, option_map};
-ghost use Rattle.wc_controller.specs.Blames.{BlamesPart, IsNextUnloaded, RefusesLog, StopsForPart};
-ghost use Rattle.wc_endings.specs.Endings.{EndsAs, IsReadFaultAt, StopsAt, TakesInput, ReportsFailures, ReportsReadEndings, ReportsReadFaults, ReportsWriteFaults, WritesUpTo, fault_in_memory, raised};
-ghost use Rattle.wc_controller.specs.Files.{AnswersLog};
+ghost use Rattle.std.specs.Prelude.{◌≡◌, ◌⊎◌, ℕ, List, Some, IfSome, Ok};
+ghost use Rattle.wc_controller.specs.Blames.{BlamesPart, StopsForPart};
+ghost use Rattle.wc_endings.specs.Endings.{EndsAs, IsReadFaultAt, TakesInput, ReportsFailures, ReportsReadEndings, ReportsReadFaults, ReportsWriteFaults, WritesUpTo, fault_in_memory, raised};
 ghost use Rattle.wc_controller.specs.Frames.{AnswersInFrames};
 ghost use Rattle.wc_controller.specs.HeadlineRuns.{AnswersByTheHeadline};
 ghost use Rattle.wc_controller.specs.Jobs.{Allows, AllowsSections, Gives, IsStatus};
-ghost use Rattle.wc_controller.specs.TakenLogs.{IsLater, log_alongside};
 ghost use Rattle.wc_job.specs.Views.{sections_view};
 ghost use Rattle.wc_laws_loading.specs.Laws.{HasOne};
 ghost use Rattle.wc_model.specs.Instrument.Plates.{IsPlate, PlateData};
-ghost use Rattle.wc_model.specs.Language.Views.{text_view};
 ghost use Rattle.wc_model.specs.Run.JobSections.{sections_of};
-ghost use Rattle.wc_model.specs.Run.Log.{log_of};
 ghost use Rattle.wc_model.specs.Run.Writing.{HasFailedSince};
-ghost use Rattle.wc_model.specs.Say.Job.{AnswersNext};
-ghost use Rattle.wc_record.specs.Reading.{records_of};
 ghost use Rattle.wc_record.specs.Reported.{fields_reported};
 
 use crate::loaded::{RunPrograms, load_input, run_loaded};
@@ -40,33 +34,6 @@ fn stopped_in_memory(stopped: Stopped) -> Stopped
         input: stopped.input,
         fault,
     }
-}
-
-/// Loads the next program of a job, if it has one, and writes the report of its log.
-fn answer_log<W: ByteOut>(
-    alloc: Global,
-    programs: RunPrograms<'_>,
-    log: &[u8],
-    writer: &mut W,
-    reported: &mut RefusedRow,
-) -> Result<(), Stopped>
-    ensures writes { WritesUpTo (AnswersNext (option_map (λ text. text.now) programs.entry.next)
-        (AnswersLog programs.entry.plate (log_of (records_of log.now))
-        (text_view programs.entry.loaded.source)))
-        (raised result) (W.bytes_taken writer.old) (W.bytes_taken writer.new) }
-    ensures blames_next { IfErr result (λ stopped. stopped.input ≡ Input.Next
-        → IsNextUnloaded (option_map (λ text. text.now) programs.entry.next) stopped.fault) }
-    ensures blames_log { IfErr result (λ stopped. stopped.input ≡ Input.Log
-        → RefusesLog (log_alongside (is_some (option_map (λ text. text.now) programs.entry.next)))
-        (fields_reported reported.new) log.now stopped.fault) }
-    ensures later { IsLater result }
-    ensures no_names { ¬ StopsAt Input.Names result }
-    ensures failures { ReportsWriteFaults (raised result) (W.failure_count writer.old)
-        (W.failure_count writer.new) }
-{
-    let mut report = Report::new(alloc);
-    let mut reader = Device::new(log);
-    run_loaded(alloc, &mut report, programs, &mut reader, writer, reported)
 }
 
 /// Answers a job by its sections.
@@ -101,32 +68,11 @@ fn answer_sections<W: ByteOut>(
         loaded,
         next: sections.next,
     };
-    match answer_log(alloc, programs, sections.log, writer, reported) {
+    let mut report = Report::new(alloc);
+    let mut reader = Device::new(sections.log);
+    match run_loaded(alloc, &mut report, programs, &mut reader, writer, reported) {
         Ok(()) => Ok(()),
         Err(stopped) => Err(stopped_in_memory(stopped)),
-    }
-}
-
-/// Answers a job by its bytes.
-fn answer_bytes<W: ByteOut>(
-    alloc: Global,
-    bytes: &[u8],
-    writer: &mut W,
-    reported: &mut RefusedRow,
-) -> Result<(), Stopped>
-    ensures writes { WritesUpTo (Allows bytes.now) (raised result)
-        (W.bytes_taken writer.old) (W.bytes_taken writer.new) }
-    ensures blames { StopsForPart (fields_reported reported.new) (sections_of bytes.now) result }
-    ensures held { ¬ (raised result ≡ Some RunFault.Read) }
-    ensures failures { ReportsWriteFaults (raised result) (W.failure_count writer.old)
-        (W.failure_count writer.new) }
-{
-    match sections(bytes) {
-        Ok(sections) => answer_sections(alloc, sections, writer, reported),
-        Err(number) => Err(Stopped {
-            input: Input::Job,
-            fault: RunFault::Refused { number, place: 0 },
-        }),
     }
 }
 
@@ -150,7 +96,13 @@ fn answer_input<R: ByteIn, W: ByteOut>(
     ensures taken { TakesInput (R.bytes_left reader.old) (R.bytes_left reader.new) }
 {
     match read_input(alloc, Input::Job, reader) {
-        Ok(bytes) => answer_bytes(alloc, &bytes, writer, reported),
+        Ok(bytes) => match sections(&bytes) {
+            Ok(sections) => answer_sections(alloc, sections, writer, reported),
+            Err(number) => Err(Stopped {
+                input: Input::Job,
+                fault: RunFault::Refused { number, place: 0 },
+            }),
+        },
         Err(stopped) => Err(stopped),
     }
 }

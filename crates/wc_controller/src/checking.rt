@@ -1,15 +1,52 @@
-ghost use Rattle.std.specs.Prelude.{◌≡◌, IfErr, IfSome};
+ghost use Rattle.std.specs.Prelude.{◌≡◌, IfErr, IfSome, IfOk};
 ghost use Rattle.wc_controller.specs.Checking.{Checks, ChecksAlone};
 ghost use Rattle.wc_endings.specs.Endings.{EndsAs, IsAt, TakesInput, ReportsFailures, ReportsReadEndings, ReportsReadFaults, ReportsWriteFaults, WritesUpTo, raised};
 ghost use Rattle.wc_controller.specs.Files.{AnswersCheckFile};
 ghost use Rattle.wc_run.specs.Runs.{ReportsWrites};
+ghost use Rattle.wc_controller.specs.Loads.{IsNeverRefused, IsRefusedLoad, IsTheOnlyRefusal};
+ghost use Rattle.wc_model.specs.Language.Views.{text_view};
+ghost use Rattle.wc_controller.specs.Headline.{HasTheHeadline, IsTheHeadline};
+ghost use Rattle.wc_model.specs.Instrument.Plates.{PlateData};
+ghost use Rattle.wc_laws_loading.specs.Sizes.{IsSmall};
+ghost use Rattle.wc_model.specs.Language.Loading.{IsLoaded};
 
-use crate::loading::load;
 use crate::reading::read_input;
 use std::alloc::Global;
+use wc_cost::{Loaded, cost};
+use wc_declare::tables;
 use wc_endings::{Ending, Input, Stopped, end, write_units};
-use wc_model::{ByteIn, ByteOut};
+use wc_model::{ByteIn, ByteOut, Fault};
+use wc_reader::read;
 use wc_run::RunFault;
+use wc_verify::verify;
+
+/// Loads a program text in five passes: tokens, reading, declarations, bodies, cost. `Err(Refused)`
+/// has the number and the line of the first fault of the first pass that has one, by the list of
+/// refusals; there is no other, and the text is then loaded as nothing. `Err(Memory)` means out of
+/// memory. With what is loaded every scan ends, within the program's bound, and leaves the line as
+/// it is with no program. It is no larger than its text.
+pub fn load<'a>(alloc: Global, text: &'a [u8]) -> Result<Loaded<'a>, Fault>
+    ensures loaded { IfOk result (λ loaded. IsLoaded text.now (text_view loaded.source)) }
+    ensures small { IfOk result (λ loaded. IsSmall text.now (text_view loaded.source)) }
+    ensures headline { IfOk result
+        (λ loaded. (plate : PlateData) → HasTheHeadline plate (text_view loaded.source)) }
+    ensures refused { IfErr result (λ fault. IsRefusedLoad text.now fault) }
+    ensures accepted { IfOk result (λ loaded. IsNeverRefused text.now) }
+    ensures only { IfErr result (λ fault. IsTheOnlyRefusal text.now fault) }
+{
+    let source = read(alloc, text)?;
+    let tables = tables(alloc, &source)?;
+    let checked = verify(alloc, source, tables)?;
+    cost(alloc, checked)
+}
+
+/// The headline as one law over the definitions: for every plate, every program text that is loaded from its bytes and every list of rows:
+/// whatever rows have come, in whatever order, the next scan ends, is never stuck, and executes no
+/// more items than the program's bound; and without the lines of its scans the report is, byte for
+/// byte, that of a run with no program.
+pub fn the_headline()
+    ensures { IsTheHeadline }
+{}
 
 /// Checks a program text, and writes for each unit, in the text's order, a line with its name and
 /// the number of steps that it takes at most; with `paths` the lines of its worst path after it.

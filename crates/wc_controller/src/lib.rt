@@ -4,21 +4,15 @@
 
 mod answering;
 mod checking;
-mod headline;
-mod inputs;
 mod loaded;
-mod loading;
 mod log_runs;
 mod reading;
 mod running;
 
 pub use answering::{answer_job, job};
-pub use checking::{check, check_file};
-pub use headline::the_headline;
-pub use inputs::RunInputs;
-pub use loading::load;
+pub use checking::{check, check_file, load, the_headline};
 pub use log_runs::{run, run_last};
 pub use reading::read_input;
-pub use running::{last_files, report_files, run_files, run_inputs};
+pub use running::{RunInputs, last_files, report_files, run_files, run_inputs};
 pub use wc_endings::{Ending, Input, Stopped, end, text_of_units};
 pub use wc_run::{RefusedRow, RunFault};

@@ -3,7 +3,7 @@ ghost use Rattle.wc_controller.specs.Blames.{IsNextUnloaded, IsUnloaded, Refuses
 ghost use Rattle.wc_endings.specs.Endings.{HasNotFailedAt, IsReadFaultAt, StopsAt, ReportsMemory, ReportsWriteFaults, WritesUpTo, begin_fault_input, fault_raised, raised};
 ghost use Rattle.wc_controller.specs.Files.{AnswersPrinting, IsLineAnswer};
 ghost use Rattle.wc_controller.specs.InputStates.{observed_by, reader_of};
-ghost use Rattle.wc_controller.specs.WrittenRuns.{IsUnwritten, OnEnd, says_of};
+ghost use Rattle.wc_controller.specs.WrittenRuns.{IsUnwritten, OnEnd, logic_shown, next_text, says_of};
 ghost use Rattle.wc_controller.specs.TakenLogs.{IsLater, IsNextLoadedOf, OfLogic, log_alone, log_alongside, log_by};
 ghost use Rattle.wc_model.specs.Instrument.Plates.{PlateData};
 ghost use Rattle.wc_model.specs.Language.Loading.{IsLoaded};
@@ -17,10 +17,10 @@ ghost use Rattle.wc_record.specs.Reading.{records_of};
 ghost use Rattle.wc_run.specs.Logics.{text_of_next};
 ghost use Rattle.wc_run.specs.Doing.{WritesBy};
 ghost use Rattle.wc_run.specs.Runs.{HasNotFailed, ReportsRefused, ReportsWrites};
-ghost use Rattle.wc_run.specs.Observing.{Plan, RefusesToBegin, bytes_of, loaded_of, logic_of, said, start_of, start_with};
+ghost use Rattle.wc_run.specs.Observing.{Plan, RefusesToBegin, bytes_of, loaded_of, said, start_of, start_with};
 ghost use Rattle.wc_run.specs.Representation.{IsNotAfter, Represents};
 
-use crate::loading::load;
+use crate::checking::load;
 use std::alloc::Global;
 use wc_cost::Loaded;
 use wc_endings::{Input, Stopped};
@@ -116,17 +116,15 @@ fn begin<W: ByteOut, O: Observer<SlotStore, W>>(
     ensures settings { O.settings observer.new ≡ O.settings observer.old }
     ensures plan { O.plan observer.new ≡ O.plan observer.old }
     ensures seen { OnOk result ((plate : PlateData)
-        → O.has_seen observer.new plate (logic_of (loaded_of first.entry)
-        (loaded_of next.entry)) []) }
+        → O.has_seen observer.new plate (logic_shown first.entry next.entry) []) }
     ensures written { OnOk result ((plate : PlateData) (taken : Option (List ℕ))
         → O.has_written observer.new (start_of first.entry next.entry taken) taken plate
-        (logic_of (loaded_of first.entry) (loaded_of next.entry)) []) }
+        (logic_shown first.entry next.entry) []) }
     ensures begins { OnOk result
-        (O.begins observer.old (logic_of (loaded_of first.entry) (loaded_of next.entry)) ≡ true) }
+        (O.begins observer.old (logic_shown first.entry next.entry) ≡ true) }
     ensures refused { IfErr result (λ stopped. RefusesToBegin
-        (O.begins observer.old (logic_of (loaded_of first.entry) (loaded_of next.entry)))
-        (O.has_refused observer.old observer.new
-        (logic_of (loaded_of first.entry) (loaded_of next.entry)))
+        (O.begins observer.old (logic_shown first.entry next.entry))
+        (O.has_refused observer.old observer.new (logic_shown first.entry next.entry))
         stopped.fault) }
     ensures input { IfErr result (λ stopped. stopped.input ≡ begin_fault_input stopped.fault) }
 {
@@ -245,25 +243,23 @@ pub(crate) fn run_loaded<W: ByteOut, O: Observer<SlotStore, W>, L: ByteIn>(
 ) -> Result<(), Stopped>
     requires new { O.is_new observer.old }
     ensures writes { IfSome (L.bytes_left log.old)
-        (λ bytes. WritesUpTo (AnswersNext (option_map (λ text. text.now) programs.entry.next)
+        (λ bytes. WritesUpTo (AnswersNext (next_text programs.entry)
         (AnswersPrinting (observed_by O.plan O.begins observer.old) programs.entry.plate
         (log_of (records_of bytes)) (text_view programs.entry.loaded.source)))
         (raised result) (said O.speaks (W.bytes_taken writer.old))
         (said O.speaks (W.bytes_taken writer.new))) }
     ensures ended { OnEnd result (OfLogic (text_view programs.entry.loaded.source)
-        (option_map (λ text. text.now) programs.entry.next)
-        (λ logic. IfSome (L.bytes_left log.old)
+        (next_text programs.entry) (λ logic. IfSome (L.bytes_left log.old)
         (λ bytes. says_of (O.has_ended observer.new (O.settings observer.old))
         (W.bytes_taken writer.new)
-        (start_with programs.entry.text.now (option_map (λ text. text.now) programs.entry.next)
-        (W.bytes_taken writer.old)) programs.entry.plate logic (log_by logic bytes)))) }
+        (start_with programs.entry.text.now (next_text programs.entry) (W.bytes_taken writer.old))
+        programs.entry.plate logic (log_by logic bytes)))) }
     ensures unwritten { IsUnwritten result (W.bytes_taken writer.old)
         (W.bytes_taken writer.new) }
-    ensures blames_next { IfErr result
-        (λ stopped. stopped.input ≡ Input.Next
-        → IsNextUnloaded (option_map (λ text. text.now) programs.entry.next) stopped.fault) }
+    ensures blames_next { IfErr result (λ stopped. stopped.input ≡ Input.Next
+        → IsNextUnloaded (next_text programs.entry) stopped.fault) }
     ensures blames_log { StopsFor Input.Log
-        (RefusesLog (log_alongside (is_some (option_map (λ text. text.now) programs.entry.next)))
+        (RefusesLog (log_alongside (is_some (next_text programs.entry)))
         (fields_reported reported.new)) (L.bytes_left log.old) result }
     ensures unread { StopsAt Input.Next result
         → reader_of L.bytes_left L.failure_count L.spent_count log.new
@@ -271,9 +267,8 @@ pub(crate) fn run_loaded<W: ByteOut, O: Observer<SlotStore, W>, L: ByteIn>(
     ensures names { StopsAt Input.Names result
         → reader_of L.bytes_left L.failure_count L.spent_count log.new
         ≡ reader_of L.bytes_left L.failure_count L.spent_count log.old }
-    ensures refused { StopsAt Input.Names result → OfLogic
-        (text_view programs.entry.loaded.source) (option_map (λ text. text.now) programs.entry.next)
-        (λ logic. (O.begins observer.old logic ≡ false)
+    ensures refused { StopsAt Input.Names result → OfLogic (text_view programs.entry.loaded.source)
+        (next_text programs.entry) (λ logic. (O.begins observer.old logic ≡ false)
         × O.has_refused observer.old observer.new logic) }
     ensures later { IsLater result }
     ensures held { ¬ IsReadFaultAt Input.Next result }
@@ -281,8 +276,7 @@ pub(crate) fn run_loaded<W: ByteOut, O: Observer<SlotStore, W>, L: ByteIn>(
         → HasCause (L.failure_count log.old) (L.failure_count log.new)
         (L.spent_count log.old) (L.spent_count log.new) }
     ensures memory { raised result ≡ Some RunFault.Memory
-        → ReportsMemory (log_alongside (is_some (option_map
-        (λ text. text.now) programs.entry.next)))
+        → ReportsMemory (log_alongside (is_some (next_text programs.entry)))
         (L.bytes_left log.old) (L.failure_count log.old) (L.failure_count log.new)
         (L.spent_count log.old) (L.spent_count log.new) }
     ensures reader { HasNotFailedAt Input.Log result (L.failure_count log.old)

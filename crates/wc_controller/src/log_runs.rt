@@ -4,7 +4,6 @@ ghost use Rattle.wc_model.specs.Say.LogFor.{log_for};
 ghost use Rattle.wc_model.specs.Say.ProgramReport.{Logic};
 ghost use Rattle.wc_record.specs.Left.{HasCause};
 ghost use Rattle.wc_record.specs.Reading.{records_of};
-ghost use Rattle.wc_run.specs.Doing.{IsClassified};
 ghost use Rattle.wc_run.specs.Logics.{IsAt};
 ghost use Rattle.wc_run.specs.Runs.{HasNotFailed, LeavesLine, Reports, ReportsWrites};
 
@@ -16,20 +15,6 @@ use wc_plate::Plate;
 use wc_record::RefusedRow;
 use wc_run::{LastScans, Report, RunFault, Scale, classified};
 use wc_store::Store;
-
-/// The fault of a run that is out of memory before it begins: if the reader has failed already as often as can be counted,
-/// that is reported.
-fn fault_at_start<R: ByteIn>(fault: RunFault, reader: &R) -> RunFault
-    ensures classified { IsClassified fault result }
-    ensures read { result ≡ RunFault.Read
-        → HasCause (R.failure_count reader.now) (R.failure_count reader.now)
-        (R.spent_count reader.now) (R.spent_count reader.now) }
-    ensures memory { result ≡ RunFault.Memory
-        → ¬ HasCause (R.failure_count reader.now) (R.failure_count reader.now)
-        (R.spent_count reader.now) (R.spent_count reader.now) }
-{
-    classified(fault, reader, reader.failures(), reader.spent())
-}
 
 /// Runs a log and writes its report, with a line for every scan. Each row is read and carried out,
 /// and its line is written, before the next row is read. A run takes no more memory for more rows.
@@ -89,16 +74,12 @@ pub fn run<'a, S: Store, R: ByteIn, W: ByteOut>(
     ensures reader { HasNotFailed result (R.failure_count reader.old)
         (R.failure_count reader.new) }
 {
+    let mut text = Report::new(alloc);
+    let mut reported = RefusedRow::new(alloc);
     match Scale::new(alloc, plate, machine, next) {
-        Ok(mut scale) => wc_run::run(
-            alloc,
-            &mut Report::new(alloc),
-            &mut scale,
-            reader,
-            writer,
-            &mut RefusedRow::new(alloc),
-        ),
-        Err(fault) => Err(fault_at_start(fault, reader)),
+        Ok(mut scale) => wc_run::run(alloc, &mut text, &mut scale, reader, writer, &mut reported),
+        // If the reader has failed already as often as can be counted, that is reported.
+        Err(fault) => Err(classified(fault, reader, reader.failures(), reader.spent())),
     }
 }
 
@@ -151,17 +132,11 @@ pub fn run_last<'a, S: Store, R: ByteIn, W: ByteOut>(
 {
     let mut scans = match LastScans::new(alloc, last) {
         Ok(scans) => scans,
-        Err(fault) => return Err(fault_at_start(fault, reader)),
+        Err(fault) => return Err(classified(fault, reader, reader.failures(), reader.spent())),
     };
+    let mut reported = RefusedRow::new(alloc);
     match Scale::new(alloc, plate, machine, next) {
-        Ok(mut scale) => wc_run::run(
-            alloc,
-            &mut scans,
-            &mut scale,
-            reader,
-            writer,
-            &mut RefusedRow::new(alloc),
-        ),
-        Err(fault) => Err(fault_at_start(fault, reader)),
+        Ok(mut scale) => wc_run::run(alloc, &mut scans, &mut scale, reader, writer, &mut reported),
+        Err(fault) => Err(classified(fault, reader, reader.failures(), reader.spent())),
     }
 }

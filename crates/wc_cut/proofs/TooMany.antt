@@ -9,7 +9,7 @@ use Rattle.wc_cut.specs.CutAgain.{rows_of_cut}
 use Rattle.wc_cut.specs.KeptRows.{HasCounted}
 use Rattle.wc_cut.specs.TooMany.{IsReported, ReportsTooMany, ending_reported}
 use Rattle.wc_cut.specs.declared.cutter.Cutter.{Cutter}
-use Rattle.wc_cut.specs.declared.too_many.TooManyRows.{TooManyRows}
+use Rattle.wc_cut.specs.declared.cutting.TooManyRows.{TooManyRows}
 use Rattle.wc_endings.specs.declared.ending.Ending.{Ending}
 use Rattle.wc_endings.specs.declared.ending.Ending.TheVariants as ended
 use Rattle.wc_model.specs.Instrument.Plates.{PlateData}

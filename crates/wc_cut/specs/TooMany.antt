@@ -3,7 +3,7 @@ use Rattle.std.specs.Prelude.{◌≡◌, ⊤, ℕ, ◌<◌, ◌≤◌, List, len
 use Rattle.wc_controller.specs.InputStates.{InputStates}
 use Rattle.wc_controller.specs.WrittenRuns.{OfRun}
 use Rattle.wc_cut.specs.CutAgain.{rows_of_cut}
-use Rattle.wc_cut.specs.declared.too_many.TooManyRows.{TooManyRows}
+use Rattle.wc_cut.specs.declared.cutting.TooManyRows.{TooManyRows}
 use Rattle.wc_endings.specs.declared.ending.Ending.{Ending}
 use Rattle.wc_endings.specs.declared.ending.Ending.TheVariants as ended
 use Rattle.wc_model.specs.Run.Log.{most_rows}

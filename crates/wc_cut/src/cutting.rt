@@ -5,16 +5,30 @@ ghost use Rattle.wc_cut.specs.CutAgain.{IsCutAgain};
 ghost use Rattle.wc_cut.specs.Cuts.{cut_observed};
 ghost use Rattle.wc_cut.specs.ReadBack.{IsReadBack};
 ghost use Rattle.wc_cut.specs.ReadLogs.{IsLogAgain};
-ghost use Rattle.wc_cut.specs.TooMany.{ReportsTooMany, ending_reported};
+ghost use Rattle.wc_cut.specs.Replays.{GoesOnFromTheCut};
+ghost use Rattle.wc_cut.specs.TooMany.{IsReported, ReportsTooMany, ending_reported};
 ghost use Rattle.wc_model.specs.Instrument.Plates.{IsPlate, PlateData};
 ghost use Rattle.wc_model.specs.Run.Rows.{LogRow};
 ghost use Rattle.wc_record.specs.Reported.{fields_reported};
 
 use crate::cutter::Cutter;
-use crate::too_many::{TooManyRows, ending_or_too_many};
 use std::alloc::Global;
 use wc_controller::{Ending, RefusedRow, RunInputs, run_files};
 use wc_model::{ByteIn, ByteOut};
+
+/// The log that was written has more rows than a log may have, so that it will be refused.
+#[derive(Clone, Copy)]
+pub struct TooManyRows;
+
+/// The ending of a cut; the error if it is done, and no capacity is left.
+fn ending_or_too_many(ending: Ending, capacity: u64) -> Result<Ending, TooManyRows>
+    ensures { IsReported ending capacity result }
+{
+    if capacity == 0 && ending == Ending::Done {
+        return Err(TooManyRows);
+    }
+    Ok(ending)
+}
 
 /// Runs a log as `run_files` does, and in place of its report writes the log that goes on after
 /// `count` rows, the heading not counted: the heading, the prelude of those rows, at the time of
@@ -54,3 +68,10 @@ pub fn cut_files<P: ByteIn, T: ByteIn, N: ByteIn, L: ByteIn, W: ByteOut>(
     let ending = run_files(alloc, &mut cutter, inputs, writer, reported);
     ending_or_too_many(ending, cutter.capacity)
 }
+
+/// A log that is cut is the text of rows, and these go on as the rows of the whole log do: each
+/// answer after the cut, each reading and each image is the same.
+pub fn cut_logs_go_on()
+    ensures { (plate : PlateData) → 0 < plate.window → (count : ℕ) (rows : List LogRow)
+        → GoesOnFromTheCut plate count rows }
+{}

@@ -2,13 +2,8 @@
 //! bring a new scale to the state that they left.
 #![tactic(auto)]
 
-mod capacity;
 mod cutter;
 mod cutting;
-mod laws;
 mod rows;
-mod too_many;
 
-pub use cutting::cut_files;
-pub use laws::cut_logs_go_on;
-pub use too_many::TooManyRows;
+pub use cutting::{TooManyRows, cut_files, cut_logs_go_on};

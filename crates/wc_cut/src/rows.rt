@@ -1,5 +1,4 @@
-ghost use Rattle.std.specs.Prelude.{◌≡◌, ◌++◌, ◌/◌, ◌%◌, ◌∷◌};
-ghost use Rattle.std.specs.Prelude.{[], IsOkUnless, OnOk, map, option_map, replicate};
+ghost use Rattle.std.specs.Prelude.{◌≡◌, ◌++◌, ◌/◌, ◌%◌, ◌∷◌, [], IsOkUnless, OnOk, map, option_map, replicate};
 ghost use Rattle.wc_cut.specs.RowTexts.{data_text, line_of, lines_of};
 ghost use Rattle.wc_laws_instrument.specs.Preludes.{input_rows, load_rows, prelude_of, request_rows};
 ghost use Rattle.wc_model.specs.Run.Rows.{Counts};
@@ -62,15 +61,6 @@ pub(crate) fn put_row(
     Ok(())
 }
 
-/// Puts the row of a sample after a text.
-fn put_sample(text: &mut Vec<u8>, ms: u64, counts: i32) -> Result<(), RunFault>
-    ensures text { OnOk result
-        (text.new.items ≡ text.old.items ++ line_of ms (Counts counts)) }
-    ensures memory { IsOkUnless result RunFault.Memory }
-{
-    put_row(text, ms, HeadKind::Counts(counts), &[])
-}
-
 /// Puts the rows of samples after a text.
 fn put_samples(text: &mut Vec<u8>, ms: u64, samples: &[i32]) -> Result<(), RunFault>
     ensures text { OnOk result
@@ -78,7 +68,7 @@ fn put_samples(text: &mut Vec<u8>, ms: u64, samples: &[i32]) -> Result<(), RunFa
     ensures memory { IsOkUnless result RunFault.Memory }
 {
     for sample in samples {
-        put_sample(text, ms, *sample)?;
+        put_row(text, ms, HeadKind::Counts(*sample), &[])?;
     }
     Ok(())
 }
@@ -90,7 +80,7 @@ fn put_load(text: &mut Vec<u8>, ms: u64, window: usize, counts: i32) -> Result<(
     ensures memory { IsOkUnless result RunFault.Memory }
 {
     for _turn in 0..window {
-        put_sample(text, ms, counts)?;
+        put_row(text, ms, HeadKind::Counts(counts), &[])?;
     }
     Ok(())
 }

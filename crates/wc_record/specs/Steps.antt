@@ -43,13 +43,6 @@ pub record Keeps {R : Type 0} (old new : Rows R) : Type 0 where
   pub start : new.start ≡ old.start
   pub end : new.end ≡ old.end
 
--- the same, and the current row
-pub record KeepsRow {R : Type 0} (old new : Rows R) : Type 0 where
-  pub start : new.start ≡ old.start
-  pub end : new.end ≡ old.end
-  pub number : new.number ≡ old.number
-  pub last : new.last ≡ old.last
-
 -- a step gives the head of the row of that number or a fault that is not the reader's, and keeps start and end
 abbrev pub Steps : {R : Type 0} → ℕ → Rows R → Answer RowHead → Rows R → Type 0
 Steps number old answer new = GivesHead number old answer new × IfErr answer (λ raised. raised ≡ fault.Read → ⊥) × Keeps old new

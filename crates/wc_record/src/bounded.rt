@@ -1,7 +1,7 @@
 ghost use Rattle.std.specs.Prelude.{◌≡◌, true, false, option_map, Ok, IsErr};
 ghost use Rattle.std.specs.Io.{ReadsAtMost};
 ghost use Rattle.std.specs.Io.KnownBytes.{ReadConsumes};
-ghost use Rattle.wc_model.specs.Run.Devices.{failures_after_read, spent_after_read};
+ghost use Rattle.wc_model.specs.Run.Devices.{failures_after_read};
 ghost use Rattle.wc_record.specs.Bound.{is_exhausted};
 ghost use Rattle.wc_record.specs.Cutting.{cut_from};
 ghost use Rattle.wc_record.specs.Places.{is_cut, log_start};
@@ -19,24 +19,6 @@ pub fn is_exhausted(start: u64, spent: u64) -> bool
     ensures { result ≡ is_exhausted start spent }
 {
     spent == u64::MAX || spent.saturating_sub(start) >= MOST_SPENT
-}
-
-/// Reads, unless as much was read as may be.
-fn read_within<R: ByteIn>(reader: &mut R, start: u64, buffer: &mut [u8]) -> io::Result<usize>
-    ensures bound { ReadsAtMost result buffer.new }
-    ensures bytes { ReadConsumes (R.bytes_left reader.old)
-        (R.bytes_left reader.new) result buffer.new }
-    // What is exhausted reads no further.
-    ensures exhausted { is_exhausted start (R.spent_count reader.old) ≡ true
-        → IsErr result × (reader.new ≡ reader.old) }
-    ensures passed { is_exhausted start (R.spent_count reader.old) ≡ false
-        → (R.failure_count reader.new ≡ failures_after_read (R.failure_count reader.old) result)
-        × (R.spent_count reader.new ≡ spent_after_read (R.spent_count reader.old) result) }
-{
-    if is_exhausted(start, reader.spent()) {
-        return Err(io::Error::from(io::ErrorKind::Other));
-    }
-    reader.read(buffer)
 }
 
 /// A reader that is borrowed, the count at which it was, and the place at which it is. It ends in a
@@ -66,7 +48,7 @@ impl<'r, R: ByteIn> LimitedReader<'r, R> {
         }
     }
 
-    /// Reads, up to the cut, if it is not reached yet.
+    /// Reads, up to the cut, which is not reached yet, unless as much was read as may be.
     #[inline(always)]
     fn read_on(&mut self, buffer: &mut [u8]) -> io::Result<usize>
         requires { is_cut self.old.place ≡ false }
@@ -81,7 +63,10 @@ impl<'r, R: ByteIn> LimitedReader<'r, R> {
             ≡ failures_after_read (R.failure_count self.old.reader.now) result }
         ensures start { self.new.start ≡ self.old.start }
     {
-        match read_within(self.reader, self.start, buffer) {
+        if is_exhausted(self.start, self.reader.spent()) {
+            return Err(io::Error::from(io::ErrorKind::Other));
+        }
+        match self.reader.read(buffer) {
             Ok(given) => {
                 let count = self.place.walk(&buffer[..given]);
                 self.given.note(&buffer[..count]);

@@ -24,13 +24,6 @@ impl Given {
         }
     }
 
-    /// Marks the CR at that place of the chunk.
-    fn mark(&mut self, place: usize) {
-        if let Some(word) = self.returns.get_mut(place / 64) {
-            *word |= 1 << (place % 64);
-        }
-    }
-
     /// Notes a chunk in place of the one before.
     pub(crate) fn note(&mut self, chunk: &[u8]) {
         let Some(last) = chunk.last() else {
@@ -41,14 +34,10 @@ impl Given {
         self.last = *last;
         self.returns = [0; CHUNK_WORDS];
         for place in memchr_iter(b'\r', chunk) {
-            self.mark(place);
+            if let Some(word) = self.returns.get_mut(place / 64) {
+                *word |= 1 << (place % 64);
+            }
         }
-    }
-
-    /// Whether a CR is at that place of the last chunk.
-    fn is_return(&self, place: usize) -> bool {
-        let word = self.returns.get(place / 64).copied().unwrap_or(0);
-        word >> (place % 64) & 1 == 1
     }
 
     /// Whether the row that ends directly before that place, counted from 0, ends with a line feed. One that ends before the
@@ -58,8 +47,11 @@ impl Given {
             return self.last == b'\n';
         }
         let following = self.total.saturating_sub(place) as usize;
-        let before = self.length.checked_sub(following.saturating_add(1));
-        before.is_some_and(|before| !self.is_return(before))
+        let Some(before) = self.length.checked_sub(following.saturating_add(1)) else {
+            return false;
+        };
+        let word = self.returns.get(before / 64).copied().unwrap_or(0);
+        word >> (before % 64) & 1 == 0
     }
 
     /// Whether nothing was given after that place.

@@ -5,7 +5,6 @@
 mod bounded;
 mod fields;
 mod given;
-mod hexadecimal;
 mod last_scans;
 mod log;
 mod numbers;

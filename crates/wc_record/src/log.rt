@@ -1,10 +1,10 @@
-ghost use Rattle.std.specs.Prelude.{◌≡◌, ◌∷◌, [], suc, max, List, Some, None, true, false, IfOk, IfErr, IfSome, OnOk, IsErrOf};
+ghost use Rattle.std.specs.Prelude.{◌≡◌, ◌∷◌, [], suc, max, List, Some, None, true, false, IfErr, IfSome, OnOk, IsErrOf};
 ghost use Rattle.csv.specs.Records.{fields_of};
 ghost use Rattle.wc_model.specs.Run.Log.{Record, LogOf, log_of};
 ghost use Rattle.wc_record.specs.Left.{GivesHead, GivesNext, IsCause, HasCauseIn, HasCauseSince, HasLeft, IsAfterRecords, Takes, bounded_from, count_in, ended, last_ms, row_bytes, rows_read, started_at};
 ghost use Rattle.wc_record.specs.Left as left;
-ghost use Rattle.wc_record.specs.Reading.{HasRecords, TakesFirst, records_of};
-ghost use Rattle.wc_record.specs.Steps.{GivesLeft, GivesRecord, IsAfterFirst, Keeps, KeepsRow, RefusesAt, Steps};
+ghost use Rattle.wc_record.specs.Reading.{records_of};
+ghost use Rattle.wc_record.specs.Steps.{GivesLeft, GivesRecord, IsAfterFirst, Keeps, RefusesAt, Steps};
 ghost use Rattle.wc_record.specs.Reported.{Reads, current_record, fields_reported, records_read};
 ghost use Rattle.wc_record.specs.Views.{head_view, row_view};
 
@@ -16,6 +16,7 @@ use crate::row_data::RowFault;
 use crate::row_head::{RowHead, owned_row};
 use crate::row_kind::{LogFault, Row};
 use csv::ByteRecord;
+use memchr::memchr_iter;
 use std::alloc::Global;
 use std::mem::replace;
 use wc_model::{ByteIn, MOST_ROWS};
@@ -142,23 +143,6 @@ impl<'r, R: ByteIn> Rows<'r, R> {
         }
     }
 
-    /// Reads the next record, if there is one. `Memory` represents whatever kept it from being
-    /// read.
-    #[inline(always)]
-    fn read(&mut self) -> Result<bool, LogFault>
-        ensures next { IfOk result
-            (λ found.
-            TakesFirst (HasRecords R.bytes_left self.old.records)
-            (HasRecords R.bytes_left self.new.records) found (fields_of self.new.row)) }
-        ensures fault { IfErr result (λ raised. raised ≡ LogFault.Memory) }
-        ensures keeps { KeepsRow self.old self.new }
-    {
-        match self.records.read(&mut self.row) {
-            Ok(found) => Ok(found),
-            Err(_) => Err(LogFault::Memory),
-        }
-    }
-
     /// Reads the first row, which is not a row of the log.
     #[cold]
     #[inline(never)]
@@ -175,7 +159,8 @@ impl<'r, R: ByteIn> Rows<'r, R> {
         ensures keeps { Keeps self.old self.new }
     {
         self.row = buffer_record(self.alloc)?;
-        match self.read() {
+        // `Memory` represents whatever kept it from being read.
+        match self.records.read(&mut self.row) {
             Ok(found) => {
                 if found && is_first_row(&self.row) {
                     self.number = 1;
@@ -189,7 +174,7 @@ impl<'r, R: ByteIn> Rows<'r, R> {
                     place: 1,
                 })
             }
-            Err(fault) => Err(fault),
+            Err(_) => Err(LogFault::Memory),
         }
     }
 
@@ -231,10 +216,10 @@ impl<'r, R: ByteIn> Rows<'r, R> {
             → GivesRecord R.bytes_left (first ∷ before) left result self.new }
         ensures steps { Steps (suc (rows_read self.old)) self.old result self.new }
     {
-        match self.read() {
+        match self.records.read(&mut self.row) {
             Ok(true) => self.row_of_record(),
             Ok(false) => Ok(None),
-            Err(fault) => Err(fault),
+            Err(_) => Err(LogFault::Memory),
         }
     }
 
@@ -381,12 +366,7 @@ impl<'r, R: ByteIn> Rows<'r, R> {
 
     /// The line of the log on which the row that was read last starts, counted from 1.
     fn line(&self) -> u32 {
-        let feeds = self
-            .row
-            .as_slice()
-            .iter()
-            .filter(|byte| **byte == b'\n')
-            .count();
+        let feeds = memchr_iter(b'\n', self.row.as_slice()).count();
         let line = self.records.line().saturating_sub(feeds as u64);
         line.clamp(1, u32::MAX as u64) as u32
     }

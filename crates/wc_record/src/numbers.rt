@@ -1,10 +1,11 @@
-ghost use Rattle.std.specs.Prelude.{◌≡◌, ◌≤◌, ◌≤ℤ◌, ◌<◌, ◌^◌, ◌-◌, length, map, if◌then◌else◌, nat_lt, Some, None, IfSome};
+ghost use Rattle.std.specs.Prelude.{◌≡◌, ◌≤◌, ◌≤ℤ◌, ◌<◌, ◌^◌, ◌-◌, length, map, if◌then◌else◌, nat_lt, true, Some, None, IfOk, IfSome};
 ghost use Rattle.std.specs.Char.{is_ascii_digit};
 ghost use Rattle.std.specs.Int.Digits.{number_from_digits};
 ghost use Rattle.std.specs.List.{list_all};
 ghost use Rattle.wc_model.specs.Instrument.Plates.{least_sample, greatest_sample};
-ghost use Rattle.wc_model.specs.Run.Log.{number_within, moment_of, whole_of, counts_of};
+ghost use Rattle.wc_model.specs.Run.Log.{number_within, moment_of, whole_of, counts_of, line_chunk_of, inputs_word_of};
 
+use std::alloc::AllocError;
 use wc_model::{GREATEST_COUNTS, LAST_MOMENT, LEAST_COUNTS};
 
 /// The value of a byte as a digit, 10 or more if it is none. It is computed in the width of the number that it is added to, so
@@ -73,15 +74,9 @@ fn whole(text: &[u8]) -> Option<i64>
         return None;
     };
     if *first == b'-' {
-        match number_within(10, rest) {
-            Some(number) => Some(-(number as i64)),
-            None => None,
-        }
+        Some(-(number_within(10, rest)? as i64))
     } else {
-        match number_within(10, text) {
-            Some(number) => Some(number as i64),
-            None => None,
-        }
+        Some(number_within(10, text)? as i64)
     }
 }
 
@@ -96,5 +91,34 @@ pub(crate) fn counts(text: &[u8]) -> Option<i32>
     match whole(text) {
         Some(counts) if counts >= least && counts <= greatest => Some(counts as i32),
         _ => None,
+    }
+}
+
+/// Puts the line bytes that a text of hexadecimal digits writes into the buffer, if it writes at
+/// most 4096: whether it does. No memory is taken if the buffer is large enough.
+#[inline(never)]
+pub(crate) fn line_chunk(buffer: &mut Vec<u8>, text: &[u8]) -> Result<bool, AllocError>
+    ensures chunk { IfOk result
+        (λ found. (if found then Some buffer.new.items else None) ≡ line_chunk_of text.now) }
+    ensures few { IfOk result (λ found. found ≡ true → length buffer.new.items ≤ 4096) }
+{
+    if text.len() > 8192 {
+        return Ok(false);
+    }
+    buffer.resize(text.len() / 2, 0)?;
+    match hex::decode_to_slice(text, buffer.as_mut_slice()) {
+        Ok(()) => Ok(true),
+        Err(_) => Ok(false),
+    }
+}
+
+/// The inputs that four hexadecimal digits write.
+pub(crate) fn inputs_word(text: &[u8]) -> Option<u16>
+    ensures { result ≡ inputs_word_of text.now }
+{
+    let mut word = [0; 2];
+    match hex::decode_to_slice(text, &mut word) {
+        Ok(()) => Some(u16::from_be_bytes(word)),
+        Err(_) => None,
     }
 }

@@ -36,16 +36,24 @@ pub(crate) struct Place {
     pub(crate) size: u32,
 }
 
+/// The place of these parts.
+#[inline(always)]
+fn place_of(byte_state: ByteState, ended: u8, size: u32) -> Place
+    ensures { result ≡ record { byte_state = byte_state; ended = ended; size = size } }
+{
+    Place {
+        byte_state,
+        ended,
+        size,
+    }
+}
+
 /// The place before the first byte of a record.
 #[inline(always)]
 fn at_record() -> Place
     ensures { result ≡ record_start }
 {
-    Place {
-        byte_state: ByteState::Opening,
-        ended: 0,
-        size: 0,
-    }
+    place_of(ByteState::Opening, 0, 0)
 }
 
 /// The place after a byte that opens no quotes, outside of them.
@@ -54,19 +62,11 @@ fn following_plain(ended: u8, size: u32, byte: u8) -> Place
     ensures { result ≡ after_plain ended size byte }
 {
     if byte == b',' {
-        Place {
-            byte_state: ByteState::Opening,
-            ended: ended.saturating_add(1).min(3),
-            size,
-        }
+        place_of(ByteState::Opening, ended.saturating_add(1).min(3), size)
     } else if byte == b'\r' || byte == b'\n' {
         at_record()
     } else {
-        Place {
-            byte_state: ByteState::Plain,
-            ended,
-            size,
-        }
+        place_of(ByteState::Plain, ended, size)
     }
 }
 
@@ -76,11 +76,7 @@ fn following_opening(ended: u8, size: u32, byte: u8) -> Place
     ensures { result ≡ after_opening ended size byte }
 {
     if byte == b'"' {
-        Place {
-            byte_state: ByteState::Quoted,
-            ended,
-            size,
-        }
+        place_of(ByteState::Quoted, ended, size)
     } else {
         following_plain(ended, size, byte)
     }
@@ -104,11 +100,7 @@ impl Place {
     pub(crate) fn new() -> Place
         ensures { result ≡ log_start }
     {
-        Place {
-            byte_state: ByteState::LogStart,
-            ended: 0,
-            size: 0,
-        }
+        place_of(ByteState::LogStart, 0, 0)
     }
 
     /// Whether no more is read of the current record: it has more than three fields, however it
@@ -143,11 +135,7 @@ impl Place {
             ByteState::ThirdOfMark if byte == 0xbf => return at_record(),
             ByteState::ThirdOfMark => return following_plain(self.ended, size, byte),
         };
-        Place {
-            byte_state,
-            ended: self.ended,
-            size,
-        }
+        place_of(byte_state, self.ended, size)
     }
 
     /// Whether no quotes are open here, and no byte order mark.

@@ -4,8 +4,7 @@ ghost use Rattle.wc_model.specs.Run.Log as log;
 ghost use Rattle.wc_model.specs.Run.Rows as rows;
 ghost use Rattle.wc_record.specs.Views.{BringsInRange, IsDataInRange, Says, SaysData, head_data_view};
 
-use crate::hexadecimal::{inputs_word, line_chunk};
-use crate::numbers::counts;
+use crate::numbers::{counts, inputs_word, line_chunk};
 use crate::row_head::HeadKind;
 
 /// Why fields are not a row.
@@ -63,33 +62,7 @@ fn inputs(text: &[u8]) -> Result<HeadKind, RowFault>
     }
 }
 
-/// A scan, which has no data.
-#[inline(always)]
-fn scan(text: &[u8]) -> Result<HeadKind, RowFault>
-    ensures says { Says result (log.scan_of_data text.now) }
-    ensures range { BringsInRange result }
-{
-    if text.is_empty() {
-        Ok(HeadKind::Scan)
-    } else {
-        Err(refused(608))
-    }
-}
-
-/// A change of the program, which has no data either.
-#[inline(always)]
-fn change(text: &[u8]) -> Result<HeadKind, RowFault>
-    ensures says { Says result (log.change_of_data text.now) }
-    ensures range { BringsInRange result }
-{
-    if text.is_empty() {
-        Ok(HeadKind::Change)
-    } else {
-        Err(refused(608))
-    }
-}
-
-/// What a kind and its data bring; bytes are in the buffer then.
+/// What a kind and its data bring; bytes are in the buffer then. A scan and a change of the program have no data.
 #[inline(always)]
 pub(crate) fn row_data(buffer: &mut Vec<u8>, kind: &[u8], text: &[u8]) -> Result<HeadKind, RowFault>
     ensures says { SaysData buffer.new.items result (row_data_of kind.now text.now) }
@@ -99,8 +72,10 @@ pub(crate) fn row_data(buffer: &mut Vec<u8>, kind: &[u8], text: &[u8]) -> Result
         b"C" => sample(text),
         b"L" => line_bytes(buffer, text),
         b"I" => inputs(text),
-        b"S" => scan(text),
-        b"P" => change(text),
+        b"S" if text.is_empty() => Ok(HeadKind::Scan),
+        b"S" => Err(refused(608)),
+        b"P" if text.is_empty() => Ok(HeadKind::Change),
+        b"P" => Err(refused(608)),
         _ => Err(refused(604)),
     }
 }

@@ -1,3 +1,7 @@
+ghost use Rattle.std.specs.Prelude.{◌≡◌};
+ghost use Rattle.wc_run.specs.Faults.{from_fault, from_log_fault};
+ghost use Rattle.wc_run.specs.declared.fault.RunFault.TheVariants.{Memory, Write};
+
 use std::alloc::AllocError;
 use thiserror::Error;
 use wc_model::{Fault, WriteFault};
@@ -26,9 +30,6 @@ pub enum RunFault {
 }
 
 impl From<Fault> for RunFault {
-    ghost use Rattle.std.specs.Prelude.{◌≡◌};
-    ghost use Rattle.wc_run.specs.Faults.{from_fault};
-
     ghost from_gives = { λ fault given. given ≡ from_fault fault };
 
     fn from(fault: Fault) -> RunFault {
@@ -40,9 +41,6 @@ impl From<Fault> for RunFault {
 }
 
 impl From<LogFault> for RunFault {
-    ghost use Rattle.std.specs.Prelude.{◌≡◌};
-    ghost use Rattle.wc_run.specs.Faults.{from_log_fault};
-
     ghost from_gives = { λ fault given. given ≡ from_log_fault fault };
 
     fn from(fault: LogFault) -> RunFault {
@@ -55,9 +53,6 @@ impl From<LogFault> for RunFault {
 }
 
 impl From<WriteFault> for RunFault {
-    ghost use Rattle.std.specs.Prelude.{◌≡◌};
-    ghost use Rattle.wc_run.specs.declared.fault.RunFault.TheVariants.{Write};
-
     ghost from_gives = { λ fault given. given ≡ Write };
 
     fn from(_fault: WriteFault) -> RunFault {
@@ -66,9 +61,6 @@ impl From<WriteFault> for RunFault {
 }
 
 impl From<AllocError> for RunFault {
-    ghost use Rattle.std.specs.Prelude.{◌≡◌};
-    ghost use Rattle.wc_run.specs.declared.fault.RunFault.TheVariants.{Memory};
-
     ghost from_gives = { λ error given. given ≡ Memory };
 
     fn from(_error: AllocError) -> RunFault {

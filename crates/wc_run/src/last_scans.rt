@@ -4,10 +4,9 @@ ghost use Rattle.wc_run.specs.Reports.{HoldsScans, KeepsScan};
 use crate::fault::RunFault;
 use crate::observer::Observer;
 use crate::program::Program;
-use crate::report::put_answer;
+use crate::report::{last_text, put_answer, write_text};
 use crate::row_seen::{RowSeen, ScanSeen};
 use crate::scale::Scale;
-use crate::scan_lines::{last_text, write_text};
 use std::alloc::Global;
 use wc_model::ByteOut;
 use wc_record::Recorder;
@@ -32,12 +31,11 @@ impl LastScans {
         ensures holds { IfOk result (λ scans. HoldsScans scans.recorder number []) }
         ensures memory { IsOkUnless result RunFault.Memory }
     {
-        let recorder = Recorder::new(alloc, number)?;
         Ok(LastScans {
             alloc,
             text: Vec::new(alloc),
             number,
-            recorder,
+            recorder: Recorder::new(alloc, number)?,
         })
     }
 }

@@ -12,10 +12,9 @@ ghost use Rattle.wc_model.specs.Say.ProgramReport.{Logic};
 ghost use Rattle.wc_run.specs.Runs.{IsFaultAt, ReportsRow, ReportsWrites};
 ghost use Rattle.wc_run.specs.Representation.{IsNotAfter, Represents};
 
-use crate::answers::Answers;
 use crate::fault::RunFault;
 use crate::observer::Observer;
-use crate::row_seen::RowSeen;
+use crate::row_seen::{Answers, RowSeen};
 use crate::scale::Scale;
 use wc_model::{ByteIn, ByteOut};
 use wc_record::{RowHead, Rows};

@@ -1,17 +1,64 @@
-ghost use Rattle.std.specs.Prelude.{◌≡◌, ◌++◌, IsOkUnless, OnOk};
+ghost use Rattle.std.specs.Prelude.{◌≡◌, ◌<◌, ◌+◌, ◌++◌, IfErr, IfOk, IsOkUnless, OnOk};
 ghost use Rattle.wc_model.specs.Say.Report.{AnswerLine, answer_line, line_text, report_text};
-ghost use Rattle.wc_run.specs.Observing.{lines_of_scan, lines_of_seen};
+ghost use Rattle.wc_run.specs.Doing.{Writes};
+ghost use Rattle.wc_run.specs.Observing.{lines_of_seen};
+ghost use Rattle.wc_run.specs.Outputs.{line_of_record, lines_of_records};
+ghost use Rattle.wc_run.specs.Runs.{IsNoRefusal, ReportsWrites};
 
 use crate::fault::RunFault;
 use crate::observer::Observer;
 use crate::program::Program;
-use crate::row_seen::{RowSeen, ScanSeen};
+use crate::row_seen::RowSeen;
 use crate::scale::Scale;
-use crate::scan_lines::{put_record, write_text};
 use std::alloc::Global;
-use wc_model::ByteOut;
-use wc_report::put_answer_line;
+use wc_model::{ByteOut, Steps, write_whole};
+use wc_record::{Record, Recorder};
+use wc_report::{put_answer_line, put_scan_line};
 use wc_store::Store;
+
+/// Appends the line of a scan by its record to a text.
+#[inline(always)]
+pub fn put_record(text: &mut Vec<u8>, scan: &Record) -> Result<(), RunFault>
+    ensures text { OnOk result
+        (text.new.items ≡ text.old.items ++ line_text (line_of_record scan.now)) }
+    ensures memory { IsOkUnless result RunFault.Memory }
+{
+    // A copy, so that what is seen of a row has no address and stays in registers.
+    let outputs = scan.outputs;
+    put_scan_line(text, scan.ms, Steps(scan.steps), &outputs)?;
+    Ok(())
+}
+
+/// The lines of the scans whose records are kept, in their order.
+pub(crate) fn last_text(alloc: Global, recorder: &Recorder) -> Result<Vec<u8>, RunFault>
+    ensures text { IfOk result
+        (λ text. text.items ≡ report_text (lines_of_records recorder.now.records)) }
+    ensures memory { IsOkUnless result RunFault.Memory }
+{
+    let mut lines = Vec::new(alloc);
+    for index in 0..recorder.len() {
+        let Some(scan) = recorder.get(index) else {
+            continue;
+        };
+        put_record(&mut lines, scan)?;
+    }
+    Ok(lines)
+}
+
+/// Writes a text. Most rows say nothing, and then the writer is not asked.
+#[inline(always)]
+pub fn write_text<W: ByteOut>(text: &[u8], writer: &mut W) -> Result<(), RunFault>
+    ensures writes { Writes text.now result (W.bytes_taken writer.old) (W.bytes_taken writer.new) }
+    ensures held { IfErr result IsNoRefusal }
+    ensures failures { ReportsWrites result (W.failure_count writer.old)
+        (W.failure_count writer.new) }
+{
+    if text.is_empty() {
+        return Ok(());
+    }
+    write_whole(writer, text)?;
+    Ok(())
+}
 
 /// Appends the line of an answer to a text. It is separate, so that a row without an answer clears no space for a fault.
 #[inline(always)]
@@ -37,19 +84,6 @@ pub fn put_answer(text: &mut Vec<u8>, seen: &RowSeen<'_>) -> Result<(), RunFault
     put_line_of_answer(text, seen.row.ms, seen.answer)
 }
 
-/// Appends the line of a scan, if there is one, to a text.
-#[inline(always)]
-fn put_scan(text: &mut Vec<u8>, scan: &Option<ScanSeen>) -> Result<(), RunFault>
-    ensures text { OnOk result
-        (text.new.items ≡ text.old.items ++ report_text (lines_of_scan scan.now)) }
-    ensures memory { IsOkUnless result RunFault.Memory }
-{
-    match scan {
-        Some(scan) => put_record(text, &scan.record),
-        None => Ok(()),
-    }
-}
-
 /// Appends the lines of a row to a text: its answer's, and its scan's.
 #[inline(always)]
 pub(crate) fn put_lines(text: &mut Vec<u8>, seen: &RowSeen<'_>) -> Result<(), RunFault>
@@ -58,7 +92,10 @@ pub(crate) fn put_lines(text: &mut Vec<u8>, seen: &RowSeen<'_>) -> Result<(), Ru
     ensures memory { IsOkUnless result RunFault.Memory }
 {
     put_answer(text, seen)?;
-    put_scan(text, &seen.scan)
+    match &seen.scan {
+        Some(scan) => put_record(text, &scan.record),
+        None => Ok(()),
+    }
 }
 
 /// Writes the report of a run, each line as its row comes.

@@ -11,10 +11,10 @@ ghost use Rattle.wc_run.specs.Observing.{Plan, Start, said};
 ghost use Rattle.wc_run.specs.Runs.{HasNotFailed, ReportsRefused, ReportsRow, ReportsWrites};
 ghost use Rattle.wc_run.specs.Representation.{IsNotAfter, Represents};
 
-use crate::answers::Answers;
 use crate::fault::RunFault;
 use crate::log_rows::run_rows;
 use crate::observer::Observer;
+use crate::row_seen::Answers;
 use crate::scale::Scale;
 use std::alloc::Global;
 use wc_model::{ByteIn, ByteOut};

@@ -10,9 +10,8 @@ ghost use Rattle.wc_run.specs.Runs.{IsFaultAt};
 ghost use Rattle.wc_run.specs.Representation.{IsNotAfter, Represents};
 ghost use Rattle.wc_run.specs.Taking.{Gives, GivesItems, RunsRow, StopsAtRow, TakesRow, row_at};
 
-use crate::answers::Answers;
 use crate::fault::RunFault;
-use crate::row_seen::ScanSeen;
+use crate::row_seen::{Answers, ScanSeen};
 use std::alloc::Global;
 use wc_cost::Loaded;
 use wc_indicator::Indicator;

@@ -1,21 +1,31 @@
-use Rattle.std.proofs.Common.{◌≡◌, refl, sym, subst}
-use Rattle.std.specs.Prelude.{Some, None, Ok}
+use Rattle.std.proofs.Common.{◌≡◌, ap, refl, sym, subst, true}
+use Rattle.std.specs.Prelude.{Option, Some, None, Ok, is_some}
 use Rattle.wc_controller.proofs.Allowing.{sections_run}
 use Rattle.wc_controller.proofs.BlamingParts.{plate_part, program_part, run_part}
-use Rattle.wc_controller.proofs.Givings.{in_memory, unloaded, upto_more}
+use Rattle.wc_controller.proofs.Givings.{in_memory, logged, unloaded, upto_more}
+use Rattle.wc_controller.proofs.RefusedNames.{none_refused}
 use Rattle.wc_controller.proofs.answering.answer_sections.Goals as goal
-use Rattle.wc_controller.specs.Blames.{StopsAsPart}
+use Rattle.wc_controller.specs.Blames.{RefusesLog, StopsAsPart}
 use Rattle.wc_endings.specs.Endings.{WritesUpTo}
-use Rattle.wc_controller.specs.Files.{AnswersLog}
+use Rattle.wc_controller.specs.Files.{AnswersLog, AnswersPrinting}
 use Rattle.wc_controller.specs.Jobs.{AllowsSections}
+use Rattle.wc_controller.specs.TakenLogs.{log_alongside}
 use Rattle.wc_endings.specs.declared.input.Input.TheVariants as input
 use Rattle.wc_job.specs.Views.{sections_view}
 use Rattle.wc_model.specs.Language.Views.{text_view}
-use Rattle.wc_model.specs.Run.Log.{log_of}
-use Rattle.wc_model.specs.Say.Job.{AnswersNext, AnswersPrograms, loads_program, run_answer}
+use Rattle.wc_model.specs.Instrument.Plates.{PlateData}
+use Rattle.wc_model.specs.Language.Tree.{Text}
+use Rattle.wc_model.specs.Run.Log.{LogOf, log_of}
+use Rattle.wc_model.specs.Say.Job.{AnswersNext, AnswersPrograms, JobAnswer, loads_program, run_answer}
 use Rattle.wc_record.specs.Reading.{records_of}
 use Rattle.wc_record.specs.Reported.{fields_reported}
+use Rattle.wc_run.specs.Observing.{text_in_all}
+use Rattle.wc_run.specs.Reports.{report_plan}
 use Rattle.wc_run.specs.declared.fault.RunFault.TheVariants as fault
+
+-- the answers to a log of an observer that prints its report
+abbrev printing : PlateData → LogOf → Text → Option Text → JobAnswer → Type 0
+printing plate log first = AnswersPrinting (record { written = text_in_all report_plan; begins = λ logic. true }) plate log first
 
 pub returns-in-Err-load_input-clause-writes : goal.returns-in-Err-load_input-clause-writes
 returns-in-Err-load_input-clause-writes g c =
@@ -27,28 +37,30 @@ returns-in-Err-load_input-clause-writes g c =
     (sections_run sections c.in-Ok.plate c.in-Ok.ensures.verdict)
     (unloaded c.args.sections.program.now (λ text. AnswersNext sections.next (AnswersLog c.in-Ok.plate log text)) why old c.in-Err-load_input.ensures.refused)
 
-pub returns-in-Ok-answer_log-clause-writes : goal.returns-in-Ok-answer_log-clause-writes
-returns-in-Ok-answer_log-clause-writes g c =
+pub returns-in-Ok-run_loaded-clause-writes : goal.returns-in-Ok-run_loaded-clause-writes
+returns-in-Ok-run_loaded-clause-writes g c =
     let old = g.W.ByteOut.bytes_taken c.args.writer.now in
-    let new = g.W.ByteOut.bytes_taken c.answer_log.new.writer in
+    let new = g.W.ByteOut.bytes_taken c.run_loaded.new.writer in
     let sections = sections_view c.args.sections in
     let first = text_view c.in-Ok-load_input.loaded.source in
     upto_more (AnswersNext sections.next (AnswersLog c.in-Ok.plate (log_of (records_of c.args.sections.log.now)) first)) (AllowsSections sections) None old new
     (λ one h. sections_run sections c.in-Ok.plate c.in-Ok.ensures.verdict one (loads_program first c.in-Ok-load_input.ensures.loaded h))
-    c.in-Ok-answer_log.ensures.writes
+    (logged sections.next c.in-Ok.plate (log_of (records_of c.args.sections.log.now)) first None old new
+    (subst (λ log. WritesUpTo (AnswersNext sections.next (printing c.in-Ok.plate (log_of (records_of log)) first)) None old new) (ap (λ log. log.now) c.new-reader.ensures.inner) c.in-Ok-run_loaded.ensures.writes))
 
-pub returns-in-Err-answer_log-clause-writes : goal.returns-in-Err-answer_log-clause-writes
-returns-in-Err-answer_log-clause-writes g c =
+pub returns-clause-writes : goal.returns-clause-writes
+returns-clause-writes g c =
     let old = g.W.ByteOut.bytes_taken c.args.writer.now in
-    let new = g.W.ByteOut.bytes_taken c.answer_log.new.writer in
+    let new = g.W.ByteOut.bytes_taken c.run_loaded.new.writer in
     let sections = sections_view c.args.sections in
     let first = text_view c.in-Ok-load_input.loaded.source in
-    let why = c.in-Err-answer_log.stopped.fault in
+    let why = c.in-Err-run_loaded.stopped.fault in
     subst (λ fault. WritesUpTo (AllowsSections sections) (Some fault) old new) (sym c.stopped_in_memory.ensures.fault)
     (in_memory (AllowsSections sections) why old new
     (upto_more (AnswersNext sections.next (AnswersLog c.in-Ok.plate (log_of (records_of c.args.sections.log.now)) first)) (AllowsSections sections) (Some why) old new
     (λ one h. sections_run sections c.in-Ok.plate c.in-Ok.ensures.verdict one (loads_program first c.in-Ok-load_input.ensures.loaded h))
-    c.in-Err-answer_log.ensures.writes))
+    (logged sections.next c.in-Ok.plate (log_of (records_of c.args.sections.log.now)) first (Some why) old new
+    (subst (λ log. WritesUpTo (AnswersNext sections.next (printing c.in-Ok.plate (log_of (records_of log)) first)) (Some why) old new) (ap (λ log. log.now) c.new-reader.ensures.inner) c.in-Err-run_loaded.ensures.writes))))
 
 pub returns-in-Err-clause-blames : goal.returns-in-Err-clause-blames
 returns-in-Err-clause-blames g c =
@@ -68,12 +80,14 @@ returns-in-Err-load_input-clause-held g c = λ e.
     let same : stopped.fault ≡ fault.Read = cc in
     c.in-Err-load_input.ensures.held stopped.input (refl, same)
 
-pub returns-in-Err-answer_log-clause-blames : goal.returns-in-Err-answer_log-clause-blames
-returns-in-Err-answer_log-clause-blames g c =
-    let reported = fields_reported c.answer_log.new.reported in
+pub returns-clause-blames : goal.returns-clause-blames
+returns-clause-blames g c =
+    let reported = fields_reported c.run_loaded.new.reported in
     let sections = sections_view c.args.sections in
-    let stopped = c.in-Err-answer_log.stopped in
-    let said = c.in-Err-answer_log.ensures in
+    let first = text_view c.in-Ok-load_input.loaded.source in
+    let stopped = c.in-Err-run_loaded.stopped in
+    let said = c.in-Err-run_loaded.ensures in
+    let blames_log = subst (λ log. stopped.input ≡ input.Log → RefusesLog (log_alongside (is_some sections.next)) reported log stopped.fault) (ap (λ log. log.now) c.new-reader.ensures.inner) said.blames_log in
     subst (λ at. StopsAsPart reported (Ok sections) at c.stopped_in_memory.result.fault) (sym c.stopped_in_memory.ensures.input)
     (subst (λ why. StopsAsPart reported (Ok sections) stopped.input why) (sym c.stopped_in_memory.ensures.fault)
-    (run_part reported sections stopped.input stopped.fault said.blames_next said.blames_log said.later said.no_names))
+    (run_part reported sections stopped.input stopped.fault said.blames_next blames_log said.later (λ at. none_refused first sections.next _ (said.refused at))))

@@ -17,9 +17,19 @@ returns-in-Err-clause-line g c =
     on_each (g.R.ByteIn.bytes_left c.args.reader.now) _
     (λ bytes logic represents.
     let log : LogOf = log_for logic (log_of (records_of bytes)) in
-    run_leaves (Some c.args.last) c.args.plate.now logic log (Err c.fault_at_start.result) taken taken
-    (none_reported (Some c.args.last) c.args.plate.now logic log c.fault_at_start.result taken
-    (subst (λ fault. IsClassified fault c.fault_at_start.result) c.in-Err.ensures.memory c.fault_at_start.ensures.classified)))
+    run_leaves (Some c.args.last) c.args.plate.now logic log (Err c.classified.result) taken taken
+    (none_reported (Some c.args.last) c.args.plate.now logic log c.classified.result taken
+    (subst (λ fault. IsClassified fault c.classified.result) c.in-Err.ensures.memory c.classified.ensures.classified)))
+
+pub returns-clause-line : goal.returns-clause-line
+returns-clause-line g c =
+    let taken = g.W.ByteOut.bytes_taken c.args.writer.now in
+    on_each (g.R.ByteIn.bytes_left c.args.reader.now) _
+    (λ bytes logic represents.
+    let log : LogOf = log_for logic (log_of (records_of bytes)) in
+    run_leaves (Some c.args.last) c.args.plate.now logic log (Err c.classified-in-Err-new.result) taken taken
+    (none_reported (Some c.args.last) c.args.plate.now logic log c.classified-in-Err-new.result taken
+    (subst (λ fault. IsClassified fault c.classified-in-Err-new.result) c.in-Err-new.ensures.memory c.classified-in-Err-new.ensures.classified)))
 
 pub returns-in-Ok-new-clause-reports : goal.returns-in-Ok-new-clause-reports
 returns-in-Ok-new-clause-reports g c =

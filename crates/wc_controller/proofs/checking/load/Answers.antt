@@ -2,7 +2,7 @@ use Rattle.std.proofs.Common.{IfErr, subst}
 use Rattle.wc_controller.proofs.LoadedTexts.{headline_holds}
 use Rattle.wc_controller.proofs.Refusals.{is_loaded, not_costed, not_declared, not_read, not_verified, with_headline}
 use Rattle.wc_controller.proofs.Settled.{is_small, never_refused, only_refusal}
-use Rattle.wc_controller.proofs.loading.load.Goals as goal
+use Rattle.wc_controller.proofs.checking.load.Goals as goal
 use Rattle.wc_controller.specs.Loads.{IsRefusedLoad}
 use Rattle.wc_cost.specs.Costs.{IsCosted}
 use Rattle.wc_names.specs.declared.kept.Tables.{Tables}

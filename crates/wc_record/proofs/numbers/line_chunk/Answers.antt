@@ -1,7 +1,7 @@
 use Rattle.std.proofs.Common.{◌≡◌, ◌/◌, length, ap, ◌∙◌, Some, arith}
 use Rattle.std.proofs.lemmas.Grind.{common_steps}
 use Rattle.wc_record.proofs.HexDigits.{chunk_few, chunk_not_read, chunk_read, chunk_too_long, whole_buffer}
-use Rattle.wc_record.proofs.hexadecimal.line_chunk.Goals as goal
+use Rattle.wc_record.proofs.numbers.line_chunk.Goals as goal
 
 pub returns-then-text-gt8192-clause-chunk : goal.returns-then-text-gt8192-clause-chunk
 returns-then-text-gt8192-clause-chunk c = chunk_too_long c.args.text.now c.if-text-gt8192.true

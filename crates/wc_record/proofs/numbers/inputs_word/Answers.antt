@@ -1,5 +1,5 @@
 use Rattle.wc_record.proofs.HexDigits.{word_read, word_refused}
-use Rattle.wc_record.proofs.hexadecimal.inputs_word.Goals as goal
+use Rattle.wc_record.proofs.numbers.inputs_word.Goals as goal
 
 pub returns-in-Ok : goal.returns-in-Ok
 returns-in-Ok c =

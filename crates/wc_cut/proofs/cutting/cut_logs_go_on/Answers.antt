@@ -1,5 +1,5 @@
 use Rattle.wc_cut.proofs.Replays.{goes_on_from_the_cut}
-use Rattle.wc_cut.proofs.laws.cut_logs_go_on.Goals as goal
+use Rattle.wc_cut.proofs.cutting.cut_logs_go_on.Goals as goal
 
 pub returns : goal.returns
 returns c = goes_on_from_the_cut

@@ -9,7 +9,7 @@ use Rattle.wc_run.specs.Outputs.{line_of_record, lines_of_records}
 use Rattle.wc_run.specs.declared.fault.RunFault.{RunFault}
 use Rattle.wc_run.specs.declared.fault.RunFault.TheVariants.{Memory}
 use Rattle.wc_run.proofs.HandedOn.{propagated}
-use Rattle.wc_run.proofs.scan_lines.last_text.Goals as goal
+use Rattle.wc_run.proofs.report.last_text.Goals as goal
 
 pub loop-index-preserved : goal.loop-index-preserved
 loop-index-preserved c =
