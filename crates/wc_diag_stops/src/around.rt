@@ -1,19 +1,17 @@
+ghost use Rattle.std.specs.Prelude.{◌≡◌, map};
+ghost use Rattle.wc_diag_stops.specs.Stopping.{exchanged};
+
+use std::mem;
 use wc_lexer::{Shape, Token};
 
 /// The bytes of a token; none if there is none.
 pub fn text_of<'a>(token: Option<&Token<'a>>) -> &'a [u8] {
-    match token {
-        Some(token) => token.text,
-        None => b"",
-    }
+    token.map(|token| token.text).unwrap_or(b"")
 }
 
 /// The bytes of a token that is a word; none if it is none.
 pub fn word_of<'a>(token: Option<&Token<'a>>) -> &'a [u8] {
-    match token {
-        Some(token) if matches!(token.shape, Shape::Identifier) => token.text,
-        _ => b"",
-    }
+    text_of(token.filter(|token| matches!(token.shape, Shape::Identifier)))
 }
 
 /// Whether a token is there and has that shape.
@@ -53,4 +51,14 @@ pub fn operator_on<'a>(line: &[Token<'a>]) -> &'a [u8] {
         0
     };
     text_of(line.get(index))
+}
+
+/// Exchanges the lines of tokens with their places: a walk that yields lines then yields places.
+/// A second time takes it back.
+pub fn exchange(tokens: &mut [Token])
+    ensures { tokens.new ≡ map exchanged tokens.old }
+{
+    for token in tokens.iter_mut() {
+        mem::swap(&mut token.start, &mut token.line);
+    }
 }

@@ -4,6 +4,7 @@ ghost use Rattle.wc_laws_grammar.specs.LineMoves as lines;
 ghost use Rattle.wc_text_lines.specs.LineViews.{in_line_view, item_view, line_state_view};
 ghost use Rattle.wc_model.specs.Language.Tree.{ProgramUnit};
 ghost use Rattle.wc_diag_stops.specs.Allowed.{allowed, allowed_at_line, allowed_in_declaration, allowed_in_list, allowed_on_line};
+ghost use Rattle.wc_diag_stops.specs.Listed.{ListsAll, ListsNoOther};
 ghost use Rattle.wc_text_bodies.specs.SectionViews.{declaring_view};
 ghost use Rattle.wc_reader.specs.TextViews.{line_place_view, reading_view};
 
@@ -40,17 +41,6 @@ fn in_list(item: &InList) -> Expected
     }
 }
 
-/// After what may be a whole line.
-fn after_shape(line_shape: &LineShape, ended: bool) -> Expected
-    ensures { (started : lines.StartedLine)
-        → result ≡ allowed_on_line (in_line_view started (InLine.Formed line_shape.now ended)) }
-{
-    match (line_shape, ended) {
-        (LineShape::Opens(_, None), false) => Expected::OperandOrLineEnd,
-        _ => Expected::LineEnd,
-    }
-}
-
 /// In an instruction.
 fn in_instruction(state: &InLine) -> Expected
     ensures { (started : lines.StartedLine) → result
@@ -66,7 +56,8 @@ fn in_instruction(state: &InLine) -> Expected
         InLine::Named(OperandOf::OfArgument(..), _, false) => Expected::CommaPointOrClosing,
         InLine::Named(_, _, false) => Expected::PointOrLineEnd,
         InLine::Named(_, _, true) => Expected::Field,
-        InLine::Formed(line_shape, ended) => after_shape(line_shape, *ended),
+        InLine::Formed(LineShape::Opens(_, None), false) => Expected::OperandOrLineEnd,
+        InLine::Formed(..) => Expected::LineEnd,
     }
 }
 
@@ -118,3 +109,10 @@ pub(crate) fn expected_at(reading: &Reading) -> Expected
         TextState::InBody(body, place) => in_body(body, place),
     }
 }
+
+/// What the sentence about an unexpected token lists is exact: each token with which the text goes on is in the list, but for the
+/// end of a line where lines may end anywhere; and none that is in the list is unexpected.
+pub fn the_list_is_exact()
+    ensures all { ListsAll }
+    ensures no_other { ListsNoOther }
+{}

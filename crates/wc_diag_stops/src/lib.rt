@@ -4,26 +4,21 @@
 
 mod around;
 mod expected;
-mod lexemes;
 mod lexical;
-mod listing;
-mod places;
-mod slices;
 mod span;
 mod stops;
 mod words;
 
 pub use around::{
-    is_line_end, is_shape, last_line, operator_on, text_of, without_line_ends, word_of,
+    exchange, is_line_end, is_shape, last_line, operator_on, text_of, without_line_ends, word_of,
 };
-pub use lexemes::{BYTE_ORDER_MARK, case_of_lexeme, is_bare_duration};
+pub use expected::the_list_is_exact;
 pub use lexical::{
-    is_digit, is_operator, mistaken_byte, mistaken_duration, mistaken_number, mistaken_statement,
-    text_before,
+    BYTE_ORDER_MARK, case_of_lexeme, is_bare_duration, is_digit, is_operator, mistaken_byte,
+    mistaken_duration, mistaken_number, mistaken_statement, text_before,
 };
-pub use listing::the_list_is_exact;
-pub use places::exchange;
-pub use slices::{bytes_at, following, prefix};
 pub use span::{Brought, LabelPaths, PathToLabel, RefusalSpan, ResultKind, Slice};
 pub use stops::{StoppedText, stop_of};
-pub use words::{difference, first_word, is_among, is_near, same_prefix};
+pub use words::{
+    bytes_at, difference, first_word, following, is_among, is_near, prefix, same_prefix,
+};

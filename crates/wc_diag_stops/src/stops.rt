@@ -1,7 +1,6 @@
-ghost use Rattle.std.specs.Prelude.{◌≡◌, ◌==◌, ◌≤◌, ◌<◌, [], IfNone, IfOk, IfSome, find, length, map, nat_lt};
+ghost use Rattle.std.specs.Prelude.{◌≡◌, ◌==◌, ◌≤◌, ◌<◌, IfNone, IfOk, IfSome, find, length, map, nat_lt};
 ghost use Rattle.std.specs.List.{prefix_len};
 ghost use Rattle.std.specs.Option.{option_copied};
-ghost use Rattle.wc_laws_grammar.specs.Moves.{at_first};
 ghost use Rattle.wc_lexer.specs.Spans.{StopsAt};
 ghost use Rattle.wc_lexer.specs.Views.{token_view};
 ghost use Rattle.wc_text_lines.specs.Words.{marks_of};
@@ -10,13 +9,13 @@ ghost use Rattle.wc_model.specs.Text.Tokens.{IsCut, most_bytes};
 ghost use Rattle.wc_reader.specs.TextViews.{IsStateCounted, reading_view};
 ghost use Rattle.wc_text_short_lines.specs.Walks.{walk};
 ghost use Rattle.wc_diag_stops.specs.Allowed.{allowed_with};
-ghost use Rattle.wc_diag_stops.specs.ReadingSpans.{AreBefore, AreThoseRead, AreUpTo, IsReadByPlaces, StopsReading, is_left_out, left_out_or_token, length_of, line_of, offending_at, start_of, token_at, token_before, word_or_token};
-ghost use Rattle.wc_diag_stops.specs.Stopping.{IsAllowedAs, IsOffendingAt, IsStopAt, ReadsText, ReportsRaised};
+ghost use Rattle.wc_diag_stops.specs.ReadingSpans.{AreBefore, AreThoseRead, AreUpTo, IsReadByPlaces, StopsReading, is_left_out, length_of, line_of, offending_at, start_of, token_at, token_before, word_or_token};
+ghost use Rattle.wc_diag_stops.specs.Stopping.{IsAllowedAs, IsStopAt, ReadsText, ReportsRaised};
 
+use crate::around::exchange;
 use crate::expected::expected_at;
-use crate::places::exchange;
-use crate::slices::prefix;
 use crate::span::RefusalSpan;
+use crate::words::prefix;
 use std::alloc::{AllocError, Global};
 use wc_diag_texts::Expected;
 use wc_lexer::{Token, tokens, tokens_or_stop};
@@ -28,22 +27,6 @@ use wc_reader::{Reading, at_text_end, last_line, read_at, reading_start, take_li
 struct RaisedFault {
     fault: Fault,
     expected: Expected,
-}
-
-/// What is found at the end of the tokens; nothing if the text is read.
-fn raised_at_end<'a>(alloc: Global, reading: &mut Reading<'a>, last: u32) -> Option<RaisedFault>
-    ensures read { IfNone result (ReadsText (walk (reading_view reading.old) [] last)) }
-    ensures stopped { IfSome result
-        (λ raised. ReportsRaised (walk
-        (reading_view reading.old) [] last) raised.fault raised.expected) }
-    // It takes no memory, so a refusal is not reported as out of memory.
-    ensures refuses { IfSome result (λ raised. raised.fault ≡ Fault.Memory → ⊥) }
-{
-    let expected = expected_at(reading);
-    match at_text_end(alloc, reading, last) {
-        Ok(_) => None,
-        Err(fault) => Some(RaisedFault { fault, expected }),
-    }
 }
 
 /// Where the reading of these tokens stops; nothing if they are read. As the reader does, it takes
@@ -71,30 +54,17 @@ fn raised_on<'a>(
         if let Err(fault) = read_at(alloc, reading, tokens, place) {
             return Some(RaisedFault { fault, expected });
         }
-        place = match take_lines(alloc, reading, tokens, place + 1) {
-            Ok(next) => next,
-            Err(_) => {
-                return Some(RaisedFault {
-                    fault: Fault::Memory,
-                    expected,
-                });
-            }
+        let Ok(next) = take_lines(alloc, reading, tokens, place + 1) else {
+            let fault = Fault::Memory;
+            return Some(RaisedFault { fault, expected });
         };
+        place = next;
     }
-    raised_at_end(alloc, reading, last)
-}
-
-/// Where the reading of these tokens stops from the start of a text; nothing if they are read.
-fn raised_in<'a>(alloc: Global, tokens: &[Token<'a>], last: u32) -> Option<RaisedFault>
-    ensures read { IfNone result (ReadsText (walk at_first (marks_of tokens.now) last)) }
-    ensures stopped { IfSome result
-        (λ raised. ReportsRaised (walk at_first
-        (marks_of tokens.now) last) raised.fault raised.expected) }
-    ensures memory { IfSome result (λ raised. raised.fault ≡ Fault.Memory
-        → 0 < length tokens.now) }
-{
-    let mut reading = reading_start(alloc);
-    raised_on(alloc, &mut reading, tokens, last)
+    let expected = expected_at(reading);
+    match at_text_end(alloc, reading, last) {
+        Ok(_) => None,
+        Err(fault) => Some(RaisedFault { fault, expected }),
+    }
 }
 
 /// The token that starts at a byte.
@@ -154,24 +124,6 @@ fn is_left_out(token: &Token<'_>) -> bool
         || is_word(b"PERSISTENT", token.text)
 }
 
-/// A word of which this language has none, if the token after it is on its line; else that token.
-fn left_out_or_token<'a, 't>(
-    word: Option<&'t Token<'a>>,
-    token: Option<&'t Token<'a>>,
-) -> Option<&'t Token<'a>>
-    ensures { option_copied result
-        ≡ left_out_or_token (option_copied word.entry) (option_copied token.entry) }
-{
-    match word {
-        Some(other) => if is_left_out(other) {
-            word_or_token(word, token)
-        } else {
-            token
-        },
-        None => token,
-    }
-}
-
 /// The offending token if one is found at a byte.
 fn offending_at<'a, 't>(
     tokens: &'t [Token<'a>],
@@ -180,12 +132,11 @@ fn offending_at<'a, 't>(
 ) -> Option<&'t Token<'a>>
     ensures { option_copied result ≡ offending_at tokens.now place expected }
 {
-    match expected {
-        Expected::LabelColon => word_or_token(token_before(tokens, place), token_at(tokens, place)),
-        Expected::CommaOrColon => {
-            left_out_or_token(token_before(tokens, place), token_at(tokens, place))
-        }
-        _ => token_at(tokens, place),
+    let (word, token) = (token_before(tokens, place), token_at(tokens, place));
+    match (expected, word) {
+        (Expected::LabelColon, _) => word_or_token(word, token),
+        (Expected::CommaOrColon, Some(other)) if is_left_out(other) => word_or_token(word, token),
+        _ => token,
     }
 }
 
@@ -211,33 +162,21 @@ fn offending_slice(text: &[u8], offending: Option<&Token<'_>>) -> (usize, usize)
     }
 }
 
-/// The fault of that number at that place, with its line and its slice.
-fn stop_at(
-    text: &[u8],
-    tokens: &[Token<'_>],
-    number: u16,
-    place: u32,
-    expected: Expected,
-) -> RefusalSpan
-    requires { length text.now ≤ most_bytes }
-    ensures { IsOffendingAt text.now tokens.now number place expected result }
-{
-    let expected = reported_expected(number, expected);
-    let (start, length) = offending_slice(text, offending_at(tokens, place, expected));
-    let place = line_at(text, tokens, place);
-    RefusalSpan {
-        expected,
-        ..RefusalSpan::new(Fault::Refused { number, place }, start, length)
-    }
-}
-
 /// What is found in these tokens, with its line and its slice.
-fn stop_raised(text: &[u8], tokens: &[Token<'_>], raised: RaisedFault) -> RefusalSpan
+fn stop_at(text: &[u8], tokens: &[Token<'_>], raised: RaisedFault) -> RefusalSpan
     requires { length text.now ≤ most_bytes }
     ensures { IsStopAt text.now tokens.now raised.fault raised.expected result }
 {
     match raised.fault {
-        Fault::Refused { number, place } => stop_at(text, tokens, number, place, raised.expected),
+        Fault::Refused { number, place } => {
+            let expected = reported_expected(number, raised.expected);
+            let (start, length) = offending_slice(text, offending_at(tokens, place, expected));
+            let place = line_at(text, tokens, place);
+            RefusalSpan {
+                expected,
+                ..RefusalSpan::new(Fault::Refused { number, place }, start, length)
+            }
+        }
         Fault::Memory => RefusalSpan::new(Fault::Memory, 0, 0),
     }
 }
@@ -253,10 +192,11 @@ fn stop_in(alloc: Global, text: &[u8], tokens: &mut [Token<'_>]) -> Option<Refus
     ensures kept { tokens.new ≡ tokens.old }
 {
     exchange(tokens);
-    let raised = raised_in(alloc, tokens, text.len() as u32);
+    let last = text.len() as u32;
+    let raised = raised_on(alloc, &mut reading_start(alloc), tokens, last);
     exchange(tokens);
     match raised {
-        Some(raised) => Some(stop_raised(text, tokens, raised)),
+        Some(raised) => Some(stop_at(text, tokens, raised)),
         None => None,
     }
 }
@@ -314,13 +254,10 @@ pub fn stop_of<'a>(alloc: Global, text: &'a [u8]) -> Result<Option<StoppedText<'
     ensures read { IfOk result (λ found. IfNone found (IsReadByPlaces text.now)) }
 {
     match tokens_or_stop(alloc, text) {
-        Ok(tokens) => {
-            let mut tokens = tokens;
-            match stop_in(alloc, text, &mut tokens) {
-                Some(span) => Ok(Some(StoppedText { span, tokens })),
-                None => Ok(None),
-            }
-        }
+        Ok(mut tokens) => match stop_in(alloc, text, &mut tokens) {
+            Some(span) => Ok(Some(StoppedText { span, tokens })),
+            None => Ok(None),
+        },
         Err(stop) => {
             let span = RefusalSpan::new(stop.fault, stop.start as usize, stop.length as usize);
             match stopped_at(alloc, text, span) {

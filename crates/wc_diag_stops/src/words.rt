@@ -1,9 +1,32 @@
-ghost use Rattle.std.specs.Prelude.{◌≡◌};
+ghost use Rattle.std.specs.Prelude.{◌≡◌, length, min, take, drop};
 ghost use Rattle.std.specs.List.{prefix_len};
-ghost use Rattle.wc_diag_stops.specs.Words.{first_word, from_word, is_word_byte};
+ghost use Rattle.wc_diag_stops.specs.ReadingSpans.{IsAt};
+ghost use Rattle.wc_diag_stops.specs.Words.{first_word, is_word_byte};
 
-use crate::slices::{following, prefix};
 use wc_model::is_word;
+
+/// What comes after that number of bytes.
+pub fn following(text: &[u8], start: usize) -> &[u8]
+    ensures { result.now ≡ drop (min start (length text.now)) text.now }
+{
+    let (_, rest) = text.split_at(start.min(text.len()));
+    rest
+}
+
+/// The first bytes, up to that number.
+pub fn prefix(text: &[u8], end: usize) -> &[u8]
+    ensures { result.now ≡ take (min end (length text.now)) text.now }
+{
+    let (first, _) = text.split_at(end.min(text.len()));
+    first
+}
+
+/// That number of bytes, from a place on.
+pub fn bytes_at(text: &[u8], start: usize, length: usize) -> &[u8]
+    ensures { IsAt text.now start result.now }
+{
+    prefix(following(text, start), length)
+}
 
 /// The number of bytes at the start of both that are the same letters.
 pub fn same_prefix(a: &[u8], b: &[u8]) -> usize {
@@ -73,25 +96,13 @@ fn is_word_byte(byte: u8) -> bool
 fn word_length(text: &[u8]) -> usize
     ensures { result ≡ prefix_len is_word_byte text.now }
 {
-    for count in 0..text.len() {
-        if !is_word_byte(text[count]) {
-            return count;
-        }
-    }
-    text.len()
+    text.iter().take_while(|byte| is_word_byte(**byte)).count()
 }
 
-/// Bytes without the white space at their start.
-fn from_word(text: &[u8]) -> &[u8]
-    ensures { result.now ≡ from_word text.now }
-{
-    text.trim_ascii_start()
-}
-
-/// The first word of some bytes.
+/// The first word of some bytes, after white space.
 pub fn first_word(text: &[u8]) -> &[u8]
     ensures { result.now ≡ first_word text.now }
 {
-    let text = from_word(text);
+    let text = text.trim_ascii_start();
     prefix(text, word_length(text))
 }

@@ -1,12 +1,13 @@
 -- Bytes as they are shown on one line.
-use Rattle.std.proofs.Common.{◌≡◌, ◌∙◌, ◌==◌, ◌&&◌, ◌||◌, ◌<◌, not, Bool, true, List, [], ◌∷◌, ℕ, ◌++◌, refl, sym, ap, arith, Result, Ok, Err, OnOk}
+use Rattle.std.proofs.Common.{◌≡◌, ◌∙◌, ◌==◌, ◌&&◌, ◌||◌, ◌<◌, not, Bool, true, false, List, [], ◌∷◌, ℕ, ◌++◌, if◌then◌else◌, refl, sym, ap, arith, Result, Ok, Err, OnOk}
 use Rattle.std.proofs.lemmas.Bool.{and_parts}
+use Rattle.std.proofs.lemmas.Bool.Decides.{nat_tests}
 use Rattle.std.proofs.lemmas.List.{append-nil, flat_map_more}
 use Rattle.std.proofs.lemmas.Str.{IsUtf8-append, IsUtf8-from_ascii, IsUtf8-from_is_utf8, is_utf8-from_IsUtf8}
 use Rattle.std.proofs.lemmas.Str.Ascii.{IsAscii-cons, IsAscii-nil}
 use Rattle.std.specs.List.{list_all}
 use Rattle.std.specs.Str.{is_utf8}
-use Rattle.wc_diag_texts.specs.Plain.{IsShown, acts, is_calm, is_control, is_plain, passes, shown_text}
+use Rattle.wc_diag_texts.specs.Plain.{IsShown, acts, escaped_text, is_calm, is_control, is_plain, passes, shown_text, spaced, with_spaces}
 
 -- more of them after these
 pub shown_further : (old new text : List ℕ) → IsShown old → new ≡ old ++ shown_text text → IsShown new
@@ -44,6 +45,32 @@ ascii_is_text byte less = is_utf8-from_IsUtf8 (byte ∷ []) (IsUtf8-from_ascii (
 
 pub nothing_is_text : is_utf8 [] ≡ true
 nothing_is_text = is_utf8-from_IsUtf8 [] (IsUtf8-from_ascii [] IsAscii-nil)
+
+-- what passes has no tab, so it is shown as it is
+not_control : (control other rest : Bool) → (not (control || other) && rest) ≡ true → control ≡ true → ⊥
+not_control control other rest e f = grind arith
+
+tab_is_control : (byte : ℕ) → (byte == 9) ≡ true → is_control byte ≡ true
+tab_is_control byte e = grind (arith, nat_tests)
+
+not_spaced : (byte : ℕ) → ((byte == 9) ≡ true → ⊥) → spaced byte ≡ byte
+not_spaced byte other =
+    elim (byte == 9) as (λ v. (v ≡ true → ⊥) → (if v then 32 else byte) ≡ byte) [
+      | true ↦ λ f. absurd (f refl)
+      | false ↦ λ _. refl
+    ] other
+
+calm_is_spaced : (bytes : List ℕ) → is_calm bytes ≡ true → with_spaces bytes ≡ bytes
+calm_is_spaced [] e = refl
+calm_is_spaced (byte ∷ bytes) e =
+    let rest = (and_parts (not (is_control byte || acts (byte ∷ bytes))) (is_calm bytes) e).1 in
+    let tab = not_spaced byte (λ is. not_control (is_control byte) (acts (byte ∷ bytes)) (is_calm bytes) e (tab_is_control byte is)) in
+    λ i. tab i ∷ calm_is_spaced bytes rest i
+
+pub passing_is_shown : (bytes : List ℕ) → passes bytes ≡ true → shown_text bytes ≡ bytes
+passing_is_shown bytes e =
+    ap (λ l. if passes l then l else escaped_text bytes) (calm_is_spaced bytes (and_parts (is_calm bytes) (is_utf8 bytes) e).0)
+    ∙ ap (λ b. if b then bytes else escaped_text bytes) e
 
 -- one of them
 pub one_shown : (bytes text : List ℕ) → bytes ≡ shown_text text → IsShown bytes

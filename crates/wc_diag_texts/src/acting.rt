@@ -1,5 +1,5 @@
 ghost use Rattle.std.specs.Prelude.{◌≡◌, ◌≤◌, ◌+◌, ◌*◌, ◌-◌, slice_index};
-ghost use Rattle.wc_diag_texts.specs.Acting.{acting_length, continues, four_act, is_acting, three_act, two_act};
+ghost use Rattle.wc_diag_texts.specs.Acting.{acting_length, four_act, is_acting, three_act, two_act};
 
 /// Whether a terminal or an editor acts on the character of that number above ASCII, or it is not seen: a control character, an
 /// end of a line, and each with Unicode's property Default_Ignorable_Code_Point, as those that turn the direction of writing.
@@ -12,13 +12,6 @@ fn is_acting(code: u32) -> bool
             | 0x200B..=0x200F | 0x2028..=0x202E | 0x2060..=0x206F | 0x3164 | 0xFE00..=0xFE0F | 0xFEFF
             | 0xFFA0 | 0xFFF0..=0xFFF8 | 0x1BCA0..=0x1BCA3 | 0x1D173..=0x1D17A | 0xE0000..=0xE0FFF
     )
-}
-
-/// Whether a byte is one of a character after its first.
-fn continues(byte: u8) -> bool
-    ensures { result ≡ continues byte }
-{
-    matches!(byte, 0x80..=0xBF)
 }
 
 /// The number of a character with one byte more.
@@ -36,7 +29,7 @@ fn two_act(first: u8, second: u8) -> bool
 {
     let lead = u32::from(first.saturating_sub(0xC0));
     let code = with_byte(lead, second);
-    matches!(first, 0xC2..=0xDF) && continues(second) && is_acting(code)
+    matches!((first, second), (0xC2..=0xDF, 0x80..=0xBF)) && is_acting(code)
 }
 
 /// Whether these three bytes are such a character.
@@ -45,9 +38,8 @@ fn three_act(first: u8, second: u8, third: u8) -> bool
 {
     let lead = u32::from(first.saturating_sub(0xE0));
     let code = with_byte(with_byte(lead, second), third);
-    matches!(first, 0xE0..=0xEF)
-        && continues(second)
-        && continues(third)
+    matches!((first, second), (0xE0..=0xEF, 0x80..=0xBF))
+        && matches!(third, 0x80..=0xBF)
         && code >= 0x800
         && is_acting(code)
 }
@@ -58,10 +50,8 @@ fn four_act(first: u8, second: u8, third: u8, fourth: u8) -> bool
 {
     let lead = u32::from(first.saturating_sub(0xF0));
     let code = with_byte(with_byte(with_byte(lead, second), third), fourth);
-    matches!(first, 0xF0..=0xF4)
-        && continues(second)
-        && continues(third)
-        && continues(fourth)
+    matches!((first, second), (0xF0..=0xF4, 0x80..=0xBF))
+        && matches!((third, fourth), (0x80..=0xBF, 0x80..=0xBF))
         && code >= 0x10000
         && is_acting(code)
 }
@@ -70,10 +60,7 @@ fn four_act(first: u8, second: u8, third: u8, fourth: u8) -> bool
 fn byte_at(text: &[u8], place: usize) -> u8
     ensures { result ≡ slice_index text.now place }
 {
-    match text.get(place) {
-        Some(byte) => *byte,
-        None => 0,
-    }
+    text.get(place).map_or(0, |byte| *byte)
 }
 
 /// The number of bytes of the character at the start of a UTF-8 text if a terminal or an editor would act on it, or it is not seen,

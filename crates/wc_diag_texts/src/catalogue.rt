@@ -53,18 +53,16 @@ pub fn entry_of(number: u16) -> Option<&'static Entry>
     ensures number { IfSome result (λ entry. entry.now.number ≡ number) }
 {
     match number {
-        101..=107 => token_entry(number),
-        201..=208 => reading_entry(number),
-        301..=308 => declaration_entry(number),
-        401..=411 => body_entry(number),
+        101..=107 | 201..=208 => reading_entry(number),
+        301..=308 | 401..=411 => unit_entry(number),
         501..=508 | 601..=609 | 701..=702 => input_entry(number),
         _ => None,
     }
 }
 
-/// The refusals of tokens.
-fn token_entry(number: u16) -> Option<&'static Entry>
-    ensures known { is_some result ≡ is_from 101 107 number }
+/// The refusals of tokens and of reading.
+fn reading_entry(number: u16) -> Option<&'static Entry>
+    ensures known { is_some result ≡ (is_from 101 107 number || is_from 201 208 number) }
     ensures number { IfSome result (λ entry. entry.now.number ≡ number) }
 {
     entry_among! {
@@ -108,16 +106,6 @@ fn token_entry(number: u16) -> Option<&'static Entry>
             wrong "PROGRAM P" "(* 12 March: the valve opens later *) (2000 times)" "LD %IX0.0" "ST %QX0.0" "END_PROGRAM"
             why "memory and time to load a text are bounded, and comments count" rule "10"
             mended "PROGRAM P" "(* 12 March: the valve opens later *)" "LD %IX0.0" "ST %QX0.0" "END_PROGRAM";
-    }
-}
-
-/// The refusals of reading.
-fn reading_entry(number: u16) -> Option<&'static Entry>
-    ensures known { is_some result ≡ is_from 201 208 number }
-    ensures number { IfSome result (λ entry. entry.now.number ≡ number) }
-{
-    entry_among! {
-        number;
         201 "reader": "a token is unexpected" quoted "is unexpected here"
             at "the line of the first token with which the text can't go on", "x" => 1,
             help "an instruction is `label: OPERATOR operand`; `name : TYPE;` is declared between VAR and END_VAR",
@@ -167,9 +155,9 @@ fn reading_entry(number: u16) -> Option<&'static Entry>
     }
 }
 
-/// The refusals of declarations.
-fn declaration_entry(number: u16) -> Option<&'static Entry>
-    ensures known { is_some result ≡ is_from 301 308 number }
+/// The refusals of declarations, of bodies and of their cost.
+fn unit_entry(number: u16) -> Option<&'static Entry>
+    ensures known { is_some result ≡ (is_from 301 308 number || is_from 401 411 number) }
     ensures number { IfSome result (λ entry. entry.now.number ≡ number) }
 {
     entry_among! {
@@ -228,16 +216,6 @@ fn declaration_entry(number: u16) -> Option<&'static Entry>
             why "a block calls only blocks above it, so that no call leads back to itself and each scan ends" rule "7.2"
             mended "FUNCTION_BLOCK Motor" "END_FUNCTION_BLOCK" "FUNCTION_BLOCK Line" "VAR m : Motor; END_VAR" "CAL m" "END_FUNCTION_BLOCK"
             "PROGRAM P" "VAR l : Line; END_VAR" "CAL l" "END_PROGRAM";
-    }
-}
-
-/// The refusals of bodies and of their cost.
-fn body_entry(number: u16) -> Option<&'static Entry>
-    ensures known { is_some result ≡ is_from 401 411 number }
-    ensures number { IfSome result (λ entry. entry.now.number ≡ number) }
-{
-    entry_among! {
-        number;
         401 "verify": "the name is not declared" quoted "is not declared in this unit"
             at "the line of the instruction", "PROGRAM P / LD x / END_PROGRAM" => 2,
             help "declare the name in VAR, VAR_INPUT or VAR_OUTPUT of this unit",

@@ -4,7 +4,7 @@ ghost use Rattle.std.specs.List.{list_all};
 ghost use Rattle.std.specs.Str.{is_utf8};
 ghost use Rattle.wc_diag_texts.specs.Plain.{IsShown, acts_nowhere, escaped_byte, escaped_text, hex_digit, is_plain, passes, shown_text, with_spaces, words_after};
 
-use crate::plain::{has_tab, passes, with_spaces};
+use crate::plain::{passes, with_spaces};
 use std::alloc::{AllocError, Global};
 
 /// A text for people, of characters that a terminal only shows, and line feeds.
@@ -19,14 +19,12 @@ pub struct Message {
 
 /// A hexadecimal digit.
 fn digit(value: u8) -> u8
-    ensures plain { is_plain result ≡ true }
-    ensures ascii { result < 128 }
-    ensures digit { value < 16 → result ≡ hex_digit value }
+    requires { value < 16 }
+    ensures { result ≡ hex_digit value }
 {
     match value {
-        0..=9 => b'0' + value,
-        10..=15 => b'a' + (value - 10),
-        _ => b'?',
+        0..10 => b'0' + value,
+        _ => b'a' + (value - 10),
     }
 }
 
@@ -135,27 +133,19 @@ impl Message {
         Ok(())
     }
 
-    /// Adds bytes on the line, which are these with spaces for tabs.
-    fn add_spaced(&mut self, text: &[u8], spaced: &[u8]) -> Result<(), AllocError>
-        requires { spaced.now ≡ with_spaces text.now }
-        ensures { OnOk result (self.new.bytes.items ≡ self.old.bytes.items ++ shown_text text.now) }
-    {
-        if passes(spaced) {
-            self.put_text(spaced)
-        } else {
-            self.add_escaped(text)
-        }
-    }
-
     /// Adds bytes on the line: as they are with spaces for tabs, if no terminal acts on them, else with escapes.
     pub fn add(&mut self, text: &[u8]) -> Result<(), AllocError>
         ensures { OnOk result (self.new.bytes.items ≡ self.old.bytes.items ++ shown_text text.now) }
     {
-        if !has_tab(text) {
-            return self.add_spaced(text, text);
+        if passes(text) {
+            return self.put_text(text);
         }
         let spaced = with_spaces(self.alloc, text)?;
-        self.add_spaced(text, &spaced)
+        if passes(&spaced) {
+            self.put_text(&spaced)
+        } else {
+            self.add_escaped(text)
+        }
     }
 
     /// Adds words on the line.

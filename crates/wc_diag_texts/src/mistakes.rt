@@ -5,6 +5,15 @@ use crate::case::Case;
 use crate::catalogue::entry_of;
 use wc_model::{Kind, StandardBlock};
 
+/// A mistake that a refusal shows: in which way its rule is broken, what is said of the slice that is quoted, and what to write instead.
+/// Words are empty if the case has them, or the number of the refusal.
+#[derive(Clone, Copy)]
+pub struct Mistake {
+    pub case: Case,
+    pub sentence: &'static str,
+    pub hint: &'static str,
+}
+
 /// What is said of a mistake, mostly of the slice of text that is quoted before it, and what to write instead. Either is empty if the
 /// number of the refusal says all.
 type Words = (&'static str, &'static str);
@@ -57,7 +66,7 @@ pub fn sentence_of(number: u16, case: Case) -> Option<&'static str>
         return None;
     }
     let (sentence, _) = words_in(number, case);
-    said(sentence).or(said(entry.quoted))
+    said(either(sentence, entry.quoted))
 }
 
 /// What to write in place of what a refusal of that number refuses in that case; nothing if the number's own hint says all.
@@ -65,8 +74,7 @@ pub fn hint_of(number: u16, case: Case) -> Option<&'static str>
     ensures { IsSome result → is_refusal number ≡ true }
 {
     let _entry = entry_of(number)?;
-    let (_, hint) = words_in(number, case);
-    said(hint)
+    said(words_in(number, case).1)
 }
 
 /// A text, if it is one.
@@ -74,13 +82,9 @@ fn said(text: &'static str) -> Option<&'static str> {
     if text.is_empty() { None } else { Some(text) }
 }
 
-/// The words of a number in a case.
-pub(crate) fn words_in(number: u16, case: Case) -> Words {
-    match number {
-        101..=208 => reading_words(number, case),
-        402 => kind_words(number, case),
-        _ => declared_words(number, case),
-    }
+/// A text, or another one if it is empty.
+fn either(text: &'static str, other: &'static str) -> &'static str {
+    if text.is_empty() { other } else { text }
 }
 
 /// Of slices that are not tokens, and of tokens at which the reading stops.
@@ -121,17 +125,20 @@ fn reading_words(number: u16, case: Case) -> Words {
     }
 }
 
-/// Of declarations, and of a slice of an instruction.
-fn declared_words(number: u16, case: Case) -> Words {
+/// The words of a number in a case.
+fn words_in(number: u16, case: Case) -> Words {
+    if number <= 208 {
+        return reading_words(number, case);
+    }
     words_among! {
         number, case;
-        401..=409, Case::NotOfBlock(StandardBlock::Ton) => "", "TON has the inputs IN and PT (:=) and the outputs Q and ET (=>)";
-        401..=409, Case::NotOfBlock(StandardBlock::Tof) => "", "TOF has the inputs IN and PT (:=) and the outputs Q and ET (=>)";
-        401..=409, Case::NotOfBlock(StandardBlock::Tp) => "", "TP has the inputs IN and PT (:=) and the outputs Q and ET (=>)";
-        401..=409, Case::NotOfBlock(StandardBlock::Ctu) => "", "CTU has the inputs CU, R and PV (:=) and the outputs Q and CV (=>)";
-        401..=409, Case::NotOfBlock(StandardBlock::RTrig) => "", "R_TRIG has the input CLK (:=) and the output Q (=>)";
-        401..=409, Case::NotOfBlock(StandardBlock::Sr) => "", "SR has the inputs S1 and R (:=), of which S1 wins, and the output Q1 (=>); RS has S and R1, of which R1 wins";
-        401..=409, Case::NotOfBlock(StandardBlock::Rs) => "", "RS has the inputs S and R1 (:=), of which R1 wins, and the output Q1 (=>); SR has S1 and R, of which S1 wins";
+        401 | 403..=409, Case::NotOfBlock(StandardBlock::Ton) => "", "TON has the inputs IN and PT (:=) and the outputs Q and ET (=>)";
+        401 | 403..=409, Case::NotOfBlock(StandardBlock::Tof) => "", "TOF has the inputs IN and PT (:=) and the outputs Q and ET (=>)";
+        401 | 403..=409, Case::NotOfBlock(StandardBlock::Tp) => "", "TP has the inputs IN and PT (:=) and the outputs Q and ET (=>)";
+        401 | 403..=409, Case::NotOfBlock(StandardBlock::Ctu) => "", "CTU has the inputs CU, R and PV (:=) and the outputs Q and CV (=>)";
+        401 | 403..=409, Case::NotOfBlock(StandardBlock::RTrig) => "", "R_TRIG has the input CLK (:=) and the output Q (=>)";
+        401 | 403..=409, Case::NotOfBlock(StandardBlock::Sr) => "", "SR has the inputs S1 and R (:=), of which S1 wins, and the output Q1 (=>); RS has S and R1, of which R1 wins";
+        401 | 403..=409, Case::NotOfBlock(StandardBlock::Rs) => "", "RS has the inputs S and R1 (:=), of which R1 wins, and the output Q1 (=>); SR has S1 and R, of which S1 wins";
         302 | 409, Case::DownCounter => "", counting_down!();
         306, Case::Variable => "is one variable more than the 256 that a unit may have", "";
         401, Case::Field => "is not an input or output of a declared instance", "";
@@ -143,13 +150,6 @@ fn declared_words(number: u16, case: Case) -> Words {
         408, Case::Deferred => "takes no parenthesis", "";
         409, Case::InputArrow => "is an input of this block, and `=>` reads an output", "an input is passed with :=, such as IN := a";
         409, Case::OutputAssigned => "is an output of this block, and `:=` passes an input", "an output is read with =>, such as Q => a";
-    }
-}
-
-/// Of a slice whose type does not match.
-fn kind_words(number: u16, case: Case) -> Words {
-    words_among! {
-        number, case;
         402, Case::Instance => "is an instance, and has no value of its own", "name one of its outputs, such as t.Q, c.CV or l.Q1";
         402, Case::NoInstance => "is not an instance of a function block", "CAL names an instance of a function block, declared in VAR: t : TON;";
         402, Case::TruthLiteral => "", "here 0 and 1 are DINTs: write FALSE for 0, TRUE for 1";
@@ -171,4 +171,40 @@ fn kind_words(number: u16, case: Case) -> Words {
         402, Case::Unpassed(Kind::Dint, _) => DIFFERS, "write a duration, such as T#500ms, or pass a TIME";
         402, Case::Unpassed(Kind::Time, _) => DIFFERS, "write an integer, such as 500, or pass a DINT";
     }
+}
+
+impl Mistake {
+    /// A mistake with the words of its case.
+    pub fn of(case: Case) -> Mistake {
+        Mistake {
+            case,
+            sentence: "",
+            hint: "",
+        }
+    }
+
+    /// The mistake in a refusal of that number, also with the words of its case.
+    pub fn worded(self, number: u16) -> Mistake {
+        let (sentence, hint) = words_in(number, self.case);
+        Mistake {
+            case: self.case,
+            sentence: either(self.sentence, sentence),
+            hint: either(self.hint, hint),
+        }
+    }
+}
+
+/// The mistake of the first of these rows that fits, if one does. They are chosen by reference: by value the proof takes twice as long.
+#[macro_export]
+macro_rules! mistake_among {
+    ($found:expr; $($pattern:pat $(if $guard:expr)? => $case:ident $(says $sentence:literal,)? $hint:literal;)*) => {
+        Some(*match $found {
+            $($pattern $(if $guard)? => &$crate::Mistake {
+                case: $crate::Case::$case,
+                sentence: concat!($($sentence)?),
+                hint: $hint,
+            },)*
+            _ => return None,
+        })
+    };
 }

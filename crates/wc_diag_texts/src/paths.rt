@@ -22,26 +22,18 @@ pub fn paths_text(alloc: Global, paths: Paths<'_>) -> Result<String, AllocError>
     ensures { IfOk result (λ text. string_bytes text ≡ paths_text paths.entry) }
 {
     match paths {
-        Paths::Two(label, first, brought, other, different) => {
-            format!(in alloc;
-                "the current result is undefined: line {first} brings {brought} to `{label}`, line {other} brings {different}"
-            )
-        }
-        Paths::Empty(label, line) => {
-            format!(in alloc;
-                "the current result is undefined: line {line} brings no value to `{label}`"
-            )
-        }
-        Paths::Unsure(label, line) => {
-            format!(in alloc;
-                "the current result is undefined: the paths to `{label}` (line {line}) bring different types, or no value"
-            )
-        }
-        Paths::None(label) => {
-            format!(in alloc;
-                "there is no current result: neither a jump nor the line above leads to `{label}`"
-            )
-        }
+        Paths::Two(label, first, brought, other, different) => format!(in alloc;
+            "the current result is undefined: line {first} brings {brought} to `{label}`, line {other} brings {different}"
+        ),
+        Paths::Empty(label, line) => format!(in alloc;
+            "the current result is undefined: line {line} brings no value to `{label}`"
+        ),
+        Paths::Unsure(label, line) => format!(in alloc;
+            "the current result is undefined: the paths to `{label}` (line {line}) bring different types, or no value"
+        ),
+        Paths::None(label) => format!(in alloc;
+            "there is no current result: neither a jump nor the line above leads to `{label}`"
+        ),
     }
 }
 

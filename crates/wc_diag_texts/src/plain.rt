@@ -1,6 +1,6 @@
-ghost use Rattle.std.specs.Prelude.{◌≡◌, ◌≤◌, IfOk, false, length};
+ghost use Rattle.std.specs.Prelude.{◌≡◌, ◌≤◌, IfOk, length};
 ghost use Rattle.std.specs.Str.{is_utf8};
-ghost use Rattle.wc_diag_texts.specs.Plain.{acts, characters, column_of, is_calm, is_control, passes, spaced, starts_acting, with_spaces};
+ghost use Rattle.wc_diag_texts.specs.Plain.{characters, column_of, is_calm, is_control, passes, spaced, starts_acting, with_spaces};
 
 use crate::acting::hidden_length;
 use std::alloc::{AllocError, Global};
@@ -35,20 +35,12 @@ fn is_control(byte: u8) -> bool
     byte < 32 || byte == 127
 }
 
-/// Whether a UTF-8 text begins with a character on which a terminal or an editor acts, or which is not seen: a control character
-/// above ASCII, an end of a line, one that turns the direction of writing, or one without a width.
-fn acts(text: &[u8]) -> bool
-    ensures { result ≡ acts text.now }
-{
-    hidden_length(text) > 0
-}
-
-/// Whether the first character of a UTF-8 text is a control character, or acts so.
+/// Whether the first character of a UTF-8 text is a control character, or a terminal or an editor would act on it, or it is not seen.
 fn starts_acting(text: &[u8]) -> bool
     ensures { result ≡ starts_acting text.now }
 {
     match text {
-        [byte, ..] => is_control(*byte) || acts(text),
+        [byte, ..] => is_control(*byte) || hidden_length(text) > 0,
         [] => false,
     }
 }
@@ -84,18 +76,6 @@ fn spaced(byte: u8) -> u8
     ensures { result ≡ spaced byte }
 {
     if byte == b'\t' { b' ' } else { byte }
-}
-
-/// Whether a text has a tab.
-pub(crate) fn has_tab(text: &[u8]) -> bool
-    ensures { result ≡ false → with_spaces text.now ≡ text.now }
-{
-    for byte in text {
-        if *byte == b'\t' {
-            return true;
-        }
-    }
-    false
 }
 
 /// A text with spaces for its tabs.

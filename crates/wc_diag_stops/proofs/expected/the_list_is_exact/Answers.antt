@@ -1,5 +1,5 @@
 use Rattle.wc_diag_stops.proofs.ListedTokens.{lists_all, lists_no_other}
-use Rattle.wc_diag_stops.proofs.listing.the_list_is_exact.Goals as goal
+use Rattle.wc_diag_stops.proofs.expected.the_list_is_exact.Goals as goal
 
 pub returns-clause-all : goal.returns-clause-all
 returns-clause-all c = lists_all

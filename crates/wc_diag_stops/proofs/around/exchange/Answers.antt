@@ -3,7 +3,7 @@ use Rattle.std.proofs.lemmas.List.{get_or_default}
 use Rattle.std.proofs.lemmas.List.Edits.{map_over_more}
 use Rattle.wc_lexer.specs.declared.shape.Token.{Token}
 use Rattle.wc_diag_stops.specs.Stopping.{exchanged}
-use Rattle.wc_diag_stops.proofs.places.exchange.Goals as goal
+use Rattle.wc_diag_stops.proofs.around.exchange.Goals as goal
 
 -- one more token
 exchange_more : (xs ys : List Token) (i : ℕ) (other : Token) (x y : ℕ) → i < length xs → length ys ≡ length xs → ys ≡ map exchanged (take i xs) ++ drop i xs → x ≡ (get_or ys i other).line

@@ -1,0 +1,17 @@
+use Rattle.std.proofs.Common.{◌∙◌, ap}
+use Rattle.std.proofs.lemmas.List.{drop_all}
+use Rattle.wc_text_lines.specs.Words.{marks_of}
+use Rattle.wc_reader.specs.TextViews.{reading_view}
+use Rattle.wc_text_short_lines.specs.Walks.{walk}
+use Rattle.wc_diag_stops.proofs.StopSteps.{read_at_end}
+use Rattle.wc_diag_stops.proofs.stops.raised_on.Goals.{in-Ok-at_text_end, in-Err-at_text_end}
+use Rattle.wc_diag_stops.proofs.stops.raised_on.Goals as goal
+
+pub returns-clause-read : goal.returns-clause-read
+returns-clause-read c =
+    let reading = reading_view c.loop-place.reading in
+    let whole = c.loop-place.invariant.goes_on ∙ ap (λ l. walk reading (marks_of l) c.args.last) (drop_all c.loop-place.place c.args.tokens.now c.loop-place-test.false) in
+    elim c.match-at_text_end.branch [
+      | in-Ok-at_text_end w ↦ rw w.result-is (read_at_end _ reading c.args.last _ whole w.in-Ok-at_text_end.ensures.reported)
+      | in-Err-at_text_end w ↦ rw w.result-is tt
+    ]

@@ -1,5 +1,0 @@
-use Rattle.std.proofs.lemmas.Str.Ascii.{trim_ascii_start_is}
-use Rattle.wc_diag_stops.proofs.words.from_word.Goals as goal
-
-pub returns : goal.returns
-returns c = trim_ascii_start_is c.args.text.now c.trim_ascii_start.result.now c.trim_ascii_start.ensures.value
