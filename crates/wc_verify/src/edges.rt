@@ -31,14 +31,8 @@ pub(crate) fn with_way(kind: Option<Kind>, way: Way) -> Way
 {
     match way {
         Way::Unseen => Way::Agreed(kind),
-        Way::Agreed(other) => {
-            if same_result(kind, other) {
-                Way::Agreed(kind)
-            } else {
-                Way::Different
-            }
-        }
-        Way::Different => Way::Different,
+        Way::Agreed(other) if same_result(kind, other) => Way::Agreed(kind),
+        _ => Way::Different,
     }
 }
 

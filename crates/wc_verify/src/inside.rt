@@ -21,10 +21,8 @@ fn see_if_any<'a>(tables: &Tables<'a>, unit: usize, operand: &Option<Operand<'a>
     ensures { (scope : Scope) → IsScope tables.now unit scope
         → IsSeenIfAny scope (option_map term_view operand.now) result }
 {
-    match operand {
-        Some(operand) => Some(see(tables, unit, operand)),
-        None => None,
-    }
+    let operand = operand.as_ref()?;
+    Some(see(tables, unit, operand))
 }
 
 /// The kind with which the lines inside a parenthesis start.

@@ -19,14 +19,8 @@ pub(crate) fn target<'a>(instr: &Instr<'a>) -> Option<&'a [u8]>
         → SaysAhead (instr_line instr.now label) ahead following }
 {
     match instr {
-        Instr::Load { .. } => None,
-        Instr::Store { .. } => None,
-        Instr::Apply { .. } => None,
-        Instr::Defer { .. } => None,
-        Instr::Not { .. } => None,
         Instr::Jump { label, .. } => Some(*label),
-        Instr::Call { .. } => None,
-        Instr::Return { .. } => None,
+        _ => None,
     }
 }
 
@@ -42,14 +36,9 @@ pub(crate) fn leaves(instr: &Instr<'_>) -> bool
     ensures { (label : Option Word) → leaves (instr_line instr.now label) ≡ result }
 {
     match instr {
-        Instr::Load { .. } => false,
-        Instr::Store { .. } => false,
-        Instr::Apply { .. } => false,
-        Instr::Defer { .. } => false,
-        Instr::Not { .. } => false,
         Instr::Jump { condition, .. } => is_always(*condition),
-        Instr::Call { .. } => false,
         Instr::Return { condition, .. } => is_always(*condition),
+        _ => false,
     }
 }
 

@@ -25,10 +25,7 @@ pub(crate) fn first_of(first: Option<u16>, then: Option<u16>) -> Option<u16>
     ensures { (line : ℕ) (rest : Option Refusal)
         → first_at result line rest ≡ first_at first line (first_at then line rest) }
 {
-    match first {
-        Some(number) => Some(number),
-        None => then,
-    }
+    first.or(then)
 }
 
 /// A refusal.
@@ -116,10 +113,7 @@ pub(crate) fn validate_divisor(operator: Operator, operand: &Operand<'_>) -> Opt
 pub(crate) fn is_of_kind(kind: Kind, seen: Option<Kind>) -> bool
     ensures { result ≡ is_of (is_kind kind) seen }
 {
-    match seen {
-        Some(seen) => is_kind(kind, seen),
-        None => false,
-    }
+    seen.is_some_and(|seen| is_kind(kind, seen))
 }
 
 /// Whether an operand suits the result before its operator.
@@ -146,8 +140,5 @@ pub(crate) fn suits_target(seen: Seen, kind: Option<Kind>) -> bool
     ensures { (scope : Scope) (term : Term) → IsSeen scope term seen
         → result ≡ suits_target scope term kind }
 {
-    match kind {
-        Some(kind) => is_of_kind(kind, seen.kind),
-        None => false,
-    }
+    kind.is_some_and(|kind| is_of_kind(kind, seen.kind))
 }

@@ -79,10 +79,7 @@ fn validate_opening_operand(seen: Option<Seen>) -> Option<u16>
     ensures { (scope : Scope) (term : Option Term) → IsSeenIfAny scope term seen
         → Finds (λ line. opening_operand_checks scope line term) result }
 {
-    match seen {
-        Some(seen) => validate_reading(seen),
-        None => None,
-    }
+    validate_reading(seen?)
 }
 
 /// Whether the operand on an opening line is not an instance.
