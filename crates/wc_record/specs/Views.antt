@@ -3,7 +3,7 @@ use Rattle.std.specs.Prelude.{◌≡◌, ◌≤◌, ◌<◌, ◌^◌, ◌≤ℤ�
 use Rattle.wc_model.specs.Run.Log.{Record}
 use Rattle.wc_model.specs.Instrument.Plates.{least_sample, greatest_sample}
 use Rattle.wc_model.specs.Run.Rows.{RowData, LogRow, Counts, Bytes, Inputs, Scan, Change}
-use Rattle.wc_record.specs.declared.fields.RowFields.{RowFields}
+use Rattle.wc_record.specs.declared.row_data.RowFields.{RowFields}
 use Rattle.wc_record.specs.declared.row_head.HeadKind.{HeadKind}
 use Rattle.wc_record.specs.declared.row_head.HeadKind.TheVariants as head
 use Rattle.wc_record.specs.declared.row_head.RowHead.{RowHead}

@@ -3,8 +3,6 @@
 #![tactic(auto)]
 
 mod bounded;
-mod fields;
-mod given;
 mod last_scans;
 mod log;
 mod numbers;

@@ -9,10 +9,9 @@ ghost use Rattle.wc_record.specs.Reported.{Reads, current_record, fields_reporte
 ghost use Rattle.wc_record.specs.Views.{head_view, row_view};
 
 use crate::bounded::{LimitedReader, is_exhausted};
-use crate::fields::{is_first_row, row_in};
 use crate::records::Records;
 use crate::refused_row::RefusedRow;
-use crate::row_data::RowFault;
+use crate::row_data::{RowFault, is_first_row, row_in};
 use crate::row_head::{RowHead, owned_row};
 use crate::row_kind::{LogFault, Row};
 use csv::ByteRecord;

@@ -1,11 +1,13 @@
-ghost use Rattle.std.specs.Prelude.{◌≡◌, IfOk};
-ghost use Rattle.wc_model.specs.Run.Log.{row_data_of};
+ghost use Rattle.std.specs.Prelude.{◌≡◌, IfOk, ◌∷◌, [], option_map, Some};
+ghost use Rattle.wc_model.specs.Run.Log.{row_data_of, first_row, has_fields, row_of_fields};
 ghost use Rattle.wc_model.specs.Run.Log as log;
 ghost use Rattle.wc_model.specs.Run.Rows as rows;
-ghost use Rattle.wc_record.specs.Views.{BringsInRange, IsDataInRange, Says, SaysData, head_data_view};
+ghost use Rattle.wc_record.specs.Views.{BringsInRange, IsDataInRange, Says, SaysData, head_data_view, SaysRow, three_of, fields_view};
+ghost use Rattle.csv.specs.Records.{fields_of};
 
-use crate::numbers::{counts, inputs_word, line_chunk};
-use crate::row_head::HeadKind;
+use crate::numbers::{counts, inputs_word, line_chunk, moment};
+use crate::row_head::{HeadKind, RowHead};
+use csv::ByteRecord;
 
 /// Why fields are not a row.
 pub(crate) enum RowFault {
@@ -64,7 +66,7 @@ fn inputs(text: &[u8]) -> Result<HeadKind, RowFault>
 
 /// What a kind and its data bring; bytes are in the buffer then. A scan and a change of the program have no data.
 #[inline(always)]
-pub(crate) fn row_data(buffer: &mut Vec<u8>, kind: &[u8], text: &[u8]) -> Result<HeadKind, RowFault>
+fn row_data(buffer: &mut Vec<u8>, kind: &[u8], text: &[u8]) -> Result<HeadKind, RowFault>
     ensures says { SaysData buffer.new.items result (row_data_of kind.now text.now) }
     ensures range { IfOk result (λ kind. IsDataInRange (head_data_view buffer.new.items kind)) }
 {
@@ -77,5 +79,73 @@ pub(crate) fn row_data(buffer: &mut Vec<u8>, kind: &[u8], text: &[u8]) -> Result
         b"P" if text.is_empty() => Ok(HeadKind::Change),
         b"P" => Err(refused(608)),
         _ => Err(refused(604)),
+    }
+}
+
+/// The three fields of a row.
+#[derive(Drop)]
+struct RowFields<'f> {
+    moment: &'f [u8],
+    kind: &'f [u8],
+    text: &'f [u8],
+}
+
+/// The fields of a record of three.
+#[inline(always)]
+fn three_fields(row: &ByteRecord) -> Option<RowFields<'_>>
+    ensures { option_map fields_view result ≡ three_of (fields_of row.now) }
+{
+    if row.len() != 3 {
+        return None;
+    }
+    let moment = row.get(0)?;
+    let kind = row.get(1)?;
+    let text = row.get(2)?;
+    Some(RowFields { moment, kind, text })
+}
+
+/// Whether the text is that of the first row's field.
+fn is_first(moment: &[u8], kind: &[u8], text: &[u8]) -> bool
+    ensures { result ≡ has_fields first_row (moment.now ∷ kind.now ∷ text.now ∷ []) }
+{
+    matches!(moment, b"ms") && matches!(kind, b"kind") && matches!(text, b"data")
+}
+
+/// Whether the record is the first row of a log, `ms,kind,data`.
+pub(crate) fn is_first_row(row: &ByteRecord) -> bool
+    ensures { result ≡ has_fields first_row (fields_of row.now) }
+{
+    match three_fields(row) {
+        Some(fields) => is_first(fields.moment, fields.kind, fields.text),
+        None => false,
+    }
+}
+
+/// The row of that number that a record writes, whose bytes are in the buffer then, if the last
+/// row's moment was `last`, 0 before any.
+#[inline(always)]
+pub(crate) fn row_in(
+    buffer: &mut Vec<u8>,
+    row: &ByteRecord,
+    number: u32,
+    last: u64,
+) -> Result<RowHead, RowFault>
+    ensures says { SaysRow buffer.new.items result
+        (row_of_fields number (Some last) (fields_of row.now)) }
+    ensures range { IfOk result (λ read. IsDataInRange
+        (head_data_view buffer.new.items read.kind)) }
+{
+    let Some(fields) = three_fields(row) else {
+        return Err(RowFault::Refused(601));
+    };
+    let Some(ms) = moment(fields.moment) else {
+        return Err(RowFault::Refused(602));
+    };
+    if ms < last {
+        return Err(RowFault::Refused(603));
+    }
+    match row_data(buffer, fields.kind, fields.text) {
+        Ok(kind) => Ok(RowHead { number, ms, kind }),
+        Err(fault) => Err(fault),
     }
 }

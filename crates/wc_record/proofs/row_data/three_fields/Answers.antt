@@ -1,6 +1,6 @@
 use Rattle.std.proofs.Common.{ap, sym, ◌∙◌, option_map}
 use Rattle.wc_record.proofs.ThreeFields.{no_first, no_second, no_third, not_three, just_three}
-use Rattle.wc_record.proofs.fields.three_fields.Goals as goal
+use Rattle.wc_record.proofs.row_data.three_fields.Goals as goal
 use Rattle.wc_record.specs.Views.{fields_view}
 
 pub returns-in_err-moment : goal.returns-in_err-moment

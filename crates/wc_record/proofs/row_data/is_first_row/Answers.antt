@@ -1,7 +1,7 @@
 use Rattle.std.proofs.Common.{sym, ap, ◌∙◌}
 use Rattle.wc_model.specs.Run.Log.{first_row, has_fields}
 use Rattle.wc_record.proofs.ThreeFields.{three_are}
-use Rattle.wc_record.proofs.fields.is_first_row.Goals as goal
+use Rattle.wc_record.proofs.row_data.is_first_row.Goals as goal
 
 pub returns-in-Some : goal.returns-in-Some
 returns-in-Some c =

@@ -1,5 +1,5 @@
 use Rattle.wc_record.proofs.ThreeFields.{row_read, row_refused}
-use Rattle.wc_record.proofs.fields.row_in.Goals as goal
+use Rattle.wc_record.proofs.row_data.row_in.Goals as goal
 use Rattle.wc_record.specs.Views.{head_data_view}
 
 pub returns-in-Ok-clause-says : goal.returns-in-Ok-clause-says
