@@ -30,3 +30,52 @@ pub six_parts : (a b c d e f start first second third fourth fifth all : List �
     → fifth ≡ fourth ++ e → all ≡ fifth ++ f
     → all ≡ a ++ b ++ c ++ d ++ e ++ f
 six_parts a b c d e f start first second third fourth fifth all none h i j k l m = rw (m, l, k, j, i, h, none) refl
+
+-- seven, of which the fifth and the sixth are one
+pub seven_parts : (a b c d e f g start first second third fourth fifth sixth all : List ℕ) → start ≡ [] → first ≡ start ++ a → second ≡ first ++ b → third ≡ second ++ c → fourth ≡ third ++ d
+    → fifth ≡ fourth ++ e → sixth ≡ fifth ++ f → all ≡ sixth ++ g
+    → all ≡ a ++ b ++ c ++ d ++ (e ++ f) ++ g
+seven_parts a b c d e f g start first second third fourth fifth sixth all none h i j k l m n =
+    rw (n, m, l, k, j, i, h, none, append_assoc (a ++ b ++ c ++ d) e f) refl
+
+-- six parts after what was there, of which the last four are one
+pub six_after : {E : Type 0} (r : Result Unit E) (old a b c d e f first second third fourth fifth all : List ℕ) → first ≡ old ++ a → second ≡ first ++ b → third ≡ second ++ c
+    → fourth ≡ third ++ d → fifth ≡ fourth ++ e → OnOk r (all ≡ fifth ++ f)
+    → OnOk r (all ≡ old ++ (a ++ b ++ (c ++ d ++ e ++ f)))
+six_after (Ok x) old a b c d e f first second third fourth fifth all g h i j k l =
+    rw (
+      l,
+      k,
+      j,
+      i,
+      h,
+      g,
+      append_assoc old a b,
+      append_assoc (old ++ (a ++ b)) c d,
+      append_assoc (old ++ (a ++ b)) (c ++ d) e,
+      append_assoc (old ++ (a ++ b)) (c ++ d ++ e) f,
+      append_assoc old (a ++ b) (c ++ d ++ e ++ f),
+    ) refl
+six_after (Err x) old a b c d e f first second third fourth fifth all g h i j k l = tt
+
+-- seven, of which the fifth and the sixth are one
+pub seven_after : {E : Type 0} (r : Result Unit E) (old a b c d e f g first second third fourth fifth sixth all : List ℕ) → first ≡ old ++ a → second ≡ first ++ b → third ≡ second ++ c
+    → fourth ≡ third ++ d → fifth ≡ fourth ++ e → sixth ≡ fifth ++ f → OnOk r (all ≡ sixth ++ g)
+    → OnOk r (all ≡ old ++ (a ++ b ++ c ++ d ++ (e ++ f) ++ g))
+seven_after (Ok x) old a b c d e f g first second third fourth fifth sixth all h i j k l m n =
+    rw (
+      n,
+      m,
+      l,
+      k,
+      j,
+      i,
+      h,
+      append_assoc old a b,
+      append_assoc old (a ++ b) c,
+      append_assoc old (a ++ b ++ c) d,
+      append_assoc (old ++ (a ++ b ++ c ++ d)) e f,
+      append_assoc old (a ++ b ++ c ++ d) (e ++ f),
+      append_assoc old (a ++ b ++ c ++ d ++ (e ++ f)) g,
+    ) refl
+seven_after (Err x) old a b c d e f g first second third fourth fifth sixth all h i j k l m n = tt

@@ -3,3 +3,4 @@ pub mod Assembled
 pub mod OneLine
 pub mod OneObject
 pub mod PlacedWarnings
+pub mod Statements

@@ -1,5 +1,5 @@
 -- What is written on one line has no control of ASCII in it.
-use Rattle.std.proofs.Common.{◌≡◌, ◌==◌, ◌&&◌, ◌||◌, not, ◌<◌, ◌≤◌, ◌/◌, ◌%◌, ◌+◌, ◌-◌, nat_lt, nat_le, lit<, ℕ, zero, suc, Bool, true, false, if◌then◌else◌, List, [], ◌∷◌, ◌++◌, Option, Some, None, codes, decimal, refl, sym, subst, arith}
+use Rattle.std.proofs.Common.{◌≡◌, ◌==◌, ◌&&◌, ◌||◌, not, ◌<◌, ◌≤◌, ◌/◌, ◌%◌, ◌+◌, ◌-◌, nat_lt, nat_le, lit<, ℕ, zero, suc, Bool, true, false, if◌then◌else◌, List, [], ◌∷◌, ◌++◌, Option, codes, decimal, refl, sym, subst, arith}
 use Rattle.std.proofs.lemmas.Bool.{and_parts, leb-true, ltb-false}
 use Rattle.std.specs.Char.{digit_char}
 use Rattle.std.specs.List.{flat_map}
@@ -9,9 +9,9 @@ use Rattle.wc_diag_spans.specs.declared.diagnostic.Span.{Span}
 use Rattle.wc_diag_spans.specs.declared.refusal.Part.{Part}
 use Rattle.wc_diag_spans.specs.declared.refusal.Part.TheVariants.{Log}
 use Rattle.wc_diag_spans.specs.declared.refusal.Refusal.{Refusal}
-use Rattle.wc_diag_messages.specs.Explanations.{IsKnown, IsPrintable, QuotesAndSays, left_out_text, line_text, numbered, quoted_text}
+use Rattle.wc_diag_messages.specs.Explanations.{IsKnown, IsPrintable, QuotesAndSays, left_out_text, numbered, quoted_text}
 use Rattle.wc_diag_messages.specs.Formats.{helped_text, position_text, short_text}
-use Rattle.wc_diag_messages.specs.Locations.{column_text, counted_text, place_text, row_text, section_text}
+use Rattle.wc_diag_messages.specs.Locations.{column_text, counted_text, first_column, line_text, place_text, row_text, section_text}
 use Rattle.wc_diag_texts.specs.Plain.{HasNoControls, IsShown, acts, escaped_byte, escaped_text, hex_digit, is_calm, is_control, passes, shown_text, with_spaces, words_after}
 use Rattle.wc_diag_messages.specs.Warned.{KnowsWarning, named_text}
 use Rattle.wc_diag_messages.specs.declared.parts.Parts.{Parts}
@@ -134,12 +134,11 @@ section_above part place = search (joined, either, bytes_shown, counted_above)
 place_above : (in_job : Bool) (part : Part) (place : ℕ) → HasNoControls (place_text in_job part place)
 place_above in_job part place = either in_job (section_text part place) (row_text part place) (section_above part place) (row_above part place)
 
-column_above : (shown : List ℕ) (span : Option Span) → HasNoControls (column_text shown span)
-column_above shown None = tt
-column_above shown (Some span) = search (joined, bytes_shown)
-
 line_above : (line : ℕ) → HasNoControls (line_text line)
 line_above line = search (joined, either, bytes_shown)
+
+column_above : (shown : List ℕ) (span : Option Span) → HasNoControls (column_text shown span)
+column_above shown span = line_above (first_column shown span)
 
 -- where it is
 position_above : (parts : Parts) → HasNoControls parts.place.bytes.items → HasNoControls (position_text parts)

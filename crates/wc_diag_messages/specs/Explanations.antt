@@ -1,12 +1,12 @@
 -- What is said of a refusal or a warning, for people: the number, what is named, the line, the column, the snippet and
 -- the page are pinned; the words between them are not (the profile's own).
-use Rattle.std.specs.Prelude.{◌≡◌, ℕ, ◌+◌, ◌-◌, ◌==◌, ◌&&◌, min, Bool, true, false, nat_lt, List, [], ◌∷◌, ◌++◌, codes, length, take, if◌then◌else◌}
+use Rattle.std.specs.Prelude.{◌≡◌, ℕ, ◌+◌, ◌-◌, ◌&&◌, min, Bool, true, false, nat_lt, List, [], ◌∷◌, ◌++◌, codes, length, take, if◌then◌else◌}
 use Rattle.wc_diag_spans.specs.Finds.{Finds, IsWithin}
 use Rattle.wc_diag_spans.specs.declared.refusal.Part.{Part}
 use Rattle.wc_diag_spans.specs.declared.refusal.Part.TheVariants.{Program, Next}
 use Rattle.wc_diag_spans.specs.declared.refusal.Refusal.{Refusal}
 use Rattle.wc_diag_messages.specs.Snippets.{snippet_text}
-use Rattle.wc_diag_messages.specs.Locations.{alongside_text, margin_text, number_text, place_text}
+use Rattle.wc_diag_messages.specs.Locations.{alongside_text, line_text, margin_text, number_text, place_text}
 use Rattle.wc_diag_texts.specs.Plain.{HasNoControls, IsShown, shown_text}
 use Rattle.wc_diag_messages.specs.declared.parts.Parts.{Parts}
 use Rattle.wc_diag_messages.specs.declared.parts.Severity.{Severity}
@@ -80,10 +80,6 @@ numbered severity number = shown_text (opening severity) ++ number_text number +
 -- the first line: the number, and what is wrong
 abbrev pub headline : Parts → List ℕ
 headline parts = numbered parts.severity parts.number ++ parts.reported.bytes.items ++ (10 ∷ [])
-
--- a line after the name of what it is in; nothing if none is known
-abbrev pub line_text : ℕ → List ℕ
-line_text line = if line == 0 then [] else shown_text (codes ":") ++ number_text line
 
 -- the second line: what is named, the line in it, and what follows it
 abbrev pub place_line : List ℕ → List ℕ → ℕ → List ℕ → List ℕ

@@ -9,8 +9,8 @@ use Rattle.json.specs.Token as json_token
 use Rattle.json.specs.Token.{Token}
 use Rattle.wc_diag_spans.specs.declared.diagnostic.Span.{Span}
 use Rattle.wc_diag_spans.specs.declared.refusal.Refusal.{Refusal}
-use Rattle.wc_diag_messages.specs.Explanations.{IsKnown, line_text, long_text, numbered}
-use Rattle.wc_diag_messages.specs.Locations.{column_text}
+use Rattle.wc_diag_messages.specs.Explanations.{IsKnown, long_text, numbered}
+use Rattle.wc_diag_messages.specs.Locations.{column_text, first_column, line_text}
 use Rattle.wc_diag_texts.specs.Plain.{IsOneLine, acts_nowhere, column_of, is_plain, shown_text, words_after}
 use Rattle.wc_diag_messages.specs.declared.parts.Parts.{Parts}
 use Rattle.wc_diag_messages.specs.declared.parts.Severity.{Severity}
@@ -61,11 +61,6 @@ number_member name value = json_token.key name ∷ json_token.number (decimal va
 abbrev pub number_if_any : List ℕ → ℕ → List Token
 number_if_any name value = if value == 0 then [] else number_member name value
 
--- the column of the offending slice, counted from 1; 0 if there is none
-abbrev pub first_column : List ℕ → Option Span → ℕ
-first_column line None = 0
-first_column line (Some span) = column_of line span.start
-
 -- the column after it on that line; 0 if there is none
 abbrev pub column_after : Option Span → List ℕ → ℕ
 column_after None line = 0
@@ -100,6 +95,17 @@ abbrev pub object_tokens : Parts → List ℕ → List Token
 object_tokens parts name =
     (json_token.begin_object ∷ text_member (codes "file") name)
     ++ position_members parts ++ word_members parts ++ (json_token.end_object ∷ [])
+
+-- these begin an object of what has that name
+pub record BeginsObject (name : List ℕ) (tokens : List Token) : Type 0 where
+  pub text : List ℕ
+  pub name_is : IsNameOf name text
+  pub tokens_are : tokens ≡ json_token.begin_object ∷ text_member (codes "file") text
+
+-- an object with its end, as a line, of which a reader takes the same
+pub record IsEnded (tokens : List Token) (bytes : List ℕ) : Type 0 where
+  pub reads : json.tokens (print (tokens ++ (json_token.end_object ∷ []))) ≡ tokens ++ (json_token.end_object ∷ [])
+  pub all : bytes ≡ print (tokens ++ (json_token.end_object ∷ [])) ++ (10 ∷ [])
 
 -- an object of what has that name, as JSON on one line, of which a reader takes these members
 pub record IsObjectOf (members : List ℕ → List Token) (name bytes : List ℕ) : Type 0 where

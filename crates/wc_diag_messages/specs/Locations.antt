@@ -19,10 +19,18 @@ number_text number = shown_text (decimal number)
 abbrev pub margin_text : ℕ → List ℕ
 margin_text line = replicate (length (number_text line)) 32
 
--- the column of the offending slice, counted from 1; nothing if none is known
+-- a line, or a column, after what it is in; nothing if none is known
+abbrev pub line_text : ℕ → List ℕ
+line_text line = if line == 0 then [] else shown_text (codes ":") ++ number_text line
+
+-- the column of the offending slice, counted from 1; 0 if there is none
+abbrev pub first_column : List ℕ → Option Span → ℕ
+first_column line None = 0
+first_column line (Some span) = column_of line span.start
+
+-- it as it is written; nothing if there is none
 abbrev pub column_text : List ℕ → Option Span → List ℕ
-column_text line None = []
-column_text line (Some span) = shown_text (codes ":") ++ number_text (column_of line span.start)
+column_text line span = line_text (first_column line span)
 
 -- the line with which a section of a job begins
 abbrev pub heading : Part → List ℕ

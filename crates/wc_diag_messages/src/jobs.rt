@@ -53,23 +53,15 @@ pub fn section_of(job: &[u8], part: Part) -> Option<JobSection<'_>>
     };
     let program = after_heading(1, found.plate);
     let next = after_heading(program, found.program);
-    match part {
-        Part::Job => None,
-        Part::Plate => Some(JobSection {
-            text: found.plate,
-            above: 1,
-        }),
-        Part::Program => Some(JobSection {
-            text: found.program,
-            above: program,
-        }),
+    let (text, above) = match part {
+        Part::Job => return None,
+        Part::Plate => (found.plate, 1),
+        Part::Program => (found.program, program),
         Part::Next => match found.next {
-            Some(text) => Some(JobSection { text, above: next }),
-            None => None,
+            Some(text) => (text, next),
+            None => return None,
         },
-        Part::Log => Some(JobSection {
-            text: found.log,
-            above: above_log(next, found.next),
-        }),
-    }
+        Part::Log => (found.log, above_log(next, found.next)),
+    };
+    Some(JobSection { text, above })
 }

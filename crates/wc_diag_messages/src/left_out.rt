@@ -1,10 +1,9 @@
-ghost use Rattle.std.specs.Prelude.{◌≡◌, [], IfOk, OnOk};
+ghost use Rattle.std.specs.Prelude.{◌≡◌, IfOk, OnOk};
 ghost use Rattle.wc_diag_messages.specs.Formats.{IsCalmIn, IsObjectOf, IsPlainIn, words_before_count};
 ghost use Rattle.wc_diag_messages.specs.Warned.{LeavesOut, ReportsLeftOut, left_out_tokens};
 
-use crate::object::{line_of, name_text, write_number, write_severity, write_text};
+use crate::object::{line_of, object_of, write_number, write_severity};
 use crate::parts::Severity;
-use json::Writer;
 use std::alloc::{AllocError, Global};
 use wc_diag_texts::{Format, Message};
 
@@ -39,25 +38,6 @@ fn add_left_out(message: &mut Message, severity: Severity, count: usize) -> Resu
     message.end_line()
 }
 
-/// Writes the object.
-fn write_object(
-    writer: &mut Writer,
-    severity: Severity,
-    name: &str,
-    count: usize,
-) -> Result<(), AllocError>
-    requires { writer.old.tokens ≡ [] }
-    ensures before { writer.new.before ≡ writer.old.before }
-    ensures tokens { OnOk result (writer.new.tokens ≡ left_out_tokens severity count name.now) }
-{
-    writer.begin_object()?;
-    write_text(writer, "file", name)?;
-    write_severity(writer, severity)?;
-    write_number(writer, "leftOut", count)?;
-    writer.end_object()?;
-    Ok(())
-}
-
 /// The number left out as an object on one line.
 fn object(
     alloc: Global,
@@ -68,11 +48,10 @@ fn object(
     ensures { IfOk result
         (λ bytes. IsObjectOf (left_out_tokens severity count) file.now bytes.items) }
 {
-    let name = name_text(alloc, file)?;
-    let mut writer = Writer::new(Vec::new(alloc));
-    write_object(&mut writer, severity, &name, count)?;
-    let line = line_of(writer)?;
-    Ok(line)
+    let mut writer = object_of(alloc, file)?;
+    write_severity(&mut writer, severity)?;
+    write_number(&mut writer, "leftOut", count)?;
+    line_of(writer)
 }
 
 /// The number of warnings of a file left out, or of refusals at least, in that format, on a line with its line feed. The error is out

@@ -6,12 +6,10 @@
 mod explaining;
 mod jobs;
 mod left_out;
-mod long;
 mod object;
 mod page;
 mod parts;
 mod placing;
-mod short;
 mod snippets;
 mod warned_parts;
 

@@ -1,11 +1,10 @@
-ghost use Rattle.std.specs.Prelude.{◌≡◌, ◌∷◌, ◌++◌, [], IfOk, OnOk};
+ghost use Rattle.std.specs.Prelude.{◌≡◌, ◌++◌, [], IfOk, OnOk};
 ghost use Rattle.std.specs.String.{string_bytes};
-ghost use Rattle.json.specs.Lex.{tokens};
-ghost use Rattle.json.specs.Print.{print};
-ghost use Rattle.wc_diag_messages.specs.Formats.{IsNameOf, IsObjectOf, column_after, first_column, number_if_any, number_member, object_tokens, position_members, severity_members, text_if_any, text_member, word_members};
+ghost use Rattle.wc_diag_messages.specs.Formats.{BeginsObject, IsEnded, IsNameOf, IsObjectOf, column_after, number_if_any, number_member, object_tokens, position_members, severity_members, text_if_any, text_member, word_members};
 ghost use Rattle.wc_diag_spans.specs.Finds.{IsWithin};
 
 use crate::parts::{Parts, Severity};
+use crate::placing::first_column;
 use json::Writer;
 use std::alloc::{AllocError, Global};
 use wc_diag_spans::Diagnostic;
@@ -53,18 +52,6 @@ fn write_number_if_any(writer: &mut Writer, name: &str, number: usize) -> Result
         return Ok(());
     }
     write_number(writer, name, number)
-}
-
-/// The column of the offending slice, counted from 1; 0 if there is none.
-fn first_column(diagnostic: &Diagnostic) -> usize
-    requires { IsWithin diagnostic.now }
-    ensures { result
-        ≡ first_column diagnostic.now.shown.items diagnostic.now.span }
-{
-    match diagnostic.span {
-        Some(span) => column_of(&diagnostic.shown, span.start),
-        None => 0,
-    }
 }
 
 /// The column after the offending slice on its line; 0 if there is none.
@@ -117,34 +104,19 @@ fn write_reported(writer: &mut Writer, parts: &Parts) -> Result<(), AllocError>
     write_words_if_any(writer, "hint", &parts.advice)
 }
 
-/// Writes the object of what has that name.
-fn write_object(writer: &mut Writer, name: &str, parts: &Parts) -> Result<(), AllocError>
-    requires within { IsWithin parts.now.diagnostic }
-    requires empty { writer.old.tokens ≡ [] }
-    ensures before { writer.new.before ≡ writer.old.before }
-    ensures tokens { OnOk result (writer.new.tokens ≡ object_tokens parts.now name.now) }
-{
-    writer.begin_object()?;
-    write_text(writer, "file", name)?;
-    write_position(writer, parts)?;
-    write_reported(writer, parts)?;
-    writer.end_object()?;
-    Ok(())
-}
-
-/// What was written, as a line.
-pub(crate) fn line_of(writer: Writer) -> Result<Vec<u8>, AllocError>
+/// Ends an object, as a line.
+pub(crate) fn line_of(mut writer: Writer) -> Result<Vec<u8>, AllocError>
     requires { writer.before ≡ [] }
-    ensures all { IfOk result (λ bytes. bytes.items ≡ print writer.tokens ++ 10 ∷ []) }
-    ensures reads { tokens (print writer.tokens) ≡ writer.tokens }
+    ensures { IfOk result (λ bytes. IsEnded writer.tokens bytes.items) }
 {
+    writer.end_object()?;
     let mut bytes = writer.into_inner();
     bytes.push(b'\n')?;
     Ok(bytes)
 }
 
 /// A name as it is if it is UTF-8; else as a message shows it.
-pub(crate) fn name_text(alloc: Global, name: &[u8]) -> Result<String, AllocError>
+fn name_text(alloc: Global, name: &[u8]) -> Result<String, AllocError>
     ensures { IfOk result (λ text. IsNameOf name.now (string_bytes text)) }
 {
     match str::from_utf8(name) {
@@ -156,15 +128,26 @@ pub(crate) fn name_text(alloc: Global, name: &[u8]) -> Result<String, AllocError
     }
 }
 
+/// An object that begins with that name.
+pub(crate) fn object_of(alloc: Global, name: &[u8]) -> Result<Writer, AllocError>
+    ensures before { IfOk result (λ writer. writer.before ≡ []) }
+    ensures begins { IfOk result (λ writer. BeginsObject name.now writer.tokens) }
+{
+    let name = name_text(alloc, name)?;
+    let mut writer = Writer::new(Vec::new(alloc));
+    writer.begin_object()?;
+    write_text(&mut writer, "file", &name)?;
+    Ok(writer)
+}
+
 /// What is said of what has that name, as a JSON object on one line.
 pub(crate) fn object(alloc: Global, name: &[u8], parts: &Parts) -> Result<Vec<u8>, AllocError>
     requires { IsWithin parts.now.diagnostic }
     ensures { IfOk result
         (λ bytes. IsObjectOf (object_tokens parts.now) name.now bytes.items) }
 {
-    let name = name_text(alloc, name)?;
-    let mut writer = Writer::new(Vec::new(alloc));
-    write_object(&mut writer, &name, parts)?;
-    let line = line_of(writer)?;
-    Ok(line)
+    let mut writer = object_of(alloc, name)?;
+    write_position(&mut writer, parts)?;
+    write_reported(&mut writer, parts)?;
+    line_of(writer)
 }

@@ -1,6 +1,6 @@
 ghost use Rattle.std.specs.Prelude.{◌≡◌, IfOk, IfSome, OnOk, is_some};
 ghost use Rattle.wc_diag_messages.specs.Locations.{Writes};
-ghost use Rattle.wc_diag_messages.specs.Paged.{ReportsPage, answer_line, help_lines, number_line, page_line, page_lines, plate_line, raised_lines, shown_line};
+ghost use Rattle.wc_diag_messages.specs.Paged.{ReportsPage, answer_line, help_lines, number_line, page_line, plate_line, raised_lines, shown_line};
 ghost use Rattle.wc_diag_texts.specs.Numbers.{is_from, is_refusal};
 
 use std::alloc::{AllocError, Global};
@@ -29,24 +29,16 @@ fn write_words(message: &mut Message, words: &str) -> Result<(), AllocError>
     message.end_line()
 }
 
-/// Writes lines of words alone.
-fn write_lines(message: &mut Message, lines: &[&str]) -> Result<(), AllocError>
-    ensures { OnOk result
-        (Writes message.old message.new (page_lines (λ line. line.now) lines.now)) }
-{
-    for line in lines {
-        write_words(message, line)?;
-    }
-    Ok(())
-}
-
 /// Writes what to write instead, and a usual text with the text mended.
 fn write_help(message: &mut Message, hint: &str, usual: &[&str]) -> Result<(), AllocError>
     ensures { OnOk result
         (Writes message.old message.new (help_lines hint.now (λ line. line.now) usual.now)) }
 {
     write_line(message, "help", hint)?;
-    write_lines(message, usual)
+    for line in usual {
+        write_words(message, line)?;
+    }
+    Ok(())
 }
 
 /// Writes the number, and what it means.
@@ -114,23 +106,18 @@ pub fn page(alloc: Global, number: u16) -> Result<Option<Message>, AllocError>
     }
 }
 
-/// The page of a warning, as it is printed.
-fn warned_message(alloc: Global, warning: &Entry) -> Result<Message, AllocError> {
+/// The page of a warning, if there is one of that number. The error is out of memory.
+pub fn warning_page(alloc: Global, number: u8) -> Result<Option<Message>, AllocError>
+    ensures { IfOk result (λ page. is_some page ≡ is_from 1 9 number) }
+{
+    let Some(warning) = warning_of(u16::from(number)) else {
+        return Ok(None);
+    };
     let mut message = Message::new(alloc);
     message.say("W")?;
     write_number(&mut message, warning.number, warning.sentence)?;
     write_line(&mut message, "place", warning.place)?;
     write_line(&mut message, "example (` / ` is a line end)", warning.input)?;
     write_help(&mut message, warning.hint, warning.usual)?;
-    Ok(message)
-}
-
-/// The page of a warning, if there is one of that number. The error is out of memory.
-pub fn warning_page(alloc: Global, number: u8) -> Result<Option<Message>, AllocError>
-    ensures { IfOk result (λ page. is_some page ≡ is_from 1 9 number) }
-{
-    match warning_of(u16::from(number)) {
-        Some(entry) => Ok(Some(warned_message(alloc, entry)?)),
-        None => Ok(None),
-    }
+    Ok(Some(message))
 }

@@ -1,13 +1,12 @@
-ghost use Rattle.std.specs.Prelude.{◌≡◌, IfOk, OnOk};
+ghost use Rattle.std.specs.Prelude.{IfOk, OnOk};
 ghost use Rattle.wc_diag_messages.specs.Locations.{Writes};
 ghost use Rattle.wc_diag_messages.specs.Explanations.{IsKnown, QuotesAndSays, left_out_text, quoted_text};
-ghost use Rattle.wc_diag_texts.specs.Plain.{IsShown, shown_text};
 
 use crate::placing::{named_line, place_words};
 use crate::snippets::{WIDEST, bytes_at};
 use std::alloc::{AllocError, Global};
 use wc_diag_spans::{Diagnostic, Refusal, find};
-use wc_diag_texts::{Message, entry_of, words_of};
+use wc_diag_texts::{Message, entry_of, shown, words_of};
 
 /// Whether something is refused, or accepted and suspicious.
 #[derive(Clone, Copy)]
@@ -83,48 +82,18 @@ fn write_subject(message: &mut Message, subject: &[u8]) -> Result<(), AllocError
     write_left_out(message, subject.len())
 }
 
-/// Writes what follows a headline, if there is something.
-fn write_detail(message: &mut Message, detail: &str) -> Result<(), AllocError>
-    ensures { IsShown message.old.bytes.items → OnOk result (IsShown message.new.bytes.items) }
-{
-    if detail.is_empty() {
-        return Ok(());
-    }
-    message.say(": ")?;
-    message.say(detail)
-}
-
-/// Words as they are shown.
-pub(crate) fn said_as(alloc: Global, words: &str) -> Result<Message, AllocError>
-    ensures all { IfOk result (λ message. message.bytes.items ≡ shown_text words.now) }
-    ensures shown { IfOk result (λ message. IsShown message.bytes.items) }
-{
-    let mut message = Message::new(alloc);
-    message.say(words)?;
-    Ok(message)
-}
-
-/// What is said of what is quoted.
-fn statement_of(alloc: Global, number: u16, diagnostic: &Diagnostic) -> Result<Message, AllocError>
-    ensures { IfOk result (λ message. IsShown message.bytes.items) }
+/// What is wrong, in words: the slice that is quoted, what is said of it, and what follows after a colon, if there is something.
+fn reported_of(alloc: Global, number: u16, diagnostic: &Diagnostic) -> Result<Message, AllocError>
+    ensures { IfOk result
+        (λ reported. QuotesAndSays diagnostic.now.subject.items reported.bytes.items) }
 {
     let sentence = sentence(number, diagnostic);
-    if sentence.is_empty() {
-        return said_as(alloc, &diagnostic.detail);
-    }
-    let mut message = said_as(alloc, sentence)?;
-    write_detail(&mut message, &diagnostic.detail)?;
-    Ok(message)
-}
-
-/// What is wrong, in words: the slice that is quoted, and what is said of it.
-fn reported_of(alloc: Global, subject: &[u8], said: &Message) -> Result<Message, AllocError>
-    requires { IsShown said.now.bytes.items }
-    ensures { IfOk result (λ reported. QuotesAndSays subject.now reported.bytes.items) }
-{
+    let mark = if sentence.is_empty() { "" } else { ": " };
+    let detail = shown(alloc, diagnostic.detail.as_bytes())?;
     let mut message = Message::new(alloc);
-    write_subject(&mut message, subject)?;
-    message.append(said)?;
+    write_subject(&mut message, &diagnostic.subject)?;
+    message.say(sentence)?;
+    message.say_before(mark, &detail)?;
     Ok(message)
 }
 
@@ -134,15 +103,14 @@ pub(crate) fn parts_of(alloc: Global, refusal: &Refusal<'_>) -> Result<Parts, Al
 {
     let number = refusal.number;
     let diagnostic = find(alloc, refusal)?;
-    let said = statement_of(alloc, number, &diagnostic)?;
     Ok(Parts {
         severity: Severity::Error,
         number,
         line: named_line(refusal, diagnostic.line),
         place: place_words(alloc, refusal)?,
-        reported: reported_of(alloc, &diagnostic.subject, &said)?,
-        expected: said_as(alloc, words_of(diagnostic.expected))?,
-        advice: said_as(alloc, hint(number, &diagnostic))?,
+        reported: reported_of(alloc, number, &diagnostic)?,
+        expected: shown(alloc, words_of(diagnostic.expected).as_bytes())?,
+        advice: shown(alloc, hint(number, &diagnostic).as_bytes())?,
         diagnostic,
     })
 }

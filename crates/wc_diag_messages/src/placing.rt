@@ -1,38 +1,26 @@
 ghost use Rattle.std.specs.Prelude.{◌≡◌, IfOk, OnOk};
 ghost use Rattle.wc_diag_spans.specs.Finds.{IsWithin};
-ghost use Rattle.wc_diag_messages.specs.Explanations.{is_program, line_text, line_under, named_line, place_line};
-ghost use Rattle.wc_diag_messages.specs.Locations.{Writes, alongside_text, column_text, counted_name, counted_text, heading, in_brackets, margin_text, place_text, row_text, section_text};
+ghost use Rattle.wc_diag_messages.specs.Explanations.{named_line, place_line};
+ghost use Rattle.wc_diag_messages.specs.Locations.{Writes, alongside_text, counted_name, counted_text, first_column, heading, in_brackets, line_text, margin_text, place_text, row_text, section_text};
 
 use crate::parts::Parts;
 use std::alloc::{AllocError, Global};
 use wc_diag_spans::{Diagnostic, Part, Refusal};
 use wc_diag_texts::{Message, column_of};
 
-/// Whether the part is a program.
-fn is_program(part: Part) -> bool
-    ensures { result ≡ is_program part }
-{
-    matches!(part, Part::Program | Part::Next)
-}
-
-/// The line that number of lines below others.
-fn line_under(above: u32, line: u32) -> u32
-    ensures { result ≡ line_under above line }
-{
-    above.saturating_add(line)
-}
-
 /// The line in what is named, if this one was found in the text; 0 if it is not known.
 pub(crate) fn named_line(refusal: &Refusal<'_>, found: u32) -> u32
     ensures { result ≡ named_line refusal.now found }
 {
     if found > 0 {
-        return line_under(refusal.above, found);
+        return refusal.above.saturating_add(found);
     }
-    if is_program(refusal.part) && refusal.place > 0 {
-        return line_under(refusal.above, refusal.place);
+    match refusal.part {
+        Part::Program | Part::Next if refusal.place > 0 => {
+            refusal.above.saturating_add(refusal.place)
+        }
+        _ => 0,
     }
-    0
 }
 
 /// As many spaces as a line's number has digits.
@@ -46,29 +34,26 @@ pub(crate) fn margin(alloc: Global, line: u32) -> Result<Message, AllocError>
     Ok(message)
 }
 
-/// Writes a line after the name of what it is in, if it is known.
-pub(crate) fn write_line(message: &mut Message, line: u32) -> Result<(), AllocError>
+/// Writes a line, or a column, after what it is in, if it is known.
+pub(crate) fn write_line(message: &mut Message, line: usize) -> Result<(), AllocError>
     ensures { OnOk result (Writes message.old message.new (line_text line)) }
 {
     if line == 0 {
         return Ok(());
     }
     message.say(":")?;
-    message.count(line as usize)
+    message.count(line)
 }
 
-/// Writes the column of the offending slice.
-pub(crate) fn write_column(message: &mut Message, diagnostic: &Diagnostic) -> Result<(), AllocError>
+/// The column of the offending slice, counted from 1; 0 if there is none.
+pub(crate) fn first_column(diagnostic: &Diagnostic) -> usize
     requires { IsWithin diagnostic.now }
-    ensures { OnOk result (Writes message.old message.new
-        (column_text diagnostic.now.shown.items diagnostic.now.span)) }
+    ensures { result
+        ≡ first_column diagnostic.now.shown.items diagnostic.now.span }
 {
     match diagnostic.span {
-        Some(span) => {
-            message.say(":")?;
-            message.count(column_of(&diagnostic.shown, span.start))
-        }
-        None => Ok(()),
+        Some(span) => column_of(&diagnostic.shown, span.start),
+        None => 0,
     }
 }
 
@@ -120,12 +105,7 @@ fn write_row(message: &mut Message, part: Part, place: u32) -> Result<(), AllocE
     ensures { OnOk result (Writes message.old message.new (row_text part place)) }
 {
     match part {
-        Part::Log => {
-            if place == 0 {
-                return Ok(());
-            }
-            write_counted(message, part, place)
-        }
+        Part::Log if place > 0 => write_counted(message, part, place),
         _ => Ok(()),
     }
 }
@@ -172,8 +152,8 @@ pub(crate) fn write_place_line(
     message.append(margin)?;
     message.say("--> ")?;
     message.add(name)?;
-    write_line(message, parts.line)?;
-    write_column(message, &parts.diagnostic)?;
+    write_line(message, parts.line as usize)?;
+    write_line(message, first_column(&parts.diagnostic))?;
     write_in_brackets(message, &parts.place)?;
     message.end_line()
 }

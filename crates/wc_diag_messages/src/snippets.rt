@@ -23,10 +23,7 @@ pub(crate) fn bytes_at(text: &[u8], start: usize, length: usize) -> &[u8]
 fn span_start(span: Option<Span>) -> usize
     ensures { result ≡ span_start span }
 {
-    match span {
-        Some(span) => span.start,
-        None => 0,
-    }
+    span.map_or(0, |span| span.start)
 }
 
 /// The first byte of a line that is shown.
@@ -94,14 +91,9 @@ fn marks_under(
     let start = offending
         .start
         .saturating_sub(first_shown(line, offending.start));
+    let part = shown_part(line, span);
     message.say(" ")?;
-    write_marks(
-        alloc,
-        &mut message,
-        shown_part(line, span),
-        start,
-        offending.length,
-    )?;
+    write_marks(alloc, &mut message, part, start, offending.length)?;
     message.say_before(" expected ", words)?;
     Ok(message)
 }

@@ -3,11 +3,11 @@ ghost use Rattle.std.specs.Option.{option_copied};
 ghost use Rattle.wc_diag_messages.specs.Warned.{IsPlaced, KnowsWarning, has_there, is_called, is_warned, marked, named_text, shown_line, start_on, warned_token};
 ghost use Rattle.wc_diag_texts.specs.Plain.{shown_text};
 
-use crate::parts::{Parts, Severity, said_as};
+use crate::parts::{Parts, Severity};
 use crate::snippets::bytes_at;
 use std::alloc::{AllocError, Global};
 use wc_diag_spans::{Diagnostic, Span, column_at, line_at};
-use wc_diag_texts::{Message, warning_of};
+use wc_diag_texts::{Message, shown, warning_of};
 use wc_diag_warnings::Warning;
 use wc_lexer::Token;
 
@@ -15,10 +15,7 @@ use wc_lexer::Token;
 fn shown_line(text: &[u8], line: u32) -> &[u8]
     ensures { result.now ≡ shown_line line text.now }
 {
-    match line_at(text, line) {
-        Some(found) => found,
-        None => b"",
-    }
+    line_at(text, line).unwrap_or(b"")
 }
 
 /// Where a token begins on its line, of which this is shown.
@@ -32,10 +29,7 @@ fn start_on(text: &[u8], token: &Token<'_>, line: &[u8]) -> usize
 fn is_called(name: &[u8], token: &Token<'_>) -> bool
     ensures { result ≡ is_called name.now token.now }
 {
-    match name {
-        [] => true,
-        _ => token.text == name,
-    }
+    name.is_empty() || token.text == name
 }
 
 /// Whether a line has these bytes there.
@@ -80,10 +74,7 @@ fn marked(name: &[u8], start: usize, line: &[u8]) -> Span
 
 /// The sentence of a warning, and what to write instead.
 fn words_of(number: u8) -> (&'static str, &'static str) {
-    match warning_of(u16::from(number)) {
-        Some(entry) => (entry.quoted, entry.hint),
-        None => ("is suspicious", ""),
-    }
+    warning_of(u16::from(number)).map_or(("is suspicious", ""), |entry| (entry.quoted, entry.hint))
 }
 
 /// What is suspicious, in words: the name, and what is said of it.
@@ -144,7 +135,7 @@ pub(crate) fn warning_parts(
         place: Message::new(alloc),
         reported: reported(alloc, warning.name, sentence)?,
         expected: Message::new(alloc),
-        advice: said_as(alloc, hint)?,
+        advice: shown(alloc, hint.as_bytes())?,
         diagnostic,
     })
 }

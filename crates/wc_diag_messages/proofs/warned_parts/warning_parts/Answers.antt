@@ -18,6 +18,6 @@ returns c =
       line_is = refl;
       place_is = c.new.ensures.nothing;
       expected_are = c.new-2.ensures.nothing;
-      advice = c.words_of.result.1.now;
-      advice_is = c.in_ok-said_as.ensures.all;
+      advice = c.as_bytes.result.now;
+      advice_is = c.in_ok-shown.ensures;
     }
