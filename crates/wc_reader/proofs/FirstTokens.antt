@@ -2,16 +2,25 @@
 use Rattle.std.proofs.Common.{◌≡◌, ℕ, Bool, true, false, List, [], ◌∷◌, Some, None, refl, ap, sym, ◌∙◌}
 use Rattle.std.specs.Prelude.{slice_get}
 use Rattle.wc_laws_grammar.specs.LineMoves.{Start, line_move}
-use Rattle.wc_laws_grammar.specs.Moves.{started_line, body_move, inside_move, is_colon, colon_next, word_move}
+use Rattle.wc_laws_grammar.specs.Moves.{AtLine, started_line, body_move, inside_move, is_colon, colon_next, move, start_move, word_move}
 use Rattle.wc_lexer.specs.Views.{shape_view}
 use Rattle.wc_lexer.specs.declared.shape.Shape.{Shape}
-use Rattle.wc_lexer.specs.declared.shape.Shape.TheVariants.{Identifier, Whole, Duration, Truth, Address, And, AndNot, Opening, Closing, Comma, Colon}
+use Rattle.wc_lexer.specs.declared.shape.Shape.TheVariants.{Identifier, Whole, Duration, Truth, Address, And, AndNot, Opening, Closing, Comma, Colon, LineEnd}
 use Rattle.wc_lexer.specs.declared.shape.Token.{Token}
 use Rattle.wc_model.specs.Text.Grammar.{InBody, InParentheses}
 use Rattle.wc_model.specs.Text.Positions as positions
 use Rattle.wc_model.specs.Text.Positions.{Position}
 use Rattle.wc_model.specs.Text.Reading.{symbol_of}
 use Rattle.wc_text_lines.specs.Words.{marks_of}
+
+-- at the start of a line, other than its end
+pub line-other : (p : Position) (line : ℕ) (colon : Bool) (shape : Shape) (bytes : List ℕ) → (shape ≡ LineEnd → ⊥) → move (AtLine p) (symbol_of (shape_view shape) bytes) line colon ≡ start_move p p.openings (symbol_of (shape_view shape) bytes) line colon
+line-other p line colon LineEnd bytes h = absurd (h refl)
+line-other p line colon Identifier bytes h = refl
+line-other p line colon (Whole value) bytes h = refl
+line-other p line colon (Duration value) bytes h = refl
+line-other p line colon (Truth value) bytes h = refl
+line-other p line colon another bytes h = refl
 
 -- in parentheses, other than a `)`
 pub inside-other : (p : Position) (o : positions.Opening) (outer : List positions.Opening) (line : ℕ) (shape : Shape) (bytes : List ℕ) → (shape ≡ Closing → ⊥) → inside_move p o outer (symbol_of (shape_view shape) bytes) line ≡ started_line p (line_move InParentheses Start (symbol_of (shape_view shape) bytes) line false)

@@ -1,4 +1,4 @@
-ghost use Rattle.std.specs.Prelude.{◌≡◌, ◌∷◌, [], ℕ, Bool, IfOk, IfSome, List, OnOk, Some, option_map};
+ghost use Rattle.std.specs.Prelude.{◌≡◌, ◌∷◌, ℕ, Bool, IfOk, IfSome, List, OnOk, Some, option_map};
 ghost use Rattle.wc_laws_grammar.specs.Moves as moves;
 ghost use Rattle.wc_model.specs.Text.Marks as marks;
 ghost use Rattle.wc_model.specs.Text.Positions as positions;
@@ -131,25 +131,6 @@ fn at_body_line<'a>(
     }
 }
 
-/// After a `)` at the start of a line.
-#[inline(always)]
-fn at_closing<'a>(body: &mut Body<'a>, line: u32) -> Result<Option<BodyPlace<'a>>, AllocError>
-    requires { IsCounted body.old }
-    ensures following { IfOk result
-        (λ next.
-        (units : List ProgramUnit) (innermost : positions.Opening) (outer : List positions.Opening)
-        → (position_view units body.old).openings ≡ innermost ∷ outer
-        → option_map (place_view (position_view units body.new)) next
-        ≡ moves.closing_move (position_view units body.old) innermost outer line) }
-    ensures counted { IfOk result (λ next. IfSome next (λ place. IsCounted body.new)) }
-{
-    if close(body, line)? {
-        Ok(Some(BodyPlace::Within(LinePlace::Closed)))
-    } else {
-        Ok(None)
-    }
-}
-
 /// After the first token of a line in parentheses, other than a line end.
 #[inline(always)]
 fn at_inside_line<'a>(
@@ -168,29 +149,14 @@ fn at_inside_line<'a>(
     ensures counted { IfOk result (λ next. IfSome next (λ place. IsCounted body.new)) }
 {
     match token.shape {
-        Shape::Closing => at_closing(body, token.line),
+        Shape::Closing => {
+            if close(body, token.line)? {
+                Ok(Some(BodyPlace::Within(LinePlace::Closed)))
+            } else {
+                Ok(None)
+            }
+        }
         _ => on_line(alloc, body, at_start_inside(token)),
-    }
-}
-
-/// After the first token of a line, other than a line end.
-#[inline(always)]
-fn at_line_start<'a>(
-    alloc: Global,
-    body: &mut Body<'a>,
-    token: Token<'a>,
-    colon: bool,
-) -> Result<Option<BodyPlace<'a>>, AllocError>
-    requires { IsCounted body.old }
-    ensures following { LeadsOn body.old body.new result
-        (λ p. moves.start_move p (position_view [] body.old).openings (symbol_view token.entry)
-        token.entry.line colon) }
-    ensures counted { IfOk result (λ next. IfSome next (λ place. IsCounted body.new)) }
-{
-    if body.openings.is_empty() {
-        at_body_line(alloc, body, token, colon)
-    } else {
-        at_inside_line(alloc, body, token)
     }
 }
 
@@ -209,7 +175,13 @@ fn at_line<'a>(
 {
     match token.shape {
         Shape::LineEnd => Ok(Some(BodyPlace::Within(LinePlace::AtLine))),
-        _ => at_line_start(alloc, body, token, colon),
+        _ => {
+            if body.openings.is_empty() {
+                at_body_line(alloc, body, token, colon)
+            } else {
+                at_inside_line(alloc, body, token)
+            }
+        }
     }
 }
 
