@@ -13,7 +13,7 @@ use Rattle.wc_model.specs.Run.Writing.{HasFailedSince}
 use Rattle.wc_open_scale.specs.Calls.{HasLineFailed, IsCutShortAt}
 use Rattle.wc_open_scale.specs.Representation.{Came, Represents}
 use Rattle.wc_open_scale.specs.declared.open_scale.OpenScale.{OpenScale}
-use Rattle.wc_scale.specs.declared.answer_buffer.AnswerBuffer.{AnswerBuffer}
+use Rattle.wc_scale.specs.declared.line.AnswerBuffer.{AnswerBuffer}
 use Rattle.wc_sma.specs.Feeding.{IsCutShort}
 
 -- no answer has more than twenty bytes

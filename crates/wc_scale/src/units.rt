@@ -2,8 +2,9 @@ ghost use Rattle.std.specs.Prelude.{◌≡◌, ◌<◌, ◌-◌, ◌⊎◌, drop
 ghost use Rattle.wc_model.specs.Language.Views.{text_view};
 ghost use Rattle.wc_scale.specs.About.{HasNoUnit, HasNothingOfPath, HasNothingOfUnit, IsPathStatus, IsPathReported, IsTooLong, IsUnitStatus, IsUnitReported, RefusesText, ReportsTooSmall, ReportsNoUnit, ReportsPath, ReportsUnit};
 
-use crate::results::{PathAnswer, Refusal, UnitAnswer, of_fault, only};
-use crate::statuses::{DONE, NO_MEMORY, NO_UNIT, TOO_SMALL};
+use crate::results::{
+    DONE, NO_MEMORY, NO_UNIT, PathAnswer, Refusal, TOO_SMALL, UnitAnswer, of_fault, only,
+};
 use std::alloc::Global;
 use wc_controller::load;
 use wc_cost::Loaded;
@@ -48,13 +49,12 @@ fn unit_answer(loaded: &Loaded<'_>, unit: u32) -> UnitAnswer
         return no_unit(only(NO_UNIT));
     }
     let spelled = loaded.name(at).as_bytes();
-    let name = name_buffer(spelled);
     UnitAnswer {
         text: only(DONE),
         units: units.min(4294967295) as u32,
         bound: loaded.bound(at),
         length: 32_usize.min(spelled.len()) as u32,
-        name,
+        name: name_buffer(spelled),
     }
 }
 

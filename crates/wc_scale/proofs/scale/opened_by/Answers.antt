@@ -1,6 +1,6 @@
 use Rattle.std.proofs.Common.{None}
 use Rattle.std.proofs.lemmas.Result.{IfOk-weaker}
-use Rattle.wc_scale.proofs.opening.opened_by.Goals as goal
+use Rattle.wc_scale.proofs.scale.opened_by.Goals as goal
 
 pub returns-in-Ok-clause-plate : goal.returns-in-Ok-clause-plate
 returns-in-Ok-clause-plate c =

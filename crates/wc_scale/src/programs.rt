@@ -1,15 +1,15 @@
 ghost use Rattle.std.specs.Prelude.{IfErr, IfOk};
 ghost use Rattle.wc_controller.specs.Loads.{IsNeverRefused, IsRefusedLoad, IsTheOnlyRefusal};
-ghost use Rattle.wc_scale.specs.Programs.{RefusesLoad, TakesLoad};
 ghost use Rattle.wc_scale.specs.Beginning.{Begins};
+ghost use Rattle.wc_scale.specs.Programs.{IsChangeStatus, RefusesChange, RefusesLoad, TakesChange, TakesLoad};
 
-use crate::results::{Refusal, of_fault, only};
+use crate::results::{CLOSED, DONE, NO_MEMORY, NO_PROGRAM, Refusal, of_fault, only};
 use crate::scale::Scale;
-use crate::statuses::{CLOSED, DONE};
 use std::alloc::Global;
 use wc_controller::load;
 use wc_machine::Machine;
 use wc_model::Fault;
+use wc_open_scale::ChangeFault;
 use wc_store::SlotStore;
 
 /// A machine before its first scan by a program's text.
@@ -22,6 +22,16 @@ fn machine_of(alloc: Global, text: &'static [u8]) -> Result<Machine<'static, Slo
     match load(alloc, text) {
         Ok(loaded) => Machine::new(alloc, loaded),
         Err(fault) => Err(fault),
+    }
+}
+
+/// The status of a change that is not made.
+fn status_of(fault: ChangeFault) -> u32
+    ensures { IsChangeStatus fault result }
+{
+    match fault {
+        ChangeFault::NoProgram => NO_PROGRAM,
+        ChangeFault::Memory => NO_MEMORY,
     }
 }
 
@@ -40,6 +50,29 @@ impl Scale {
                 }
                 Err(fault) => of_fault(fault),
             },
+            None => only(CLOSED),
+        }
+    }
+
+    /// Changes the program between two scans: what is named alike in both texts keeps its value, and all else begins
+    /// with its first. The program stays if the text is refused.
+    pub fn change(&mut self, text: &'static [u8]) -> Refusal
+        ensures taken { TakesChange self.old self.new text.now result }
+        ensures refused { RefusesChange self.old self.new text.now result }
+    {
+        match &mut self.opened {
+            Some(opened) => {
+                if !opened.has_program() {
+                    return only(NO_PROGRAM);
+                }
+                match load(self.alloc, text) {
+                    Ok(loaded) => match opened.change(self.alloc, loaded) {
+                        Ok(()) => only(DONE),
+                        Err(fault) => only(status_of(fault)),
+                    },
+                    Err(fault) => of_fault(fault),
+                }
+            }
             None => only(CLOSED),
         }
     }

@@ -1,7 +1,7 @@
 use Rattle.std.proofs.Common.{◌≡◌, ◌≤◌, ◌∙◌, ◌+◌, ◌-◌, ap, arith, drop, length, replicate, rules, sym}
 use Rattle.std.proofs.lemmas.List.{drop-drop, drop-replicate, length-take}
 use Rattle.std.proofs.lemmas.Slice.{drop-put_mid}
-use Rattle.wc_scale.proofs.answer_buffer.AnswerBufferByteOut.write.Goals as goal
+use Rattle.wc_scale.proofs.line.AnswerBufferByteOut.write.Goals as goal
 
 -- what follows the bytes taken are the zeros that followed those taken before, but for as many as the chunk has
 pub invariant_of-self-2-clause-zeros : goal.invariant_of-self-2-clause-zeros
