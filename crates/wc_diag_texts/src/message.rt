@@ -65,11 +65,8 @@ impl Message {
     pub fn as_str(&self) -> &str
         ensures { result.now ≡ self.now.bytes.items }
     {
-        match str::from_utf8(self.as_bytes()) {
-            Ok(text) => text,
-            // A message is UTF-8, so this is not reached.
-            Err(_) => "",
-        }
+        // A message is UTF-8, so the other text is not reached.
+        str::from_utf8(self.as_bytes()).unwrap_or("")
     }
 
     /// Whether it has no byte.

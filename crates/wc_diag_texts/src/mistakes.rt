@@ -87,8 +87,8 @@ fn either(text: &'static str, other: &'static str) -> &'static str {
     if text.is_empty() { other } else { text }
 }
 
-/// Of slices that are not tokens, and of tokens at which the reading stops.
-fn reading_words(number: u16, case: Case) -> Words {
+/// The words of a number in a case.
+fn words_in(number: u16, case: Case) -> Words {
     words_among! {
         number, case;
         101, Case::ByteOrderMark => "is a byte order mark, which is not allowed", "save the text as ASCII, or as UTF-8 without a byte order mark";
@@ -122,16 +122,6 @@ fn reading_words(number: u16, case: Case) -> Words {
         206, Case::Closing => "no parenthesis is open here", "delete this `)`, or write an opening one above, such as AND( a";
         206, _ => "", "write `)` on a line of its own after the last operand that belongs inside, at the latest above the ST that takes the result";
         208, Case::UnitWord => "there are more than 64 units", "";
-    }
-}
-
-/// The words of a number in a case.
-fn words_in(number: u16, case: Case) -> Words {
-    if number <= 208 {
-        return reading_words(number, case);
-    }
-    words_among! {
-        number, case;
         401 | 403..=409, Case::NotOfBlock(StandardBlock::Ton) => "", "TON has the inputs IN and PT (:=) and the outputs Q and ET (=>)";
         401 | 403..=409, Case::NotOfBlock(StandardBlock::Tof) => "", "TOF has the inputs IN and PT (:=) and the outputs Q and ET (=>)";
         401 | 403..=409, Case::NotOfBlock(StandardBlock::Tp) => "", "TP has the inputs IN and PT (:=) and the outputs Q and ET (=>)";
@@ -184,13 +174,11 @@ impl Mistake {
     }
 
     /// The mistake in a refusal of that number, also with the words of its case.
-    pub fn worded(self, number: u16) -> Mistake {
+    pub fn worded(mut self, number: u16) -> Mistake {
         let (sentence, hint) = words_in(number, self.case);
-        Mistake {
-            case: self.case,
-            sentence: either(self.sentence, sentence),
-            hint: either(self.hint, hint),
-        }
+        self.sentence = either(self.sentence, sentence);
+        self.hint = either(self.hint, hint);
+        self
     }
 }
 

@@ -2,7 +2,8 @@
 use Rattle.std.proofs.Common.{◌≡◌, ◌∙◌, ℕ, List, [], ◌∷◌, ◌++◌, Bool, false, cond, length, take, drop, refl, sym, ap, Option, Some, None}
 use Rattle.std.proofs.lemmas.List.{append_assoc, drop_at, take-append-drop, take_at}
 use Rattle.std.specs.Prelude.{option_map}
-use Rattle.wc_view_trace_rows.specs.Columns.{gap, with_cell}
+use Rattle.wc_view_trace_rows.specs.Columns.{fitted, gap, line_shown, with_cell}
+use Rattle.wc_view_trace_rows.specs.Shown.{between_words, shown}
 
 -- two parts, or three
 pub two_parts : {X : Type 0} (old a b first all : List X) → first ≡ old ++ a → all ≡ first ++ b → all ≡ old ++ (a ++ b)
@@ -38,3 +39,12 @@ row_put old prefix first second new result written r w start is one two three =
     three ∙ (λ i. take start (second_is i) ++ with_cell w written (drop start (second_is i)))
     ∙ (λ i. cut (with_cell r result prefix) i ++ with_cell w written (left (with_cell r result prefix) i)) in
     ap (λ l. l ++ 10 ∷ []) new_is ∙ append_assoc old (with_cell w written (with_cell r result prefix)) (10 ∷ [])
+
+-- a line that follows a text
+pub line_put : (old put new line words : List ℕ) (start columns : ℕ) → start ≡ length old → words ≡ between_words line → put ≡ old ++ shown words
+    → new ≡ take start put ++ fitted columns (drop start put) → new ≡ old ++ line_shown columns line
+line_put old put new line words start columns is words_are one two =
+    let text = shown (between_words line) in
+    let put_is : put ≡ old ++ text = one ∙ ap (λ w. old ++ shown w) words_are in
+    two ∙ ap (λ p. take start p ++ fitted columns (drop start p)) put_is
+    ∙ (λ i. take_at old text start (sym is) i ++ fitted columns (drop_at old text start (sym is) i))

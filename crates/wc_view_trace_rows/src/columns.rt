@@ -1,5 +1,5 @@
 ghost use Rattle.std.specs.Prelude.{◌≡◌, ◌-◌, drop, length, decimal};
-ghost use Rattle.wc_view_trace_rows.specs.Columns.{prefix, gap, six_columns, spaces};
+ghost use Rattle.wc_view_trace_rows.specs.Columns.{prefix, gap, spaces};
 ghost use Rattle.wc_view_changes.specs.Shapes.{Puts};
 
 use crate::shown::{bytes_from, put_line};
@@ -45,14 +45,6 @@ fn spaces_before(number: u32) -> usize
     }
 }
 
-/// Puts a number, with spaces before it up to six columns.
-fn put_aligned(text: &mut Vec<u8>, number: u32) -> Result<(), Fault>
-    ensures { Puts text.old text.new result (six_columns number) }
-{
-    put_spaces(text, spaces_before(number))?;
-    put_number(text, u64::from(number))
-}
-
 /// Puts the start of a row: the number of the line and its text, or spaces for a part of a call. What a block of the text executes
 /// is two columns further right for each call, 8 at most. `Memory` is the only fault.
 pub(crate) fn put_place(
@@ -67,7 +59,8 @@ pub(crate) fn put_place(
     let Some(number) = number else {
         return put_spaces(text, NUMBER + indent);
     };
-    put_aligned(text, number)?;
+    put_spaces(text, spaces_before(number))?;
+    put_number(text, u64::from(number))?;
     put_spaces(text, indent)?;
     let columns = RESULT.saturating_sub(NUMBER + indent + 2);
     put_line(text, line, columns)

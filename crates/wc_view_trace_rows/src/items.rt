@@ -67,10 +67,7 @@ impl LastCalls {
             → AreLastCalls self.now.items.items places lines
             → result ≡ is_last_call places lines number place }
     {
-        match self.items.get(place) {
-            Some(item) => *item == number,
-            None => false,
-        }
+        self.items.get(place).is_some_and(|item| *item == number)
     }
 }
 

@@ -87,10 +87,7 @@ impl Legend {
         let (Some(start), Some(next)) = (self.starts.get(next - 1), self.starts.get(next)) else {
             return b"";
         };
-        match self.text.get(*start..next.saturating_sub(1)) {
-            Some(line) => line,
-            None => b"",
-        }
+        self.text.get(*start..next.saturating_sub(1)).unwrap_or(b"")
     }
 
     /// The note of a line of that number among its notes, counted from 0.
@@ -111,10 +108,7 @@ impl Legend {
     pub fn name(&self, note: &Note) -> &[u8]
         ensures { result.now ≡ name_of self.now note.now }
     {
-        match self.notes.names.get(note.start..note.end) {
-            Some(name) => name,
-            None => b"",
-        }
+        self.notes.names.get(note.start..note.end).unwrap_or(b"")
     }
 
     /// The number of places the program's frame has.

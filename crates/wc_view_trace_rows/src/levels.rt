@@ -28,11 +28,8 @@ pub(crate) struct Levels {
 /// place to which it is written, or of the instance that is called.
 #[derive(Clone, Copy)]
 pub struct Said {
-    /// The kind of the result after it.
     pub result: Option<Kind>,
-    /// The kind of what it writes.
     pub written: Option<Kind>,
-    /// What it writes to, or the instance that it calls.
     pub note: Option<Note>,
 }
 

@@ -1,20 +1,19 @@
 ghost use Rattle.std.specs.Prelude.{◌≡◌, ◌∷◌, option_to_list, map};
 ghost use Rattle.wc_view_trace_rows.specs.Items.{IsNumberAt};
-ghost use Rattle.wc_view_trace_rows.specs.Rows.{output_view, outputs_of};
+ghost use Rattle.wc_view_changes.specs.Shapes.{Puts};
+ghost use Rattle.wc_view_trace_rows.specs.Rows.{literal, output_view, outputs_of, value_held};
 
 use wc_machine::Machine;
-use wc_model::{Kind, Place, StandardBlock};
+use wc_model::{Fault, Kind, Place, StandardBlock, Value};
 use wc_store::SlotStore;
+use wc_view_changes::put_value;
 
 /// An output of a standard block: its place among those of an instance, counted from 0, its name in capital letters, as the
 /// standard has it, and its kind.
 #[derive(Clone, Copy)]
 pub struct BlockOutput {
-    /// Its place.
     pub number: u16,
-    /// Its name.
     pub name: &'static str,
-    /// Its kind.
     pub kind: Kind,
 }
 
@@ -52,8 +51,23 @@ pub fn number_in(machine: &Machine<'_, SlotStore>, place: usize) -> Option<i32>
     let Ok(place) = u16::try_from(place) else {
         return None;
     };
-    match machine.number(Place(place)) {
-        Some(number) => i32::try_from(number).ok(),
-        None => None,
+    i32::try_from(machine.number(Place(place))?).ok()
+}
+
+/// The value of a kind whose number it is, as a store keeps it: a DINT if the kind is not known.
+pub fn value_of(kind: Option<Kind>, number: i32) -> Value
+    ensures { result ≡ value_held kind number }
+{
+    match kind {
+        Some(Kind::Bool) => Value::Bool(number != 0),
+        Some(Kind::Time) => Value::Time(number),
+        Some(Kind::Dint) | None => Value::Dint(number),
     }
+}
+
+/// Puts a number as a literal of its kind, or in digits if the kind is not known.
+pub(crate) fn put_literal(text: &mut Vec<u8>, kind: Option<Kind>, number: i32) -> Result<(), Fault>
+    ensures { Puts text.old text.new result (literal kind number) }
+{
+    put_value(text, value_of(kind, number))
 }

@@ -8,8 +8,7 @@ use crate::columns::{RESULT, put_gap, put_place};
 use crate::item::Item;
 use crate::items::Items;
 use crate::legend::Legend;
-use crate::literals::put_literal;
-use crate::outputs::{BlockOutput, outputs_of};
+use crate::outputs::{BlockOutput, outputs_of, put_literal};
 use crate::shown_scan::ShownScan;
 use crate::steps::{put_heading, put_steps};
 use std::alloc::Global;
@@ -44,11 +43,7 @@ fn is_part(line: &Code) -> bool
 fn number_shown(seen: &SeenLine) -> Option<u32>
     ensures { result ≡ number_shown seen.now.line seen.now.source }
 {
-    if is_part(&seen.line) {
-        None
-    } else {
-        Some(seen.source)
-    }
+    (!is_part(&seen.line)).then_some(seen.source)
 }
 
 /// Puts an output of a standard block, if it has a number.

@@ -1,7 +1,8 @@
 ghost use Rattle.std.specs.Prelude.{◌≡◌, ◌≤◌, ◌+◌, ◌*◌, ◌-◌, ◌++◌, ◌∷◌, [], IsOkUnless, OnOk, drop, length, take};
 ghost use Rattle.std.specs.Str.{is_utf8};
 ghost use Rattle.wc_view_trace_rows.specs.Columns.{first_columns, fitted, line_shown};
-ghost use Rattle.wc_view_trace_rows.specs.Shown.{between_words, shown, shown_first, single_spaces};
+ghost use Rattle.wc_view_trace_rows.specs.Safe.{ShownLinesAreSafe};
+ghost use Rattle.wc_view_trace_rows.specs.Shown.{shown, shown_first, single_spaces};
 ghost use Rattle.wc_view_changes.specs.Shapes.{Puts};
 
 use wc_diag_texts::{characters, hidden_length};
@@ -79,21 +80,11 @@ fn put_shown(text: &mut Vec<u8>, bytes: &[u8]) -> Result<(), Fault>
     Ok(())
 }
 
-/// A line without the blanks at its ends.
-fn words_of(line: &[u8]) -> &[u8]
-    ensures { result.now ≡ between_words line.now }
-{
-    line.trim_ascii()
-}
-
 /// What a text has from there on.
 pub(crate) fn bytes_from(text: &[u8], start: usize) -> &[u8]
     ensures { result.now ≡ drop start text.now }
 {
-    match text.get(start..) {
-        Some(bytes) => bytes,
-        None => b"",
-    }
+    text.get(start..).unwrap_or(b"")
 }
 
 /// Fits what a text has from there on into that many columns: if it does not, its first part is left, and two dots.
@@ -118,6 +109,12 @@ pub(crate) fn put_line(text: &mut Vec<u8>, line: &[u8], columns: usize) -> Resul
     ensures { Puts text.old text.new result (line_shown columns line.now) }
 {
     let start = text.len();
-    put_shown(text, words_of(line))?;
+    put_shown(text, line.trim_ascii())?;
     fit(text, start, columns)
 }
+
+/// A line of a text, whatever bytes it has, is shown with no control character, also none above ASCII, and with no end of a line, no
+/// character that turns the direction of writing and none without a width.
+pub fn shown_lines_are_safe()
+    ensures { ShownLinesAreSafe }
+{}
