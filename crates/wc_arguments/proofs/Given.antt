@@ -1,6 +1,6 @@
 -- What clap's typed getters give is what the definitions read of the same rows.
-use Rattle.std.proofs.Common.{◌≡◌, ◌≢◌, ℕ, Bool, true, false, List, Option, Some, None, Result, Ok, Err, refl, ap, sym, arith, codes, unwrap_or, option_and_then}
-use Rattle.std.specs.Option.{option_map_or}
+use Rattle.std.proofs.Common.{◌≡◌, ◌≢◌, ℕ, Bool, Bor, true, false, List, Option, Some, None, Result, Ok, Err, refl, ap, sym, arith, codes, unwrap_or, option_and_then, option_map}
+use Rattle.std.specs.Option.{option_map_or, option_or}
 use Rattle.std.specs.Str.{bytes_eq}
 use Rattle.std.specs.Str.Parse.{ParsesBool, ParsesUnsigned}
 use Rattle.std.proofs.lemmas.Slice.Eq.{bytes_eq-Decides}
@@ -9,6 +9,16 @@ use Rattle.clap.specs.ValueTests.{accepts}
 use Rattle.clap.specs.declared.builder.value_parser.ValueParser.TheVariants.{Unsigned}
 use Rattle.clap.proofs.ValueTestLemmas.{accepts-Accepts, Accepts-accepts}
 use Rattle.wc_arguments.specs.Asked.{number_of, wide_number_of}
+
+-- a text, or another
+pub text_or : (o : Option (Bor (List ℕ))) (other : Bor (List ℕ)) → (unwrap_or o other).now ≡ unwrap_or (option_map (λ text. text.now) o) other.now
+text_or None other = refl
+text_or (Some text) other = refl
+
+-- the first text of two, if there is one
+pub first_text : (o other : Option (Bor (List ℕ))) → option_map (λ text. text.now) (option_or o other) ≡ option_or (option_map (λ text. text.now) o) (option_map (λ text. text.now) other)
+first_text None other = refl
+first_text (Some text) other = refl
 
 -- a number, as u16 reads a text
 number_read : {E : Type 0} (G : List ℕ → Result ℕ E → Type 0) (t : Text) (r : Option ℕ) → ((x : Result ℕ E) → G t x → ParsesUnsigned 16 10 t x) → ReadsOne G t r → r ≡ number_of t

@@ -1,6 +1,6 @@
 -- A command with the option of one more row, and with the word of one more row, takes what the table says.
 use Rattle.std.proofs.Common.{◌≡◌, ◌∙◌, ◌+◌, ◌<◌, ◌∷◌, ℕ, suc, List, drop, false, get_or, length, refl, ap, sym, add-one, drop-cons, Err, IfOk, Ok, Result}
-use Rattle.clap.specs.Built.{AddsArg}
+use Rattle.clap.specs.Built.{AddsArg, AddsSubcommand}
 use Rattle.clap.specs.Words.{App, app_of, rule_of, with_rule, with_subcommand}
 use Rattle.clap.specs.declared.builder.arg.Arg.{Arg}
 use Rattle.clap.specs.declared.builder.command.Command.{Command}
@@ -19,6 +19,14 @@ pub option_added : (old new : Command) (arg : Arg) (rows : List OptionRow) (i : 
 option_added old new arg rows i none below rule local adds free = (
   ap (λ (a : App). with_options a (drop (i + 1) rows)) (adds.shape local ∙ ap (with_rule (app_of old)) rule) ∙ sym (ap (with_options (app_of old)) (from_index rows i none below)),
   rw (adds.globals, free, local) refl,
+)
+
+-- a word is added
+pub subcommand_added : (old sub new : Command) (word : App) → AddsSubcommand old sub new → Takes word sub → (out-Command old).has_globals ≡ false
+    → Takes (with_subcommand (app_of old) word.top) new
+subcommand_added old sub new word adds takes free = (
+  adds.shape takes.1 ∙ ap (λ (a : App). with_subcommand (app_of old) a.top) takes.0,
+  rw (adds.globals, free, takes.1) refl,
 )
 
 -- the word of the row at that index is added

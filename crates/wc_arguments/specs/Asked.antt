@@ -11,6 +11,7 @@ use Rattle.std.specs.Str.Parse.{digits_value, without_leading_plus}
 use Rattle.clap.specs.Words.{Kinds, Row, Text, fault_of, first_of, matches_of, one_of}
 use Rattle.clap.specs.Words.{subcommand_of}
 use Rattle.clap.specs.Kinds.{or_else}
+use Rattle.clap.specs.declared.error.kind.ErrorKind.{ErrorKind}
 use Rattle.clap.specs.declared.error.kind.ErrorKind.TheVariants as kind
 use Rattle.wc_diag_texts.specs.declared.format.Format.{Format}
 use Rattle.wc_diag_texts.specs.declared.format.Format.TheVariants.{Long, Short, Json}
@@ -176,6 +177,28 @@ fault_in words = or_else (fault_of command_line words) (if is_some (format_asked
 abbrev pub Ask : List Text → Asked → Format → Type 0
 Ask words this format = (asked words ≡ this) × (format_asked words ≡ Some format)
     × (fault_of command_line words ≡ []) × (faults_of this ≡ [])
+
+-- a byte more at the beginning of the first argument
+abbrev pub with_byte : ℕ → List Text → List Text
+with_byte byte [] = (byte ∷ []) ∷ []
+with_byte byte (first ∷ rest) = (byte ∷ first) ∷ rest
+
+-- the arguments of a line, with a space (32) between each two
+abbrev pub split : Text → List Text
+split [] = [] ∷ []
+split (byte ∷ rest) = if byte == 32 then [] ∷ split rest else with_byte byte (split rest)
+
+-- the program's own name, and the arguments of a line
+abbrev pub arguments : Text → Text → List Text
+arguments name typed = name ∷ split typed
+
+-- the arguments of this line are not refused, and ask for this, and for refusals in the long format
+abbrev pub Asks : Text → Asked → Type 0
+Asks typed this = (name : Text) → Ask (arguments name typed) this Long
+
+-- the arguments of this line are refused, with this kind of fault
+abbrev pub IsRefused : Text → ErrorKind → Type 0
+IsRefused typed fault = (name : Text) → fault_in (arguments name typed) ≡ fault ∷ []
 
 -- an argument that does not begin with a hyphen (45), so that it is not an option
 abbrev pub IsPlain : Text → Type 0

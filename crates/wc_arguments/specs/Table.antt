@@ -10,11 +10,11 @@ use Rattle.wc_arguments.specs.declared.table.WordRow.{WordRow}
 
 -- an option of that kind and name
 abbrev pub rule_by : OptionKind → Text → Rule
-rule_by kind.Place name = place name
-rule_by kind.File name = file_option name
-rule_by kind.Value name = value_option name
-rule_by kind.Scans name = number_option name 1 1000
-rule_by kind.WideNumber name = wide_number_option name
+rule_by (kind.Place value) name = place name
+rule_by (kind.File value) name = file_option name
+rule_by (kind.Value value) name = value_option name
+rule_by (kind.Scans value) name = number_option name 1 1000
+rule_by (kind.WideNumber value) name = wide_number_option name
 rule_by kind.Flag name = flag name
 
 -- the option of a row

@@ -1,34 +1,33 @@
 ghost use Rattle.std.specs.Prelude.{◌≡◌, IfOk, false};
-ghost use Rattle.clap.specs.Words.{App, rule_of, with_subcommand};
+ghost use Rattle.clap.specs.Words.{App, rule_of};
 ghost use Rattle.wc_arguments.specs.CommandLine.{Takes, valued};
 ghost use Rattle.wc_arguments.specs.Table.{row_rule, with_options, with_words, word_of};
 
 use clap::{Arg, ArgAction, Command, value_parser};
 use std::alloc::{AllocError, Global};
 
-/// How an option is given, and what it takes.
+/// How an option is given, and what it takes, by what its value is called.
 #[derive(Clone, Copy)]
-pub(crate) enum OptionKind {
+pub(crate) enum OptionKind<'a> {
     /// By its place, a text that must be given.
-    Place,
+    Place(&'a str),
     /// After its name, a text that must be given.
-    File,
+    File(&'a str),
     /// After its name, a text that may be given.
-    Value,
+    Value(&'a str),
     /// After its name, a count of scans that may be given.
-    Scans,
+    Scans(&'a str),
     /// After its name, a number of 64 bits that may be given.
-    WideNumber,
+    WideNumber(&'a str),
     /// Its name alone.
     Flag,
 }
 
-/// An option of a word: what its value is called, and what is said of it.
+/// An option of a word, and what is said of it.
 #[derive(Clone, Copy)]
 pub(crate) struct OptionRow<'a> {
-    kind: OptionKind,
+    kind: OptionKind<'a>,
     name: &'a str,
-    value: &'a str,
     help: &'a str,
 }
 
@@ -41,13 +40,11 @@ pub(crate) struct WordRow<'a> {
 }
 
 /// An argument that has a value.
-fn valued<'a>(alloc: Global, row: &OptionRow<'a>) -> Arg<'a>
+fn valued<'a>(alloc: Global, row: &OptionRow<'a>, value: &'a str) -> Arg<'a>
     ensures rule { rule_of result ≡ valued row.now.name.now }
     ensures local { result.global ≡ false }
 {
-    Arg::new(alloc, row.name)
-        .value_name(row.value)
-        .help(row.help)
+    Arg::new(alloc, row.name).value_name(value).help(row.help)
 }
 
 /// The argument of a row.
@@ -56,13 +53,13 @@ fn argument<'a>(alloc: Global, row: &OptionRow<'a>) -> Arg<'a>
     ensures local { result.global ≡ false }
 {
     match row.kind {
-        OptionKind::Place => valued(alloc, row).required(true),
-        OptionKind::File => valued(alloc, row).long(row.name).required(true),
-        OptionKind::Value => valued(alloc, row).long(row.name),
-        OptionKind::Scans => valued(alloc, row)
+        OptionKind::Place(value) => valued(alloc, row, value).required(true),
+        OptionKind::File(value) => valued(alloc, row, value).long(row.name).required(true),
+        OptionKind::Value(value) => valued(alloc, row, value).long(row.name),
+        OptionKind::Scans(value) => valued(alloc, row, value)
             .long(row.name)
             .value_parser(value_parser!(u16).range(1..=1000)),
-        OptionKind::WideNumber => valued(alloc, row)
+        OptionKind::WideNumber(value) => valued(alloc, row, value)
             .long(row.name)
             .value_parser(value_parser!(u64)),
         OptionKind::Flag => Arg::new(alloc, row.name)
@@ -94,19 +91,6 @@ fn word_of<'a>(alloc: Global, row: &WordRow<'a>) -> Result<Command<'a>, AllocErr
     with_options(alloc, word, row.options)
 }
 
-/// A command line with the word of one more row.
-fn with_word<'a>(
-    alloc: Global,
-    line: Command<'a>,
-    row: &WordRow<'a>,
-) -> Result<Command<'a>, AllocError>
-    ensures { (app : App) → Takes app line.entry
-        → IfOk result (Takes (with_subcommand app (word_of row.now).top)) }
-{
-    let word = word_of(alloc, row)?;
-    line.subcommand(word)
-}
-
 /// A command line with these words more.
 pub(crate) fn with_words<'a>(
     alloc: Global,
@@ -116,79 +100,67 @@ pub(crate) fn with_words<'a>(
     ensures { (app : App) → Takes app line.entry → IfOk result (Takes (with_words app rows.now)) }
 {
     for row in rows {
-        line = with_word(alloc, line, row)?;
+        let word = word_of(alloc, row)?;
+        line = line.subcommand(word)?;
     }
     Ok(line)
 }
 
-/// The option of the plate.
 const PLATE: OptionRow<'static> = OptionRow {
-    kind: OptionKind::File,
+    kind: OptionKind::File("FILE"),
     name: "plate",
-    value: "FILE",
     help: "The plate: the scale's unit, capacity, interval, counts and window (TOML)",
 };
 
-/// The option of the log.
 const LOG: OptionRow<'static> = OptionRow {
-    kind: OptionKind::File,
+    kind: OptionKind::File("FILE"),
     name: "log",
-    value: "FILE",
     help: "The log: samples, line bytes, inputs and scans (CSV)",
 };
 
-/// The option of the program.
 const PROGRAM: OptionRow<'static> = OptionRow {
-    kind: OptionKind::File,
+    kind: OptionKind::File("FILE"),
     name: "program",
-    value: "FILE",
     help: "The program text (Instruction List)",
 };
 
 /// The option of the next program of a run.
 const NEXT: OptionRow<'static> = OptionRow {
-    kind: OptionKind::Value,
+    kind: OptionKind::Value("FILE"),
     name: "next",
-    value: "FILE",
     help: "The next program, to which a row of kind P changes (Instruction List)",
 };
 
 /// The option that chooses the format of a refusal's message.
 pub(crate) const MESSAGE: OptionRow<'static> = OptionRow {
-    kind: OptionKind::Value,
+    kind: OptionKind::Value("FORMAT"),
     name: "message",
-    value: "FORMAT",
     help: "The format of messages: long (the default), short or json",
 };
 
-/// The words.
 pub(crate) const WORDS: [WordRow<'static>; 8] = [
     WordRow {
         name: "check",
         about: "Check a program, and print the greatest number of steps of each unit",
         options: &[
             OptionRow {
-                kind: OptionKind::Place,
+                kind: OptionKind::Place("PROGRAM"),
                 name: "program",
-                value: "PROGRAM",
                 help: "The program text (Instruction List)",
             },
             OptionRow {
-                kind: OptionKind::Value,
+                kind: OptionKind::Value("FILE"),
                 name: "next",
-                value: "FILE",
                 help: "The next program: print its steps, and which values a change to it keeps",
             },
             OptionRow {
                 kind: OptionKind::Flag,
                 name: "path",
-                value: "",
                 help: "Also print the lines of a longest path of each unit",
             },
             OptionRow {
                 kind: OptionKind::Flag,
                 name: "deny-warnings",
-                value: "",
                 help: "End with status 1 if there is a warning",
             },
             MESSAGE,
@@ -203,21 +175,18 @@ pub(crate) const WORDS: [WordRow<'static>; 8] = [
             NEXT,
             LOG,
             OptionRow {
-                kind: OptionKind::Scans,
+                kind: OptionKind::Scans("N"),
                 name: "last",
-                value: "N",
                 help: "Print only the last N scans (1 to 1000), after the answers of the line",
             },
             OptionRow {
-                kind: OptionKind::Value,
+                kind: OptionKind::Value("NAME,.."),
                 name: "watch",
-                value: "NAME,..",
                 help: "Print the values of these variables after each scan, such as filling,t.ET",
             },
             OptionRow {
                 kind: OptionKind::Flag,
                 name: "changes",
-                value: "",
                 help: "Print only the scans at which a value of these variables has changed",
             },
             MESSAGE,
@@ -232,27 +201,23 @@ pub(crate) const WORDS: [WordRow<'static>; 8] = [
             NEXT,
             LOG,
             OptionRow {
-                kind: OptionKind::WideNumber,
+                kind: OptionKind::WideNumber("MS"),
                 name: "at",
-                value: "MS",
                 help: "Show only the scans at this time in ms (the --at of cut is a row)",
             },
             OptionRow {
-                kind: OptionKind::WideNumber,
+                kind: OptionKind::WideNumber("N"),
                 name: "scan",
-                value: "N",
                 help: "Show only the scan of this number, counted from 1",
             },
             OptionRow {
-                kind: OptionKind::WideNumber,
+                kind: OptionKind::WideNumber("MS"),
                 name: "from",
-                value: "MS",
                 help: "Show no scan before this time in ms",
             },
             OptionRow {
-                kind: OptionKind::WideNumber,
+                kind: OptionKind::WideNumber("MS"),
                 name: "to",
-                value: "MS",
                 help: "Show no scan after this time in ms",
             },
             MESSAGE,
@@ -264,22 +229,15 @@ pub(crate) const WORDS: [WordRow<'static>; 8] = [
         options: &[
             PLATE,
             OptionRow {
-                kind: OptionKind::Value,
+                kind: OptionKind::Value("FILE"),
                 name: "program",
-                value: "FILE",
                 help: "The program text (Instruction List); without it the log runs with no program",
             },
-            OptionRow {
-                kind: OptionKind::Value,
-                name: "next",
-                value: "FILE",
-                help: "The next program, to which a row of kind P changes (Instruction List)",
-            },
+            NEXT,
             LOG,
             OptionRow {
-                kind: OptionKind::Value,
+                kind: OptionKind::Value("NAME,.."),
                 name: "watch",
-                value: "NAME,..",
                 help: "Draw the values of these variables too, at most four, such as filling,t.ET",
             },
             MESSAGE,
@@ -297,9 +255,8 @@ pub(crate) const WORDS: [WordRow<'static>; 8] = [
             PLATE,
             LOG,
             OptionRow {
-                kind: OptionKind::WideNumber,
+                kind: OptionKind::WideNumber("ROW"),
                 name: "at",
-                value: "ROW",
                 help: "Cut after this row, by default the last (the --at of trace is a time)",
             },
             MESSAGE,
@@ -311,7 +268,6 @@ pub(crate) const WORDS: [WordRow<'static>; 8] = [
         options: &[OptionRow {
             kind: OptionKind::Flag,
             name: "csv",
-            value: "",
             help: "Write a table for a spreadsheet (CSV)",
         }],
     },
@@ -319,9 +275,8 @@ pub(crate) const WORDS: [WordRow<'static>; 8] = [
         name: "explain",
         about: "Explain a refusal or a warning: what it means, an example, and what to write",
         options: &[OptionRow {
-            kind: OptionKind::Place,
+            kind: OptionKind::Place("NUMBER"),
             name: "number",
-            value: "NUMBER",
             help: "The number of a refusal, such as 403, or of a warning, such as W3",
         }],
     },

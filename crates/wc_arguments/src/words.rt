@@ -1,10 +1,8 @@
-ghost use Rattle.std.specs.Prelude.{◌≡◌, ◌==◌, IfOk, Some, codes, false, is_some, option_map};
+ghost use Rattle.std.specs.Prelude.{◌≡◌, ◌==◌, IfOk, Some, codes, false, option_map};
 ghost use Rattle.std.specs.List.{count_by};
 ghost use Rattle.std.specs.Option.{option_map_or, option_to_list};
 ghost use Rattle.clap.specs.Words.{FailsBy, app_of, fault_of, first_of, found_of, rows_of, subcommand_rows_of};
-ghost use Rattle.wc_arguments.specs.Asked.{asked, asked_at, asked_by, fault_in, file_in, flag_in};
-ghost use Rattle.wc_arguments.specs.Asked.{format_asked, format_in, format_named, faults_of, has_many_names, lacks_option, number_in, texts_of, view};
-ghost use Rattle.wc_arguments.specs.Asked.{wide_number_in};
+ghost use Rattle.wc_arguments.specs.Asked.{asked, asked_at, asked_by, fault_in, faults_of, file_in, flag_in, format_asked, format_in, format_named, number_in, texts_of, view, wide_number_in};
 ghost use Rattle.wc_arguments.specs.CommandLine.{command_line};
 
 use crate::scan_choice::ScanChoice;
@@ -118,10 +116,7 @@ fn command<'a>(alloc: Global, title: Title) -> Result<Command<'a>, AllocError>
 fn file<'a>(matches: &ArgMatches<'a>, name: &str) -> &'a str
     ensures { result.now ≡ file_in name.now (rows_of (found_of matches.now)) }
 {
-    match matches.get_str(name) {
-        Some(path) => path,
-        None => "",
-    }
+    matches.get_str(name).unwrap_or("")
 }
 
 /// The file after an option that may be there, or another text.
@@ -136,8 +131,7 @@ fn optional_file<'a>(matches: &ArgMatches<'a>, name: &str) -> Option<&'a str>
 fn is_given(matches: &ArgMatches<'_>, name: &str) -> bool
     ensures { result ≡ flag_in name.now (rows_of (found_of matches.now)) }
 {
-    let given = matches.get_one::<bool>(name);
-    given.unwrap_or(false)
+    matches.get_one::<bool>(name).unwrap_or(false)
 }
 
 /// The number after an option, if it is given.
@@ -241,10 +235,7 @@ fn asked_in<'a>(matches: &ArgMatches<'a>) -> (Wanted<'a>, Option<&'a str>)
 {
     let before = matches.get_str("message");
     match matches.subcommand() {
-        Some((word, inner)) => match inner.get_str("message") {
-            Some(following) => (wanted_by(word, inner), Some(following)),
-            None => (wanted_by(word, inner), before),
-        },
+        Some((word, inner)) => (wanted_by(word, inner), inner.get_str("message").or(before)),
         None => (Wanted::Job, before),
     }
 }
@@ -272,43 +263,6 @@ fn format_of(text: Option<&str>) -> Option<Format>
     }
 }
 
-/// What is said of an option that is given without the one that it needs, if there is one.
-fn lacking(wanted: &Wanted<'_>) -> Option<&'static str>
-    ensures { is_some result ≡ lacks_option (view wanted.now) }
-{
-    match wanted {
-        Wanted::Show {
-            program: None,
-            next: Some(_),
-            ..
-        } => Some(NEXT_ALONE),
-        Wanted::Show {
-            program: None,
-            watch: Some(_),
-            ..
-        } => Some(WATCH_ALONE),
-        Wanted::Run {
-            watch: None,
-            changes: true,
-            ..
-        } => Some(CHANGES_ALONE),
-        _ => None,
-    }
-}
-
-/// Whether more names are given than a picture has lanes for.
-fn has_many_names(wanted: &Wanted<'_>) -> bool
-    ensures { result ≡ has_many_names (view wanted.now) }
-{
-    match wanted {
-        Wanted::Show {
-            watch: Some(names),
-            ..
-        } => commas(names.as_bytes()) > 3,
-        _ => false,
-    }
-}
-
 /// The number of commas in a list.
 fn commas(list: &[u8]) -> usize
     ensures { result ≡ count_by (λ byte. byte == 44) list.now }
@@ -320,13 +274,29 @@ fn commas(list: &[u8]) -> usize
 fn misused(wanted: &Wanted<'_>) -> Option<(ErrorKind, &'static str)>
     ensures { option_to_list (option_map (λ fault. fault.0) result) ≡ faults_of (view wanted.now) }
 {
-    if let Some(what) = lacking(wanted) {
-        return Some((ErrorKind::MissingRequiredArgument, what));
+    let lacking = ErrorKind::MissingRequiredArgument;
+    match wanted {
+        Wanted::Show {
+            program: None,
+            next: Some(_),
+            ..
+        } => Some((lacking, NEXT_ALONE)),
+        Wanted::Show {
+            program: None,
+            watch: Some(_),
+            ..
+        } => Some((lacking, WATCH_ALONE)),
+        Wanted::Run {
+            watch: None,
+            changes: true,
+            ..
+        } => Some((lacking, CHANGES_ALONE)),
+        Wanted::Show {
+            watch: Some(names),
+            ..
+        } if commas(names.as_bytes()) > 3 => Some((ErrorKind::InvalidValue, MANY_NAMES)),
+        _ => None,
     }
-    if has_many_names(wanted) {
-        return Some((ErrorKind::InvalidValue, MANY_NAMES));
-    }
-    None
 }
 
 /// What the command line reads of these arguments, and the format they name; or a fault in them, or help or the version that

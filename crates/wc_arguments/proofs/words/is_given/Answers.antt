@@ -8,5 +8,5 @@ use Rattle.wc_arguments.proofs.words.is_given.Goals as goal
 
 pub returns : goal.returns
 returns c =
-    c.unwrap_or.ensures ∙ flag_given _ (one_text (found_of c.args.matches.now) c.args.name.now) c.get_one-given.result c.get_one-given.ensures.none c.get_one-given.ensures.value
+    c.unwrap_or.ensures ∙ flag_given _ (one_text (found_of c.args.matches.now) c.args.name.now) c.get_one.result c.get_one.ensures.none c.get_one.ensures.value
     ∙ ap (λ (o : Option (List ℕ)). option_map_or (λ text. bytes_eq text (codes "true")) o false) (one_text-rows (found_of c.args.matches.now) c.args.name.now)
