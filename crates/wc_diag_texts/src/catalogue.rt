@@ -53,16 +53,16 @@ pub fn entry_of(number: u16) -> Option<&'static Entry>
     ensures number { IfSome result (λ entry. entry.now.number ≡ number) }
 {
     match number {
-        101..=107 | 201..=208 => reading_entry(number),
-        301..=308 | 401..=411 => unit_entry(number),
+        101..=107 | 201..=208 | 301..=308 | 401..=411 => program_entry(number),
         501..=508 | 601..=609 | 701..=702 => input_entry(number),
         _ => None,
     }
 }
 
-/// The refusals of tokens and of reading.
-fn reading_entry(number: u16) -> Option<&'static Entry>
-    ensures known { is_some result ≡ (is_from 101 107 number || is_from 201 208 number) }
+/// The refusals of a program.
+fn program_entry(number: u16) -> Option<&'static Entry>
+    ensures known { is_some result ≡ (is_from 101 107 number || is_from 201 208 number
+        || is_from 301 308 number || is_from 401 411 number) }
     ensures number { IfSome result (λ entry. entry.now.number ≡ number) }
 {
     entry_among! {
@@ -152,16 +152,6 @@ fn reading_entry(number: u16) -> Option<&'static Entry>
             wrong "PROGRAM P" "LD %ID1 (1025 times)" "END_PROGRAM"
             why "memory and time to load a text are bounded" rule "10"
             mended "FUNCTION_BLOCK Part" "LD 0 (600 times)" "END_FUNCTION_BLOCK" "PROGRAM P" "VAR a, b : Part; END_VAR" "CAL a" "CAL b" "END_PROGRAM";
-    }
-}
-
-/// The refusals of declarations, of bodies and of their cost.
-fn unit_entry(number: u16) -> Option<&'static Entry>
-    ensures known { is_some result ≡ (is_from 301 308 number || is_from 401 411 number) }
-    ensures number { IfSome result (λ entry. entry.now.number ≡ number) }
-{
-    entry_among! {
-        number;
         301 "tables": "a name is declared twice" quoted "is declared twice"
             at "the second name", "PROGRAM P / VAR a, a : BOOL; END_VAR / END_PROGRAM" => 2,
             help "choose another name; letter case makes no difference",
