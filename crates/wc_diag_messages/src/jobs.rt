@@ -8,7 +8,6 @@ use wc_job::sections;
 /// A section of a job.
 #[derive(Clone, Copy)]
 pub struct JobSection<'a> {
-    /// Its bytes.
     pub text: &'a [u8],
     /// The number of lines of the job above them.
     pub above: u32,

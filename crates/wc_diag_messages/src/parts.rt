@@ -11,18 +11,14 @@ use wc_diag_texts::{Message, entry_of, shown, words_of};
 /// Whether something is refused, or accepted and suspicious.
 #[derive(Clone, Copy)]
 pub enum Severity {
-    /// It is refused.
     Error,
-    /// It is suspicious.
     Warning,
 }
 
 /// What is said of a refusal or a warning, in whatever format.
 #[derive(Drop)]
 pub(crate) struct Parts {
-    /// Which of them it is.
     pub(crate) severity: Severity,
-    /// Its number.
     pub(crate) number: u16,
     /// The line that is shown with its offending slice.
     pub(crate) diagnostic: Diagnostic,

@@ -102,15 +102,9 @@ fn diagnostic_of(
         (warned_token text.now warning.now tokens.now) diagnostic) }
 {
     let found = warned_token(tokens, text, warning);
-    let line = match found {
-        Some(token) => token.line,
-        None => warning.line,
-    };
+    let line = found.map_or(warning.line, |token| token.line);
     let shown = shown_line(text, line);
-    let span = match found {
-        Some(token) => Some(marked(warning.name, start_on(text, token, shown), shown)),
-        None => None,
-    };
+    let span = found.map(|token| marked(warning.name, start_on(text, token, shown), shown));
     let mut diagnostic = Diagnostic::new(alloc, line);
     diagnostic.span = span;
     diagnostic.shown = shown.to_vec(alloc)?;

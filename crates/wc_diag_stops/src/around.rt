@@ -45,12 +45,10 @@ pub fn without_line_ends<'a, 't>(tokens: &'t [Token<'a>]) -> &'t [Token<'a>] {
 
 /// The first word of a line after its label, if it has one.
 pub fn operator_on<'a>(line: &[Token<'a>]) -> &'a [u8] {
-    let index = if is_shape(line.get(1), Shape::Colon) {
-        2
-    } else {
-        0
-    };
-    text_of(line.get(index))
+    match line {
+        [_, colon, ..] if colon.shape == Shape::Colon => text_of(line.get(2)),
+        _ => text_of(line.first()),
+    }
 }
 
 /// Exchanges the lines of tokens with their places: a walk that yields lines then yields places.

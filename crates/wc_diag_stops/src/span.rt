@@ -6,7 +6,6 @@ use wc_model::{Fault, Kind};
 /// The kind of a result, and the line of the text that made it.
 #[derive(Clone, Copy)]
 pub struct ResultKind {
-    /// The kind.
     pub kind: Kind,
     /// The line, counted from 1.
     pub line: u32,
@@ -28,7 +27,6 @@ pub enum Brought {
 pub struct PathToLabel {
     /// The line of the instruction from which it comes, counted from 1.
     pub line: u32,
-    /// What it brings.
     pub brought: Brought,
 }
 

@@ -1,4 +1,4 @@
-ghost use Rattle.std.specs.Prelude.{◌≡◌, ◌||◌, IfSome, is_some};
+ghost use Rattle.std.specs.Prelude.{◌≡◌, IfSome, is_some};
 ghost use Rattle.wc_diag_texts.specs.Numbers.{is_from, is_refusal};
 
 /// All that is said of a refusal by its number alone. docs/REFUSALS.md has the same, and a script holds one against the other.
@@ -50,19 +50,6 @@ macro_rules! entry_among {
 /// The entry of a refusal, if there is one of that number.
 pub fn entry_of(number: u16) -> Option<&'static Entry>
     ensures known { is_some result ≡ is_refusal number }
-    ensures number { IfSome result (λ entry. entry.now.number ≡ number) }
-{
-    match number {
-        101..=107 | 201..=208 => reading_entry(number),
-        301..=308 | 401..=411 => unit_entry(number),
-        501..=508 | 601..=609 | 701..=702 => input_entry(number),
-        _ => None,
-    }
-}
-
-/// The refusals of tokens and of reading.
-fn reading_entry(number: u16) -> Option<&'static Entry>
-    ensures known { is_some result ≡ (is_from 101 107 number || is_from 201 208 number) }
     ensures number { IfSome result (λ entry. entry.now.number ≡ number) }
 {
     entry_among! {
@@ -152,16 +139,6 @@ fn reading_entry(number: u16) -> Option<&'static Entry>
             wrong "PROGRAM P" "LD %ID1 (1025 times)" "END_PROGRAM"
             why "memory and time to load a text are bounded" rule "10"
             mended "FUNCTION_BLOCK Part" "LD 0 (600 times)" "END_FUNCTION_BLOCK" "PROGRAM P" "VAR a, b : Part; END_VAR" "CAL a" "CAL b" "END_PROGRAM";
-    }
-}
-
-/// The refusals of declarations, of bodies and of their cost.
-fn unit_entry(number: u16) -> Option<&'static Entry>
-    ensures known { is_some result ≡ (is_from 301 308 number || is_from 401 411 number) }
-    ensures number { IfSome result (λ entry. entry.now.number ≡ number) }
-{
-    entry_among! {
-        number;
         301 "tables": "a name is declared twice" quoted "is declared twice"
             at "the second name", "PROGRAM P / VAR a, a : BOOL; END_VAR / END_PROGRAM" => 2,
             help "choose another name; letter case makes no difference",
@@ -284,17 +261,6 @@ fn unit_entry(number: u16) -> Option<&'static Entry>
             why "each scan has to end in time, and each step takes some" rule "5"
             mended "FUNCTION_BLOCK Part" "LD 0 (1000 times)" "END_FUNCTION_BLOCK" "PROGRAM P" "VAR a : Part; END_VAR" "CAL a (100 times)"
             "END_PROGRAM";
-    }
-}
-
-/// The refusals of a plate, a log, a job and of files.
-fn input_entry(number: u16) -> Option<&'static Entry>
-    ensures known { is_some result
-        ≡ (is_from 501 508 number || is_from 601 609 number || is_from 701 702 number) }
-    ensures number { IfSome result (λ entry. entry.now.number ≡ number) }
-{
-    entry_among! {
-        number;
         501 "plate": "the plate is not TOML"
             at "0", "plate x" => 0, help "the plate has lines `key = value`: a text is between quotation marks, such as unit = \"kg\", a number is digits alone, such as max = 15000";
         502 "plate": "a key is missing, is unknown, or has a value of the wrong type"
