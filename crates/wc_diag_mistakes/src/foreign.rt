@@ -1,4 +1,4 @@
-use wc_built_in::{Keyword, is_type_word, keyword_named};
+use wc_built_in::{Keyword, keyword_named};
 use wc_diag_stops::is_among;
 use wc_diag_texts::{Case, Mistake, mistake_among};
 
@@ -44,7 +44,7 @@ const FRAMES: [Row; 2] = rows! {
 };
 
 /// Words with which other tools begin a unit.
-const UNITS: [Row; 3] = rows! {
+pub(crate) const UNITS: [Row; 3] = rows! {
     b"type end_type struct end_struct" => Worded says "is not supported", "delete TYPE .. END_TYPE: values are BOOL, DINT or TIME; for an enumeration use a DINT with 0, 1, 2, for a structure one variable for each part";
     b";" => Worded "delete this `;`: no unit ends with one, and a comment is (* .. *)";
     b"organization_block function_block_end data_block begin network" => Worded "this looks like Siemens STL (AWL): write PROGRAM P in place of ORGANIZATION_BLOCK and BEGIN, and END_PROGRAM at the end";
@@ -53,7 +53,7 @@ const UNITS: [Row; 3] = rows! {
 /// Words in the place of an operator, with what to write for each: the inputs of standard blocks, which the standard also writes as
 /// operators, and operators of other tools and languages. Without these a name that is spelled almost as one of them, and does
 /// something else, would be suggested.
-const OPERATORS: [Row; 53] = rows! {
+pub(crate) const OPERATORS: [Row; 53] = rows! {
     b"end be" => Worded "a PROGRAM ends with END_PROGRAM, a FUNCTION_BLOCK with END_FUNCTION_BLOCK: if that is below, delete this line";
     b"cd" => DownCounter "";
     b"network title begin nop bld rem" => Worded "leave this out, or make it a comment, such as (* NETWORK 1 *); a label may be alone on its line";
@@ -161,21 +161,12 @@ pub(crate) fn left_out(word: &[u8]) -> Mistake {
     row_of(&LEFT_OUT, word).unwrap_or(Mistake::of(Case::LeftOut))
 }
 
-/// A word with which no unit begins.
-pub(crate) fn mistaken_unit(word: &[u8]) -> Mistake {
-    match row_of(&UNITS, word).or(row_of(&FRAMES, word)) {
+/// A word with which no unit begins, or one in the place of an operator that is no function: by these rows, or the case that is left.
+pub(crate) fn mistaken_word(rows: &[Row], word: &[u8], other: Case) -> Mistake {
+    match row_of(rows, word).or(row_of(&FRAMES, word)) {
         Some(mistake) => mistake,
         None if matches!(keyword_named(word), Some(Keyword::Kept)) => left_out(word),
-        None => Mistake::of(Case::NoUnit),
-    }
-}
-
-/// A word in the place of an operator that is no function.
-pub(crate) fn mistaken_name(word: &[u8]) -> Mistake {
-    match row_of(&OPERATORS, word).or(row_of(&FRAMES, word)) {
-        Some(mistake) => mistake,
-        None if is_type_word(word) => Mistake::of(Case::InstanceCall),
-        None => Mistake::of(Case::NoOperator),
+        None => Mistake::of(other),
     }
 }
 

@@ -2,15 +2,14 @@
 //! that do not match. It works on the tokens and the tree of the text.
 #![tactic(auto)]
 
-mod differences;
 mod foreign;
 mod mistakes;
 mod refused;
 mod types;
 mod unreached;
 
-pub use differences::difference_said;
 pub use foreign::block_with;
 pub use mistakes::mistake_at;
 pub use refused::{Refused, Said, said_text, words};
+pub use types::difference_said;
 pub use unreached::{block_line, follows_leaving, is_unreached};

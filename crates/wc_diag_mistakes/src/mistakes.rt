@@ -1,6 +1,6 @@
-use crate::foreign::{TYPES, left_out, mistaken_function, mistaken_name, mistaken_unit, row_of};
+use crate::foreign::{OPERATORS, TYPES, UNITS, left_out, mistaken_function, mistaken_word, row_of};
 use crate::refused::Refused;
-use crate::types::{is_conditional, mistaken_kind, mistaken_reset};
+use crate::types::{mistaken_kind, mistaken_reset};
 use crate::unreached::{block_line, follows_leaving, is_unreached};
 use wc_built_in::{Keyword, elementary_type, is_type_word, keyword_named, standard_block};
 use wc_diag_stops::{
@@ -10,7 +10,7 @@ use wc_diag_stops::{
 };
 use wc_diag_texts::{Case, Expected, Mistake, mistake_among};
 use wc_lexer::{Shape, Token};
-use wc_model::{Kind, StandardBlock, UnitKind, is_word};
+use wc_model::{Condition, Kind, StandardBlock, UnitKind, is_word};
 
 /// A word in the place of an operator that is known, or by the token after it.
 fn mistaken_start(refused: &Refused<'_, '_>) -> Option<Mistake> {
@@ -41,8 +41,9 @@ fn mistaken_operator(refused: &Refused<'_, '_>) -> Mistake {
     let known = mistaken_start(refused).or(mistaken_statement(word));
     let mistake = known
         .or(mistaken_function(word))
-        .unwrap_or(mistaken_name(word));
+        .unwrap_or(mistaken_word(&OPERATORS, word, Case::NoOperator));
     Mistake::of(match mistake.case {
+        Case::NoOperator if is_type_word(word) => Case::InstanceCall,
         Case::NoOperator | Case::OtherOperator if is_label(refused) => Case::LabelWithoutColon,
         Case::NoOperator if is_opened => Case::InstanceCall,
         Case::OtherOperator | Case::StatementList | Case::Function if is_call => Case::InstanceCall,
@@ -94,8 +95,7 @@ fn mistaken_before(refused: &Refused<'_, '_>) -> Option<Mistake> {
     }
 }
 
-/// A mistake that an unexpected token inside a unit shows, by the token after it: in an operand or the list of a call, then as a `;`
-/// where none can be, then on the line of an instruction.
+/// A mistake that an unexpected token inside a unit shows, also by the token after it.
 fn mistaken_in_unit(token: &[u8], next: Option<&Token<'_>>, expected: Expected) -> Option<Mistake> {
     mistake_among! {
         (expected, token.first(), keyword_named(token));
@@ -142,7 +142,7 @@ fn mistaken_in_unit(token: &[u8], next: Option<&Token<'_>>, expected: Expected) 
 /// A mistake that an unexpected token shows, by the token after it.
 fn mistaken_token(refused: &Refused<'_, '_>) -> Mistake {
     let (token, expected) = (refused.token(), refused.span.expected);
-    let unit = mistaken_unit(token);
+    let unit = mistaken_word(&UNITS, token, Case::NoUnit);
     match (expected, mistaken_in_unit(token, refused.next(), expected)) {
         (Expected::Nothing, _) if matches!(unit.case, Case::Configuration) => unit,
         (Expected::Nothing, _) => Mistake::of(Case::AfterProgram),
@@ -233,34 +233,6 @@ fn mistaken_at(refused: &Refused<'_, '_>) -> Mistake {
     }
 }
 
-/// A mistake of a unit that is not closed or not alone, or of a list that is not closed.
-fn mistaken_unit_end(refused: &Refused<'_, '_>) -> Option<Mistake> {
-    let word = keyword_named(refused.token());
-    let is_empty = refused.tokens.iter().all(is_line_end);
-    mistake_among! {
-        (refused.number, word);
-        (201, Some(_)) if refused.begins_line() => Worded "close the list of the call above with `)`";
-        (202, Some(Keyword::UnitStart(UnitKind::Program))) => Worded "close the unit with END_PROGRAM";
-        (202, _) => Worded "close the unit with END_FUNCTION_BLOCK";
-        (203, _) if is_empty => Worded says "the file is empty", "a file has function blocks, if any, and then one PROGRAM .. END_PROGRAM";
-        (203, Some(Keyword::UnitStart(UnitKind::Program))) => Worded says "there is a second PROGRAM", "make one of them a FUNCTION_BLOCK above the PROGRAM, and call an instance with CAL";
-    }
-}
-
-/// An initial value of another type than that before it.
-fn mistaken_value(before: &[Token<'_>]) -> Option<Mistake> {
-    let [.., named, assign] = before else {
-        return None;
-    };
-    mistake_among! {
-        (assign.shape, elementary_type(named.text));
-        (Shape::Assign, Some(Kind::Bool)) => Worded says "is not an initial value of a BOOL", "a BOOL takes TRUE, FALSE, 0 or 1";
-        (Shape::Assign, Some(Kind::Dint)) => Worded says "is not an initial value of a DINT", "a DINT takes an integer, such as 500; for TRUE and FALSE declare a BOOL";
-        (Shape::Assign, Some(Kind::Time)) => Worded says "is not an initial value of a TIME", "a TIME takes a duration, such as T#500ms";
-        (Shape::Assign, None) => Worded says "is an initial value, and an instance has none", "an instance takes no initial value: pass its inputs in CAL";
-    }
-}
-
 /// An address that this machine does not have.
 fn mistaken_address(address: &[u8]) -> Option<Mistake> {
     mistake_among! {
@@ -280,29 +252,10 @@ fn mistaken_target(refused: &Refused<'_, '_>) -> Option<Mistake> {
         (target.first(), keyword_named(target));
         (Some(b'%'), _) if matches!(target.get(2), Some(b'd' | b'D')) => Worded "inputs are only read: store a number to an output, such as %QD0, or to a variable; a program cannot set zero or a tare";
         (Some(b'%'), _) => Worded "inputs are only read: store to an output, such as %QX0.0, or to a variable";
-        (Some(b'0'..=b'9' | b'+' | b'-'), _) => LiteralTarget "";
-        (_, Some(Keyword::Truth(_))) => LiteralTarget "";
+        (Some(b'0'..=b'9' | b'+' | b'-'), _) | (_, Some(Keyword::Truth(_))) => LiteralTarget "";
         _ if target.contains(&b'#') => LiteralTarget "";
         _ if !refused.names_one() => Worded "only inputs of a block (VAR_INPUT) are stored to: it sets its outputs and the rest itself; store to an input, or to a variable of your own";
         _ if refused.is_in_program() => Worded "declare it in VAR: nothing calls a PROGRAM and sets its inputs";
-    }
-}
-
-/// A function block where no instance is declared.
-fn mistaken_type(refused: &Refused<'_, '_>) -> Option<Mistake> {
-    let word = refused.token();
-    mistake_among! {
-        standard_block(word).is_some() || block_line(refused.tokens, word).is_some();
-        true => Worded says "is a function block, and only VAR declares instances", "declare the instance in VAR, and pass what is needed of it, such as t.Q to an input of type BOOL";
-    }
-}
-
-/// A function block that is not declared above, if that is sure.
-fn mistaken_block(refused: &Refused<'_, '_>) -> Option<Mistake> {
-    mistake_among! {
-        block_line(refused.tokens, refused.token());
-        Some(line) if line > refused.line() => BlockBelow "move the block above the unit that uses it";
-        Some(_) => Worded says "is this function block itself", "a block cannot contain itself: declare another block above, and use that";
     }
 }
 
@@ -337,27 +290,44 @@ fn mistaken_undeclared(refused: &Refused<'_, '_>) -> Option<Mistake> {
     }
 }
 
-/// A mistake in an instruction that breaks a rule on parentheses, results, labels or divisors.
+/// A mistake in how a list or a unit ends, in a declaration, or in an instruction that breaks a rule on results, labels or divisors.
 fn mistaken_use(refused: &Refused<'_, '_>) -> Option<Mistake> {
     let (token, span) = (refused.token(), refused.span);
-    let is_variable = matches!(token.first(), Some(b'A'..=b'Z' | b'a'..=b'z' | b'_' | b'%'));
-    let is_left = span.paths.is_none()
+    let word = keyword_named(token);
+    let is_left = refused.number == 403
+        && span.paths.is_none()
         && refused
             .label_before()
             .is_some_and(|label| follows_leaving(refused.tokens, label.line));
+    let assigned = match refused.before() {
+        [.., named, assign] if assign.shape == Shape::Assign => Some(elementary_type(named.text)),
+        _ => None,
+    };
     mistake_among! {
         refused.number;
+        201 if word.is_some() && refused.begins_line() && matches!(span.expected, Expected::CommaPointOrClosing | Expected::CommaOrClosing) => Worded "close the list of the call above with `)`";
+        202 if matches!(word, Some(Keyword::UnitStart(UnitKind::Program))) => Worded "close the unit with END_PROGRAM";
+        202 => Worded "close the unit with END_FUNCTION_BLOCK";
+        203 if refused.tokens.iter().all(is_line_end) => Worded says "the file is empty", "a file has function blocks, if any, and then one PROGRAM .. END_PROGRAM";
+        203 if matches!(word, Some(Keyword::UnitStart(UnitKind::Program))) => Worded says "there is a second PROGRAM", "make one of them a FUNCTION_BLOCK above the PROGRAM, and call an instance with CAL";
         205 if is_shape(refused.next(), Shape::Colon) => Worded "a jump cannot lead into a parenthesis: delete the label, or close the parenthesis above it";
-        205 if matches!(keyword_named(token), Some(Keyword::Jump(_) | Keyword::Return(_))) => Worded "close the parenthesis before it with a `)` on a line of its own, or move it, with an LD of its condition, above the LD that begins the expression";
-        205 if matches!(keyword_named(token), Some(Keyword::Call(_))) => Worded "move the call, and the lines that set its inputs, above the LD that begins the expression, and read its output in the parenthesis, such as AND t.Q";
-        403 if is_conditional(token) => Worded says "needs a BOOL, and there is no current result", "load the condition with LD first, or use CAL, JMP or RET without the C";
+        205 if matches!(word, Some(Keyword::Jump(_) | Keyword::Return(_))) => Worded "close the parenthesis before it with a `)` on a line of its own, or move it, with an LD of its condition, above the LD that begins the expression";
+        205 if matches!(word, Some(Keyword::Call(_))) => Worded "move the call, and the lines that set its inputs, above the LD that begins the expression, and read its output in the parenthesis, such as AND t.Q";
+        302 if standard_block(token).is_some() || block_line(refused.tokens, token).is_some() => Worded says "is a function block, and only VAR declares instances", "declare the instance in VAR, and pass what is needed of it, such as t.Q to an input of type BOOL";
+        303 if matches!(assigned, Some(Some(Kind::Bool))) => Worded says "is not an initial value of a BOOL", "a BOOL takes TRUE, FALSE, 0 or 1";
+        303 if matches!(assigned, Some(Some(Kind::Dint))) => Worded says "is not an initial value of a DINT", "a DINT takes an integer, such as 500; for TRUE and FALSE declare a BOOL";
+        303 if matches!(assigned, Some(Some(Kind::Time))) => Worded says "is not an initial value of a TIME", "a TIME takes a duration, such as T#500ms";
+        303 if matches!(assigned, Some(None)) => Worded says "is an initial value, and an instance has none", "an instance takes no initial value: pass its inputs in CAL";
+        308 if block_line(refused.tokens, token).is_some_and(|line| line > refused.line()) => BlockBelow "move the block above the unit that uses it";
+        308 if block_line(refused.tokens, token).is_some() => Worded says "is this function block itself", "a block cannot contain itself: declare another block above, and use that";
+        403 if matches!(word, Some(Keyword::Jump(when) | Keyword::Call(when) | Keyword::Return(when)) if when != Condition::Always) => Worded says "needs a BOOL, and there is no current result", "load the condition with LD first, or use CAL, JMP or RET without the C";
         403 if is_left => AtLabel says "the current result is undefined: the paths to this label bring different types, or no value", "make the JMP or RET above conditional (JMPC, JMPCN, RETC), jump to this label from a line above, or delete this line";
         403 if is_shape(refused.previous(), Shape::Colon) => AtLabel says "the current result is undefined: the paths to this label bring different types, or no value", "write an LD between the label and this instruction, or bring the same type on every path to the label (JMPC and JMPCN bring a BOOL); if this instruction is only for the value above the label, move it above the label";
         403 if is_unreached(refused.tokens, refused.line()) => Unreached says "there is no current result, since this line is never reached", "make the JMP or RET above conditional (JMPC, JMPCN, RETC), give this line a label to which a line above jumps, or delete it";
         406 if span.first != 0 => LabelAbove says "is the label of a line above this jump", "jumps only go forward, and the whole program runs again in each scan without one: to wait, jump ahead over the lines that wait: JMPC done; the lines; `done:`; to repeat lines write them once for each pass, or do one pass in each scan: LD n, LT 10, JMPCN done; the lines; LD n, ADD 1, ST n (n keeps its value between scans: set it to 0 only to start again); `done:` goes on with an LD";
-        406 if keyword_named(token).is_some() => Worded "a label is not a reserved word: to leave the unit write RET, RETC or RETCN in place of the jump";
+        406 if word.is_some() => Worded "a label is not a reserved word: to leave the unit write RET, RETC or RETCN in place of the jump";
         409 if matches!(refused.span.case, Case::NotOfBlock(StandardBlock::Ctu)) && is_word(b"CD", refused.offending()) => DownCounter "";
-        408 if is_variable => Worded "there is no division by a variable, and DIV and MOD take no parenthesis: divide by a literal other than 0, such as DIV 10; to compare a quotient, MUL the other side instead; for a quotient of positive numbers write LD a, ST rest; LD 0, ST q in the scan that starts it alone, and in each scan LD b, LE 0, JMPC done; LD rest, LT b, JMPC done; LD rest, SUB b, ST rest; LD q, ADD 1, ST q; `done:` goes on with an LD: q is the quotient once rest is below b";
+        408 if matches!(token.first(), Some(b'A'..=b'Z' | b'a'..=b'z' | b'_' | b'%')) => Worded "there is no division by a variable, and DIV and MOD take no parenthesis: divide by a literal other than 0, such as DIV 10; to compare a quotient, MUL the other side instead; for a quotient of positive numbers write LD a, ST rest; LD 0, ST q in the scan that starts it alone, and in each scan LD b, LE 0, JMPC done; LD rest, LT b, JMPC done; LD rest, SUB b, ST rest; LD q, ADD 1, ST q; `done:` goes on with an LD: q is the quotient once rest is below b";
     }
 }
 
@@ -372,15 +342,9 @@ pub fn mistake_at(refused: &Refused<'_, '_>, case: Case) -> Mistake {
         (105, _) => mistaken_number(before, refused.span.start, (token, rest), case),
         (106, _) => mistaken_duration(token, rest),
         (201, Expected::LabelColon) => Some(mistaken_operator(refused)),
-        (201, Expected::CommaPointOrClosing | Expected::CommaOrClosing) => {
-            mistaken_unit_end(refused).or(Some(mistaken_at(refused)))
-        }
-        (201, _) => Some(mistaken_at(refused)),
-        (202 | 203, _) => mistaken_unit_end(refused),
-        (302, _) => mistaken_type(refused).or(row_of(&TYPES, token)),
-        (303, _) => mistaken_value(before),
+        (201, _) => mistaken_use(refused).or(Some(mistaken_at(refused))),
+        (302, _) => mistaken_use(refused).or(row_of(&TYPES, token)),
         (304, _) => mistaken_address(token),
-        (308, _) => mistaken_block(refused),
         (402, _) => mistaken_kind(refused),
         (401, _) if matches!(case, Case::Plain) => mistaken_undeclared(refused).or(called),
         (404, _) => mistaken_reset(refused).or(mistaken_target(refused)),

@@ -8,7 +8,7 @@ use wc_diag_stops::{
     RefusalSpan, Slice, is_line_end, last_line, prefix, text_of, without_line_ends, word_of,
 };
 use wc_lexer::{Shape, Token};
-use wc_model::{Unit, UnitKind};
+use wc_model::{LONGEST_NAME, Unit, UnitKind};
 
 /// What is said with values of a text, if something is. The error is out of memory.
 pub type Said = Option<Result<String, AllocError>>;
@@ -18,10 +18,7 @@ pub fn said_text(alloc: Global, said: Said) -> Result<String, AllocError> {
     said.unwrap_or(Ok(String::new(alloc)))
 }
 
-/// Text that is longer than a name is not printed in what is said.
-const LONGEST_NAME: usize = 32;
-
-/// Bytes as words, if there are some, and no more than a name has.
+/// Bytes as words, if there are some, and no more than a name has: what is longer is not printed.
 pub fn words(text: &[u8]) -> Option<&str> {
     if text.is_empty() || text.len() > LONGEST_NAME {
         return None;
@@ -56,14 +53,6 @@ fn count_before(tokens: &[Token<'_>], place: usize) -> usize
         .iter()
         .take_while(|token| (token.start as usize) < place)
         .count()
-}
-
-/// What the unit is that a token begins, if it begins one.
-fn unit_kind_of(token: &Token<'_>) -> Option<UnitKind> {
-    match keyword_named(word_of(Some(token)))? {
-        Keyword::UnitStart(kind) => Some(kind),
-        _ => None,
-    }
 }
 
 impl<'a, 't> Refused<'a, 't> {
@@ -159,7 +148,11 @@ impl<'a, 't> Refused<'a, 't> {
 
     /// What the unit is that last begins before it, if one does.
     pub fn unit_kind(&self) -> Option<UnitKind> {
-        self.before().iter().rev().find_map(unit_kind_of)
+        let mut before = self.before().iter().rev();
+        before.find_map(|token| match keyword_named(word_of(Some(token)))? {
+            Keyword::UnitStart(kind) => Some(kind),
+            _ => None,
+        })
     }
 
     /// Whether the unit around it is the program.
@@ -228,9 +221,8 @@ impl<'a, 't> Refused<'a, 't> {
 
     /// Whether it is to be set: the target of a store, or in the list of a call the name of an input or what takes an output.
     pub fn sets(&self) -> bool {
-        match self.span.formal {
-            Some(_) => !self.span.is_passed,
-            None => self.is_stored(),
-        }
+        self.span
+            .formal
+            .map_or(self.is_stored(), |_| !self.span.is_passed)
     }
 }

@@ -1,5 +1,5 @@
 ghost use Rattle.std.specs.Prelude.{◌≡◌, ◌↔◌, ◌<◌, ◌≤◌, ℕ, IsTrue, IfNone, IfSome, length};
-ghost use Rattle.wc_diag_mistakes.specs.Unreached.{FollowsLeaving, IsDeclaredOnce, IsLeft, IsUnreached, begins_block, count_above, declares, has_label, is_colon_shape, is_frame, keyword_of, leaves, may_pass};
+ghost use Rattle.wc_diag_mistakes.specs.Unreached.{FollowsLeaving, IsDeclaredOnce, IsLeft, IsUnreached, count_above, declares, is_colon_shape, is_frame, keyword_of, leaves, may_pass};
 
 use wc_built_in::{Keyword, keyword_named};
 use wc_lexer::{Shape, Token};
@@ -82,29 +82,12 @@ pub fn follows_leaving(tokens: &[Token<'_>], line: u32) -> bool
     leaves_in(above)
 }
 
-/// Whether the first of these tokens is a label.
-fn has_label(tokens: &[Token<'_>]) -> bool
-    ensures { result ≡ has_label tokens.now }
-{
-    tokens.get(1).is_some_and(is_colon)
-}
-
 /// Whether surely nothing leads to a line of a body.
 pub fn is_unreached(tokens: &[Token<'_>], line: u32) -> bool
     ensures { IsTrue result ↔ IsUnreached tokens.now line }
 {
     let (_, below) = tokens.split_at(count_above(tokens, line));
-    !has_label(below) && follows_leaving(tokens, line)
-}
-
-/// Whether a token begins a function block.
-fn begins_block(token: &Token<'_>) -> bool
-    ensures { result ≡ begins_block token.now }
-{
-    matches!(
-        keyword_of(token),
-        Some(Keyword::UnitStart(UnitKind::FunctionBlock))
-    )
+    !below.get(1).is_some_and(is_colon) && follows_leaving(tokens, line)
 }
 
 /// Whether the token at an index declares a function block of that name.
@@ -113,7 +96,12 @@ fn declares(tokens: &[Token<'_>], name: &[u8], index: usize) -> bool
     ensures { result ≡ declares tokens.now name.now index }
 {
     match (tokens.get(index), tokens.get(index + 1)) {
-        (Some(word), Some(token)) => begins_block(word) && is_word(token.text, name),
+        (Some(word), Some(token)) => {
+            matches!(
+                keyword_of(word),
+                Some(Keyword::UnitStart(UnitKind::FunctionBlock))
+            ) && is_word(token.text, name)
+        }
         _ => false,
     }
 }

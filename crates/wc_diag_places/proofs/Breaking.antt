@@ -9,7 +9,7 @@ use Rattle.wc_diag_places.specs.Arguments.{IsArgument, IsArgumentAt, IsFirstBrok
 use Rattle.wc_diag_places.specs.OperandTokens.{begins_item, is_shape, list_end, tokens_at}
 use Rattle.wc_diag_places.specs.Lists.{AreListed, IsListedAs, item_after, item_at, operand_in, text_at}
 use Rattle.wc_diag_places.specs.declared.arguments.Broken.{Broken}
-use Rattle.wc_diag_places.specs.declared.lists.Item.{Item}
+use Rattle.wc_diag_places.specs.declared.arguments.Item.{Item}
 use Rattle.wc_lexer.specs.declared.shape.Shape.TheVariants.{Closing}
 use Rattle.wc_lexer.specs.declared.shape.Token.{Token}
 use Rattle.wc_model.specs.Language.BodyRules.{actual_checks, argument_checks, formal_named, is_readable, is_writable, suits_input, suits_output}

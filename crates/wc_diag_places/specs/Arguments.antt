@@ -3,7 +3,7 @@ use Rattle.std.specs.Prelude.{◌≡◌, ◌<◌, ◌==◌, ◌||◌, ℕ, Bool,
 use Rattle.wc_diag_places.specs.OperandTokens.{tokens_at}
 use Rattle.wc_diag_places.specs.Lists.{AreListed, IsListedAs, item_at, text_at}
 use Rattle.wc_diag_places.specs.declared.arguments.Broken.{Broken}
-use Rattle.wc_diag_places.specs.declared.lists.Item.{Item}
+use Rattle.wc_diag_places.specs.declared.arguments.Item.{Item}
 use Rattle.wc_lexer.specs.declared.shape.Token.{Token}
 use Rattle.wc_model.specs.Language.BodyRules.{argument_checks, is_instance}
 use Rattle.wc_model.specs.Language.Checks.{Position, Refusal, first_broken, positions_of}

@@ -4,7 +4,7 @@ use Rattle.std.specs.Prelude.{◌≡◌, ◌≤◌, ◌+◌, ◌-◌, ℕ, zero,
 use Rattle.std.specs.List.{position_or_len}
 use Rattle.std.specs.Option.{option_map_or}
 use Rattle.wc_diag_places.specs.OperandTokens.{begins_item, is_point, is_shape, list_end, tokens_at}
-use Rattle.wc_diag_places.specs.declared.lists.Item.{Item}
+use Rattle.wc_diag_places.specs.declared.arguments.Item.{Item}
 use Rattle.wc_lexer.specs.declared.shape.Shape.{Shape}
 use Rattle.wc_lexer.specs.declared.shape.Shape.TheVariants.{Arrow, LineEnd}
 use Rattle.wc_lexer.specs.declared.shape.Token.{Token}

@@ -4,9 +4,8 @@ ghost use Rattle.wc_diag_places.specs.OperandTokens.{IsOfCall, begins_item, list
 ghost use Rattle.wc_model.specs.Language.Scopes.{Scope};
 ghost use Rattle.wc_verify.specs.Seeing.{IsScope};
 
-use crate::arguments::{Broken, first_broken_argument};
+use crate::arguments::{Broken, first_broken_argument, item_after, text_at};
 use crate::kinds::{entity_in, is_bit};
-use crate::lists::{item_after, text_at};
 use crate::operand_tokens::{case_of_operand, line_at, list_end, operator_of, tokens_at};
 use std::alloc::Global;
 use wc_diag_texts::Case;

@@ -11,10 +11,8 @@ use wc_model::{MOST_VARIABLES, Source, Unit, Word};
 
 /// Where a word is, if it is this name and is before a place.
 fn place_before(word: &Word<'_>, name: &[u8], place: u32) -> Option<u32> {
-    if word.line < place && word.text.eq_ignore_ascii_case(name) {
-        return Some(word.line);
-    }
-    None
+    let is_before = word.line < place && word.text.eq_ignore_ascii_case(name);
+    is_before.then_some(word.line)
 }
 
 /// The number of units that begin up to a place.

@@ -2,6 +2,7 @@ ghost use Rattle.std.specs.Prelude.{◌≡◌, option_map};
 ghost use Rattle.wc_diag_places.specs.Lists.{operand_in};
 ghost use Rattle.wc_model.specs.Language.Views.{term_view};
 
+use crate::arguments::text_at;
 use crate::operand_tokens::{is_closing, opens};
 use wc_built_in::{takes, takes_truth};
 use wc_diag_texts::Case;
@@ -41,15 +42,11 @@ pub(crate) fn is_bit(operand_tokens: &[Token<'_>]) -> bool {
 
 /// What does not fit if an operand of a kind follows its operator.
 fn unfit_operand(operating: Operating, kind: Kind, is_bit: bool) -> Case {
-    let is_taken = match operating {
-        Operating::Loads(negated) => !negated || kind == Kind::Bool,
-        Operating::Stores(Storing::Result) => true,
-        Operating::Stores(_) => kind == Kind::Bool,
-        Operating::Applies(operator) => takes(operator, kind),
-    };
     match operating {
-        _ if is_taken => Case::Unlike(kind),
+        Operating::Applies(operator) if takes(operator, kind) => Case::Unlike(kind),
         Operating::Applies(operator) if is_bit && takes_truth(operator) => Case::Result,
+        Operating::Loads(false) | Operating::Stores(Storing::Result) => Case::Unlike(kind),
+        Operating::Loads(_) | Operating::Stores(_) if kind == Kind::Bool => Case::Unlike(kind),
         _ => Case::Untaken(kind),
     }
 }
@@ -65,19 +62,16 @@ pub fn unfit(tables: &Tables<'_>, unit: usize, tokens: &[Token<'_>], term: &[Tok
     let Some(token) = tokens.first() else {
         return Case::Result;
     };
-    if is_closing(token) {
-        return Case::Closing;
-    }
     let kind = entity_in(tables, unit, term).and_then(|entity| entity.kind);
     match (operation_of(*token), kind) {
+        _ if is_closing(token) => Case::Closing,
         (Some(Operation::Operates(_)), None) if operand_in(term).is_some() => Case::Instance,
         (Some(Operation::Operates(operating)), Some(kind)) if !opens(tokens) => {
             unfit_operand(operating, kind, is_bit(term))
         }
-        (Some(Operation::Calls(_)), _) => match term.first() {
-            Some(name) if is_plain(tables, unit, name.text) => Case::NoInstance,
-            _ => Case::Result,
-        },
+        (Some(Operation::Calls(_)), _) if is_plain(tables, unit, text_at(term, 0)) => {
+            Case::NoInstance
+        }
         _ => Case::Result,
     }
 }

@@ -1,10 +1,12 @@
+use crate::operand_tokens::{line_at, tokens_at, tokens_from};
+use crate::spanned_source::SpannedSource;
 use wc_built_in::kind_after_operator;
-use wc_diag_stops::ResultKind;
-use wc_model::{Condition, Instr, Line, MOST_DEPTH, Operand};
+use wc_diag_stops::{Brought, LabelPaths, PathToLabel, ResultKind, last_line, without_line_ends};
+use wc_model::{Condition, Instr, Line, MOST_DEPTH, Operand, Word};
 use wc_names::Tables;
 
 /// Where an instruction begins.
-pub(crate) fn place_of(instruction: &Instr<'_>) -> u32 {
+fn place_of(instruction: &Instr<'_>) -> u32 {
     match instruction {
         Instr::Load { line, .. }
         | Instr::Store { line, .. }
@@ -33,7 +35,7 @@ fn result_of(tables: &Tables<'_>, unit: usize, term: &Operand<'_>, at: u32) -> O
 }
 
 /// Whether a line leaves for a label, or the body, whatever the result is.
-pub(crate) fn always_leaves(line: &Line<'_>) -> bool {
+fn always_leaves(line: &Line<'_>) -> bool {
     matches!(
         &line.instr,
         Some(Instr::Jump { condition, .. } | Instr::Return { condition, .. })
@@ -41,13 +43,8 @@ pub(crate) fn always_leaves(line: &Line<'_>) -> bool {
     )
 }
 
-/// The result before the instruction of a line, from that before the line: at a label it is not sure.
-pub(crate) fn result_before(line: &Line<'_>, before: Option<ResultKind>) -> Option<ResultKind> {
-    if line.label.is_some() { None } else { before }
-}
-
 /// The result after a line, from that before its instruction.
-pub(crate) fn result_after(
+fn result_after(
     tables: &Tables<'_>,
     unit: usize,
     line: &Line<'_>,
@@ -74,7 +71,8 @@ fn result_until<'a, 't>(
 ) -> (Option<ResultKind>, Option<&'t Instr<'a>>) {
     let mut result = first;
     for line in lines {
-        result = result_before(line, result);
+        // At a label it is not sure.
+        result = result.filter(|_| line.label.is_none());
         if reaches(line, place) {
             return (result, line.instr.as_ref());
         }
@@ -83,8 +81,7 @@ fn result_until<'a, 't>(
     (result, None)
 }
 
-/// The kinds of the result before the instruction, or before the `)`, that is at a place of a body, and before the parenthesis
-/// around it; nothing if that is not sure.
+/// The kinds of the result before the instruction or `)` at a place of a body, and before the parenthesis around it, if that is sure.
 pub(crate) fn results_at(
     tables: &Tables<'_>,
     unit: usize,
@@ -105,14 +102,113 @@ pub(crate) fn results_at(
                 },
             ) if *line < place => {
                 outer = result;
-                before = match operand {
-                    Some(operand) => result_of(tables, unit, operand, *line),
-                    None => None,
-                };
+                let operand = operand.as_ref();
+                before = operand.and_then(|operand| result_of(tables, unit, operand, *line));
                 lines = inside;
             }
             _ => return (before, outer),
         }
     }
     (before, outer)
+}
+
+/// Where a line jumps to that label, if it does.
+fn jump_to(line: &Line<'_>, name: &[u8]) -> Option<u32> {
+    match &line.instr {
+        Some(Instr::Jump { label, line, .. }) if label.eq_ignore_ascii_case(name) => Some(*line),
+        _ => None,
+    }
+}
+
+/// The paths to a label that were found.
+#[derive(Clone, Copy)]
+struct FoundPaths {
+    /// The first of which is sure what it brings.
+    first: Option<PathToLabel>,
+    /// The first of these that brings something else.
+    other: Option<PathToLabel>,
+    /// The first of which it is not sure.
+    unsure: Option<PathToLabel>,
+    /// Whether that is the only one.
+    is_only: bool,
+}
+
+/// Adds the path from a line, with the result that it brings: that there is none is sure before the first label of a body.
+fn add_path(found: &mut FoundPaths, line: u32, made: Option<ResultKind>, is_after_label: bool) {
+    let brought = match made {
+        Some(made) => Brought::Kind(made.kind),
+        None if is_after_label => Brought::Unsure,
+        None => Brought::Nothing,
+    };
+    let path = PathToLabel { line, brought };
+    match (brought, found.first.map(|first| first.brought)) {
+        (Brought::Unsure, _) => {
+            found.is_only = found.unsure.is_none();
+            found.unsure = found.unsure.or(Some(path));
+        }
+        (_, None) => found.first = Some(path),
+        (Brought::Kind(kind), Some(Brought::Kind(first))) if kind == first => {}
+        (Brought::Nothing, Some(Brought::Nothing)) => {}
+        _ => found.other = found.other.or(Some(path)),
+    }
+}
+
+/// The paths by which no single result is at a label: if all that are sure bring the same type, the only other one does not.
+fn paths_of(found: FoundPaths) -> Option<LabelPaths> {
+    let first = found.first.or(found.unsure)?;
+    let other = match first.brought {
+        Brought::Kind(_) if found.other.is_none() && found.is_only => found.unsure,
+        _ => found.other,
+    };
+    Some(LabelPaths { first, other })
+}
+
+/// The number of lines up to that of the label right before the instruction at a place, and that label, if there is one.
+fn label_before<'a>(body: &[Line<'a>], place: u32) -> Option<(usize, Word<'a>)> {
+    let index = body.iter().position(|line| line
+        .instr
+        .as_ref()
+        .is_some_and(|instr| place_of(instr) == place))?;
+    if let Some(label) = body.get(index)?.label {
+        return Some((index, label));
+    }
+    let above = index.checked_sub(1)?;
+    let line = body.get(above).filter(|line| line.instr.is_none())?;
+    Some((above, line.label?))
+}
+
+/// The paths to the label right before the instruction at a place, if there is one: its jumps, and the last line above if it goes on.
+pub(crate) fn paths_to_label(
+    spanned_source: &SpannedSource<'_>,
+    tables: &Tables<'_>,
+    unit: usize,
+    place: u32,
+) -> Option<LabelPaths> {
+    let tokens = &spanned_source.tokens;
+    let body = &spanned_source.source.units.get(unit)?.body;
+    let (index, label) = label_before(body, place)?;
+    let above = body.get(..index)?;
+    let mut found = FoundPaths {
+        first: None,
+        other: None,
+        unsure: None,
+        is_only: true,
+    };
+    let (mut result, mut is_after_label): (Option<ResultKind>, bool) = (None, false);
+    for line in above {
+        is_after_label = is_after_label || line.label.is_some();
+        result = result.filter(|_| line.label.is_none());
+        if let Some(place) = jump_to(line, label.text) {
+            let line = line_at(tokens_from(tokens, place).first());
+            add_path(&mut found, line, result, is_after_label);
+        }
+        result = result_after(tables, unit, line, result);
+    }
+    if !above.last().is_some_and(always_leaves) {
+        let left = tokens_from(tokens, label.line).len();
+        let before = tokens_at(tokens, 0, tokens.len().saturating_sub(left));
+        let line = line_at(last_line(without_line_ends(before)).first());
+        add_path(&mut found, line, result, is_after_label);
+    }
+    paths_of(found)
 }

@@ -8,16 +8,15 @@ ghost use Rattle.wc_model.specs.Language.Views.{text_view};
 ghost use Rattle.wc_verify.specs.Seeing.{IsScope};
 ghost use Rattle.wc_diag_places.specs.OperandTokens.{IsOperatorOrOperand, IsOperandOf, is_listed, on_line, operator_of, operand_by_number, tokens_from};
 
+use crate::arguments::text_at;
 use crate::calls::{InCall, at_index, offending_in_call, operand_of_call};
 use crate::declarations::{block_in, case_of_capacity, first_of_two, unit_at};
 use crate::kinds::unfit;
-use crate::lists::text_at;
 use crate::operand_tokens::{
     case_of_operand, is_listed, line_at, opens, operand_of, operator_of, slice_of, span_of,
     tokens_at, tokens_from,
 };
-use crate::paths::paths_to_label;
-use crate::results::results_at;
+use crate::results::{paths_to_label, results_at};
 use crate::spanned_source::SpannedSource;
 use std::alloc::Global;
 use wc_cost::measure;
