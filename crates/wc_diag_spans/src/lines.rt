@@ -1,6 +1,6 @@
-ghost use Rattle.std.specs.Prelude.{◌≡◌, ◌≤◌, ◌<◌, ◌-◌, ◌==◌, IfSome, MatchOption, count_by, length, option_map, slice_get, slice_index, Some};
+ghost use Rattle.std.specs.Prelude.{◌≡◌, ◌≤◌, ◌<◌, ◌-◌, ◌==◌, IfSome, MatchOption, count_by, length, option_map, slice_index, Some};
 ghost use Rattle.std.specs.List.{position_or_len};
-ghost use Rattle.wc_diag_spans.specs.Lines.{AreLinesAbove, HasBelow, IsOneLine, column_at, cut_lines, line_of_number, without_return};
+ghost use Rattle.wc_diag_spans.specs.Lines.{AreLinesAbove, HasBelow, IsOneLine, column_at, line_of_number, without_return};
 
 use memchr::{memchr, memchr_iter, memrchr};
 use wc_diag_stops::{following, prefix};
@@ -32,13 +32,6 @@ fn without_return(line: &[u8]) -> &[u8]
         return prefix(line, last);
     }
     line
-}
-
-/// The first line, without its LF.
-fn first_line(text: &[u8]) -> &[u8]
-    ensures { slice_get (cut_lines text.now) 0 ≡ Some result.now }
-{
-    prefix(text, line_length(text))
 }
 
 /// What is below the first line, if it ends with LF.
@@ -128,7 +121,7 @@ pub fn line_at(text: &[u8], number: u32) -> Option<&[u8]>
             None => return None,
         }
     }
-    Some(without_return(first_line(rest)))
+    Some(without_return(prefix(rest, line_length(rest))))
 }
 
 /// The number of bytes of its line before a place.

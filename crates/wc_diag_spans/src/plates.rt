@@ -1,4 +1,4 @@
-use crate::diagnostic::Diagnostic;
+use crate::diagnostic::{Diagnostic, Span};
 use crate::lines::{column_at, line_length, line_of};
 use memchr::{memchr, memmem};
 use std::alloc::{AllocError, Global};
@@ -12,15 +12,6 @@ use wc_plate::{BrokenRule, allows_interval, plate_of};
 /// The scale intervals that some plate may have.
 const INTERVALS: [i64; 6] = [1, 2, 5, 10, 20, 50];
 
-/// The line of a text that gives a value to a key, counted from 1, and where the key and its value start in it.
-#[derive(Clone, Copy)]
-struct KeyLine {
-    line: u32,
-    key: usize,
-    value: usize,
-    length: usize,
-}
-
 /// The number of leading spaces and tabs.
 fn blanks(text: &[u8]) -> usize {
     text.iter()
@@ -28,53 +19,36 @@ fn blanks(text: &[u8]) -> usize {
         .count()
 }
 
-/// The number of bytes of a value, up to a blank, a comment or the line's end.
-fn value_length(text: &[u8]) -> usize {
-    text.iter()
-        .take_while(|byte| **byte > b' ' && **byte != b'#')
-        .count()
+/// Where a key is given its value, or that value, up to a blank, a comment or the line's end, if the first line does so.
+fn span_on(line: &[u8], name: &str, is_key: bool) -> Option<Span> {
+    let start = blanks(line);
+    let rest = following(line, start).strip_prefix(name.as_bytes())?;
+    let rest = following(rest, blanks(rest)).strip_prefix(b"=")?;
+    let value = following(rest, blanks(rest));
+    let bytes = value.iter();
+    let bytes = bytes.take_while(|byte| **byte > b' ' && **byte != b'#');
+    let (start, length) = match is_key {
+        true => (start, name.len()),
+        false => (line.len().saturating_sub(value.len()), bytes.count().max(1)),
+    };
+    Some(Span { start, length })
 }
 
-/// Where that key is given its value, if the first line does so, with that number of lines above it.
-fn key_on(line: &[u8], above: usize, name: &str) -> Option<KeyLine> {
-    let key = blanks(line);
-    if !following(line, key).starts_with(name.as_bytes()) {
-        return None;
-    }
-    let end = key.saturating_add(name.len());
-    let sign = end.saturating_add(blanks(following(line, end)));
-    if following(line, sign).first() != Some(&b'=') {
-        return None;
-    }
-    let value = sign.saturating_add(1);
-    let value = value.saturating_add(blanks(following(line, value)));
-    Some(KeyLine {
-        line: above.saturating_add(1).min(u32::MAX as usize) as u32,
-        key,
-        value,
-        length: value_length(following(line, value)).max(1),
-    })
-}
-
-/// Searches the text for the one line that gives a value to that key: once through it, line by line. Nothing is found if
-/// two do so, or if a text could run over lines.
-fn search_key(text: &[u8], name: &str) -> Option<KeyLine> {
+/// The one line that gives a value to that key, counted from 1, and the key or the value in it; nothing if a text could run over lines.
+fn search_key(text: &[u8], name: &str, is_key: bool) -> Option<(u32, Span)> {
     // Three quotes of a kind in a row could begin a text that runs over lines.
     if memmem::find(text, b"\"\"\"").is_some() || memmem::find(text, b"'''").is_some() {
         return None;
     }
-    let mut found = None;
-    let (mut start, mut number) = (0_usize, 0_usize);
+    let (mut found, mut start) = (None, 0_usize);
     for _line in 0..text.len() {
         let rest = following(text, start).iter();
-        let above = rest.take_while(|byte| **byte == b'\n').count();
-        start = start.saturating_add(above);
-        number = number.saturating_add(above);
-        if let Some(here) = key_on(following(text, start), number, name) {
+        start = start.saturating_add(rest.take_while(|byte| **byte == b'\n').count());
+        if let Some(span) = span_on(following(text, start), name, is_key) {
             if found.is_some() {
                 return None;
             }
-            found = Some(here);
+            found = Some((line_of(text, start), span));
         }
         match memchr(b'\n', following(text, start)) {
             Some(length) => start = start.saturating_add(length),
@@ -86,14 +60,9 @@ fn search_key(text: &[u8], name: &str) -> Option<KeyLine> {
 
 /// Points to a key or to its value, if one line gives it.
 fn point_to(diagnostic: &mut Diagnostic, text: &[u8], name: &str, is_key: bool) {
-    let Some(found) = search_key(text, name) else {
-        return;
-    };
-    diagnostic.line = found.line;
-    if is_key {
-        diagnostic.point(found.key, name.len());
-    } else {
-        diagnostic.point(found.value, found.length);
+    if let Some((line, span)) = search_key(text, name, is_key) {
+        diagnostic.line = line;
+        diagnostic.span = Some(span);
     }
 }
 

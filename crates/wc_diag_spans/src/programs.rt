@@ -51,29 +51,12 @@ fn case_at(refused: &Refused<'_, '_>) -> Case {
     }
 }
 
-/// The mistake of which the sentence speaks: the one that is shown, if it has a sentence of its own, else the case.
-fn mistake_said(number: u16, case: Case, mistake: Mistake) -> Mistake {
+/// The case of which the sentence speaks, that of the mistake if it has one of its own; and the sentence, if the number's does not say all.
+fn spoken_of(number: u16, case: Case, mistake: Mistake) -> (Case, Option<&'static str>) {
     match (mistake.case, case) {
-        (Case::LeftOut, _) | (Case::Lasting, Case::LeftOut) => Mistake::of(case).worded(number),
-        _ if mistake.sentence.is_empty() => Mistake::of(case).worded(number),
-        _ => mistake,
-    }
-}
-
-/// What is said of a mistake; nothing if the number's own sentence says all.
-fn said_of_mistake(number: u16, mistake: Mistake) -> Option<&'static str> {
-    if mistake.sentence.is_empty() {
-        return sentence_of(number, mistake.case);
-    }
-    Some(mistake.sentence)
-}
-
-/// What could be at a slice, if that is what is wrong: not after a word that is left out, nor a point after a NOT.
-fn expected_at(expected: Expected, mistake: Case) -> Expected {
-    match mistake {
-        Case::Lasting => Expected::Nothing,
-        Case::NegatedOperand => Expected::LineEnd,
-        _ => expected,
+        (Case::LeftOut, _) | (Case::Lasting, Case::LeftOut) => (case, sentence_of(number, case)),
+        _ if mistake.sentence.is_empty() => (case, sentence_of(number, case)),
+        _ => (mistake.case, Some(mistake.sentence)),
     }
 }
 
@@ -85,15 +68,15 @@ fn character_length(text: &[u8]) -> usize {
 }
 
 /// The number of bytes of a slice that are quoted: none if its sentence is given alone.
-fn quoted_length(refused: &Refused<'_, '_>, mistake: Mistake) -> usize {
+fn quoted_length(refused: &Refused<'_, '_>, spoken: Case, sentence: Option<&str>) -> usize {
     let span = refused.span;
-    match (refused.number, mistake.case) {
+    match (refused.number, spoken) {
         (101, Case::ByteOrderMark) => BYTE_ORDER_MARK.len(),
         (101, Case::NoBreakSpace) => 0,
         (101, Case::Byte(128..)) => character_length(refused.lexeme),
         (201, Case::LineEnd | Case::Lasting) | (202..=208, _) => 0,
         (403, Case::AtLabel | Case::Unreached | Case::Plain) => 0,
-        (number, _) if span.below.is_some() || said_of_mistake(number, mistake).is_none() => 0,
+        _ if span.below.is_some() || sentence.is_none() => 0,
         _ => span.length,
     }
 }
@@ -207,19 +190,24 @@ fn say_of_span(diagnostic: &mut Diagnostic, refused: &Refused<'_, '_>) -> Result
 {
     let case = case_at(refused);
     let mistake = mistake_at(refused, case);
-    let spoken = mistake_said(refused.number, case, mistake);
-    let sentence = said_of_mistake(refused.number, spoken);
-    let there = said_there(refused, spoken.case, mistake.case);
-    let (sentence, detail) = match said_of(refused, there, sentence) {
-        Some(said) => (Some(""), said?),
-        None => (sentence, said_text(refused.alloc, detail_of(refused))?),
+    // what could be there, if that is what is wrong: not after a word that is left out, nor a point after a NOT
+    let expected = match mistake.case {
+        Case::Lasting => Expected::Nothing,
+        Case::NegatedOperand => Expected::LineEnd,
+        _ => refused.span.expected,
     };
-    diagnostic.expected = expected_at(refused.span.expected, mistake.case);
+    let (spoken, own) = spoken_of(refused.number, case, mistake);
+    let there = said_there(refused, spoken, mistake.case);
+    let (sentence, detail) = match said_of(refused, there, own) {
+        Some(said) => (Some(""), said?),
+        None => (own, said_text(refused.alloc, detail_of(refused))?),
+    };
+    diagnostic.expected = expected;
     diagnostic.sentence = sentence;
     diagnostic.detail = detail;
     diagnostic.hint = mistake.hint;
     diagnostic.advice = said_text(refused.alloc, advice_at(refused, mistake))?;
-    Ok(quoted_length(refused, spoken))
+    Ok(quoted_length(refused, spoken, own))
 }
 
 /// Points to the slice at which a pass refuses a text, and says what is wrong with it.

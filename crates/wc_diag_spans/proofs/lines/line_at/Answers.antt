@@ -1,5 +1,5 @@
 use Rattle.std.proofs.Common.{◌∙◌, ap, arith, Some}
-use Rattle.wc_diag_spans.proofs.LineCuts.{line_is, line_is_missing, is_further}
+use Rattle.wc_diag_spans.proofs.LineCuts.{first_cut, is_further, line_is, line_is_missing}
 use Rattle.wc_diag_spans.proofs.lines.line_at.Goals as goal
 
 pub returns-in-None : goal.returns-in-None
@@ -10,5 +10,8 @@ loop-passed-preserved c = is_further c.args.text.now c.loop-passed._passed c.loo
 
 pub returns : goal.returns
 returns c =
+    let rest = c.loop-passed.rest.now in
+    let first = c.prefix.result.now in
     ap Some c.without_return.ensures
-    ∙ line_is c.args.text.now c.args.number c.loop-passed._passed c.loop-passed.rest.now c.first_line.result.now (omega arith) c.loop-passed.invariant c.first_line.ensures
+    ∙ line_is c.args.text.now c.args.number c.loop-passed._passed rest first (omega arith) c.loop-passed.invariant
+    (first_cut rest first c.line_length.result c.line_length.ensures.first c.line_length.ensures.within c.prefix.ensures)
