@@ -100,13 +100,6 @@ fn put_bands(out: &mut Sheet, view: &View<'_>, all: &Column) {
     put_levels(out, view, Lane::Under, "falling", TOP, HEIGHT);
 }
 
-/// Puts a curve over weights, of that look.
-fn put_weights(out: &mut Sheet, view: &View<'_>, look: &str, curve: Curve) {
-    put!(out, "<path id=\"{look}\" class=\"curve {look}\" d=\"");
-    put_curve(out, view, &view.weights, curve);
-    put!(out, "\"/>\n");
-}
-
 /// The text of a picture; of a log that has no rows the axes alone. It is bounded, since the numbers of columns and lanes are
 /// bounded.
 pub fn draw(
@@ -132,8 +125,11 @@ pub fn draw(
     }
     put_axes(&mut out, view, bottom);
     if let Some(all) = &view.all {
-        put_weights(&mut out, view, "gross", Curve::Gross);
-        put_weights(&mut out, view, "net", Curve::Net);
+        for (look, curve) in [("gross", Curve::Gross), ("net", Curve::Net)] {
+            put!(out, "<path id=\"{look}\" class=\"curve {look}\" d=\"");
+            put_curve(&mut out, view, &view.weights, curve);
+            put!(out, "\"/>\n");
+        }
         put_readings(&mut out, view, bottom);
         put_marks(&mut out, view);
         put_lanes(&mut out, view, all, &lanes);

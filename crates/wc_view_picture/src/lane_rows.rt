@@ -117,25 +117,19 @@ fn put_bound(out: &mut Sheet, view: &View<'_>, top: Tenths) {
     put!(out, "H{RIGHT}\"/>\n");
 }
 
-/// Puts the most steps of a program's scans and their bound at a height, after a word.
-fn put_steps(out: &mut Sheet, y: Tenths, word: &str, steps: ScanSteps) {
-    let ScanSteps { most, bound } = steps;
-    put!(out, "<text x=\"858\" y=\"{y}\">{word}{most}");
-    put!(out, " of {bound}</text>\n");
-}
-
-/// Puts the lane of the scans, with the most steps of a scan and the bound, of the first program, and below of the next
-/// one.
+/// Puts the lane of the scans, with the most steps of a scan and the bound, of the first program and below of the next.
 fn put_scans(out: &mut Sheet, view: &View<'_>, top: Tenths) {
     put_bars(out, view, top);
     put_bound(out, view, top);
-    put_steps(out, top.plus(240), "", view.first);
-    if let Some(next) = view.next {
-        put_steps(out, top.plus(380), "then ", next);
+    for (below, word, steps) in [(240, "", Some(view.first)), (380, "then ", view.next)] {
+        if let Some(ScanSteps { most, bound }) = steps {
+            let y = top.plus(below);
+            put!(out, "<text x=\"858\" y=\"{y}\">{word}{most}");
+            put!(out, " of {bound}</text>\n");
+        }
     }
 }
 
-/// Puts a lane's name.
 fn put_name(out: &mut Sheet, view: &View<'_>, lane: Lane) {
     let name = match lane {
         Lane::Motion => "in motion",

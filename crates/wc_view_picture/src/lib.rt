@@ -1,5 +1,4 @@
-//! A picture of a run: what a log, its plate and its program come to over time, as one SVG of a
-//! bounded size, with its weights, marks, lanes and axes.
+//! A picture of a run: what a log, its plate and its program come to over time, as one SVG of a bounded size.
 #![tactic(auto)]
 
 mod axes;

@@ -3,7 +3,6 @@ ghost use Rattle.wc_model.specs.Instrument.Plates.{PlateData};
 ghost use Rattle.wc_model.specs.Run.Rows.{Past, line_bytes};
 ghost use Rattle.wc_model.specs.Say.ProgramReport.{Logic};
 ghost use Rattle.wc_model.specs.Say.Report.{answer_line};
-ghost use Rattle.wc_record.specs.Views.{head_data_view};
 ghost use Rattle.wc_run.specs.Logics.{logic_after};
 ghost use Rattle.wc_run.specs.Observing.{IsShown, lines_of_scan, row_of};
 ghost use Rattle.wc_run.specs.Representation.{Represents};
@@ -23,8 +22,7 @@ use wc_store::SlotStore;
 use wc_view_columns::{Column, Events, State, TimeLine, Tracker};
 use wc_view_watch::WatchedNames;
 
-/// Observes a run, and after its rows writes a picture of it. What is kept of the rows is allocated at the first of
-/// them.
+/// Observes a run, and after its rows writes a picture of it. What is kept of them is allocated at the first one.
 #[derive(Drop)]
 pub(crate) struct Picture<'n> {
     alloc: Global,
@@ -47,11 +45,10 @@ pub(crate) struct Picture<'n> {
 
 /// The bound of a program, which is the last unit of its text.
 fn program_bound(loaded: &Loaded<'_>) -> u32 {
-    let units = loaded.units();
-    if units == 0 {
-        return 0;
+    match loaded.units() {
+        0 => 0,
+        units => loaded.bound(units - 1),
     }
-    loaded.bound(units - 1)
 }
 
 impl<'n> Picture<'n> {
@@ -88,8 +85,7 @@ impl<'n> Picture<'n> {
             → HasHappened plate logic past (row_of seen.now) (row_of seen.now).brings result }
         ensures read { (past : Past) → HasRead self.old.tracker.requests (line_bytes past)
             → HasRead self.new.tracker.requests (line_bytes (row_of seen.now ∷ past)) }
-        ensures same { let tracker = self.new.tracker in
-            self.new ≡ record self.old { tracker = tracker } }
+        ensures same { self.new ≡ record self.old { tracker = self.new.tracker } }
     {
         match seen.row.kind {
             HeadKind::Bytes => self.tracker.follow(seen.row.ms, seen.bytes, seen.answer),
@@ -99,30 +95,8 @@ impl<'n> Picture<'n> {
         }
     }
 
-    /// At a change of the program the next one takes the place of the first.
-    fn change(&mut self, kind: HeadKind)
-        ensures same { let running = self.new.running in let before = self.new.before in
-            self.new ≡ record self.old { running = running; before = before } }
-        ensures runs { (bytes : List ℕ) → most_of self.new.running
-            ≡ option_map (most_at (head_data_view bytes kind)) (most_of self.old.running) }
-        ensures replaced { (bytes : List ℕ) → most_of self.new.before ≡ replaced_at
-            (head_data_view bytes kind) (most_of self.old.running) (most_of self.old.before) }
-    {
-        match kind {
-            HeadKind::Change => {
-                if self.running.is_some() {
-                    self.before = self.running;
-                    self.running = Some(ScanSteps {
-                        most: 0,
-                        bound: self.next_bound,
-                    });
-                }
-            }
-            HeadKind::Counts(_) | HeadKind::Bytes | HeadKind::Inputs(_) | HeadKind::Scan => {}
-        }
-    }
-
-    /// Counts the steps of a row's scan, for the program that then runs.
+    /// At a change of the program the next one takes the place of the first. Counts the steps of a row's scan, for the program that
+    /// then runs.
     fn turn(&mut self, seen: &RowSeen<'_>)
         ensures same { let running = self.new.running in let before = self.new.before in
             self.new ≡ record self.old { running = running; before = before } }
@@ -132,7 +106,11 @@ impl<'n> Picture<'n> {
         ensures replaced { most_of self.new.before ≡ replaced_at (row_of seen.now).brings
             (most_of self.old.running) (most_of self.old.before) }
     {
-        self.change(seen.row.kind);
+        if let (HeadKind::Change, Some(_)) = (seen.row.kind, self.running) {
+            self.before = self.running;
+            let (most, bound) = (0, self.next_bound);
+            self.running = Some(ScanSteps { most, bound });
+        }
         self.running = steps_after(&seen.scan, self.running);
     }
 
@@ -223,8 +201,7 @@ impl<W: ByteOut> Observer<SlotStore, W> for Picture<'_> {
         scale: &Scale<'_, SlotStore>,
         _writer: &mut W,
     ) -> Result<(), RunFault> {
-        self.follow(seen, scale)?;
-        Ok(())
+        Ok(self.follow(seen, scale)?)
     }
 
     fn end(&mut self, refused: Option<(u16, u32)>, writer: &mut W) -> Result<(), RunFault> {

@@ -46,38 +46,26 @@ fn put_ports(out: &mut Sheet, view: &View<'_>, state: &State) {
     }
 }
 
-/// Puts what held from one column up to another, for a pointer that is there.
-fn put_reading(
-    out: &mut Sheet,
-    view: &View<'_>,
-    first: usize,
-    next: usize,
-    bottom: Tenths,
-    state: &State,
-) {
-    let left = view.x(first);
-    let width = Tenths(view.x(next).0.saturating_sub(left.0));
-    let height = Tenths(bottom.0.saturating_sub(TOP.0));
-    put!(out, "<rect x=\"{left}\" y=\"{TOP}\" ");
-    put!(out, "width=\"{width}\" height=\"{height}\"><title>");
-    let (begin, end) = (exactly(view.moment(first)), exactly(view.moment(next)));
-    put!(out, "{begin} to {end}");
-    put_weight(out, view, "gross", state.gross);
-    put_weight(out, view, "net", state.net);
-    put_status(out, state);
-    put_ports(out, view, state);
-    put!(out, "</title></rect>\n");
-}
-
-/// Puts a reading for each stretch of columns in which the same holds.
+/// Puts a reading for each stretch of columns in which the same holds, for a pointer that is there.
 pub(crate) fn put_readings(out: &mut Sheet, view: &View<'_>, bottom: Tenths) {
     put!(out, "<g id=\"readings\">\n");
+    let height = Tenths(bottom.0.saturating_sub(TOP.0));
     let mut first = 0_usize;
     for (index, column) in view.columns.iter().enumerate() {
         let next = index.saturating_add(1);
         let later = view.columns.get(next);
         if !later.is_some_and(|later| later.state == column.state) {
-            put_reading(out, view, first, next, bottom, &column.state);
+            let left = view.x(first);
+            let width = Tenths(view.x(next).0.saturating_sub(left.0));
+            put!(out, "<rect x=\"{left}\" y=\"{TOP}\" ");
+            put!(out, "width=\"{width}\" height=\"{height}\"><title>");
+            let (begin, end) = (exactly(view.moment(first)), exactly(view.moment(next)));
+            put!(out, "{begin} to {end}");
+            put_weight(out, view, "gross", column.state.gross);
+            put_weight(out, view, "net", column.state.net);
+            put_status(out, &column.state);
+            put_ports(out, view, &column.state);
+            put!(out, "</title></rect>\n");
             first = next;
         }
     }

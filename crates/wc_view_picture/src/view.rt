@@ -89,16 +89,6 @@ pub struct View<'p> {
     pub(crate) next: Option<ScanSteps>,
 }
 
-/// The greatest weight of a plate, the number of its decimals, and the symbol of its unit.
-fn scale_of(plate: Option<Plate>) -> (i64, u32, &'static str) {
-    let Some(plate) = plate else {
-        return (1, 0, "");
-    };
-    let unit = MassUnit::of_letters(&plate.unit()).map_or("", |unit| unit_text(unit));
-    let decimals = plate.decimals().unsigned_abs();
-    (i64::from(plate.max()), decimals, unit)
-}
-
 impl<'p> View<'p> {
     /// A view of what is kept of the rows, of a program that runs and of the one that it replaced. The variables of the columns have
     /// these names, between commas.
@@ -113,7 +103,14 @@ impl<'p> View<'p> {
             Some(line) => (line.columns(), line.start(), line.width()),
             None => (&[] as &[Column], 0, 1),
         };
-        let (max, decimals, unit) = scale_of(plate);
+        let (max, decimals, unit) = plate.map_or((1, 0, ""), |plate| {
+            let unit = MassUnit::of_letters(&plate.unit()).map_or("", |unit| unit_text(unit));
+            (
+                i64::from(plate.max()),
+                plate.decimals().unsigned_abs(),
+                unit,
+            )
+        });
         let all = whole(columns);
         let none = ScanSteps { most: 0, bound: 0 };
         View {

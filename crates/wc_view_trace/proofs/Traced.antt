@@ -28,8 +28,8 @@ use Rattle.wc_run.specs.declared.scale.Scale.{Scale}
 use Rattle.wc_view_trace.specs.Choosing.{IsChosen}
 use Rattle.wc_view_trace.specs.Traces.{HasTraced, IsEndOf, IsScanIn, IsShownScan, ShowsScan, Texts, TracesEnd, TracesRow, TracesScans, Tracing, counted_on, counted_with, is_changed, is_changed_with, scans_of_row, scans_so_far, texts_after, texts_with}
 use Rattle.wc_view_trace.specs.Tracers.{FitsNext, FitsRunning, Follows, IsFresh, IsLegendFor, IsSame, IsShownAs, IsTracing, Looks, PutsItems, PutsScan, ShowsAs, Turns, tracing_of}
-use Rattle.wc_view_trace.specs.declared.trace_format.TraceFormat.{TraceFormat}
-use Rattle.wc_view_trace.specs.declared.trace_format.TraceFormat.TheVariants as format
+use Rattle.wc_view_trace.specs.declared.tracing.TraceFormat.{TraceFormat}
+use Rattle.wc_view_trace.specs.declared.tracing.TraceFormat.TheVariants as format
 use Rattle.wc_view_trace.specs.declared.tracer.Tracer.{Tracer}
 use Rattle.wc_view_trace_rows.specs.Legends.{IsLegendOf}
 use Rattle.wc_view_trace_rows.specs.declared.legend.Legend.{Legend}

@@ -1,6 +1,6 @@
 -- Which scans of a run are shown. (The profile's own.)
 use Rattle.std.specs.Prelude.{◌≡◌, ◌≤◌, ℕ, Option, IfSome}
-use Rattle.wc_view_trace.specs.declared.chosen.Chosen.{Chosen}
+use Rattle.wc_view_trace.specs.declared.tracing.Chosen.{Chosen}
 
 -- a moment is between two, if they are given
 abbrev pub IsBetween : Option ℕ → Option ℕ → ℕ → Type 0

@@ -3,7 +3,6 @@ use Rattle.std.specs.Prelude.{◌≡◌, ℕ, zero, suc, ◌+◌, ◌*◌, List,
 use Rattle.json.specs.Token.{Token}
 use Rattle.wc_machine.specs.Machines.{MachineState}
 use Rattle.wc_view_trace.specs.Members.{integers_member, number_member}
-use Rattle.wc_view_trace.specs.declared.image.Image.{Image}
 use Rattle.wc_view_trace_rows.specs.Items.{IsNumberAt}
 use Rattle.wc_view_trace_rows.specs.Rows.{is_true}
 
@@ -28,6 +27,15 @@ weight_of (Some number) = number
 abbrev pub IsWeight : MachineState → ℕ → ℤ → Type 0
 IsWeight machine place weight = (held : Option ℤ) × IsNumberAt machine place held × (weight ≡ weight_of held)
 
+-- The process image that a scan has seen: bit i of the inputs is %IX0.i and of the status %IX1.i; the weights are %ID0, %ID1
+-- and %ID2, in units of the last decimal.
+pub record Image : Type 0 where
+  pub inputs : ℕ
+  pub status : ℕ
+  pub gross : ℤ
+  pub net : ℤ
+  pub tare : ℤ
+
 -- it is at the first places of the program's frame: 16 inputs, the 6 bits of the status, and the 3 weights
 pub record IsImage (machine : MachineState) (image : Image) : Type 0 where
   pub inputs : HasBits machine 0 16 image.inputs
@@ -39,3 +47,7 @@ pub record IsImage (machine : MachineState) (image : Image) : Type 0 where
 abbrev pub image_tokens : Image → List Token
 image_tokens image =
     number_member (codes "inputs") image.inputs ++ (number_member (codes "status") image.status ++ integers_member (codes "weights") (image.gross ∷ image.net ∷ image.tare ∷ []))
+
+-- the image is written, as it is in the machine
+abbrev pub WritesImage : MachineState → List Token → List Token → Type 0
+WritesImage machine old new = (image : Image) × IsImage machine image × (new ≡ old ++ image_tokens image)

@@ -9,10 +9,9 @@ use Rattle.wc_machine.specs.Machines.{MachineState, text_of}
 use Rattle.wc_machine.specs.declared.seen.SeenLine.{SeenLine}
 use Rattle.wc_model.specs.Language.Paths.{IsProgramBound}
 use Rattle.wc_model.specs.declared.image.Outputs.{Outputs}
-use Rattle.wc_view_trace.specs.Images.{IsImage, image_tokens}
+use Rattle.wc_view_trace.specs.Images.{Image, IsImage, image_tokens}
 use Rattle.wc_view_trace.specs.Items.{item_tokens}
 use Rattle.wc_view_trace.specs.Members.{integers_member, number_member}
-use Rattle.wc_view_trace.specs.declared.image.Image.{Image}
 use Rattle.wc_view_trace_rows.specs.Scans.{AreItems}
 use Rattle.wc_view_trace_rows.specs.declared.item.Item.{Item}
 use Rattle.wc_view_trace_rows.specs.declared.legend.Legend.{Legend}

@@ -14,8 +14,8 @@ use Rattle.wc_run.specs.declared.program.Program.{Program}
 use Rattle.wc_run.specs.declared.row_seen.ScanSeen.{ScanSeen}
 use Rattle.wc_view_trace.specs.Choosing.{IsChosen}
 use Rattle.wc_view_trace.specs.Traces.{Tracing, TracesRows, counted_on, is_changed, scans_so_far, texts_after}
-use Rattle.wc_view_trace.specs.declared.trace_format.TraceFormat.{TraceFormat}
-use Rattle.wc_view_trace.specs.declared.trace_format.TraceFormat.TheVariants as format
+use Rattle.wc_view_trace.specs.declared.tracing.TraceFormat.{TraceFormat}
+use Rattle.wc_view_trace.specs.declared.tracing.TraceFormat.TheVariants as format
 use Rattle.wc_view_trace.specs.declared.tracer.Tracer.{Tracer}
 use Rattle.wc_view_trace.specs.Scans as objects
 use Rattle.wc_view_trace_rows.specs.Legends.{IsLegendOf}

@@ -10,9 +10,9 @@ use Rattle.wc_model.specs.Say.Report.{ReportLine, ScanLine, is_scan_line}
 use Rattle.wc_run.specs.Logics.{lines_of_row}
 use Rattle.wc_run.specs.Observing.{AreItems, Start, onto}
 use Rattle.wc_view_trace.specs.Choosing.{IsChosen}
-use Rattle.wc_view_trace.specs.declared.chosen.Chosen.{Chosen}
-use Rattle.wc_view_trace.specs.declared.trace_format.TraceFormat.{TraceFormat}
-use Rattle.wc_view_trace.specs.declared.trace_format.TraceFormat.TheVariants as format
+use Rattle.wc_view_trace.specs.declared.tracing.Chosen.{Chosen}
+use Rattle.wc_view_trace.specs.declared.tracing.TraceFormat.{TraceFormat}
+use Rattle.wc_view_trace.specs.declared.tracing.TraceFormat.TheVariants as format
 use Rattle.wc_view_trace.specs.Scans as objects
 use Rattle.wc_view_trace_rows.specs.Legends.{IsLegendOf}
 use Rattle.wc_view_trace_rows.specs.Scans as rows

@@ -1,6 +1,5 @@
-ghost use Rattle.std.specs.Prelude.{◌≤◌};
-ghost use Rattle.wc_view_trace.specs.Adds.{Adds};
-ghost use Rattle.wc_view_trace.specs.Images.{HasBits, IsBit, IsImage, IsWeight, image_tokens};
+ghost use Rattle.std.specs.Prelude.{◌≡◌, ◌≤◌, OnOk};
+ghost use Rattle.wc_view_trace.specs.Images.{HasBits, IsBit, IsWeight, WritesImage};
 
 use crate::members::{write_integers, write_number};
 use json::Writer;
@@ -14,30 +13,12 @@ const STATUS: usize = 16;
 
 const WEIGHTS: usize = 22;
 
-/// The process image that a scan has seen.
-#[derive(Clone, Copy)]
-pub(crate) struct Image {
-    /// `%IX0.0` to `%IX0.15`; bit i is `%IX0.i`.
-    pub(crate) inputs: u64,
-    /// `%IX1.0` to `%IX1.5`; bit i is `%IX1.i`.
-    pub(crate) status: u64,
-    /// `%ID0`, in units of the last decimal.
-    pub(crate) gross: i32,
-    /// `%ID1`, in units of the last decimal.
-    pub(crate) net: i32,
-    /// `%ID2`, in units of the last decimal.
-    pub(crate) tare: i32,
-}
-
 /// The BOOL at a place of the program's frame as a bit.
 fn bit_at(machine: &Machine<'_, SlotStore>, place: usize) -> u64
     ensures held { IsBit machine.now place result }
     ensures bit { result ≤ 1 }
 {
-    match number_in(machine, place) {
-        Some(number) => u64::from(number != 0),
-        None => 0,
-    }
+    number_in(machine, place).map_or(0, |number| u64::from(number != 0))
 }
 
 /// The BOOLs at that many places of the program's frame, from one on, as bits, the first as the lowest.
@@ -60,25 +41,22 @@ fn weight_at(machine: &Machine<'_, SlotStore>, place: usize) -> i32
     number_in(machine, place).unwrap_or(0)
 }
 
-/// The process image that the last scan has seen.
-pub(crate) fn image_of(machine: &Machine<'_, SlotStore>) -> Image
-    ensures { IsImage machine.now result }
+/// Writes the process image that the last scan has seen: the inputs, of which bit i is `%IX0.i`, the status, of which it is
+/// `%IX1.i`, and the weights gross, net and tare in units of the last decimal.
+pub(crate) fn write_image(
+    writer: &mut Writer,
+    machine: &Machine<'_, SlotStore>,
+) -> Result<(), AllocError>
+    ensures before { writer.new.before ≡ writer.old.before }
+    ensures tokens { OnOk result
+        (WritesImage machine.now writer.old.tokens writer.new.tokens) }
 {
-    Image {
-        inputs: bits_at(machine, 0, STATUS),
-        status: bits_at(machine, STATUS, WEIGHTS - STATUS),
-        gross: weight_at(machine, WEIGHTS),
-        net: weight_at(machine, WEIGHTS + 1),
-        tare: weight_at(machine, WEIGHTS + 2),
-    }
-}
-
-/// Writes an image: the inputs, the status and the weights.
-pub(crate) fn write_image(writer: &mut Writer, image: &Image) -> Result<(), AllocError>
-    ensures { Adds writer.old writer.new result (image_tokens image.now) }
-{
-    write_number(writer, "inputs", image.inputs)?;
-    write_number(writer, "status", image.status)?;
-    let weights = [image.gross, image.net, image.tare];
+    write_number(writer, "inputs", bits_at(machine, 0, STATUS))?;
+    write_number(writer, "status", bits_at(machine, STATUS, WEIGHTS - STATUS))?;
+    let weights = [
+        weight_at(machine, WEIGHTS),
+        weight_at(machine, WEIGHTS + 1),
+        weight_at(machine, WEIGHTS + 2),
+    ];
     write_integers(writer, "weights", &weights)
 }

@@ -1,6 +1,6 @@
 ghost use Rattle.std.specs.Prelude.{◌≡◌, ◌∷◌, [], OnOk};
 ghost use Rattle.wc_view_trace.specs.Adds.{Adds};
-ghost use Rattle.wc_view_trace.specs.Items.{done_by, item_tokens, noted_member, output_members, outputs_if_last, result_member, written_members};
+ghost use Rattle.wc_view_trace.specs.Items.{done_by, item_tokens, noted_member, output_members, outputs_if_last, written_members};
 ghost use Rattle.wc_view_trace.specs.Scans.{WritesArray, WritesItems};
 ghost use Rattle.wc_view_trace_rows.specs.Rows.{outputs_of};
 
@@ -42,13 +42,6 @@ fn write_written(
     };
     write_name(writer, "variable", legend.name(&note))?;
     write_number_of_kind(alloc, writer, "value", item.said.written, Some(number))
-}
-
-/// Writes the result after a line of a body.
-fn write_result(alloc: Global, writer: &mut Writer, item: &Item) -> Result<(), AllocError>
-    ensures { Adds writer.old writer.new result (result_member item.now) }
-{
-    write_number_of_kind(alloc, writer, "result", item.said.result, item.seen.result)
 }
 
 /// Writes a member for each output of the standard block that an item has called.
@@ -106,11 +99,11 @@ fn write_done(
             write_written(alloc, writer, legend, item)
         }
         Code::Call { .. } => {
-            write_result(alloc, writer, item)?;
+            write_number_of_kind(alloc, writer, "result", item.said.result, item.seen.result)?;
             write_noted(writer, "call", legend, item)
         }
         _ => {
-            write_result(alloc, writer, item)?;
+            write_number_of_kind(alloc, writer, "result", item.said.result, item.seen.result)?;
             write_written(alloc, writer, legend, item)
         }
     }

@@ -2,16 +2,12 @@
 //! Of each item that a chosen scan executes it gives the line of the text, the result after it and what it wrote.
 #![tactic(auto)]
 
-mod chosen;
 mod image;
 mod items;
 mod members;
 mod scans;
-mod trace_format;
 mod tracer;
 mod tracing;
 
-pub use chosen::Chosen;
 pub use scans::{put_end_object, put_object};
-pub use trace_format::TraceFormat;
-pub use tracing::trace_files;
+pub use tracing::{Chosen, TraceFormat, trace_files};

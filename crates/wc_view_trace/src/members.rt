@@ -53,9 +53,8 @@ pub(crate) fn write_integers(
 pub(crate) fn write_name(writer: &mut Writer, member: &str, name: &[u8]) -> Result<(), AllocError>
     ensures { Adds writer.old writer.new result (name_member member.now name.now) }
 {
-    let text = name_text(name);
     writer.key(member)?;
-    writer.string(text)
+    writer.string(name_text(name))
 }
 
 /// Writes a value: a BOOL as true or false, a DINT as a number, a TIME as a literal such as `T#100ms`.

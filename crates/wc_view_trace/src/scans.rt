@@ -2,9 +2,9 @@ ghost use Rattle.std.specs.Prelude.{◌≡◌, ◌++◌, ◌∷◌, [], IfOk, Is
 ghost use Rattle.json.specs.Lex.{tokens};
 ghost use Rattle.json.specs.Print.{print};
 ghost use Rattle.wc_view_trace.specs.Adds.{Adds};
-ghost use Rattle.wc_view_trace.specs.Scans.{IsEndObject, IsScanObject, PutsEnd, PutsScan, WritesScan, end_tokens, head_tokens, outputs_tokens, program_of, tail_tokens};
+ghost use Rattle.wc_view_trace.specs.Scans.{IsEndObject, IsScanObject, PutsEnd, PutsScan, WritesScan, end_tokens, head_tokens, program_of, tail_tokens};
 
-use crate::image::{image_of, write_image};
+use crate::image::write_image;
 use crate::items::write_items;
 use crate::members::{write_integers, write_number};
 use json::Writer;
@@ -32,14 +32,6 @@ fn write_head(writer: &mut Writer, scan: &ShownScan<'_>) -> Result<(), AllocErro
     write_number(writer, "program", program_of(scan.is_changed))
 }
 
-/// Writes the outputs that a scan left.
-fn write_outputs(writer: &mut Writer, outputs: &Outputs) -> Result<(), AllocError>
-    ensures { Adds writer.old writer.new result (outputs_tokens outputs.now) }
-{
-    write_number(writer, "outputs", u64::from(outputs.bits))?;
-    write_integers(writer, "words", &outputs.words)
-}
-
 /// Writes the items that a scan executed and the most that one executes, and the outputs that it left.
 fn write_tail(
     writer: &mut Writer,
@@ -51,7 +43,8 @@ fn write_tail(
 {
     write_number(writer, "steps", steps as u64)?;
     write_number(writer, "bound", u64::from(bound))?;
-    write_outputs(writer, outputs)?;
+    write_number(writer, "outputs", u64::from(outputs.bits))?;
+    write_integers(writer, "words", &outputs.words)?;
     writer.end_object()
 }
 
@@ -67,9 +60,8 @@ fn write_scan(
     ensures tokens { OnOk result
         (WritesScan legend.now machine.now scan.now writer.old.tokens writer.new.tokens) }
 {
-    let image = image_of(machine);
     write_head(writer, scan)?;
-    write_image(writer, &image)?;
+    write_image(writer, machine)?;
     write_items(alloc, writer, legend, machine, scan.lines)?;
     write_tail(writer, scan.lines.len(), machine.bound(), &scan.outputs)
 }
@@ -97,8 +89,7 @@ fn scan_line(
 {
     let mut writer = Writer::new(Vec::new(alloc));
     write_scan(alloc, &mut writer, legend, machine, scan)?;
-    let line = line_of(writer)?;
-    Ok(line)
+    line_of(writer)
 }
 
 /// Puts a scan at the end of a text as a JSON object on a line of its own. `Memory` is the only fault; a prefix of the line may
@@ -136,8 +127,7 @@ fn end_line(alloc: Global, scans: u32, shown: u32) -> Result<Vec<u8>, AllocError
 {
     let mut writer = Writer::new(Vec::new(alloc));
     write_end(&mut writer, scans, shown)?;
-    let line = line_of(writer)?;
-    Ok(line)
+    line_of(writer)
 }
 
 /// Puts the number of scans a run had, and the number of them that were shown, as such an object. `Memory` is the only fault;

@@ -3,9 +3,8 @@ ghost use Rattle.wc_run.specs.Observing.{items_of, row_of};
 ghost use Rattle.wc_view_trace.specs.Traces.{IsEndOf, counted_on};
 ghost use Rattle.wc_view_trace.specs.Tracers.{CountsAs, Follows, IsFresh, IsLegendFor, IsSame, PutsItems, PutsScan, ShowsAs, Turns};
 
-use crate::chosen::Chosen;
 use crate::scans::{put_end_object, put_object};
-use crate::trace_format::TraceFormat;
+use crate::tracing::{Chosen, TraceFormat};
 use std::alloc::Global;
 use wc_machine::Machine;
 use wc_model::ByteOut;
@@ -128,13 +127,10 @@ impl Tracer {
         ensures memory { IsOkUnless result RunFault.Memory }
     {
         self.text.clear();
-        let Some(scan) = &seen.scan else {
+        let (Some(scan), Some(machine)) = (&seen.scan, scale.machine()) else {
             return Ok(());
         };
-        match scale.machine() {
-            Some(machine) => self.count(machine, scan),
-            None => Ok(()),
-        }
+        self.count(machine, scan)
     }
 
     /// Makes the text of what is said after the last row.
