@@ -37,11 +37,7 @@ impl LastValues {
     fn differs(&self) -> bool
         ensures { result ≡ differ (kept_values self.now) (Some self.now.next.items) }
     {
-        if self.there {
-            self.next != self.values
-        } else {
-            true
-        }
+        !self.there || self.next != self.values
     }
 
     /// Keeps the values that a scan has left: whether they differ from those of the scan before. `Memory` is the only fault.
@@ -65,12 +61,5 @@ impl LastValues {
         swap(&mut self.next, &mut self.values);
         self.there = true;
         Ok(differs)
-    }
-
-    /// A scan with no program leaves no values.
-    pub(crate) fn forget(&mut self)
-        ensures { kept_values self.new ≡ None }
-    {
-        self.there = false;
     }
 }

@@ -195,13 +195,8 @@ impl<'n> WatchedNames<'n> {
     pub fn unknown(&self) -> UnknownName
         ensures { IfSome self.now.unknown (λ name. result ≡ name) }
     {
-        match self.unknown {
-            Some(name) => name,
-            None => UnknownName {
-                start: 0,
-                length: 0,
-            },
-        }
+        let (start, length) = (0, 0);
+        self.unknown.unwrap_or(UnknownName { start, length })
     }
 
     /// Whether the name of that number means something in the first program or in the next one.

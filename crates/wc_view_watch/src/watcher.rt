@@ -95,7 +95,7 @@ fn is_written(
         return Ok(true);
     }
     let Some(machine) = machine else {
-        values.forget();
+        values.there = false;
         return Ok(true);
     };
     Ok(values.keep(names, machine)?)

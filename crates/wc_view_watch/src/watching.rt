@@ -70,9 +70,8 @@ pub fn watch_files<P: ByteIn, T: ByteIn, N: ByteIn, L: ByteIn, W: ByteOut>(
     ensures named { IfOk result (λ ending. ¬ (IsAt Input.Names ending)) }
     ensures taken { TakesInputs inputs.old inputs.new }
 {
-    let mut watcher = match Watcher::new(alloc, choice) {
-        Ok(watcher) => watcher,
-        Err(_) => return Ok(Ending::NoMemory),
+    let Ok(mut watcher) = Watcher::new(alloc, choice) else {
+        return Ok(Ending::NoMemory);
     };
     let ending = run_files(alloc, &mut watcher, inputs, writer, reported);
     if is_at_names(&ending) {
