@@ -6,8 +6,8 @@ macro_rules! with_constants {
         $macro!(
             "0.1.0",
             "rattle-kit-13 logic dac8208d650f15bf",
-            "24a004b73f18eb4df85ec3c3a7301333c6ff8db84e420eb5ea90a2ea11395ccc",
-            "607ec56ffd75e50d739dc40276a7762128ed284d5c641ae688cd2b9fd851c19d"
+            "09453a878a592f615355a46c0a740ae72d921703c4b2640e76e26f99b2b3714a",
+            "0e604e53c07d78eabccac83a86307e01ee8133f41de9d6cd7c893c67f33d4aa3"
         )
     };
 }
