@@ -1,7 +1,7 @@
 use Rattle.wc_laws_grammar.specs.Moves.{AtLine}
 use Rattle.wc_text_short_lines.proofs.ShortLines.{then_on}
 use Rattle.wc_text_bodies.specs.BodyViews.{position_view}
-use Rattle.wc_text_short_lines.proofs.label_lines.take_empty.Goals as goal
+use Rattle.wc_text_short_lines.proofs.body_lines.take_empty.Goals as goal
 
 pub returns-clause-goes_on : goal.returns-clause-goes_on
 returns-clause-goes_on c = λ units.
