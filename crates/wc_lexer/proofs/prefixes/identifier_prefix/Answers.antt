@@ -1,7 +1,7 @@
 use Rattle.std.proofs.Common.{sym, ◌∙◌, ◌&&◌, ◌≡◌, Bool, false, true, refl}
 use Rattle.wc_lexer.proofs.NamePrefixes.{digit_step, letter_step, passed_step, underscore_step}
-use Rattle.wc_lexer.proofs.identifiers.identifier_prefix.Goals as goal
-use Rattle.wc_lexer.proofs.identifiers.identifier_prefix.Goals.{then-not-is_ascii_alphabetic+then-first-eq95+then-not-begins_plain, then-not-is_ascii_alphabetic+then-first-eq95+else-not-begins_plain, then-not-is_ascii_alphabetic+else-first-eq95+else-not-is_ascii_digit, else-not-is_ascii_alphabetic}
+use Rattle.wc_lexer.proofs.prefixes.identifier_prefix.Goals as goal
+use Rattle.wc_lexer.proofs.prefixes.identifier_prefix.Goals.{then-not-is_ascii_alphabetic+then-first-eq95+then-not-begins_plain, then-not-is_ascii_alphabetic+then-first-eq95+else-not-begins_plain, then-not-is_ascii_alphabetic+else-first-eq95+else-not-is_ascii_digit, else-not-is_ascii_alphabetic}
 
 -- nothing is single after a loose underscore
 none : (single : Bool) → false ≡ (single && false)
