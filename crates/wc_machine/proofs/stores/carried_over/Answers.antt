@@ -2,8 +2,8 @@
 use Rattle.std.proofs.Common.{◌≡◌, ◌+◌, ◌<◌, List, Option, length, option_map, refl, sym, ap, ◌∙◌, subst, arith, rules, to_z, of_z, w64}
 use Rattle.std.proofs.lemmas.List.{length-map}
 use Rattle.wc_machine.proofs.Carrying.{AreCarriedTo, carried_within, first_stays, moment_carried, none_carried, one_carried}
-use Rattle.wc_machine.proofs.carry.carried_over.Goals as goal
-use Rattle.wc_machine.proofs.carry.carried_over.Goals.{in-Some, in_default}
+use Rattle.wc_machine.proofs.stores.carried_over.Goals as goal
+use Rattle.wc_machine.proofs.stores.carried_over.Goals.{in-Some, in_default}
 use Rattle.wc_execution.specs.Lines.{AreBefore}
 use Rattle.wc_model.specs.Language.Frames.{IsInRange, slot_kind_of, slot_kinds}
 use Rattle.wc_model.specs.Language.Views.{text_view}

@@ -1,6 +1,6 @@
 -- The first numbers so far, and the rest as it was.
 use Rattle.std.proofs.Common.{◌≡◌, ◌++◌, take, drop}
-use Rattle.wc_machine.proofs.first.filled.Given as goal
+use Rattle.wc_machine.proofs.stores.filled.Given as goal
 use Rattle.wc_execution.specs.Lines.{AreBefore}
 
 abbrev pub invariant-loop-at : goal.invariant-loop-at

@@ -3,7 +3,7 @@ use Rattle.std.proofs.Common.{◌≡◌, ◌<◌, length, get_or, pos, sym, ap, 
 use Rattle.std.specs.Prelude.{slice_set}
 use Rattle.wc_execution.proofs.After.{next_over}
 use Rattle.wc_machine.proofs.FirstNumbers.{FirstAt, first_at, first_count, first_fits, first_keeps}
-use Rattle.wc_machine.proofs.first.filled.Goals as goal
+use Rattle.wc_machine.proofs.stores.filled.Goals as goal
 use Rattle.wc_execution.specs.Lines.{AreBefore}
 use Rattle.wc_store.proofs.Ranges.{in_range_has_64_bits}
 use Rattle.wc_store.specs.Slots.{IsInRangeAt}

@@ -1,7 +1,7 @@
 -- The numbers so far, and the first ones after them; no moment is ahead.
 use Rattle.std.proofs.Common.{◌≡◌, ℕ}
 use Rattle.wc_machine.proofs.Carrying.{AreCarriedTo}
-use Rattle.wc_machine.proofs.carry.carried_over.Given as goal
+use Rattle.wc_machine.proofs.stores.carried_over.Given as goal
 use Rattle.wc_execution.specs.Lines.{AreBefore}
 use Rattle.wc_model.specs.Language.Views.{text_view}
 
