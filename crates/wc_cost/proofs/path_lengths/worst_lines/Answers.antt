@@ -9,7 +9,7 @@ use Rattle.wc_model.specs.declared.fault.Fault.TheVariants.{Memory}
 use Rattle.wc_names.proofs.HandedOn.{propagated}
 use Rattle.wc_cost.specs.PathLengths.{ArePathLengths, own_source}
 use Rattle.wc_cost.proofs.WorstLengths.{after_all, executed, passed_over}
-use Rattle.wc_cost.proofs.path.worst_lines.Goals as goal
+use Rattle.wc_cost.proofs.path_lengths.worst_lines.Goals as goal
 
 pub loop-index-preserved-then-left-gt0 : goal.loop-index-preserved-then-left-gt0
 loop-index-preserved-then-left-gt0 c = λ bounds are.

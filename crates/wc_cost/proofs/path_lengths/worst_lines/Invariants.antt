@@ -1,7 +1,7 @@
 use Rattle.std.proofs.Common.{List, ℕ}
 use Rattle.wc_cost.specs.PathLengths.{ArePathLengths}
 use Rattle.wc_cost.proofs.WorstLengths.{Lists}
-use Rattle.wc_cost.proofs.path.worst_lines.Given as goal
+use Rattle.wc_cost.proofs.path_lengths.worst_lines.Given as goal
 
 -- what is listed, with what is left of the path
 abbrev pub invariant-loop-index : goal.invariant-loop-index

@@ -5,7 +5,7 @@ use Rattle.wc_names.proofs.HandedOn.{propagated}
 use Rattle.wc_cost.specs.Costs.{IsCosted}
 use Rattle.wc_cost.proofs.TextUnits.{read_is_spelled}
 use Rattle.wc_cost.proofs.WholeTexts.{lowered_count, last_unit, of_same, refused}
-use Rattle.wc_cost.proofs.costing.cost.Goals as goal
+use Rattle.wc_cost.proofs.units.cost.Goals as goal
 
 pub returns-in_err-units : goal.returns-in_err-units
 returns-in_err-units c =
