@@ -136,19 +136,6 @@ impl Sight {
         }
     }
 
-    /// Keeps a line, unless one is lost already.
-    fn keep(&mut self, line: SeenLine)
-        ensures { Keeps self.old self.new (line ∷ []) }
-    {
-        if self.lost {
-            return;
-        }
-        match self.lines.push(line) {
-            Ok(()) => {}
-            Err(_) => self.lost = true,
-        }
-    }
-
     /// The lines, if none is lost; else `Memory`.
     pub(crate) fn into_lines(self) -> Result<Vec<SeenLine>, Fault>
         ensures lines { IfOk result
@@ -177,13 +164,20 @@ impl LineObserver for Sight {
     ghost shown_more = { keeps_more };
 
     fn show(&mut self, line: &StartedLine, current: i32) {
-        self.keep(SeenLine {
+        if self.lost {
+            return;
+        }
+        let seen = SeenLine {
             depth: line.depth,
             source: line.source,
             line: line.line,
             base: line.base,
             written: line.written,
             result: result_of(line.following, current),
-        });
+        };
+        match self.lines.push(seen) {
+            Ok(()) => {}
+            Err(_) => self.lost = true,
+        }
     }
 }
