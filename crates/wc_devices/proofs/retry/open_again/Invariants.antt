@@ -1,5 +1,5 @@
 use Rattle.std.specs.Prelude.{⊤}
-use Rattle.wc_devices.proofs.retries.open_again.Given as goal
+use Rattle.wc_devices.proofs.retry.open_again.Given as goal
 
 abbrev pub invariant-tries : goal.invariant-tries
 invariant-tries l = ⊤
