@@ -13,9 +13,7 @@ pub struct Source<'a> {
 /// What a program organisation unit is (IEC 61131-3:2003, 2.5).
 #[derive(Clone, Copy, PartialEq, Eq)]
 pub enum UnitKind {
-    /// FUNCTION_BLOCK.
     FunctionBlock,
-    /// PROGRAM.
     Program,
 }
 
@@ -26,11 +24,9 @@ pub struct Unit<'a> {
     pub kind: UnitKind,
     /// The line of its first keyword.
     pub line: u32,
-    /// Its name.
     pub name: Word<'a>,
     /// Its declarations in text order.
     pub declarations: Vec<Decl<'a>, Global>,
-    /// Its lines.
     pub body: Vec<Line<'a>, Global>,
 }
 
@@ -52,7 +48,6 @@ pub struct Decl<'a> {
     pub section: Section,
     /// The names in text order.
     pub names: Vec<Word<'a>, Global>,
-    /// The type.
     pub type_name: Word<'a>,
     /// The value after `:=`.
     pub initial: Option<Initial>,
