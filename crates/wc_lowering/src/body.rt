@@ -11,8 +11,8 @@ ghost use Rattle.wc_verify.specs.Seeing.{IsScope};
 use crate::flat::Flat;
 use crate::inside::put_instr;
 use crate::labels::LabelCounts;
-use std::alloc::Global;
-use wc_model::{Fault, Instr, Line, Word};
+use std::alloc::{AllocError, Global};
+use wc_model::{Fault, Instr, Line, Word, or_memory};
 use wc_names::Tables;
 
 /// The number of the flat lines that are there before a label.
@@ -49,10 +49,7 @@ fn instr_ahead<'a>(labels: &LabelCounts<'a>, instr: &Instr<'a>, count: usize) ->
 fn distance(left: usize, count: usize) -> u32
     ensures { (n : ℕ) → n + left ≡ count → n < 4294967296 → result ≡ n }
 {
-    match u32::try_from(count.saturating_sub(left)) {
-        Ok(distance) => distance,
-        Err(_) => u32::MAX,
-    }
+    u32::try_from(count.saturating_sub(left)).unwrap_or(u32::MAX)
 }
 
 /// Keeps a line's label, if it has one.
@@ -60,10 +57,9 @@ fn keep<'a>(
     labels: &mut LabelCounts<'a>,
     label: Option<Word<'a>>,
     count: usize,
-) -> Result<(), Fault>
-    ensures kept { OnOk result
+) -> Result<(), AllocError>
+    ensures { OnOk result
         (KeepsLabel (option_map word_view label.entry) count labels.old labels.new) }
-    ensures memory { IsOkUnless result Fault.Memory }
 {
     match label {
         Some(word) => labels.set(word.text, count),
@@ -78,12 +74,11 @@ fn put_line<'a>(
     line: &Line<'a>,
     labels: &mut LabelCounts<'a>,
     flat: &mut Flat,
-) -> Result<(), Fault>
-    ensures put { OnOk result
+) -> Result<(), AllocError>
+    ensures { OnOk result
         ((scope : Scope) (rest : Lines) → IsScope tables.now unit scope
         → IsLowerable scope (line_view line.now rest) → IsKeptFlat scope rest labels.old flat.old
         → IsKeptFlat scope (line_view line.now rest) labels.new flat.new) }
-    ensures memory { IsOkUnless result Fault.Memory }
 {
     if let Some(instr) = &line.instr {
         let skip = instr_ahead(labels, instr, flat.len());
@@ -110,7 +105,7 @@ pub fn flat_body<'a>(
         let Some(last) = lines.get(index) else {
             continue;
         };
-        put_line(tables, unit, last, &mut labels, &mut flat)?;
+        or_memory(put_line(tables, unit, last, &mut labels, &mut flat))?;
     }
     Ok(flat)
 }

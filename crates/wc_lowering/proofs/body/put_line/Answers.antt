@@ -10,8 +10,8 @@ use Rattle.wc_verify.proofs.BodyLines.{label_kept as label_instr}
 use Rattle.wc_lowering.proofs.body.put_line.Goals as goal
 use Rattle.wc_lowering.proofs.body.put_line.Goals.{in-Some+in_ok-put_instr, in_default}
 
-pub returns-clause-put : goal.returns-clause-put
-returns-clause-put c = elim c.match-line.branch [
+pub returns : goal.returns
+returns c = elim c.match-line.branch [
   | in-Some+in_ok-put_instr w ↦ on_ok c.keep.result
       (λ keeps scope rest is may kept.
       let label = option_map word_view c.args.line.now.label in
@@ -21,13 +21,13 @@ returns-clause-put c = elim c.match-line.branch [
       let far = w.instr_ahead-skip.ensures rest scope label (subst (HoldsLabels c.args.labels.now rest) (sym w.len.ensures) kept.1) here.0 in
       let keeps_own = subst (λ l. KeepsLabel l (length c.match-line.flat.code) c.args.labels.now c.keep.new.labels) (sym (label_instr w.in-Some.instr label)) (subst (λ n. KeepsLabel label n c.args.labels.now c.keep.new.labels) c.len-2.ensures keeps) in
       subst (λ ls. IsKeptFlat scope ls c.keep.new.labels c.match-line.flat) (sym seen)
-      (line_kept scope rest line c.args.labels.now c.keep.new.labels c.args.flat.now c.match-line.flat (subst (AddsLine scope rest line c.args.flat.now) (sym w.flat-is) (w.in_ok-put_instr.ensures.put scope rest label is far)) keeps_own kept))
-      c.keep.ensures.kept
+      (line_kept scope rest line c.args.labels.now c.keep.new.labels c.args.flat.now c.match-line.flat (subst (AddsLine scope rest line c.args.flat.now) (sym w.flat-is) (w.in_ok-put_instr.ensures scope rest label is far)) keeps_own kept))
+      c.keep.ensures
   | in_default w ↦ on_ok c.keep.result
       (λ keeps scope rest is may kept.
       let label = option_map word_view c.args.line.now.label in
       let keeps_own = subst (λ n. KeepsLabel label n c.args.labels.now c.keep.new.labels) c.len-2.ensures keeps in
       subst (λ ls. IsKeptFlat scope ls c.keep.new.labels c.match-line.flat) (sym (view_none c.args.line.now rest w.in_default.is))
       (label_kept scope rest label c.args.labels.now c.keep.new.labels c.match-line.flat keeps_own (subst (IsKeptFlat scope rest c.args.labels.now) (sym w.flat-is) kept)))
-      c.keep.ensures.kept
+      c.keep.ensures
 ]
