@@ -1,10 +1,10 @@
-ghost use Rattle.std.specs.Prelude.{◌≡◌, ℕ, ◌+◌, ◌<◌, IfOk, OnOk, IsOkUnless, Option, option_map};
+ghost use Rattle.std.specs.Prelude.{◌≡◌, ℕ, ◌+◌, ◌<◌, IfOk, OnOk, IsOkUnless, Option};
 ghost use Rattle.wc_model.specs.Language.Names.{name_of};
 ghost use Rattle.wc_model.specs.Language.Scopes.{Scope};
 ghost use Rattle.wc_model.specs.Language.Tree.{Lines, Word as LabelWord};
-ghost use Rattle.wc_model.specs.Language.Views.{line_view, lines_view, word_view};
+ghost use Rattle.wc_model.specs.Language.Views.{line_view, lines_view};
 ghost use Rattle.wc_lowering.specs.Lowerable.{IsAhead, IsLowerable, IsLineLowerable, IsNear};
-ghost use Rattle.wc_lowering.specs.Lowering.{HoldsLabels, IsFlat, IsKeptFlat, KeepsLabel};
+ghost use Rattle.wc_lowering.specs.Lowering.{HoldsLabels, IsFlat, IsKeptFlat};
 ghost use Rattle.wc_verify.specs.Instructions.{instr_line};
 ghost use Rattle.wc_verify.specs.Seeing.{IsScope};
 
@@ -12,7 +12,7 @@ use crate::flat::Flat;
 use crate::inside::put_instr;
 use crate::labels::LabelCounts;
 use std::alloc::{AllocError, Global};
-use wc_model::{Fault, Instr, Line, Word, or_memory};
+use wc_model::{Fault, Instr, Line, or_memory};
 use wc_names::Tables;
 
 /// The number of the flat lines that are there before a label.
@@ -52,21 +52,6 @@ fn distance(left: usize, count: usize) -> u32
     u32::try_from(count.saturating_sub(left)).unwrap_or(u32::MAX)
 }
 
-/// Keeps a line's label, if it has one.
-fn keep<'a>(
-    labels: &mut LabelCounts<'a>,
-    label: Option<Word<'a>>,
-    count: usize,
-) -> Result<(), AllocError>
-    ensures { OnOk result
-        (KeepsLabel (option_map word_view label.entry) count labels.old labels.new) }
-{
-    match label {
-        Some(word) => labels.set(word.text, count),
-        None => Ok(()),
-    }
-}
-
 /// Puts the flat lines of a line of a body before those that are there, and keeps its label.
 fn put_line<'a>(
     tables: &Tables<'a>,
@@ -84,7 +69,10 @@ fn put_line<'a>(
         let skip = instr_ahead(labels, instr, flat.len());
         put_instr(tables, unit, instr, skip, flat)?;
     }
-    keep(labels, line.label, flat.len())
+    match line.label {
+        Some(word) => labels.set(word.text, flat.len()),
+        None => Ok(()),
+    }
 }
 
 /// The lowered lines of a body.
