@@ -118,10 +118,7 @@ fn parts_of<'n>(alloc: Global, name: &'n [u8]) -> Result<Vec<&'n [u8]>, AllocErr
 fn is_address(name: &[u8]) -> bool
     ensures { result ≡ is_address name.now }
 {
-    match name.first() {
-        Some(byte) => *byte == b'%',
-        None => false,
-    }
+    name.first().is_some_and(|byte| *byte == b'%')
 }
 
 /// What a name means in a program: `fill`, `dose.timer.ET` through instances of blocks, or a directly represented variable as
