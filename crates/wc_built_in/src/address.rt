@@ -55,18 +55,12 @@ fn first_variable(letter: u8, kind: u8, byte: u8) -> u8
     ensures first { result ≡ first_variable letter kind byte }
     ensures small { result < 42 }
 {
-    if letter == b'i' {
-        if kind == b'd' {
-            22
-        } else if kind == b'1' || byte == b'1' {
-            16
-        } else {
-            0
-        }
-    } else if kind == b'd' {
-        41
-    } else {
-        25
+    match (letter == b'i', kind == b'd') {
+        (true, true) => 22,
+        (true, false) if kind == b'1' || byte == b'1' => 16,
+        (true, false) => 0,
+        (false, true) => 41,
+        (false, false) => 25,
     }
 }
 
