@@ -34,7 +34,6 @@ pub enum Code {
         operator: Operator,
         place: Place,
     },
-    /// NOT.
     Not,
     /// The opening line of a deferred operator: the result is put by, and there is none.
     Open,

@@ -20,7 +20,6 @@ pub enum UnitKind {
 /// A program organisation unit (IEC 61131-3:2003, 2.5).
 #[derive(Drop)]
 pub struct Unit<'a> {
-    /// A function block or the program.
     pub kind: UnitKind,
     /// The line of its first keyword.
     pub line: u32,
@@ -44,7 +43,6 @@ pub enum Section {
 /// A declaration: names of one type, with a value that they have at first.
 #[derive(Drop)]
 pub struct Decl<'a> {
-    /// The section in which it is.
     pub section: Section,
     /// The names in text order.
     pub names: Vec<Word<'a>, Global>,

@@ -46,7 +46,6 @@ pub enum Instr<'a> {
         /// The line of the `)`.
         close: u32,
     },
-    /// NOT.
     Not {
         line: u32,
     },
