@@ -7,7 +7,7 @@ use Rattle.wc_text_variables.proofs.variables.variable_named.Goals as goal
 use Rattle.wc_text_variables.specs.Numbered.{variable_at_location}
 use Rattle.wc_text_variables.specs.Names.{is_hidden}
 
--- what was promised of a value that is handed on
+-- what was promised of a value that is propagated
 handed_on : {X E F : Type 0} (P : X → Type 0) (fault : F) (made : Result X E) (given : Result X F) (x : X) → MatchResult made (λ value. given ≡ Ok value) (λ error. given ≡ Err fault) → given ≡ Ok x → IfOk made P → P x
 handed_on {X} {E} {F} P fault (Ok value) given x same is h = subst (λ (r : Result X F). IfOk r P) is (rw same h)
 handed_on {X} {E} {F} P fault (Err error) given x same is h = subst (λ (r : Result X F). IfOk r P) is (rw same tt)
