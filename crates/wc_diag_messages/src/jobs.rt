@@ -2,7 +2,7 @@ ghost use Rattle.std.specs.Prelude.{◌≡◌, ◌≤◌, ◌+◌, IfNone, IfSom
 ghost use Rattle.wc_diag_messages.specs.Above.{IsBelow, line_ends, text_of};
 ghost use Rattle.wc_model.specs.Run.JobSections.{sections_of};
 
-use wc_job::sections;
+use wc_job::{Input, sections};
 
 /// A section of a job.
 #[derive(Clone, Copy)]
