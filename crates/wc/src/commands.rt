@@ -119,6 +119,10 @@ fn refuse_name(
     files: &Sources<'_>,
     row: &RefusedRow,
 ) -> u8 {
+    let program: &[u8] = match files.text(Input::Program) {
+        Some(section) => section.text,
+        None => b"",
+    };
     let ending = Ending::Refused {
         input: Input::Names,
         number: 401,
@@ -182,7 +186,7 @@ fn observe(
 {
     let (alloc, format) = (session.rt.alloc(), trace_format(session.format));
     let mut writer = Device::new(SharedWriter::new(session.gathered));
-    Ok(match observed {
+    let ending = match observed {
         Observed::Watched(choice) => return watch_files(alloc, choice, inputs, &mut writer, row),
         Observed::Drawn(names) => {
             return show_files(alloc, bytes_of(names), inputs, &mut writer, row);
@@ -192,7 +196,8 @@ fn observe(
         }
         Observed::Scans(Some(last)) => last_files(alloc, last, inputs, &mut writer, row),
         Observed::Scans(None) => report_files(alloc, inputs, &mut writer, row),
-    })
+    };
+    Ok(ending)
 }
 
 /// Runs the log in a file, with a program and a next one if they are given, and writes what is observed of it: the exit status.

@@ -225,15 +225,19 @@ fn execute(session: Session<'_>, row: &mut RefusedRow, wanted: Wanted<'_>) -> u8
             watch,
             changes,
         } => {
-            let observed = match watch {
-                Some(names) => Observed::Watched(WatchChoice {
-                    names: names.as_bytes(),
-                    last,
-                    changes,
-                }),
-                None => Observed::Scans(last),
-            };
-            observe_log(session, row, RunPaths::with_program(plate, files), observed)
+            let paths = RunPaths::with_program(plate, files);
+            match watch {
+                Some(names) => {
+                    let names = names.as_bytes();
+                    let choice = WatchChoice {
+                        names,
+                        last,
+                        changes,
+                    };
+                    observe_log(session, row, paths, Observed::Watched(choice))
+                }
+                None => observe_log(session, row, paths, Observed::Scans(last)),
+            }
         }
         Wanted::Trace {
             plate,

@@ -1,4 +1,4 @@
-ghost use Rattle.std.specs.Prelude.{◌≡◌, ◌≤◌, ◌<◌, ◌++◌, ◌∷◌, [], ℕ, List, IfOk, IsOkUnless, OnOk, flat_map, map};
+ghost use Rattle.std.specs.Prelude.{◌≡◌, ◌≤◌, ◌<◌, ◌++◌, ◌∷◌, [], ℕ, List, IfOk, IsOkUnless, OnOk, flat_map, map, replicate};
 ghost use Rattle.wc_model.specs.Instrument.WeighingHistories.{last_items};
 ghost use Rattle.wc_view_watch.specs.Ring.{HoldsLast};
 
@@ -22,6 +22,19 @@ impl Model for LastTexts {
     ghost view = { λ ring. record { texts = map (λ text. text.items) ring.texts.items; first = ring.first } };
 }
 
+/// N empty texts, each with a buffer of that many bytes. `Memory` is the only fault.
+fn empty_texts(alloc: Global, number: u16, length: usize) -> Result<Vec<Vec<u8>>, Fault>
+    ensures empty { IfOk result (λ all. map (λ text. text.items) all.items ≡ replicate number []) }
+    ensures memory { IsOkUnless result Fault.Memory }
+{
+    let mut texts = Vec::new(alloc);
+    for _index in 0..number {
+        let text = Vec::with_capacity(alloc, length).map_err(|_| Fault::Memory)?;
+        texts.push(text).map_err(|_| Fault::Memory)?;
+    }
+    Ok(texts)
+}
+
 /// Appends texts to another one. `Memory` is the only fault.
 fn put_texts(out: &mut Vec<u8>, texts: &[Vec<u8>]) -> Result<(), Fault>
     ensures texts { OnOk result (out.new.items
@@ -41,11 +54,7 @@ impl LastTexts {
         ensures empty { IfOk result (λ ring. HoldsLast ring number []) }
         ensures memory { IsOkUnless result Fault.Memory }
     {
-        let mut texts = Vec::new(alloc);
-        for _index in 0..number {
-            let text = Vec::with_capacity(alloc, length).map_err(|_| Fault::Memory)?;
-            texts.push(text).map_err(|_| Fault::Memory)?;
-        }
+        let texts = empty_texts(alloc, number, length)?;
         Ok(LastTexts { texts, first: 0 })
     }
 

@@ -106,6 +106,29 @@ impl<'n> WatchedNames<'n> {
         }
     }
 
+    /// Looks for the names of a list in the first program and in the next one. `Memory` is the only fault.
+    fn look(
+        alloc: Global,
+        list: &'n [u8],
+        first: &Loaded<'_>,
+        next: Option<&Loaded<'_>>,
+    ) -> Result<WatchedNames<'n>, Fault>
+        ensures looked_up { IfOk result (λ names. AreLookedUp names list.now
+            (text_view first.now.source)
+            (text_of_next (option_map (λ loaded. loaded.now) next.entry))) }
+        ensures memory { IsOkUnless result Fault.Memory }
+    {
+        let names = names_of(alloc, list)?;
+        let watched = all_watched(alloc, first, &names)?;
+        let next = all_watched_next(alloc, next, &names)?;
+        Ok(WatchedNames {
+            names,
+            watched,
+            next,
+            unknown: None,
+        })
+    }
+
     /// Looks for the names of a list, and for the first of them that no program has. `Memory` is the only fault.
     fn look_up(
         &mut self,
@@ -122,9 +145,7 @@ impl<'n> WatchedNames<'n> {
             (text_of_next (option_map (λ loaded. loaded.now) next.entry)))) self.new.unknown) }
         ensures memory { IsOkUnless result Fault.Memory }
     {
-        self.names = names_of(alloc, list)?;
-        self.watched = all_watched(alloc, first, &self.names)?;
-        self.next = all_watched_next(alloc, next, &self.names)?;
+        *self = WatchedNames::look(alloc, list, first, next)?;
         self.unknown = self.find_unknown(list);
         Ok(())
     }
@@ -232,8 +253,11 @@ impl<'n> WatchedNames<'n> {
             → result ≡ get_or (numbers_in list text store) index None }
     {
         match self.watched.get(index) {
-            Some(Some(watched)) => machine.number(watched.place),
-            _ => None,
+            Some(watched) => match watched {
+                Some(watched) => machine.number(watched.place),
+                None => None,
+            },
+            None => None,
         }
     }
 
@@ -267,9 +291,13 @@ impl<'n> WatchedNames<'n> {
         ensures memory { IsOkUnless result Fault.Memory }
     {
         for index in 0..self.names.len() {
-            if let (Some(name), Some(watched)) = (self.names.get(index), self.watched.get(index)) {
-                put_named(line, machine, name, watched)?;
-            }
+            let Some(name) = self.names.get(index) else {
+                continue;
+            };
+            let Some(watched) = self.watched.get(index) else {
+                continue;
+            };
+            put_named(line, machine, name, watched)?;
         }
         Ok(())
     }
