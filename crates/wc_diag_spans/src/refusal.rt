@@ -1,19 +1,5 @@
+use wc_job::Input;
 use wc_record::RefusedRow;
-
-/// An input of the program, or a section of a job.
-#[derive(Clone, Copy, PartialEq, Eq)]
-pub enum Part {
-    /// A job, whose sections are the others.
-    Job,
-    /// The plate.
-    Plate,
-    /// The program's text.
-    Program,
-    /// The text of the program that takes its place.
-    Next,
-    /// The log.
-    Log,
-}
 
 /// What is available of what is refused.
 #[derive(Clone, Copy)]
@@ -45,7 +31,7 @@ pub struct Refusal<'a> {
     /// The line or the row, counted from 1 in its part; 0 if none is named.
     pub place: u32,
     /// What is refused.
-    pub part: Part,
+    pub part: Input,
     /// What it is called: the path of a file, or `standard input`.
     pub name: &'a [u8],
     /// Whether it is a section of a job.

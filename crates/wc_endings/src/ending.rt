@@ -1,11 +1,20 @@
 ghost use Rattle.std.specs.Prelude.{◌≡◌, ℕ};
 ghost use Rattle.wc_endings.specs.Endings.{EndsAfter, EndsRefused, ReportsFailures, ReportsWriteFaults, ending_of, raised, status_of};
 
-use crate::input::{Input, Stopped};
 use std::alloc::Global;
+use wc_job::Input;
 use wc_model::{ByteOut, write_whole};
 use wc_report::refused_line;
 use wc_run::RunFault;
+
+/// Why a command stopped, and the input that was being read or answered then.
+#[derive(Clone, Copy, PartialEq, Eq)]
+pub struct Stopped {
+    /// The input.
+    pub input: Input,
+    /// The fault.
+    pub fault: RunFault,
+}
 
 /// How a command ended.
 #[derive(Clone, Copy, PartialEq, Eq)]

@@ -3,10 +3,12 @@
 
 mod cutting;
 mod headings;
+mod input;
 mod lines;
 mod parts;
 mod reading;
 
 pub use cutting::sections;
+pub use input::Input;
 pub use parts::Sections;
 pub use reading::{ReadFault, read_whole};

@@ -68,16 +68,6 @@ fn is_watched(watched: &[Option<NamedVariable>], index: usize) -> bool
     matches!(watched.get(index), Some(Some(_)))
 }
 
-/// What was loaded of a program, if there is one.
-fn loaded<'l, 't>(program: Option<Program<'l, 't>>) -> Option<&'l Loaded<'t>>
-    ensures { option_map (λ loaded. loaded.now) result ≡ loaded_of program.entry }
-{
-    match program {
-        Some(program) => Some(program.loaded),
-        None => None,
-    }
-}
-
 /// What the names mean in the next program, if there is one.
 fn all_watched_next(
     alloc: Global,
@@ -181,7 +171,7 @@ impl<'n> WatchedNames<'n> {
         let Some(first) = first else {
             return Ok(());
         };
-        self.look_up(alloc, list, first.loaded, loaded(next))?;
+        self.look_up(alloc, list, first.loaded, next.map(|next| next.loaded))?;
         match self.unknown {
             Some(_) => Err(RunFault::Refused {
                 number: 401,
@@ -206,13 +196,11 @@ impl<'n> WatchedNames<'n> {
             || is_some (option_and_then (λ all. option_and_then (λ found. found)
             (slice_get all.items index)) self.now.next)) }
     {
-        if is_watched(&self.watched, index) {
-            return true;
-        }
-        match &self.next {
-            Some(next) => is_watched(next, index),
-            None => false,
-        }
+        is_watched(&self.watched, index)
+            || self
+                .next
+                .as_ref()
+                .is_some_and(|next| is_watched(next, index))
     }
 
     /// The first name that no program has, if there is one.

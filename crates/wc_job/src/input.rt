@@ -1,5 +1,3 @@
-use wc_run::RunFault;
-
 /// What a command reads, in the order in which it is read.
 #[derive(Clone, Copy, PartialEq, Eq)]
 pub enum Input {
@@ -15,13 +13,4 @@ pub enum Input {
     Log,
     /// Names of variables that are to be observed: no file, but a word of the command.
     Names,
-}
-
-/// Why a command stopped, and the input that was being read or answered then.
-#[derive(Clone, Copy, PartialEq, Eq)]
-pub struct Stopped {
-    /// The input.
-    pub input: Input,
-    /// The fault.
-    pub fault: RunFault,
 }
