@@ -2,8 +2,6 @@
 #![tactic(auto)]
 
 mod cutting;
-mod headings;
-mod lines;
 mod parts;
 mod reading;
 
