@@ -46,10 +46,7 @@ fn read_chunk<R: ByteIn>(input: &mut R, start: u64, buffer: &mut [u8]) -> Result
 fn write_text<W: ByteOut>(output: &mut W, text: &[u8]) -> Result<(), DecodeFault>
     ensures text { WritesText (W.bytes_taken output.old) (W.bytes_taken output.new) result
         text.now }
-    ensures steady { IfOk result (λ done. W.failure_count output.new ≡ W.failure_count output.old) }
-    ensures fault { IfErr result (λ fault. fault ≡ DecodeFault.Write) }
-    ensures cause { IfErr result
-        (λ fault. HasFailedSince (W.failure_count output.old) (W.failure_count output.new)) }
+    ensures faults { WritesOnly result (W.failure_count output.old) (W.failure_count output.new) }
 {
     match write_whole(output, text) {
         Ok(()) => Ok(()),
