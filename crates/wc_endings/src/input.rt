@@ -5,13 +5,10 @@ use wc_run::RunFault;
 pub enum Input {
     /// A job, of which the others are sections.
     Job,
-    /// The plate.
     Plate,
-    /// The program's text.
     Program,
     /// The text of the next program.
     Next,
-    /// The log.
     Log,
     /// Names of variables that are to be observed: no file, but a word of the command.
     Names,
@@ -20,8 +17,6 @@ pub enum Input {
 /// Why a command stopped, and the input that was being read or answered then.
 #[derive(Clone, Copy, PartialEq, Eq)]
 pub struct Stopped {
-    /// The input.
     pub input: Input,
-    /// The fault.
     pub fault: RunFault,
 }
