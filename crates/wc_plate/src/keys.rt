@@ -100,9 +100,6 @@ pub(crate) fn written_in(table: &Table) -> Result<Written<'_>, BrokenRule<'_>>
             key,
             missing: missing_key(table),
         }),
-        None => match each_key(table) {
-            Ok(written) => Ok(written),
-            Err(rule) => Err(rule),
-        },
+        None => Ok(each_key(table)?),
     }
 }

@@ -95,11 +95,8 @@ fn count(max: i64, e: u32) -> Option<u32>
         (λ n. (max ≡ pos (n * e)) × (int_div max (pos e) ≡ pos n) × (n ≤ 10000)) }
 {
     let (e, n) = (e as i64, max / e as i64);
-    if max % e <= 0 && n >= 500 && n <= 10000 {
-        Some(n as u32)
-    } else {
-        None
-    }
+    let is_count = max % e <= 0 && n >= 500 && n <= 10000;
+    is_count.then_some(u32::try_from(n).ok()?)
 }
 
 /// The plate of what is written, or the first rule that it breaks.
