@@ -36,10 +36,7 @@ fn read_chunk<R: ByteIn>(input: &mut R, start: u64, buffer: &mut [u8]) -> Result
     if is_exhausted(start, input.spent()) {
         return Err(DecodeFault::Read);
     }
-    match input.read(buffer) {
-        Ok(count) => Ok(count),
-        Err(_) => Err(DecodeFault::Read),
-    }
+    input.read(buffer).map_err(|_| DecodeFault::Read)
 }
 
 /// Writes a text.
@@ -48,10 +45,7 @@ fn write_text<W: ByteOut>(output: &mut W, text: &[u8]) -> Result<(), DecodeFault
         text.now }
     ensures faults { WritesOnly result (W.failure_count output.old) (W.failure_count output.new) }
 {
-    match write_whole(output, text) {
-        Ok(()) => Ok(()),
-        Err(_) => Err(DecodeFault::Write),
-    }
+    write_whole(output, text).map_err(|_| DecodeFault::Write)
 }
 
 /// Decodes a chunk of a report, and writes what is said of it.
