@@ -23,7 +23,6 @@ pub enum Ending {
     Done,
     /// An input breaks a rule: the line of the refusal was written last.
     Refused {
-        /// The input that breaks it.
         input: Input,
         /// The rule's number, by the list of refusals.
         number: u16,
@@ -32,12 +31,10 @@ pub enum Ending {
     },
     /// An input's reader failed, or as much of the log was read as may be.
     ReadFault {
-        /// The input.
         input: Input,
     },
     /// The writer failed, or took nothing.
     WriteFault,
-    /// Memory was refused.
     NoMemory,
 }
 
@@ -46,12 +43,11 @@ impl Ending {
     pub fn of(answer: Result<(), Stopped>) -> Ending
         ensures { result ≡ ending_of answer }
     {
-        let stopped = match answer {
+        let Stopped { input, fault } = match answer {
             Ok(()) => return Ending::Done,
             Err(stopped) => stopped,
         };
-        let input = stopped.input;
-        match stopped.fault {
+        match fault {
             RunFault::Refused { number, place } => Ending::Refused {
                 input,
                 number,
@@ -71,8 +67,7 @@ impl Ending {
         match self {
             Ending::Done => 0,
             Ending::Refused { .. } => 1,
-            Ending::ReadFault { .. } => 3,
-            Ending::WriteFault => 3,
+            Ending::ReadFault { .. } | Ending::WriteFault => 3,
             Ending::NoMemory => 4,
         }
     }
@@ -114,12 +109,11 @@ pub fn end<W: ByteOut>(alloc: Global, answer: Result<(), Stopped>, writer: &mut 
         → ReportsWriteFaults (raised answer) before (W.failure_count writer.old)
         → ReportsFailures result before (W.failure_count writer.new) }
 {
-    let stopped = match answer {
+    let Stopped { input, fault } = match answer {
         Ok(()) => return Ending::Done,
         Err(stopped) => stopped,
     };
-    let input = stopped.input;
-    match stopped.fault {
+    match fault {
         RunFault::Refused { number, place } => end_refused(alloc, input, number, place, writer),
         RunFault::Read => Ending::ReadFault { input },
         RunFault::Write => Ending::WriteFault,

@@ -4,9 +4,7 @@
 
 mod ending;
 mod unit_lines;
-mod unit_report;
 
 pub use ending::{Ending, Stopped, end};
-pub use unit_lines::text_of_units;
-pub use unit_report::write_units;
+pub use unit_lines::{text_of_units, write_units};
 pub use wc_job::Input;

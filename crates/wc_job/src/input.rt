@@ -3,13 +3,10 @@
 pub enum Input {
     /// A job, of which the others are sections.
     Job,
-    /// The plate.
     Plate,
-    /// The program's text.
     Program,
     /// The text of the next program.
     Next,
-    /// The log.
     Log,
     /// Names of variables that are to be observed: no file, but a word of the command.
     Names,

@@ -2,9 +2,7 @@
 #![tactic(auto)]
 
 mod cutting;
-mod headings;
 mod input;
-mod lines;
 mod parts;
 mod reading;
 

@@ -1,6 +1,6 @@
 use Rattle.std.proofs.Common.{◌≡◌, ◌++◌, take}
 use Rattle.wc_view_decode.specs.Formats.{passed_on}
-use Rattle.wc_view_decode.proofs.unknown_lines.put_passed_on.Given as goal
+use Rattle.wc_view_decode.proofs.decoder.put_passed_on.Given as goal
 
 -- the bytes so far are written
 abbrev pub invariant-loop-byte : goal.invariant-loop-byte

@@ -6,7 +6,7 @@ use Rattle.std.specs.Slice.{IsGetRangeResult}
 use Rattle.std.proofs.lemmas.List.{take_all}
 use Rattle.std.proofs.Math.Seq.{take-append_seam, drop-append_seam}
 use Rattle.wc_view_decode.proofs.Digits.{field_in_prefix}
-use Rattle.wc_view_decode.proofs.fields.cut_field.Goals as goal
+use Rattle.wc_view_decode.proofs.lines.cut_field.Goals as goal
 
 -- what follows the byte that ends a field
 after_end : (text : Bor (List ℕ)) (end : ℕ) (more : List ℕ) (got : Option (Bor (List ℕ))) → text.now ≡ end ∷ more → IsGetRangeResult text.now 1 (length text.now) got → (unwrap_or got text).now ≡ more

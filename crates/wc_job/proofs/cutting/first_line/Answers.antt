@@ -1,6 +1,6 @@
 use Rattle.std.proofs.Common.{ap, ◌∙◌, drop, take}
 use Rattle.wc_job.proofs.FirstLines.{begins_with_line}
-use Rattle.wc_job.proofs.lines.first_line.Goals as goal
+use Rattle.wc_job.proofs.cutting.first_line.Goals as goal
 
 pub returns-clause-line : goal.returns-clause-line
 returns-clause-line c =

@@ -1,6 +1,6 @@
 use Rattle.std.proofs.Common.{◌≡◌, ◌*◌, ◌++◌, take, drop}
 use Rattle.wc_model.specs.Run.Hex.{hex_of_bytes}
-use Rattle.wc_report.proofs.digits.write_digits.Given as goal
+use Rattle.wc_report.proofs.numbers.write_digits.Given as goal
 
 -- the digits of the bytes so far, and then those of the bytes that are left
 abbrev pub invariant-loop-index : goal.invariant-loop-index
