@@ -68,8 +68,8 @@ impl<'a, 't> LogicalLine<'a, 't> {
 
     /// Its tokens after its last semicolon.
     pub(crate) fn after_semicolon(&self) -> &'t [Token<'a>] {
-        let mut pieces = self.all.rsplit(|token| token.shape == Shape::Semicolon);
-        pieces.next().unwrap_or(&[])
+        let mut slices = self.all.rsplit(|token| token.shape == Shape::Semicolon);
+        slices.next().unwrap_or(&[])
     }
 
     /// The meaning of its first word after its label.

@@ -12,7 +12,6 @@ pub enum Evidence<'a> {
     Row(&'a RefusedRow),
     /// A list of names on one line, of which no program has the one that is there.
     Names {
-        /// The list.
         list: &'a [u8],
         /// The first byte of the name, counted from 0.
         start: usize,

@@ -17,9 +17,7 @@ pub(crate) enum Deed<'a> {
     Call(&'a [u8]),
     /// The call's list gives the instance this input.
     Give {
-        /// The instance.
         instance: &'a [u8],
-        /// The input.
         input: &'a [u8],
     },
     /// JMP, JMPC, JMPCN.

@@ -10,9 +10,7 @@ use wc_run::RunFault;
 /// Why a command stopped, and the input that was being read or answered then.
 #[derive(Clone, Copy, PartialEq, Eq)]
 pub struct Stopped {
-    /// The input.
     pub input: Input,
-    /// The fault.
     pub fault: RunFault,
 }
 

@@ -33,7 +33,6 @@ struct ParsedPart {
     below: u64,
     /// Its whole number.
     whole: u64,
-    /// It has a point.
     has_point: bool,
     /// How long it is, in billionths of a millisecond.
     billionths: u64,

@@ -49,7 +49,6 @@ pub struct Events {
     /// The steps of the longest scan.
     pub steps: u32,
     pub requests: u32,
-    /// The last request.
     pub last: Option<Request>,
 }
 

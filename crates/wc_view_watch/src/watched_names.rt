@@ -106,29 +106,6 @@ impl<'n> WatchedNames<'n> {
         }
     }
 
-    /// Looks for the names of a list in the first program and in the next one. `Memory` is the only fault.
-    fn look(
-        alloc: Global,
-        list: &'n [u8],
-        first: &Loaded<'_>,
-        next: Option<&Loaded<'_>>,
-    ) -> Result<WatchedNames<'n>, Fault>
-        ensures looked_up { IfOk result (λ names. AreLookedUp names list.now
-            (text_view first.now.source)
-            (text_of_next (option_map (λ loaded. loaded.now) next.entry))) }
-        ensures memory { IsOkUnless result Fault.Memory }
-    {
-        let names = names_of(alloc, list)?;
-        let watched = all_watched(alloc, first, &names)?;
-        let next = all_watched_next(alloc, next, &names)?;
-        Ok(WatchedNames {
-            names,
-            watched,
-            next,
-            unknown: None,
-        })
-    }
-
     /// Looks for the names of a list, and for the first of them that no program has. `Memory` is the only fault.
     fn look_up(
         &mut self,
@@ -145,7 +122,9 @@ impl<'n> WatchedNames<'n> {
             (text_of_next (option_map (λ loaded. loaded.now) next.entry)))) self.new.unknown) }
         ensures memory { IsOkUnless result Fault.Memory }
     {
-        *self = WatchedNames::look(alloc, list, first, next)?;
+        self.names = names_of(alloc, list)?;
+        self.watched = all_watched(alloc, first, &self.names)?;
+        self.next = all_watched_next(alloc, next, &self.names)?;
         self.unknown = self.find_unknown(list);
         Ok(())
     }
