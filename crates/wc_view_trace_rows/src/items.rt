@@ -107,9 +107,11 @@ impl Items {
         ensures levels { IfOk result (λ items. levels_view items.levels ≡ []) }
         ensures memory { IsOkUnless result Fault.Memory }
     {
-        let calls = LastCalls::find(alloc, legend.places(), lines)?;
+        let calls = LastCalls::find(alloc, legend.kinds.len(), lines)?;
         Ok(Items {
-            levels: Levels::new(alloc),
+            levels: Levels {
+                levels: Vec::new(alloc),
+            },
             calls,
         })
     }

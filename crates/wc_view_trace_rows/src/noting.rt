@@ -21,20 +21,14 @@ impl Notes {
         let start = self.names.len();
         put_name(&mut self.names, name, field)?;
         // The lines of a text ascend, so this is the line.
-        let line = match self.notes.last() {
-            Some(last) => line.max(last.line),
-            None => line,
-        };
+        let line = self.notes.last().map_or(line, |last| line.max(last.line));
         let note = Note {
             line,
             kind,
             start,
             end: self.names.len(),
         };
-        match self.notes.push(note) {
-            Ok(()) => Ok(()),
-            Err(_) => Err(Fault::Memory),
-        }
+        self.notes.push(note).map_err(|_| Fault::Memory)
     }
 }
 

@@ -21,26 +21,15 @@ pub struct BlockOutput {
 pub fn outputs_of(block: StandardBlock) -> (BlockOutput, Option<BlockOutput>)
     ensures { output_view result.0 ∷ map output_view (option_to_list result.1) ≡ outputs_of block }
 {
-    let bit = |number, name| BlockOutput {
-        number,
-        name,
-        kind: Kind::Bool,
-    };
-    let time = BlockOutput {
-        number: 3,
-        name: "ET",
-        kind: Kind::Time,
-    };
-    let count = BlockOutput {
-        number: 4,
-        name: "CV",
-        kind: Kind::Dint,
-    };
+    let output = |number, name, kind| BlockOutput { number, name, kind };
+    let bit = Kind::Bool;
     match block {
-        StandardBlock::RTrig => (bit(1, "Q"), None),
-        StandardBlock::Sr | StandardBlock::Rs => (bit(2, "Q1"), None),
-        StandardBlock::Ctu => (bit(3, "Q"), Some(count)),
-        StandardBlock::Ton | StandardBlock::Tof | StandardBlock::Tp => (bit(2, "Q"), Some(time)),
+        StandardBlock::RTrig => (output(1, "Q", bit), None),
+        StandardBlock::Sr | StandardBlock::Rs => (output(2, "Q1", bit), None),
+        StandardBlock::Ctu => (output(3, "Q", bit), Some(output(4, "CV", Kind::Dint))),
+        StandardBlock::Ton | StandardBlock::Tof | StandardBlock::Tp => {
+            (output(2, "Q", bit), Some(output(3, "ET", Kind::Time)))
+        }
     }
 }
 
