@@ -2,11 +2,11 @@ ghost use Rattle.std.specs.Prelude.{◌≡◌, ◌<◌, ◌+◌, [], ℕ, List, 
 ghost use Rattle.wc_view_trace_rows.specs.Items.{AreLastCalls, block_of, is_call_at};
 ghost use Rattle.wc_view_trace_rows.specs.Levels.{levels_after, levels_view};
 ghost use Rattle.wc_view_trace_rows.specs.Rows.{outputs_of};
-ghost use Rattle.wc_view_trace_rows.specs.Scans.{AreShown, HasOutputs, IsItem, is_last_call};
+ghost use Rattle.wc_view_trace_rows.specs.Scans.{AreShown, IsItem, is_last_call};
 
 use crate::item::Item;
 use crate::legend::Legend;
-use crate::levels::{Levels, Said};
+use crate::levels::Levels;
 use crate::outputs::{number_in, outputs_of};
 use std::alloc::Global;
 use wc_machine::{Machine, SeenLine};
@@ -116,36 +116,6 @@ impl Items {
         })
     }
 
-    /// An item of which that is said.
-    fn item(
-        &self,
-        machine: &Machine<'_, SlotStore>,
-        number: usize,
-        seen: &SeenLine,
-        said: Said,
-    ) -> Item
-        ensures seen { result.seen ≡ seen.now }
-        ensures said { result.said ≡ said }
-        ensures outputs { (places : ℕ) (lines : List SeenLine)
-            → AreLastCalls self.now.calls.items.items places lines
-            → HasOutputs places machine.now lines number (block_of seen.now) result }
-    {
-        let mut item = Item {
-            seen: *seen,
-            said,
-            is_last_call: false,
-            first: None,
-            second: None,
-        };
-        if let Some((block, place)) = block_of(seen) {
-            item.is_last_call = self.calls.is_last(number, place);
-            let (first, second) = numbers_of(machine, block, place, item.is_last_call);
-            item.first = first;
-            item.second = second;
-        }
-        item
-    }
-
     /// The next item, which has that number among those of the scan, from 1. `Memory` is the only
     /// fault.
     pub fn next(
@@ -166,7 +136,19 @@ impl Items {
         ensures calls { self.new.calls ≡ self.old.calls }
         ensures memory { IsOkUnless result Fault.Memory }
     {
-        let said = self.levels.follow(alloc, legend, seen)?;
-        Ok(self.item(machine, number, seen, said))
+        let mut item = Item {
+            seen: *seen,
+            said: self.levels.follow(alloc, legend, seen)?,
+            is_last_call: false,
+            first: None,
+            second: None,
+        };
+        if let Some((block, place)) = block_of(seen) {
+            item.is_last_call = self.calls.is_last(number, place);
+            let (first, second) = numbers_of(machine, block, place, item.is_last_call);
+            item.first = first;
+            item.second = second;
+        }
+        Ok(item)
     }
 }

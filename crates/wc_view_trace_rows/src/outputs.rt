@@ -1,12 +1,10 @@
 ghost use Rattle.std.specs.Prelude.{◌≡◌, ◌∷◌, option_to_list, map};
 ghost use Rattle.wc_view_trace_rows.specs.Items.{IsNumberAt};
-ghost use Rattle.wc_view_changes.specs.Shapes.{Puts};
-ghost use Rattle.wc_view_trace_rows.specs.Rows.{literal, output_view, outputs_of, value_held};
+ghost use Rattle.wc_view_trace_rows.specs.Rows.{output_view, outputs_of, value_held};
 
 use wc_machine::Machine;
-use wc_model::{Fault, Kind, Place, StandardBlock, Value};
+use wc_model::{Kind, Place, StandardBlock, Value};
 use wc_store::SlotStore;
-use wc_view_changes::put_value;
 
 /// An output of a standard block: its place among those of an instance, counted from 0, its name in capital letters, as the
 /// standard has it, and its kind.
@@ -52,11 +50,4 @@ pub fn value_of(kind: Option<Kind>, number: i32) -> Value
         Some(Kind::Time) => Value::Time(number),
         Some(Kind::Dint) | None => Value::Dint(number),
     }
-}
-
-/// Puts a number as a literal of its kind, or in digits if the kind is not known.
-pub(crate) fn put_literal(text: &mut Vec<u8>, kind: Option<Kind>, number: i32) -> Result<(), Fault>
-    ensures { Puts text.old text.new result (literal kind number) }
-{
-    put_value(text, value_of(kind, number))
 }
