@@ -2,7 +2,7 @@ ghost use Rattle.std.specs.Prelude.{◌≡◌, ◌<◌, ◌+◌, [], ℕ, List, 
 ghost use Rattle.wc_view_trace_rows.specs.Items.{AreLastCalls, block_of, is_call_at};
 ghost use Rattle.wc_view_trace_rows.specs.Levels.{levels_after, levels_view};
 ghost use Rattle.wc_view_trace_rows.specs.Rows.{outputs_of};
-ghost use Rattle.wc_view_trace_rows.specs.Scans.{AreShown, IsItem, is_last_call};
+ghost use Rattle.wc_view_trace_rows.specs.Scans.{AreShown, IsItem};
 
 use crate::item::Item;
 use crate::legend::Legend;
@@ -59,15 +59,6 @@ impl LastCalls {
             mark(&mut items, seen, index + 1);
         }
         Ok(LastCalls { items })
-    }
-
-    /// Whether the item of that number, from 1, made the last call of the block that starts there.
-    fn is_last(&self, number: usize, place: usize) -> bool
-        ensures { (places : ℕ) (lines : List SeenLine)
-            → AreLastCalls self.now.items.items places lines
-            → result ≡ is_last_call places lines number place }
-    {
-        self.items.get(place).is_some_and(|item| *item == number)
     }
 }
 
@@ -144,7 +135,8 @@ impl Items {
             second: None,
         };
         if let Some((block, place)) = block_of(seen) {
-            item.is_last_call = self.calls.is_last(number, place);
+            let last = self.calls.items.get(place);
+            item.is_last_call = last.is_some_and(|last| *last == number);
             let (first, second) = numbers_of(machine, block, place, item.is_last_call);
             item.first = first;
             item.second = second;
