@@ -9,7 +9,7 @@ use Rattle.wc_diag_warnings.specs.Seen.{event_view, events_view, warnings_view}
 use Rattle.wc_diag_warnings.specs.Warnings.{caution, outputs_in}
 use Rattle.wc_diag_warnings.specs.declared.events.Deed.TheVariants.{Begin}
 use Rattle.wc_diag_warnings.specs.declared.events.Event.{Event}
-use Rattle.wc_diag_warnings.proofs.body.warn_events.Goals as goal
+use Rattle.wc_diag_warnings.proofs.body.warn_body.Goals as goal
 
 abbrev no_event : Event
 no_event = record { line = 0; deed = Begin }
@@ -20,7 +20,7 @@ loop-event-init c =
     record {
       asked = c.is_asked-asked.ensures ∙ asked_in c.args.events.now ∙ sym (or-false (list_any reads_valid events));
       above = refl;
-      followed = c.requires;
+      followed = c.at_start-ahead.ensures;
       found = refl;
     }
 
@@ -39,7 +39,7 @@ loop-event-preserved c =
     let more_is : more ≡ e ∷ before = one_more_before items i no_event c.loop-event-test.true in
     let left_is : events_view (drop i items) ≡ e ∷ rest = ap events_view (drop_more items i no_event c.loop-event-test.true) in
     record {
-      asked = asked_step events before more e c.loop-event.asked c.reads_weight.result c.is_asked_now-asked.result more_is so_far.asked c.reads_weight.ensures c.is_asked_now-asked.ensures;
+      asked = asked_step events before more e c.loop-event.asked c.reads_weight.result _ more_is so_far.asked c.reads_weight.ensures refl;
       above = above_step before more e c.begins.result c.paths_to-paths.result.started c.loop-event.above c.is_above-above.result more_is c.begins.ensures (from Start) so_far.above c.is_above-above.ensures;
       followed = subst (λ es. IsFollowed es c.follow.new.ahead) (sym more_is) (c.in_ok-follow.ensures.followed before so_far.followed from);
       found = found_step numbers events before more (events_view (drop i items)) rest e c.number_of.result (warnings_view c.loop-event.warnings.items) (warnings_view c.warn.new.warnings.items) _
