@@ -5,7 +5,7 @@ use Rattle.wc_diag_warnings.specs.Addresses.{reads_valid, reads_weight}
 use Rattle.wc_diag_warnings.specs.Paths.{IsFollowed}
 use Rattle.wc_diag_warnings.specs.Seen.{events_view, warnings_view}
 use Rattle.wc_diag_warnings.specs.Warnings.{body_cautions, event_cautions, is_above_reached, outputs_in}
-use Rattle.wc_diag_warnings.proofs.body.warn_events.Given as goal
+use Rattle.wc_diag_warnings.proofs.body.warn_body.Given as goal
 
 -- the events before are looked at: with those of the others these are all warnings
 abbrev pub invariant-loop-event : goal.invariant-loop-event

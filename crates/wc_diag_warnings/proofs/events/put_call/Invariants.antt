@@ -4,7 +4,7 @@ use Rattle.wc_model.specs.Language.Names.{name_of}
 use Rattle.wc_model.specs.Language.Views.{assignment_view}
 use Rattle.wc_diag_warnings.specs.Events.{argument_events}
 use Rattle.wc_diag_warnings.specs.Seen.{events_view}
-use Rattle.wc_diag_warnings.proofs.events.put_arguments.Given as goal
+use Rattle.wc_diag_warnings.proofs.events.put_call.Given as goal
 
 -- with the items that are left it is the whole list
 abbrev pub invariant-loop-argument : goal.invariant-loop-argument

@@ -1,5 +1,5 @@
 use Rattle.wc_diag_places.proofs.Breaking.{NoneBroken}
-use Rattle.wc_diag_places.proofs.arguments.first_broken_among.Given as goal
+use Rattle.wc_diag_places.proofs.arguments.first_broken_argument.Given as goal
 
 -- none of those so far breaks a rule
 abbrev pub invariant-loop-number : goal.invariant-loop-number

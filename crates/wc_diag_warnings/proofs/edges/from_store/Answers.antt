@@ -4,7 +4,7 @@ use Rattle.std.proofs.lemmas.Nat.{one_shl}
 use Rattle.std.specs.Int.{bit_at}
 use Rattle.wc_diag_warnings.proofs.Sources.{bit_of_both, bit_of_one}
 use Rattle.wc_diag_warnings.specs.Paths.{Start, Store}
-use Rattle.wc_diag_warnings.proofs.paths.from_store.Goals as goal
+use Rattle.wc_diag_warnings.proofs.edges.from_store.Goals as goal
 
 pub returns : goal.returns
 returns c Start = sym (or-false c.args.paths.started)

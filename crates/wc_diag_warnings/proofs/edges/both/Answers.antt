@@ -1,7 +1,7 @@
 use Rattle.std.proofs.Common.{refl}
 use Rattle.wc_diag_warnings.proofs.Sources.{bit_of_both}
 use Rattle.wc_diag_warnings.specs.Paths.{Start, Store}
-use Rattle.wc_diag_warnings.proofs.paths.both.Goals as goal
+use Rattle.wc_diag_warnings.proofs.edges.both.Goals as goal
 
 pub returns : goal.returns
 returns c Start = refl
