@@ -78,11 +78,11 @@ pub(crate) fn run_job(session: Session<'_>, row: &mut RefusedRow) -> u8
 }
 
 /// Checks the program in a file, and the one to which it is to be changed, and says what a change keeps: the exit status.
-pub(crate) fn check_programs(
-    session: Session<'_>,
+pub(crate) fn check_programs<'a>(
+    session: Session<'a>,
     row: &mut RefusedRow,
-    program: &str,
-    next: Option<&str>,
+    program: &'a str,
+    next: Option<&'a str>,
     paths: bool,
     deny: bool,
 ) -> u8
