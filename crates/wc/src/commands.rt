@@ -77,29 +77,35 @@ pub(crate) fn run_job(session: Session<'_>, row: &mut RefusedRow) -> u8
     finish(session, ending, reading, &Sources::Job { bytes }, row)
 }
 
+/// The paths of a program that is checked, and of the one to which it is to be changed, if there is one.
+#[derive(Clone, Copy)]
+pub(crate) struct CheckedPaths<'a> {
+    pub(crate) program: &'a str,
+    pub(crate) next: Option<&'a str>,
+}
+
 /// Checks the program in a file, and the one to which it is to be changed, and says what a change keeps: the exit status.
-pub(crate) fn check_programs<'a>(
-    session: Session<'a>,
+pub(crate) fn check_programs(
+    session: Session<'_>,
     row: &mut RefusedRow,
-    program: &'a str,
-    next: Option<&'a str>,
+    files: CheckedPaths<'_>,
     paths: bool,
     deny: bool,
 ) -> u8
     requires asked { Asks session
-        (check program.now (option_map (λ next. next.now) next) paths deny) }
+        (check files.program.now (option_map (λ next. next.now) files.next) paths deny) }
 {
     let alloc = session.rt.alloc();
-    let mut reader = kept_source(session, program);
-    let mut next_reader = optional_source(session, next);
+    let mut reader = kept_source(session, files.program);
+    let mut next_reader = optional_source(session, files.next);
     let mut writer = Device::new(SharedWriter::new(session.gathered));
     let ending = match &mut next_reader {
         Some(next) => preview_files(alloc, paths, &mut reader, next, &mut writer),
         None => check_file(alloc, paths, &mut reader, &mut writer),
     };
     let reading = kept_cause(&reader).or(optional_cause(&next_reader));
-    let program = read_of(program, &reader);
-    let next = optional_read(next, &next_reader);
+    let program = read_of(files.program, &reader);
+    let next = optional_read(files.next, &next_reader);
     let sources = Sources::Files {
         plate: None,
         program: Some(program),

@@ -15,7 +15,9 @@ mod session;
 
 use clap::Error;
 use clap::error::ErrorKind;
-use commands::{Observed, check_programs, cut_log, decode_lines, observe_log, run_job};
+use commands::{
+    CheckedPaths, Observed, check_programs, cut_log, decode_lines, observe_log, run_job,
+};
 use files::RunPaths;
 use output::shared_output;
 use reporting::{report_write_fault, without_memory};
@@ -208,7 +210,7 @@ fn execute(session: Session<'_>, row: &mut RefusedRow, wanted: Wanted<'_>) -> u8
             next,
             paths,
             deny,
-        } => check_programs(session, row, program, next, paths, deny),
+        } => check_programs(session, row, CheckedPaths { program, next }, paths, deny),
         Wanted::Run {
             last: Some(number),
             ..
