@@ -16,7 +16,6 @@ use wc_arguments::ScanChoice;
 use wc_controller::{Ending, Input, RefusedRow, answer_job, check_file, last_files, report_files};
 use wc_cut::{TooManyRows, cut_files};
 use wc_devices::{KeepingReader, Retry};
-use wc_diag_messages::Evidence;
 use wc_diag_texts::Format;
 use wc_model::Device;
 use wc_view_decode::{DecodeFault, DecodeFormat, decode as decode_report};
@@ -106,12 +105,7 @@ pub(crate) fn check_programs(
     let reading = kept_cause(&reader).or(optional_cause(&next_reader));
     let program = read_of(files.program, &reader);
     let next = optional_read(files.next, &next_reader);
-    let sources = Sources::Files {
-        plate: None,
-        program: Some(program),
-        next,
-        log: None,
-    };
+    let sources = Sources::Program { program, next };
     let status = finish(session, ending, reading, &sources, row);
     let status = with_notes(session, status, &sources);
     with_warnings(session, status, &next.unwrap_or(program), deny)
@@ -134,15 +128,12 @@ fn refuse_name(
         number: 401,
         place: 0,
     };
-    let names = Evidence::Names {
+    let names = Sources::Names {
         list,
-        start: unknown.start,
-        length: unknown.length,
-        program: files
-            .text(Input::Program)
-            .map_or(b"", |section| section.text),
+        unknown,
+        program,
     };
-    finish(session, ending, None, &Sources::Names(names), row)
+    finish(session, ending, None, &names, row)
 }
 
 /// The scans that the arguments choose.

@@ -7,6 +7,7 @@ use wc_diag_further::{Found, Further, LineFault};
 use wc_diag_messages::{
     Evidence, JobSection, Refusal, Severity, explained, left_out_message, section_of, shown,
 };
+use wc_view_watch::UnknownName;
 
 /// A file by its path, with the bytes that were read of it.
 #[derive(Clone, Copy)]
@@ -22,6 +23,10 @@ pub(crate) enum Sources<'a> {
     Job {
         bytes: &'a [u8],
     },
+    Program {
+        program: ReadFile<'a>,
+        next: Option<ReadFile<'a>>,
+    },
     Files {
         plate: Option<ReadFile<'a>>,
         program: Option<ReadFile<'a>>,
@@ -29,13 +34,21 @@ pub(crate) enum Sources<'a> {
         log: Option<ReadFile<'a>>,
     },
     /// The list of names after `--watch`, of which one is unknown.
-    Names(Evidence<'a>),
+    Names {
+        list: &'a [u8],
+        unknown: UnknownName,
+        program: &'a [u8],
+    },
 }
 
 impl<'a> Sources<'a> {
     /// The file of an input, if it comes from one.
     fn file(&self, input: Input) -> Option<ReadFile<'a>> {
         match self {
+            Sources::Program { program, next } => match input {
+                Input::Next => *next,
+                _ => Some(*program),
+            },
             Sources::Files {
                 plate,
                 program,
@@ -54,7 +67,7 @@ impl<'a> Sources<'a> {
     /// The path of an input if it comes from a file, or the option that it comes from.
     fn path(&self, input: Input) -> Option<&'a str> {
         match self {
-            Sources::Names(_) => Some("--watch"),
+            Sources::Names { .. } => Some("--watch"),
             _ => Some(self.file(input)?.path),
         }
     }
@@ -86,8 +99,19 @@ fn evidence_of<'a>(
     row: &'a RefusedRow,
     input: Input,
 ) -> (Evidence<'a>, u32) {
-    if let Sources::Names(names) = sources {
-        return (*names, 0);
+    if let Sources::Names {
+        list,
+        unknown,
+        program,
+    } = sources
+    {
+        let names = Evidence::Names {
+            list,
+            start: unknown.start,
+            length: unknown.length,
+            program,
+        };
+        return (names, 0);
     }
     let Some(section) = sources.text(input) else {
         return (Evidence::Nothing, 0);
@@ -182,11 +206,7 @@ fn report_further(session: Session<'_>, refusal: &Refusal<'_>, text: &[u8]) -> i
 /// standard error fails, less is listed.
 fn list_further(session: Session<'_>, sources: &Sources<'_>, refusal: &Refusal<'_>) {
     let is_listed = match sources {
-        Sources::Files {
-            plate: None,
-            next: None,
-            ..
-        } => refusal.number < 500,
+        Sources::Program { next: None, .. } => refusal.number < 500,
         _ => matches!(refusal.number, 502..=508),
     };
     if let (true, Evidence::Text(text)) = (is_listed, refusal.evidence) {
