@@ -334,6 +334,9 @@ def may_follow(text, found, parts, number, line):
         ends = [part.first for part in parts if part.where == "head" and part.first > line]
         return text.was(line, min(ends, default=MOST_BYTES), LABEL)
     missing = {gap.what for gap in text.gaps}
+    if number in (404, 405) and any(part.where == "edge" and text.was(part.first, part.last, SLICE) for part in parts):
+        # the section may be another one
+        return True
     return number in (401, 409) and bool(missing & {NAMES, SLICE}) or number in (404, 405, 409) and SECTION in missing
 
 

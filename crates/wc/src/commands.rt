@@ -6,9 +6,9 @@ use crate::files::{
     RunFiles, RunInputFiles, RunPaths, cause_of, kept_cause, kept_source, optional_cause,
     optional_read, optional_source, read_of,
 };
-use crate::noting::with_notes;
+use crate::noting::{with_notes, with_warnings};
 use crate::output::{FlushBeforeRead, SharedWriter};
-use crate::reporting::{CommandEnd, ReadFile, Sources, end, report_warnings, without_memory};
+use crate::reporting::{Sources, report};
 use crate::session::Session;
 use std::io;
 use std::io::{IsTerminal, Stdin};
@@ -23,7 +23,7 @@ use wc_view_picture::show_files;
 use wc_view_trace::{Chosen, TraceFormat, trace_files};
 use wc_view_watch::{UnknownName, WatchChoice, preview_files, watch_files};
 
-/// Writes what is still gathered, and returns how the command ended: the exit status.
+/// Writes what is still gathered, and tells how the command ended: the exit status.
 fn finish(
     session: Session<'_>,
     ending: Ending,
@@ -35,37 +35,20 @@ fn finish(
         Ok(mut gathered) => (gathered.empty().is_ok(), gathered.get_ref().cause()),
         Err(_) => (false, None),
     };
-    let outcome = CommandEnd {
-        ending: if written { ending } else { Ending::WriteFault },
-        reading,
-        writing,
+    let is_lacking = reading.is_some_and(|error| error.kind() == io::ErrorKind::OutOfMemory);
+    let ending = match ending {
+        _ if !written => Ending::WriteFault,
+        Ending::ReadFault { .. } if is_lacking => Ending::NoMemory,
+        ending => ending,
     };
-    end(session, &outcome, sources, row)
+    // If standard error fails there is nobody left to report to.
+    let _reported = report(session, ending, (reading, writing), sources, row);
+    ending.status()
 }
 
 /// Tells how a run of these files ended: the exit status.
 fn finish_run(session: Session<'_>, ending: Ending, files: &RunFiles<'_>, row: &RefusedRow) -> u8 {
     finish(session, ending, files.cause(), &files.sources(), row)
-}
-
-/// The paths of a program that is checked, and of the one to which it is to be changed, if there is one.
-#[derive(Clone, Copy)]
-pub(crate) struct CheckedPaths<'a> {
-    pub(crate) program: &'a str,
-    pub(crate) next: Option<&'a str>,
-}
-
-/// Prints what is suspicious of a program that is accepted: the exit status, that of a refusal if there is one, or if there is a
-/// warning and warnings are denied.
-fn with_warnings(session: Session<'_>, status: u8, file: &ReadFile<'_>, deny: bool) -> u8 {
-    if status != 0 {
-        return status;
-    }
-    match report_warnings(session, file) {
-        Ok(warned) if warned && deny => 1,
-        Ok(_) => 0,
-        Err(_) => without_memory(session.rt),
-    }
 }
 
 /// Says that a job is expected, if somebody types it.
@@ -91,6 +74,13 @@ pub(crate) fn run_job(session: Session<'_>, row: &mut RefusedRow) -> u8
     let reading = cause_of(keeping, keeping.get_ref().cause());
     let bytes = keeping.bytes_read();
     finish(session, ending, reading, &Sources::Job { bytes }, row)
+}
+
+/// The paths of a program that is checked, and of the one to which it is to be changed, if there is one.
+#[derive(Clone, Copy)]
+pub(crate) struct CheckedPaths<'a> {
+    pub(crate) program: &'a str,
+    pub(crate) next: Option<&'a str>,
 }
 
 /// Checks the program in a file, and the one to which it is to be changed, and says what a change keeps: the exit status.
@@ -139,7 +129,6 @@ fn refuse_name(
         place: 0,
     };
     let names = Sources::Names {
-        option: "--watch",
         list,
         unknown,
         program,
@@ -202,10 +191,8 @@ fn observe(
         Observed::Traced(chosen) => {
             trace_files(alloc, scans_of(chosen), format, inputs, &mut writer, row)
         }
-        Observed::Scans(last) => match last {
-            Some(last) => last_files(alloc, last, inputs, &mut writer, row),
-            None => report_files(alloc, inputs, &mut writer, row),
-        },
+        Observed::Scans(Some(last)) => last_files(alloc, last, inputs, &mut writer, row),
+        Observed::Scans(None) => report_files(alloc, inputs, &mut writer, row),
     };
     Ok(ending)
 }
@@ -240,11 +227,9 @@ pub(crate) fn observe_log(
 fn ending_of(answer: Result<(), DecodeFault>) -> Ending {
     match answer {
         Ok(()) => Ending::Done,
-        Err(fault) => match fault {
-            DecodeFault::Read => Ending::ReadFault { input: Input::Job },
-            DecodeFault::Write => Ending::WriteFault,
-            DecodeFault::Memory => Ending::NoMemory,
-        },
+        Err(DecodeFault::Read) => Ending::ReadFault { input: Input::Job },
+        Err(DecodeFault::Write) => Ending::WriteFault,
+        Err(DecodeFault::Memory) => Ending::NoMemory,
     }
 }
 
@@ -262,33 +247,13 @@ pub(crate) fn decode_lines(session: Session<'_>, row: &mut RefusedRow, table: bo
     };
     let answer = decode_report(session.rt.alloc(), &mut reader, &mut writer, decoding);
     let reading = reader.get_ref().get_ref().cause();
-    finish(
-        session,
-        ending_of(answer),
-        reading,
-        &Sources::Job { bytes: b"" },
-        row,
-    )
+    let sources = Sources::Job { bytes: b"" };
+    finish(session, ending_of(answer), reading, &sources, row)
 }
 
-/// The number of rows before the cut, the heading not counted: those up to the row of that number, or all.
-fn rows_before(at: Option<u64>) -> u64 {
-    match at {
-        Some(row) => row.saturating_sub(1),
-        None => u64::MAX,
-    }
-}
-
-/// Says that the log that was written will be refused, since it has more rows than a log may have: the exit status.
-fn with_too_many_rows(rt: &HostRuntime, status: u8) -> u8 {
-    if status != 0 {
-        return status;
-    }
-    let _reported = rt.eprintln(
-        "error: the log that was written has more than 1000000 rows (607)\nhelp: cut it after a later row: a prelude can have 52 rows",
-    );
-    1
-}
+/// What is said of a log that was written, and will be refused.
+const TOO_MANY_ROWS: &str =
+    "error: the log that was written has more than 1000000 rows (607)\nhelp: cut it after a later row: a prelude can have 52 rows";
 
 /// Writes the log that goes on after a row of the log in a file, or after the last one: the exit status.
 pub(crate) fn cut_log<'a>(
@@ -301,18 +266,21 @@ pub(crate) fn cut_log<'a>(
     requires asked { Asks session (cut plate.now log.now at) }
 {
     let mut opened = RunFiles::new(session, RunPaths::alone(plate, log));
+    let mut writer = Device::new(SharedWriter::new(session.gathered));
+    // the heading is no row: before the cut are the rows up to that one, or all
+    let before = at.map_or(u64::MAX, |row| row.saturating_sub(1));
     let answer = cut_files(
         session.rt.alloc(),
-        rows_before(at),
+        before,
         &mut opened.inputs,
-        &mut Device::new(SharedWriter::new(session.gathered)),
+        &mut writer,
         row,
     );
-    match answer {
-        Ok(ending) => finish_run(session, ending, &opened, row),
-        Err(TooManyRows) => {
-            let status = finish_run(session, Ending::Done, &opened, row);
-            with_too_many_rows(session.rt, status)
-        }
+    let is_too_long = matches!(answer, Err(TooManyRows));
+    let status = finish_run(session, answer.unwrap_or(Ending::Done), &opened, row);
+    if status == 0 && is_too_long {
+        let _reported = session.rt.eprintln(TOO_MANY_ROWS);
+        return 1;
     }
+    status
 }

@@ -143,10 +143,13 @@ impl<'a> RunFiles<'a> {
     /// The files by their paths, with the bytes that were read of them.
     pub(crate) fn sources(&self) -> Sources<'_> {
         Sources::Files {
-            plate: read_of(self.paths.plate, &self.inputs.plate),
+            plate: Some(read_of(self.paths.plate, &self.inputs.plate)),
             program: optional_read(self.paths.program, &self.inputs.program),
             next: optional_read(self.paths.next, &self.inputs.next),
-            log: self.paths.log,
+            log: Some(ReadFile {
+                path: self.paths.log,
+                bytes: b"",
+            }),
         }
     }
 }

@@ -52,6 +52,12 @@ fn end_without_words(rt: &HostRuntime, error: &io::Error) -> u8 {
     WRONG_WORDS
 }
 
+/// Writes text on standard error, without the control characters that it may have.
+fn write_shown(rt: &HostRuntime, text: &str) -> io::Result<()> {
+    let text = shown(rt.alloc(), text.as_bytes())?;
+    rt.stderr().write_all(text.as_bytes())
+}
+
 /// Says how the program is called with a word before a path, by the name by which it was called.
 fn report_call(
     rt: &HostRuntime,
@@ -60,44 +66,28 @@ fn report_call(
     word: &str,
     path: &str,
 ) -> io::Result<()> {
-    let called = match words.first() {
-        Some(called) => called.as_str(),
-        None => "wc",
-    };
+    let called = words.first().map_or("wc", |called| called.as_str());
     rt.eprint(what)?;
-    let called = shown(rt.alloc(), called.as_bytes())?;
-    rt.stderr().write_all(called.as_bytes())?;
+    write_shown(rt, called)?;
     rt.eprint(word)?;
-    let path = shown(rt.alloc(), path.as_bytes())?;
-    rt.stderr().write_all(path.as_bytes())?;
+    write_shown(rt, path)?;
     rt.eprintln("")
 }
 
 /// Whether a path leads to something that can be read and is no folder. Nothing is opened: opening a pipe would wait for its writer.
 fn is_readable(rt: &HostRuntime, path: &str) -> bool {
-    match metadata(rt, path) {
-        Ok(found) => !found.is_dir(),
-        Err(_) => false,
-    }
+    metadata(rt, path).is_ok_and(|found| !found.is_dir())
 }
 
 /// Says what may be intended by an unknown first argument: which word takes a program, or how a job is read.
 fn suggest_command(rt: &HostRuntime, words: &[String]) -> io::Result<()> {
     let job = "help: a job is read from standard input: ";
     match words.get(1) {
-        Some(path) if is_readable(rt, path) => {
-            if path.as_str().ends_with(".il") {
-                report_call(
-                    rt,
-                    "help: a program is checked by: ",
-                    words,
-                    " check ",
-                    path,
-                )
-            } else {
-                report_call(rt, job, words, " < ", path)
-            }
+        Some(path) if is_readable(rt, path) && path.as_str().ends_with(".il") => {
+            let check = "help: a program is checked by: ";
+            report_call(rt, check, words, " check ", path)
         }
+        Some(path) if is_readable(rt, path) => report_call(rt, job, words, " < ", path),
         _ => {
             rt.eprintln(
                 "help: the commands are check, run, trace, show, line, cut, decode, explain and help",
@@ -135,8 +125,7 @@ fn report_help(rt: &HostRuntime, kind: ErrorKind, words: &[String]) -> io::Resul
 fn report_error(rt: &HostRuntime, error: &Error) -> io::Result<()> {
     let text = format!(in rt.alloc(); "{error}")?;
     for line in text.as_str().lines() {
-        let line = shown(rt.alloc(), line.as_bytes())?;
-        rt.stderr().write_all(line.as_bytes())?;
+        write_shown(rt, line)?;
         rt.eprintln("")?;
     }
     Ok(())
@@ -172,8 +161,7 @@ fn show(rt: &HostRuntime, error: &Error, words: &[String]) -> u8 {
 
 /// Prints the page of a refusal, or of a warning, whose number follows a W: false if there is none of that number.
 fn explain(rt: &HostRuntime, number: &str) -> io::Result<bool> {
-    let warning = number.strip_prefix("W").or(number.strip_prefix("w"));
-    let page = match warning {
+    let page = match number.strip_prefix("W").or(number.strip_prefix("w")) {
         Some(number) => match number.parse::<u8>() {
             Ok(number) => warning_page(rt.alloc(), number)?,
             Err(_) => None,
@@ -183,18 +171,17 @@ fn explain(rt: &HostRuntime, number: &str) -> io::Result<bool> {
             Err(_) => None,
         },
     };
-    let Some(page) = page else {
-        return Ok(false);
-    };
-    rt.stdout().write_all(page.as_bytes())?;
+    match page {
+        Some(page) => rt.stdout().write_all(page.as_bytes())?,
+        None => return Ok(false),
+    }
     Ok(true)
 }
 
 /// Says that there is no page of that number.
 fn report_no_page(rt: &HostRuntime, number: &str) -> io::Result<()> {
     rt.eprint("error: there is no refusal or warning ")?;
-    let number = shown(rt.alloc(), number.as_bytes())?;
-    rt.stderr().write_all(number.as_bytes())?;
+    write_shown(rt, number)?;
     rt.eprintln("")
 }
 
@@ -225,6 +212,15 @@ fn execute(session: Session<'_>, row: &mut RefusedRow, wanted: Wanted<'_>) -> u8
             deny,
         } => check_programs(session, row, CheckedPaths { program, next }, paths, deny),
         Wanted::Run {
+            last: Some(number),
+            ..
+        } if number < 1 || number > 1000 => WRONG_WORDS,
+        Wanted::Run {
+            watch: None,
+            changes: true,
+            ..
+        } => WRONG_WORDS,
+        Wanted::Run {
             plate,
             files,
             last,
@@ -232,21 +228,17 @@ fn execute(session: Session<'_>, row: &mut RefusedRow, wanted: Wanted<'_>) -> u8
             changes,
         } => {
             let paths = RunPaths::with_program(plate, files);
-            match last {
-                Some(number) if number < 1 || number > 1000 => WRONG_WORDS,
-                last => match watch {
-                    Some(names) => {
-                        let names = names.as_bytes();
-                        let choice = WatchChoice {
-                            names,
-                            last,
-                            changes,
-                        };
-                        observe_log(session, row, paths, Observed::Watched(choice))
-                    }
-                    None if changes => WRONG_WORDS,
-                    None => observe_log(session, row, paths, Observed::Scans(last)),
-                },
+            match watch {
+                Some(names) => {
+                    let names = names.as_bytes();
+                    let choice = WatchChoice {
+                        names,
+                        last,
+                        changes,
+                    };
+                    observe_log(session, row, paths, Observed::Watched(choice))
+                }
+                None => observe_log(session, row, paths, Observed::Scans(last)),
             }
         }
         Wanted::Trace {
@@ -275,12 +267,8 @@ fn execute(session: Session<'_>, row: &mut RefusedRow, wanted: Wanted<'_>) -> u8
         Wanted::Decode { table } => decode_lines(session, row, table),
         Wanted::Explain { number } => show_page(session, number),
         Wanted::Line { plate, log } => {
-            observe_log(
-                session,
-                row,
-                RunPaths::alone(plate, log),
-                Observed::Scans(None),
-            )
+            let paths = RunPaths::alone(plate, log);
+            observe_log(session, row, paths, Observed::Scans(None))
         }
         Wanted::Cut { plate, log, at } => cut_log(session, row, at, plate, log),
     }

@@ -5,22 +5,9 @@ use std::io::Write;
 use wc_controller::{Ending, Input, RefusedRow};
 use wc_diag_further::{Found, Further, LineFault};
 use wc_diag_messages::{
-    Evidence, JobSection, Part, Refusal, Severity, explained, left_out_message, section_of, shown,
-    warning_message,
+    Evidence, JobSection, Refusal, Severity, explained, left_out_message, section_of, shown,
 };
-use wc_diag_warnings::{Warning, find_warnings};
-use wc_lexer::tokens;
-use wc_model::Fault;
-use wc_reader::read;
 use wc_view_watch::UnknownName;
-
-/// How a command ended, and what the system said of a read and of a write that failed.
-#[derive(Clone, Copy)]
-pub(crate) struct CommandEnd {
-    pub(crate) ending: Ending,
-    pub(crate) reading: Option<io::Error>,
-    pub(crate) writing: Option<io::Error>,
-}
 
 /// A file by its path, with the bytes that were read of it.
 #[derive(Clone, Copy)]
@@ -41,14 +28,13 @@ pub(crate) enum Sources<'a> {
         next: Option<ReadFile<'a>>,
     },
     Files {
-        plate: ReadFile<'a>,
+        plate: Option<ReadFile<'a>>,
         program: Option<ReadFile<'a>>,
         next: Option<ReadFile<'a>>,
-        log: &'a str,
+        log: Option<ReadFile<'a>>,
     },
-    /// An option's list of names, of which one is unknown.
+    /// The list of names after `--watch`, of which one is unknown.
     Names {
-        option: &'a str,
         list: &'a [u8],
         unknown: UnknownName,
         program: &'a [u8],
@@ -59,7 +45,6 @@ impl<'a> Sources<'a> {
     /// The file of an input, if it comes from one.
     fn file(&self, input: Input) -> Option<ReadFile<'a>> {
         match self {
-            Sources::Job { .. } => None,
             Sources::Program { program, next } => match input {
                 Input::Next => *next,
                 _ => Some(*program),
@@ -70,35 +55,30 @@ impl<'a> Sources<'a> {
                 next,
                 log,
             } => match input {
-                Input::Plate => Some(*plate),
+                Input::Plate => *plate,
                 Input::Next => *next,
-                Input::Log => Some(ReadFile {
-                    path: log,
-                    bytes: b"",
-                }),
+                Input::Log => *log,
                 _ => *program,
             },
-            Sources::Names { option, list, .. } => Some(ReadFile {
-                path: option,
-                bytes: list,
-            }),
+            _ => None,
         }
     }
 
-    /// The path of an input, if it comes from a file.
+    /// The path of an input if it comes from a file, or the option that it comes from.
     fn path(&self, input: Input) -> Option<&'a str> {
-        Some(self.file(input)?.path)
+        match self {
+            Sources::Names { .. } => Some("--watch"),
+            _ => Some(self.file(input)?.path),
+        }
     }
 
     /// The text of an input, if it has one, and the number of lines above it in what is named.
     pub(crate) fn text(&self, input: Input) -> Option<JobSection<'a>> {
-        match self {
-            Sources::Job { bytes } => section_of(bytes, part_of(input)),
-            _ => Some(JobSection {
-                text: self.file(input)?.bytes,
-                above: 0,
-            }),
+        if let Sources::Job { bytes } = self {
+            return section_of(bytes, input);
         }
+        let text = self.file(input)?.bytes;
+        Some(JobSection { text, above: 0 })
     }
 }
 
@@ -113,43 +93,30 @@ fn section(input: Input) -> &'static str {
     }
 }
 
-/// The part that an input is.
-fn part_of(input: Input) -> Part {
-    match input {
-        Input::Job => Part::Job,
-        Input::Plate => Part::Plate,
-        Input::Program => Part::Program,
-        Input::Next => Part::Next,
-        Input::Log => Part::Log,
-        Input::Names => Part::Program,
-    }
-}
-
 /// What is available of an input that is refused, and the number of lines above it in what is named.
 fn evidence_of<'a>(
     sources: &Sources<'a>,
     row: &'a RefusedRow,
     input: Input,
 ) -> (Evidence<'a>, u32) {
-    let Some(section) = sources.text(input) else {
-        return (Evidence::Nothing, 0);
-    };
     if let Sources::Names {
+        list,
         unknown,
         program,
-        ..
     } = sources
     {
         let names = Evidence::Names {
-            list: section.text,
+            list,
             start: unknown.start,
             length: unknown.length,
             program,
         };
         return (names, 0);
     }
+    let Some(section) = sources.text(input) else {
+        return (Evidence::Nothing, 0);
+    };
     match input {
-        Input::Job => (Evidence::Nothing, 0),
         Input::Log if row.line() == 0 => (Evidence::Nothing, 0),
         Input::Log => (
             Evidence::Row(row),
@@ -171,7 +138,7 @@ fn refusal_of<'a>(
     Refusal {
         number: fault.number,
         place: fault.place,
-        part: part_of(input),
+        part: input,
         name: path.unwrap_or("standard input").as_bytes(),
         in_job: path.is_none(),
         evidence,
@@ -189,11 +156,8 @@ fn further_message(
     let further = Refusal {
         number: fault.number,
         place: fault.place,
-        part: refusal.part,
-        name: &*refusal.name,
-        in_job: refusal.in_job,
-        evidence: Evidence::Text(&*text),
-        above: refusal.above,
+        evidence: Evidence::Text(text),
+        ..*refusal
     };
     explained(session.rt.alloc(), session.format, &further)
 }
@@ -250,63 +214,6 @@ fn list_further(session: Session<'_>, sources: &Sources<'_>, refusal: &Refusal<'
     }
 }
 
-/// The number of warnings of a program that are printed at most.
-const MOST_WARNINGS: usize = 100;
-
-/// Prints the first warnings of a program, and the number of those left out.
-fn write_warnings(
-    session: Session<'_>,
-    file: &ReadFile<'_>,
-    text: &[u8],
-    warnings: &[Warning<'_>],
-) -> io::Result<()> {
-    if warnings.is_empty() {
-        return Ok(());
-    }
-    let alloc = session.rt.alloc();
-    let name = file.path.as_bytes();
-    // An accepted text has tokens.
-    let Ok(tokens) = tokens(alloc, text) else {
-        return Err(AllocError.into());
-    };
-    for warning in warnings.iter().take(MOST_WARNINGS) {
-        let message = warning_message(alloc, session.format, name, text, &tokens, warning)?;
-        session.rt.stderr().write_all(&message)?;
-    }
-    if warnings.len() > MOST_WARNINGS {
-        let left = warnings.len() - MOST_WARNINGS;
-        let message = left_out_message(alloc, session.format, Severity::Warning, name, left)?;
-        session.rt.stderr().write_all(&message)?;
-    }
-    Ok(())
-}
-
-/// Prints what is suspicious of a program that is accepted: whether anything is. The error is out of memory.
-pub(crate) fn report_warnings(session: Session<'_>, file: &ReadFile<'_>) -> io::Result<bool> {
-    let (alloc, text) = (session.rt.alloc(), file.bytes);
-    let source = match read(alloc, text) {
-        Ok(source) => source,
-        Err(Fault::Memory) => return Err(AllocError.into()),
-        Err(Fault::Refused { .. }) => return Ok(false),
-    };
-    let Ok(warnings) = find_warnings(alloc, &source) else {
-        return Err(AllocError.into());
-    };
-    match write_warnings(session, file, text, &warnings) {
-        Err(error) if error.kind() == io::ErrorKind::OutOfMemory => Err(error),
-        // If standard error fails there is nobody left to report to.
-        _ => Ok(!warnings.is_empty()),
-    }
-}
-
-/// The limit of bytes and of reads of an input: a report that is decoded has another than a log.
-fn limit_of(sources: &Sources<'_>) -> &'static str {
-    match sources {
-        Sources::Job { .. } => "2147483648",
-        _ => "134217728",
-    }
-}
-
 /// Says which input could not be read, and why.
 fn report_read_fault(
     rt: &HostRuntime,
@@ -317,20 +224,20 @@ fn report_read_fault(
     let name = sources.path(input).unwrap_or(section(input));
     let name = shown(rt.alloc(), name.as_bytes())?;
     let name = str::from_utf8(name.as_bytes()).unwrap_or("the input");
-    match cause {
-        Some(error) if error.kind() == io::ErrorKind::NotFound => {
-            // no device failed: most often the name is mistyped, so that is said first
-            eprintln!(rt; "error: there is no file {name}")?;
-            return rt.eprintln("device fault");
-        }
-        _ => rt.eprintln("device fault")?,
+    let is_missing = cause.is_some_and(|error| error.kind() == io::ErrorKind::NotFound);
+    if is_missing {
+        // no device failed: most often the name is mistyped, so that is said first
+        eprintln!(rt; "error: there is no file {name}")?;
     }
-    match cause {
-        Some(error) => eprintln!(rt; "error: {name} can't be read: {error}"),
-        None => {
-            let limit = limit_of(sources);
-            eprintln!(rt; "error: {name} exceeds the limit of {limit} bytes and reads")
+    rt.eprintln("device fault")?;
+    match (cause, sources) {
+        _ if is_missing => Ok(()),
+        (Some(error), _) => eprintln!(rt; "error: {name} can't be read: {error}"),
+        // a report that is decoded has another limit than a log
+        (None, Sources::Job { .. }) => {
+            eprintln!(rt; "error: {name} exceeds the limit of 2147483648 bytes and reads")
         }
+        (None, _) => eprintln!(rt; "error: {name} exceeds the limit of 134217728 bytes and reads"),
     }
 }
 
@@ -343,14 +250,15 @@ pub(crate) fn report_write_fault(rt: &HostRuntime, cause: Option<io::Error>) -> 
     }
 }
 
-/// Says on standard error how a command ended, if it did not succeed.
-fn report(
+/// Says on standard error how a command ended, if it did not succeed, and what the system said of a read and of a write that failed.
+pub(crate) fn report(
     session: Session<'_>,
-    outcome: &CommandEnd,
+    ending: Ending,
+    causes: (Option<io::Error>, Option<io::Error>),
     sources: &Sources<'_>,
     row: &RefusedRow,
 ) -> io::Result<()> {
-    match outcome.ending {
+    match ending {
         Ending::Done => Ok(()),
         Ending::Refused {
             input,
@@ -363,13 +271,8 @@ fn report(
             list_further(session, sources, &refusal);
             Ok(())
         }
-        Ending::ReadFault { input } => report_read_fault(
-            session.rt,
-            sources,
-            input,
-            outcome.reading,
-        ),
-        Ending::WriteFault => report_write_fault(session.rt, outcome.writing),
+        Ending::ReadFault { input } => report_read_fault(session.rt, sources, input, causes.0),
+        Ending::WriteFault => report_write_fault(session.rt, causes.1),
         Ending::NoMemory => session.rt.eprintln("memory"),
     }
 }
@@ -378,30 +281,4 @@ fn report(
 pub(crate) fn without_memory(rt: &HostRuntime) -> u8 {
     let _reported = rt.eprintln("memory");
     Ending::NoMemory.status()
-}
-
-/// The ending, if the system's own calls ran out of memory too.
-fn with_memory(outcome: &CommandEnd) -> Ending {
-    match (outcome.ending, outcome.reading) {
-        (Ending::ReadFault { .. }, Some(error)) if error.kind() == io::ErrorKind::OutOfMemory => {
-            Ending::NoMemory
-        }
-        (ending, _) => ending,
-    }
-}
-
-/// Tells how a command ended: the exit status.
-pub(crate) fn end(
-    session: Session<'_>,
-    outcome: &CommandEnd,
-    sources: &Sources<'_>,
-    row: &RefusedRow,
-) -> u8 {
-    let outcome = CommandEnd {
-        ending: with_memory(outcome),
-        ..*outcome
-    };
-    // If standard error fails there is nobody left to report to.
-    let _reported = report(session, &outcome, sources, row);
-    outcome.ending.status()
 }

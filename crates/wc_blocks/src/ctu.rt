@@ -5,7 +5,7 @@ ghost use Rattle.wc_model.specs.Language.Blocks.{ctu_count, ctu_step};
 ghost use Rattle.wc_model.specs.Language.Histories.{CtuCall, FitsCtu};
 
 /// CTU, an up counter (IEC 61131-3:2003, table 36). It counts in DINT, which is the profile's own.
-#[derive(Clone, Copy, PartialEq, Eq)]
+#[derive(Clone, Copy, Default, PartialEq, Eq)]
 pub struct Ctu {
     /// CU, whose rising edges are counted.
     pub cu: bool,
@@ -28,14 +28,7 @@ impl Ctu {
             ≡ record { cu = false; r = false; pv = pos 0; q = false; cv = pos 0; m = false } }
         ensures history { FitsCtu [] (ctu_view result) }
     {
-        Ctu {
-            cu: false,
-            r: false,
-            pv: 0,
-            q: false,
-            cv: 0,
-            m: false,
-        }
+        Ctu::default()
     }
 
     /// The count after a call with these inputs.

@@ -4,7 +4,7 @@ ghost use Rattle.wc_model.specs.Language.Blocks.{r_trig_step};
 ghost use Rattle.wc_model.specs.Language.Histories.{FitsRTrig};
 
 /// R_TRIG, a rising edge detector (IEC 61131-3:2003, table 35).
-#[derive(Clone, Copy, PartialEq, Eq)]
+#[derive(Clone, Copy, Default, PartialEq, Eq)]
 pub struct RTrig {
     /// CLK, the input whose edge is looked for.
     pub clk: bool,
@@ -20,11 +20,7 @@ impl RTrig {
         ensures fields { r_trig_view result ≡ record { clk = false; q = false; m = false } }
         ensures history { FitsRTrig [] (r_trig_view result) }
     {
-        RTrig {
-            clk: false,
-            q: false,
-            m: false,
-        }
+        RTrig::default()
     }
 
     /// One call, with the input as it is set.

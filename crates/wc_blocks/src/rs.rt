@@ -5,7 +5,7 @@ ghost use Rattle.wc_model.specs.Language.Blocks.{rs_step};
 ghost use Rattle.wc_model.specs.Language.Histories.{FitsRs, RsCall};
 
 /// RS, a bistable whose reset is dominant (IEC 61131-3:2003, table 34).
-#[derive(Clone, Copy, PartialEq, Eq)]
+#[derive(Clone, Copy, Default, PartialEq, Eq)]
 pub struct Rs {
     /// S, which sets if R1 is FALSE.
     pub s: bool,
@@ -21,11 +21,7 @@ impl Rs {
         ensures fields { rs_view result ≡ record { s = false; r1 = false; q1 = false } }
         ensures history { FitsRs [] (rs_view result) }
     {
-        Rs {
-            s: false,
-            r1: false,
-            q1: false,
-        }
+        Rs::default()
     }
 
     /// One call, with the inputs as they are set.

@@ -5,7 +5,7 @@ ghost use Rattle.wc_model.specs.Language.Blocks.{sr_step};
 ghost use Rattle.wc_model.specs.Language.Histories.{FitsSr, SrCall};
 
 /// SR, a bistable whose set is dominant (IEC 61131-3:2003, table 34).
-#[derive(Clone, Copy, PartialEq, Eq)]
+#[derive(Clone, Copy, Default, PartialEq, Eq)]
 pub struct Sr {
     /// S1, which sets.
     pub s1: bool,
@@ -21,11 +21,7 @@ impl Sr {
         ensures fields { sr_view result ≡ record { s1 = false; r = false; q1 = false } }
         ensures history { FitsSr [] (sr_view result) }
     {
-        Sr {
-            s1: false,
-            r: false,
-            q1: false,
-        }
+        Sr::default()
     }
 
     /// One call, with the inputs as they are set.

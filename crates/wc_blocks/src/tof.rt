@@ -9,7 +9,7 @@ use wc_model::LAST_MOMENT;
 
 /// TOF, an off-delay timer (IEC 61131-3:2003, table 38). PT is read at each call, and a run starts at the
 /// first call that sees it: the profile's own.
-#[derive(Clone, Copy, PartialEq, Eq)]
+#[derive(Clone, Copy, Default, PartialEq, Eq)]
 pub struct Tof {
     /// IN.
     pub input: bool,
@@ -32,14 +32,7 @@ impl Tof {
             ≡ record { input = false; pt = pos 0; q = false; et = pos 0; phase = 0; start = 0 } }
         ensures history { FitsTof [] (tof_view result) }
     {
-        Tof {
-            input: false,
-            pt: 0,
-            q: false,
-            et: 0,
-            phase: 0,
-            start: 0,
-        }
+        Tof::default()
     }
 
     /// IN is FALSE, since the moment `start`.

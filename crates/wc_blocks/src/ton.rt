@@ -9,7 +9,7 @@ use wc_model::LAST_MOMENT;
 
 /// TON, an on-delay timer (IEC 61131-3:2003, table 38). PT is read at each call, and a run starts at the
 /// first call that sees it: the profile's own.
-#[derive(Clone, Copy, PartialEq, Eq)]
+#[derive(Clone, Copy, Default, PartialEq, Eq)]
 pub struct Ton {
     /// IN.
     pub input: bool,
@@ -32,14 +32,7 @@ impl Ton {
             ≡ record { input = false; pt = pos 0; q = false; et = pos 0; run = false; start = 0 } }
         ensures history { FitsTon [] (ton_view result) }
     {
-        Ton {
-            input: false,
-            pt: 0,
-            q: false,
-            et: 0,
-            run: false,
-            start: 0,
-        }
+        Ton::default()
     }
 
     /// IN is TRUE, since the moment `start`.

@@ -9,7 +9,7 @@ use wc_model::LAST_MOMENT;
 
 /// TP, a pulse timer (IEC 61131-3:2003, table 38). PT is read at each call, and a pulse begins at the first
 /// call that sees IN: the profile's own.
-#[derive(Clone, Copy, PartialEq, Eq)]
+#[derive(Clone, Copy, Default, PartialEq, Eq)]
 pub struct Tp {
     /// IN.
     pub input: bool,
@@ -33,14 +33,7 @@ impl Tp {
             ≡ record { input = false; pt = pos 0; q = false; et = pos 0; phase = 0; start = 0 } }
         ensures history { FitsTp [] (tp_view result) }
     {
-        Tp {
-            input: false,
-            pt: 0,
-            q: false,
-            et: 0,
-            phase: 0,
-            start: 0,
-        }
+        Tp::default()
     }
 
     /// No pulse is on, and the next call with IN TRUE begins one.

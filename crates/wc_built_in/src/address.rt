@@ -23,16 +23,6 @@ fn is_bit(text: &[u8], letter: u8, byte: u8, bit: u8) -> bool
     }
 }
 
-/// Whether a text is `%`, the letter, D and the number.
-fn is_double(text: &[u8], letter: u8, number: u8) -> bool
-    requires { number < 10 }
-    ensures { result
-        ≡ list_any (bytes_eq (name_of text.now))
-        ((37 ∷ to_ascii_lowercase letter ∷ 100 ∷ numeral number) ∷ []) }
-{
-    text.eq_ignore_ascii_case(&[b'%', letter, b'D', b'0' + number])
-}
-
 /// Whether a text is the address of the directly represented variable of that number, in the order of a program's
 /// frame.
 fn is_address(text: &[u8], number: u8) -> bool
@@ -44,11 +34,11 @@ fn is_address(text: &[u8], number: u8) -> bool
     } else if number < 22 {
         is_bit(text, b'I', b'1', number - 16)
     } else if number < 25 {
-        is_double(text, b'I', number - 22)
+        text.eq_ignore_ascii_case(&[b'%', b'I', b'D', b'0' + (number - 22)])
     } else if number < 41 {
         is_bit(text, b'Q', b'0', number - 25)
     } else {
-        is_double(text, b'Q', number - 41)
+        text.eq_ignore_ascii_case(&[b'%', b'Q', b'D', b'0' + (number - 41)])
     }
 }
 
@@ -65,18 +55,12 @@ fn first_variable(letter: u8, kind: u8, byte: u8) -> u8
     ensures first { result ≡ first_variable letter kind byte }
     ensures small { result < 42 }
 {
-    if letter == b'i' {
-        if kind == b'd' {
-            22
-        } else if kind == b'1' || byte == b'1' {
-            16
-        } else {
-            0
-        }
-    } else if kind == b'd' {
-        41
-    } else {
-        25
+    match (letter == b'i', kind == b'd') {
+        (true, true) => 22,
+        (true, false) if kind == b'1' || byte == b'1' => 16,
+        (true, false) => 0,
+        (false, true) => 41,
+        (false, false) => 25,
     }
 }
 

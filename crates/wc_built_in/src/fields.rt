@@ -100,14 +100,10 @@ pub fn field_named(block: StandardBlock, name: &[u8]) -> Option<NumberedField>
         ≡ option_map member_seen (member_named (standard_members block) (name_of name.now)) }
 {
     let fields = standard_fields(block);
-    let Some(number) = field_number(fields, name) else {
-        return None;
-    };
-    match fields.get(number) {
-        Some(field) => Some(NumberedField {
-            number: number as u16,
-            field,
-        }),
-        None => None,
-    }
+    let number = field_number(fields, name)?;
+    let field = fields.get(number)?;
+    Some(NumberedField {
+        number: number as u16,
+        field,
+    })
 }

@@ -9,7 +9,6 @@ pub enum Keyword {
     Store(Storing),
     /// An operator that a parenthesis may defer.
     Apply(Operator),
-    /// NOT.
     Not,
     /// JMP, JMPC, JMPCN.
     Jump(Condition),

@@ -4,8 +4,18 @@ ghost use Rattle.wc_model.specs.Language.Names.{name_of};
 ghost use Rattle.wc_built_in.specs.Keywords.{keyword_row, keywords, longer_than, of_length};
 
 use crate::keyword::Keyword;
-use crate::words::{END_FUNCTION_BLOCK, END_PROGRAM, END_VAR, FALSE, TRUE};
 use wc_model::{Condition, Kind, Operator, Section, StandardBlock, Storing, UnitKind, is_word};
+
+// Reserved words for which others look too, in small letters.
+pub const TRUE: &[u8] = b"true";
+
+pub const FALSE: &[u8] = b"false";
+
+pub const END_VAR: &[u8] = b"end_var";
+
+pub const END_FUNCTION_BLOCK: &[u8] = b"end_function_block";
+
+pub const END_PROGRAM: &[u8] = b"end_program";
 
 /// A reserved word, in small letters, and what it represents.
 pub(crate) struct KeywordRow {

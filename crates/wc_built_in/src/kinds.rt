@@ -9,31 +9,21 @@ use wc_model::{Kind, Operator};
 pub fn is_kind(a: Kind, b: Kind) -> bool
     ensures { result ≡ is_kind a b }
 {
-    matches!(
-        (a, b),
-        (Kind::Bool, Kind::Bool) | (Kind::Dint, Kind::Dint) | (Kind::Time, Kind::Time)
-    )
+    a == b
 }
 
 /// Whether two results are of the same kind, or there is none of either.
 pub fn same_result(a: Option<Kind>, b: Option<Kind>) -> bool
     ensures { result ≡ same_result a b }
 {
-    match (a, b) {
-        (Some(a), Some(b)) => is_kind(a, b),
-        (None, None) => true,
-        _ => false,
-    }
+    b == a
 }
 
 /// Whether there is a kind, and it is BOOL.
 pub fn is_bool(kind: Option<Kind>) -> bool
     ensures { result ≡ is_bool kind }
 {
-    match kind {
-        Some(kind) => is_kind(Kind::Bool, kind),
-        None => false,
-    }
+    kind == Some(Kind::Bool)
 }
 
 /// The kind of the result after an operator, from that before it.

@@ -11,14 +11,12 @@ mod kinds;
 mod meanings;
 mod operands;
 mod operators;
-mod words;
 
 pub use address::variable_at;
 pub use fields::{NumberedField, StandardField, field_named, standard_fields};
 pub use keyword::Keyword;
-pub use keywords::keyword_named;
+pub use keywords::{END_FUNCTION_BLOCK, END_PROGRAM, END_VAR, FALSE, TRUE, keyword_named};
 pub use kinds::{is_bool, is_kind, kind_after_operator, same_result};
 pub use meanings::{elementary_type, is_reserved, is_type_word, standard_block};
 pub use operands::{is_bit_literal, is_divisor};
 pub use operators::{divides, takes, takes_truth};
-pub use words::{END_FUNCTION_BLOCK, END_PROGRAM, END_VAR, FALSE, TRUE};

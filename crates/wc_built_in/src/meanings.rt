@@ -23,10 +23,7 @@ fn elementary_for(keyword: Keyword) -> Option<Kind>
 pub fn elementary_type(text: &[u8]) -> Option<Kind>
     ensures { result ≡ named_in elementary_types (name_of text.now) }
 {
-    match keyword_named(text) {
-        Some(keyword) => elementary_for(keyword),
-        None => None,
-    }
+    elementary_for(keyword_named(text)?)
 }
 
 /// The standard function block that a word represents.
@@ -43,10 +40,7 @@ fn standard_for(keyword: Keyword) -> Option<StandardBlock>
 pub fn standard_block(text: &[u8]) -> Option<StandardBlock>
     ensures { result ≡ named_in standard_blocks (name_of text.now) }
 {
-    match keyword_named(text) {
-        Some(keyword) => standard_for(keyword),
-        None => None,
-    }
+    standard_for(keyword_named(text)?)
 }
 
 /// Whether a word represents a type.
@@ -60,10 +54,7 @@ fn is_type(keyword: Keyword) -> bool
 pub fn is_type_word(text: &[u8]) -> bool
     ensures { result ≡ is_among type_words (name_of text.now) }
 {
-    match keyword_named(text) {
-        Some(keyword) => is_type(keyword),
-        None => false,
-    }
+    keyword_named(text).is_some_and(is_type)
 }
 
 /// Whether it is a reserved word, which names no unit and no variable.

@@ -22,18 +22,12 @@ fn whole_number(operand: &Operand<'_>) -> Option<i32>
 pub fn is_divisor(operand: &Operand<'_>) -> bool
     ensures { result ≡ is_divisor (term_view operand.now) }
 {
-    match whole_number(operand) {
-        Some(number) => number != 0,
-        None => false,
-    }
+    whole_number(operand).is_some_and(|number| number != 0)
 }
 
 /// Whether an operand is a whole number 0 or 1.
 pub fn is_bit_literal(operand: &Operand<'_>) -> bool
     ensures { result ≡ is_bit_literal (term_view operand.now) }
 {
-    match whole_number(operand) {
-        Some(number) => number == 0 || number == 1,
-        None => false,
-    }
+    whole_number(operand).is_some_and(|number| number == 0 || number == 1)
 }

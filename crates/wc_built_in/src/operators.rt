@@ -9,21 +9,17 @@ use wc_model::{Kind, Operator};
 pub(crate) fn compares(operator: Operator) -> bool
     ensures { result ≡ compares operator }
 {
-    match operator {
-        Operator::Gt | Operator::Ge | Operator::Eq | Operator::Ne | Operator::Le | Operator::Lt =>
-            true,
-        _ => false,
-    }
+    matches!(
+        operator,
+        Operator::Gt | Operator::Ge | Operator::Eq | Operator::Ne | Operator::Le | Operator::Lt
+    )
 }
 
 /// Whether an operator divides.
 pub fn divides(operator: Operator) -> bool
     ensures { result ≡ divides operator }
 {
-    match operator {
-        Operator::Div | Operator::Mod => true,
-        _ => false,
-    }
+    matches!(operator, Operator::Div | Operator::Mod)
 }
 
 /// Whether a literal 0 or 1 serves an operator as a BOOL.
@@ -73,8 +69,5 @@ fn takes_number(operator: Operator) -> bool
 fn takes_duration(operator: Operator) -> bool
     ensures { result ≡ takes operator Kind.Time }
 {
-    match operator {
-        Operator::Mul | Operator::Div | Operator::Mod => false,
-        _ => takes_number(operator),
-    }
+    !matches!(operator, Operator::Mul | Operator::Div | Operator::Mod) && takes_number(operator)
 }

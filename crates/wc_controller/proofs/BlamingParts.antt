@@ -6,9 +6,9 @@ use Rattle.wc_endings.specs.Endings.{EndsAfter, EndsAfterFault, EndsRefused, fau
 use Rattle.wc_controller.specs.TakenLogs.{log_alongside}
 use Rattle.wc_endings.specs.declared.ending.Ending.{Ending}
 use Rattle.wc_endings.specs.declared.ending.Ending.TheVariants as ended
-use Rattle.wc_endings.specs.declared.input.Input.{Input}
-use Rattle.wc_endings.specs.declared.input.Input.TheVariants as input
-use Rattle.wc_endings.specs.declared.input.Stopped.{Stopped}
+use Rattle.wc_job.specs.declared.input.Input.{Input}
+use Rattle.wc_job.specs.declared.input.Input.TheVariants as input
+use Rattle.wc_endings.specs.declared.ending.Stopped.{Stopped}
 use Rattle.wc_model.specs.Instrument.PlateTable.{plate_of}
 use Rattle.wc_model.specs.Language.Loading.{IsRefused}
 use Rattle.wc_model.specs.Run.JobSections.{Sections}

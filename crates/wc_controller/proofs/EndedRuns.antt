@@ -12,9 +12,9 @@ use Rattle.wc_controller.specs.Shown.{IsEndedBy}
 use Rattle.wc_controller.specs.TakenLogs.{log_taken}
 use Rattle.wc_endings.specs.declared.ending.Ending.{Ending}
 use Rattle.wc_endings.specs.declared.ending.Ending.TheVariants as ended
-use Rattle.wc_endings.specs.declared.input.Input.{Input}
-use Rattle.wc_endings.specs.declared.input.Input.TheVariants as input
-use Rattle.wc_endings.specs.declared.input.Stopped.{Stopped}
+use Rattle.wc_job.specs.declared.input.Input.{Input}
+use Rattle.wc_job.specs.declared.input.Input.TheVariants as input
+use Rattle.wc_endings.specs.declared.ending.Stopped.{Stopped}
 use Rattle.wc_model.specs.Run.Log.{Record}
 use Rattle.wc_run.specs.declared.fault.RunFault.{RunFault}
 use Rattle.wc_run.specs.declared.fault.RunFault.TheVariants.{Refused, Read, Write, Memory}

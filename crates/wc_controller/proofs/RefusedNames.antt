@@ -6,9 +6,9 @@ use Rattle.wc_controller.specs.InputStates.{Reader}
 use Rattle.wc_controller.specs.TakenLogs.{AreReadOf, IfKnown, IsNextLoadedOf, OfLogic, OfPrograms}
 use Rattle.wc_endings.specs.declared.ending.Ending.{Ending}
 use Rattle.wc_endings.specs.declared.ending.Ending.TheVariants as ended
-use Rattle.wc_endings.specs.declared.input.Input.{Input}
-use Rattle.wc_endings.specs.declared.input.Input.TheVariants as input
-use Rattle.wc_endings.specs.declared.input.Stopped.{Stopped}
+use Rattle.wc_job.specs.declared.input.Input.{Input}
+use Rattle.wc_job.specs.declared.input.Input.TheVariants as input
+use Rattle.wc_endings.specs.declared.ending.Stopped.{Stopped}
 use Rattle.wc_cost.specs.LoadedTexts.{LoadedText}
 use Rattle.wc_model.specs.Language.Loading.{IsLoaded}
 use Rattle.wc_model.specs.Language.Tree.{Text}

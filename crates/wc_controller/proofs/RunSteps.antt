@@ -12,9 +12,9 @@ use Rattle.wc_controller.specs.InputRuns.{OfAnswers, OfAnswersTo, RunsUpTo, Take
 use Rattle.wc_controller.specs.InputStates.{InputStates, Reader, Writer, inputs_of}
 use Rattle.wc_controller.specs.TakenLogs.{AreReadOf, IsLater, failures_of, known_of, log_alone, log_alongside, log_taken}
 use Rattle.wc_endings.specs.declared.ending.Ending.TheVariants as ended
-use Rattle.wc_endings.specs.declared.input.Input.{Input}
-use Rattle.wc_endings.specs.declared.input.Input.TheVariants as input
-use Rattle.wc_endings.specs.declared.input.Stopped.{Stopped}
+use Rattle.wc_job.specs.declared.input.Input.{Input}
+use Rattle.wc_job.specs.declared.input.Input.TheVariants as input
+use Rattle.wc_endings.specs.declared.ending.Stopped.{Stopped}
 use Rattle.wc_model.specs.Instrument.PlateTable.{plate_of}
 use Rattle.wc_model.specs.Instrument.Plates.{PlateData}
 use Rattle.wc_model.specs.Language.Loading.{IsLoaded}

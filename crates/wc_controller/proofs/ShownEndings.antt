@@ -10,8 +10,8 @@ use Rattle.wc_controller.specs.InputStates.{InputStates, Reader}
 use Rattle.wc_controller.specs.Shown.{IsEndedBy, IsFaulty}
 use Rattle.wc_endings.specs.declared.ending.Ending.{Ending}
 use Rattle.wc_endings.specs.declared.ending.Ending.TheVariants as ended
-use Rattle.wc_endings.specs.declared.input.Input.{Input}
-use Rattle.wc_endings.specs.declared.input.Input.TheVariants as input
+use Rattle.wc_job.specs.declared.input.Input.{Input}
+use Rattle.wc_job.specs.declared.input.Input.TheVariants as input
 use Rattle.wc_model.specs.Run.Log.{Record}
 use Rattle.wc_model.specs.Say.Job.{JobAnswer}
 

@@ -7,8 +7,8 @@ use Rattle.wc_controller.specs.Blames.{Blames, RefusesProgram}
 use Rattle.wc_endings.specs.Endings.{HasNotFailedIn, IsAt, RefusesLength, TakesInput, ReportsReadEndings, ReportsReadFaults, fault_ending, status_of}
 use Rattle.wc_endings.specs.declared.ending.Ending.TheVariants as ended
 use Rattle.wc_endings.specs.declared.ending.Ending.{Ending}
-use Rattle.wc_endings.specs.declared.input.Input.{Input}
-use Rattle.wc_endings.specs.declared.input.Stopped.{Stopped}
+use Rattle.wc_job.specs.declared.input.Input.{Input}
+use Rattle.wc_endings.specs.declared.ending.Stopped.{Stopped}
 use Rattle.wc_run.specs.Runs.{HasNotFailed}
 use Rattle.wc_run.specs.declared.fault.RunFault.{RunFault}
 use Rattle.wc_run.specs.declared.fault.RunFault.TheVariants.{Refused, Read, Write, Memory}

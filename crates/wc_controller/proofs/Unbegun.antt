@@ -5,8 +5,8 @@ use Rattle.wc_controller.proofs.Allowing.{on_each}
 use Rattle.wc_controller.proofs.Blaming.{IsOne, one_input}
 use Rattle.wc_controller.specs.Blames.{RefusesLog}
 use Rattle.wc_endings.specs.Endings.{begin_fault_input}
-use Rattle.wc_endings.specs.declared.input.Input.{Input}
-use Rattle.wc_endings.specs.declared.input.Input.TheVariants as input
+use Rattle.wc_job.specs.declared.input.Input.{Input}
+use Rattle.wc_job.specs.declared.input.Input.TheVariants as input
 use Rattle.wc_model.specs.Run.Log.{LogOf, Record}
 use Rattle.wc_run.specs.Observing.{RefusesToBegin}
 use Rattle.wc_run.specs.Runs.{HasNotFailed, ReportsWrite}

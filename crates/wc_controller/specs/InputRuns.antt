@@ -7,8 +7,8 @@ use Rattle.wc_controller.specs.InputStates.{InputStates, Reader, Writer}
 use Rattle.wc_controller.specs.TakenLogs.{IfKnown, failures_of, known_of, log_taken}
 use Rattle.wc_endings.specs.declared.ending.Ending.{Ending}
 use Rattle.wc_endings.specs.declared.ending.Ending.TheVariants as ended
-use Rattle.wc_endings.specs.declared.input.Input.TheVariants as input
-use Rattle.wc_endings.specs.declared.input.Stopped.{Stopped}
+use Rattle.wc_job.specs.declared.input.Input.TheVariants as input
+use Rattle.wc_endings.specs.declared.ending.Stopped.{Stopped}
 use Rattle.wc_model.specs.Run.Log.{Record}
 use Rattle.wc_model.specs.Say.Job.{JobAnswer}
 use Rattle.wc_record.specs.Left.{HasCause}

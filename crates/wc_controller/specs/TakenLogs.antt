@@ -2,8 +2,8 @@
 use Rattle.std.specs.Prelude.{⊤, Bool, true, false, ℕ, List, Option, Some, None, IfSome, Result, is_some}
 use Rattle.wc_endings.specs.Endings.{StopsAt}
 use Rattle.wc_controller.specs.InputStates.{InputStates, Reader}
-use Rattle.wc_endings.specs.declared.input.Input.TheVariants as input
-use Rattle.wc_endings.specs.declared.input.Stopped.{Stopped}
+use Rattle.wc_job.specs.declared.input.Input.TheVariants as input
+use Rattle.wc_endings.specs.declared.ending.Stopped.{Stopped}
 use Rattle.wc_cost.specs.LoadedTexts.{LoadedText}
 use Rattle.wc_job.specs.Reads.{IsWhole}
 use Rattle.wc_model.specs.Language.Loading.{IsLoaded}

@@ -6,8 +6,8 @@ use Rattle.wc_controller.specs.TakenLogs.{IfKnown, OfLogic, log_by}
 use Rattle.wc_controller.specs.declared.loaded.RunPrograms.{RunPrograms}
 use Rattle.wc_endings.specs.declared.ending.Ending.{Ending}
 use Rattle.wc_endings.specs.declared.ending.Ending.TheVariants as ended
-use Rattle.wc_endings.specs.declared.input.Input.TheVariants as input
-use Rattle.wc_endings.specs.declared.input.Stopped.{Stopped}
+use Rattle.wc_job.specs.declared.input.Input.TheVariants as input
+use Rattle.wc_endings.specs.declared.ending.Stopped.{Stopped}
 use Rattle.wc_model.specs.Instrument.PlateTable.{plate_of}
 use Rattle.wc_model.specs.Instrument.Plates.{PlateData}
 use Rattle.wc_model.specs.Language.Loading.{IsLoaded}

@@ -15,7 +15,7 @@ use Rattle.wc_model.specs.Say.UnitReport.{IsBoundOf, IsBoundAt}
 use Rattle.wc_model.specs.Text.Reading.{IsRead}
 use Rattle.wc_model.specs.declared.code.Code.{Code}
 use Rattle.wc_cost.specs.LoadedInside.{codes_of, bounds_of}
-use Rattle.wc_cost.specs.declared.lowered.LoweredUnit.{LoweredUnit}
+use Rattle.wc_cost.specs.declared.units.LoweredUnit.{LoweredUnit}
 
 -- the bound of a unit of a text that was read
 pub bound_holds : (bytes : List ℕ) (text : Text) → IsRead bytes text → (units : List LoweredUnit) → AreLowered text (codes_of units) → AreBoundsBelow text (codes_of units) (bounds_of units) (length units) → (k : ℕ) (unit : LoweredUnit) → slice_get units k ≡ Some unit → IsBoundAt text k unit.bound

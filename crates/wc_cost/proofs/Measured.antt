@@ -22,7 +22,7 @@ use Rattle.wc_laws_language.specs.Sound.{NestsSimply}
 use Rattle.wc_cost.specs.Faultless.{AreLoaded, IsMeasured, IsOverrun, LoadsUnits, MeasuresUnit}
 use Rattle.wc_cost.specs.LoadedInside.{AreLines, bounds_of, codes_of}
 use Rattle.wc_cost.specs.PathLengths.{AreSmall}
-use Rattle.wc_cost.specs.declared.lowered.LoweredUnit.{LoweredUnit}
+use Rattle.wc_cost.specs.declared.units.LoweredUnit.{LoweredUnit}
 
 -- a unit that is lowered, with the length of its longest path
 pub record IsSound (scope : Scope) (lowered : LoweredUnit) : Type 0 where

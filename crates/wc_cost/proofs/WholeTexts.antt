@@ -26,7 +26,7 @@ use Rattle.wc_cost.proofs.TextUnits.{unit_at}
 use Rattle.wc_cost.specs.Costs.{IsCosted}
 use Rattle.wc_cost.specs.Faultless.{IsFaultless, LoadsUnits}
 use Rattle.wc_cost.specs.LoadedInside.{codes_of}
-use Rattle.wc_cost.specs.declared.lowered.LoweredUnit.{LoweredUnit}
+use Rattle.wc_cost.specs.declared.units.LoweredUnit.{LoweredUnit}
 
 -- what is said of a text is said of the same one
 pub of_same : (r : Result (Vec LoweredUnit Global) Fault) (t tables : Tables) (s source : Source) → t ≡ tables → s ≡ source → (AreTables t (text_view s) → IsFaultless (text_view s) → LoadsUnits (text_view s) r) → AreTables tables (text_view source) → IsFaultless (text_view source) → LoadsUnits (text_view source) r

@@ -17,7 +17,7 @@ use Rattle.wc_model.specs.Text.Reading.{IsRead}
 use Rattle.wc_laws_language.proofs.Places.{Some-same}
 use Rattle.wc_cost.specs.LoadedInside.{AreLines, bounds_of, codes_of}
 use Rattle.wc_cost.specs.LoadedTexts.{AreWorstAt}
-use Rattle.wc_cost.specs.declared.lowered.LoweredUnit.{LoweredUnit}
+use Rattle.wc_cost.specs.declared.units.LoweredUnit.{LoweredUnit}
 
 -- the lines of a unit's body
 lines_at : (before units : List ProgramUnit) (laids : List LoweredUnit) → AreLines units laids → (k : ℕ) (lowered : LoweredUnit) (scope : Scope) → slice_get laids k ≡ Some lowered → slice_get (map scope_of_position (positions_after before units)) k ≡ Some scope → lowered.lines.items ≡ sources_of scope.unit.body

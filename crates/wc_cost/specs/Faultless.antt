@@ -16,7 +16,7 @@ use Rattle.wc_model.specs.declared.fault.Fault.{Fault}
 use Rattle.wc_model.specs.declared.fault.Fault.TheVariants.{Refused, Memory}
 use Rattle.wc_cost.specs.LoadedInside.{AreLines, bounds_of, codes_of}
 use Rattle.wc_cost.specs.PathLengths.{AreSmall}
-use Rattle.wc_cost.specs.declared.lowered.LoweredUnit.{LoweredUnit}
+use Rattle.wc_cost.specs.declared.units.LoweredUnit.{LoweredUnit}
 
 -- some tokens, no more than a text has bytes, spell this text within the limits; what their lines are is not asked
 pub record IsSpelled (text : Text) : Type 0 where

@@ -10,7 +10,7 @@ use Rattle.wc_model.specs.declared.code.Code.{Code}
 use Rattle.wc_laws_language.specs.FirstNumbers.{AreFirst}
 use Rattle.wc_cost.specs.LoadedTexts.{LoadedText, IsLoadedSound}
 use Rattle.wc_cost.specs.PathLengths.{AreSmall}
-use Rattle.wc_cost.specs.declared.lowered.LoweredUnit.{LoweredUnit}
+use Rattle.wc_cost.specs.declared.units.LoweredUnit.{LoweredUnit}
 use Rattle.wc_cost.specs.declared.loaded.Loaded.TheInside.{Inside as LoadedFields}
 
 -- the codes and the bounds of lowered units

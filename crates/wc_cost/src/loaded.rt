@@ -9,9 +9,8 @@ ghost use Rattle.wc_text_flat.specs.Contents.{frame_of_text};
 ghost use Rattle.wc_text_flat.specs.FlatPaths.{sources_of};
 ghost use Rattle.wc_cost.specs.LoadedTexts.{AreWorstAt, IsLoadedSound, IsProgramOf};
 
-use crate::lowered::LoweredUnit;
-use crate::path::worst_lines;
-use crate::path_lengths::path_lengths;
+use crate::path_lengths::{path_lengths, worst_lines};
+use crate::units::LoweredUnit;
 use std::alloc::Global;
 use std::marker::Model;
 use std::str::from_utf8;
@@ -121,8 +120,7 @@ impl<'a> Loaded<'a> {
         ensures { (scope : Scope) → IsProgramOf (text_view self.now.source) scope
             → option_map (λ p. p.0) result ≡ number_of_path scope path.now }
     {
-        let units = &self.units;
-        let last = units.len().saturating_sub(1);
+        let last = self.units.len().saturating_sub(1);
         self.checked.tables().place(last, path)
     }
 
@@ -145,10 +143,8 @@ impl<'a> Loaded<'a> {
             (λ p. slice_get (slot_kinds (frame_of_text (text_view self.now.source))) place.0
             ≡ slice_get (slot_kinds (frame_of_text (text_view old.now.source))) p.0) }
     {
-        let units = &self.units;
-        let last = units.len().saturating_sub(1);
-        let old_units = &old.units;
-        let old_last = old_units.len().saturating_sub(1);
+        let last = self.units.len().saturating_sub(1);
+        let old_last = old.units.len().saturating_sub(1);
         self.checked
             .tables()
             .carry(last, old.checked.tables(), old_last, place)

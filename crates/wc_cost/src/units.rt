@@ -4,18 +4,31 @@ ghost use Rattle.wc_text_flat.specs.FlatPaths.{sources_of, worst_of};
 ghost use Rattle.wc_text_flat.specs.Lowered.{IsLowered, flat_length};
 ghost use Rattle.wc_model.specs.Language.Scopes.{Scope};
 ghost use Rattle.wc_model.specs.Language.Views.{text_view, unit_view};
-ghost use Rattle.wc_cost.specs.Faultless.{IsFaultless, LoadsUnits, MeasuresUnit};
+ghost use Rattle.wc_cost.specs.Costs.{IsCosted};
+ghost use Rattle.wc_cost.specs.Faultless.{IsFaultless, LoadsUnits, Measures, MeasuresUnit};
 ghost use Rattle.wc_lowering.specs.Lowerable.{IsLowerable};
 ghost use Rattle.wc_cost.specs.LoadedInside.{bounds_of};
 ghost use Rattle.wc_cost.specs.PathLengths.{AreSmall};
 ghost use Rattle.wc_verify.specs.Seeing.{IsScope};
 
-use crate::lowered::LoweredUnit;
+use crate::loaded::Loaded;
 use crate::path_lengths::path_lengths;
 use std::alloc::Global;
 use wc_lowering::flat_body;
 use wc_model::{Code, Fault, MOST_STEPS, Source, Unit};
 use wc_names::Tables;
+use wc_verify::Checked;
+
+/// A unit's lowered body.
+#[derive(Drop)]
+pub(crate) struct LoweredUnit {
+    /// Its flat lines.
+    pub(crate) code: Vec<Code>,
+    /// The line of the text at which each of them is.
+    pub(crate) lines: Vec<u32>,
+    /// The length of the unit's longest path.
+    pub(crate) bound: u32,
+}
 
 /// The length of the worst path through a body.
 fn longest(alloc: Global, units: &[LoweredUnit], code: &[Code]) -> Result<u64, Fault>
@@ -74,7 +87,7 @@ fn lower_unit<'a>(
 
 /// The units of a text lowered and measured one after the other, or 411 at the first that is too
 /// long.
-pub(crate) fn lower_units<'a>(
+fn lower_units<'a>(
     alloc: Global,
     tables: &Tables<'a>,
     source: &Source<'a>,
@@ -90,4 +103,31 @@ pub(crate) fn lower_units<'a>(
         };
     }
     Ok(units)
+}
+
+/// Measures the units of a text that breaks no rule on declarations and bodies: 411 at the first unit
+/// that may take more than 1000000 steps, at the line of its first keyword. The lines of the text are
+/// passed on alone, so they may be places as well.
+pub fn measure<'a>(alloc: Global, source: &Source<'a>, tables: &Tables<'a>) -> Result<(), Fault>
+    ensures { AreTables tables.now (text_view source.now) → IsFaultless (text_view source.now)
+        → Measures (text_view source.now) result }
+{
+    lower_units(alloc, tables, source)?;
+    Ok(())
+}
+
+/// Lowers a verified text, and measures each unit. 411 at the first unit that may take more than
+/// 1000000 steps, at the line of its first keyword; `Memory` if an allocation is refused.
+pub fn cost<'a>(alloc: Global, checked: Checked<'a>) -> Result<Loaded<'a>, Fault>
+    ensures { IsCosted (text_view checked.entry.source) checked.entry.source result }
+{
+    let units = lower_units(alloc, checked.tables(), checked.source())?;
+    let last = units.len().saturating_sub(1);
+    let frame = checked.tables().frame(alloc, last)?;
+    Ok(Loaded {
+        checked,
+        units,
+        kinds: frame.kinds,
+        initials: frame.initials,
+    })
 }

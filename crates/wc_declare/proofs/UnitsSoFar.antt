@@ -12,7 +12,7 @@ use Rattle.wc_names.specs.Keys.{same_name_laws}
 use Rattle.wc_names.specs.RepresentsText.{IsTableOf, number_named, onto}
 use Rattle.wc_declare.specs.SoFar.{AreUnitsOf}
 use Rattle.wc_names.specs.declared.unit_table.UnitTable.{UnitTable}
-use Rattle.wc_declare.specs.declared.units.Units.{Units}
+use Rattle.wc_declare.specs.declared.types.Units.{Units}
 use Rattle.std.proofs.lemmas.Slice.Eq.{bytes_eq-Decides}
 use Rattle.wc_declare.proofs.NamesSoFar.{neither, or_last}
 use Rattle.wc_names.proofs.Positions.{or_else}

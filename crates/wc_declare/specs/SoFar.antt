@@ -8,7 +8,7 @@ use Rattle.wc_model.specs.Language.Tree.{ProgramUnit, Text}
 use Rattle.wc_model.specs.declared.fault.Fault.{Fault}
 use Rattle.wc_model.specs.declared.fault.Fault.TheVariants.{Memory}
 use Rattle.wc_names.specs.RepresentsText.{AreUnits, number_named}
-use Rattle.wc_declare.specs.declared.units.Units.{Units}
+use Rattle.wc_declare.specs.declared.types.Units.{Units}
 
 -- the names of all blocks of the text, and the units so far
 pub record AreUnitsOf (text : Text) (before : List ProgramUnit) (units : Units) : Type 0 where

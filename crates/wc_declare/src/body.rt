@@ -8,9 +8,15 @@ ghost use Rattle.wc_model.specs.Language.Views.{assignment_view, line_view, line
 ghost use Rattle.wc_model.specs.Language.Validation.{Validates};
 ghost use Rattle.wc_declare.specs.SoFar.{TakesNoMemory};
 
-use crate::word::refusal;
 use wc_built_in::{is_reserved, variable_at};
 use wc_model::{Argument, Fault, Instr, Line, Operand, Word};
+
+/// A refusal.
+pub(crate) fn refusal(number: u16, place: u32) -> Fault
+    ensures { result ≡ Fault.Refused number place }
+{
+    Fault::Refused { number, place }
+}
 
 /// Checks a label by 307.
 fn validate_label<'a>(label: Option<Word<'a>>) -> Result<(), Fault>
@@ -32,15 +38,12 @@ fn validate_operand<'a>(in_block: bool, operand: &Operand<'a>) -> Result<(), Fau
         (first_broken rest) result }
     ensures refuses { TakesNoMemory result }
 {
-    let Operand::Address(word) = operand else {
-        return Ok(());
-    };
-    if in_block {
-        return Err(refusal(305, word.line));
-    }
-    match variable_at(word.text) {
-        Some(_) => Ok(()),
-        None => Err(refusal(304, word.line)),
+    match operand {
+        Operand::Address(word) if in_block => Err(refusal(305, word.line)),
+        Operand::Address(word) if variable_at(word.text).is_none() => {
+            Err(refusal(304, word.line))
+        }
+        _ => Ok(()),
     }
 }
 

@@ -6,7 +6,7 @@ ghost use Rattle.wc_names.specs.Numbered.{plain_of_field};
 ghost use Rattle.wc_names.specs.Spelled.{is_elementary, spelled, spelled_in_table, spelled_where};
 ghost use Rattle.wc_declare.specs.Rows.{HasTaken, plain_of};
 
-use crate::word::refusal;
+use crate::body::refusal;
 use wc_model::{Fault, MOST_PLACES, MOST_VARIABLES, Place, Word};
 use wc_names::{DeclaredType, Field, UnitTable, Variable};
 

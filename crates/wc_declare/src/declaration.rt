@@ -12,10 +12,9 @@ ghost use Rattle.wc_declare.specs.Rows.{HasTaken, HoldsRows, IsEmptyOf, SameName
 ghost use Rattle.wc_names.specs.RepresentsText.{AreDifferent, IsTableOf, type_at};
 ghost use Rattle.wc_declare.specs.SoFar.{AreUnitsOf, TakesNoMemory};
 
+use crate::body::refusal;
 use crate::capacity::add_variable;
-use crate::types::{block, type_at, width};
-use crate::units::Units;
-use crate::word::refusal;
+use crate::types::{Units, block, type_at, width};
 use wc_built_in::{is_reserved, is_type_word};
 use wc_model::{Decl, Fault, Initial, Kind, Section, Unit, Value, Word};
 use wc_names::{DeclaredType, Names, UnitTable, Variable};

@@ -9,8 +9,8 @@ ghost use Rattle.wc_names.specs.Spelled.{AreSpelledAs, spelled_in_table, spelled
 ghost use Rattle.wc_names.specs.RepresentsText.{AreTables, AreUnits, onto};
 ghost use Rattle.wc_declare.specs.SoFar.{AreUnitsOf};
 
+use crate::types::Units;
 use crate::unit::{add_unit, is_block, validate_unit};
-use crate::units::Units;
 use std::alloc::Global;
 use wc_model::{Fault, Source, Unit};
 use wc_names::{Names, Tables};

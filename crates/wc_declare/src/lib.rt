@@ -7,8 +7,6 @@ mod declaration;
 mod declaring;
 mod types;
 mod unit;
-mod units;
-mod word;
 
 pub use declaring::tables;
 pub use wc_names::{DeclaredType, Entity, Field, Formal, Frame, Key, Located, Names, Tables};

@@ -8,10 +8,20 @@ ghost use Rattle.wc_names.specs.Spelled.{is_elementary};
 ghost use Rattle.wc_names.specs.RepresentsText.{type_at};
 ghost use Rattle.wc_declare.specs.SoFar.{AreUnitsOf};
 
-use crate::units::Units;
 use wc_built_in::{elementary_type, standard_block, standard_fields};
 use wc_model::StandardBlock;
-use wc_names::DeclaredType;
+use wc_names::{DeclaredType, Names, UnitTable};
+
+/// What is kept while a text is checked.
+#[derive(Drop)]
+pub(crate) struct Units<'a> {
+    /// The names of all function blocks of the text.
+    pub(crate) blocks: Names<'a>,
+    /// The names of the units so far, numbered in text order.
+    pub(crate) names: Names<'a>,
+    /// The tables of the units so far.
+    pub(crate) tables: Vec<UnitTable<'a>>,
+}
 
 /// The number of the function block of that name among the units so far.
 pub(crate) fn block<'a>(units: &Units<'a>, name: &[u8]) -> Option<usize>

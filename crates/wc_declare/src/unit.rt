@@ -11,10 +11,9 @@ ghost use Rattle.wc_names.specs.Spelled.{spelled_in_table, spelled_of_unit};
 ghost use Rattle.wc_names.specs.RepresentsText.{IsTableOf};
 ghost use Rattle.wc_declare.specs.SoFar.{AreUnitsOf, TakesNoMemory};
 
-use crate::body::validate_body;
+use crate::body::{refusal, validate_body};
 use crate::declaration::validate_declarations;
-use crate::units::Units;
-use crate::word::refusal;
+use crate::types::Units;
 use std::alloc::Global;
 use wc_built_in::is_reserved;
 use wc_model::{Fault, Unit, UnitKind, Word};

@@ -2,14 +2,11 @@
 //! interruption and keeps why it failed, one that keeps what it read, and one that gathers what is written.
 #![tactic(auto)]
 
-mod attempts;
 mod buffered_writes;
 mod keeping_reader;
 mod output_buffer;
-mod retries;
 mod retry;
 
 pub use keeping_reader::KeepingReader;
 pub use output_buffer::OutputBuffer;
-pub use retries::{open_again, read_again};
-pub use retry::Retry;
+pub use retry::{Retry, open_again, read_again};

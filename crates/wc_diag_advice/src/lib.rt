@@ -4,7 +4,5 @@
 
 mod advice;
 mod members;
-mod near;
 
-pub use advice::advice_at;
-pub use near::watched_advice;
+pub use advice::{advice_at, watched_advice};

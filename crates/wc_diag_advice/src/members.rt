@@ -1,4 +1,4 @@
-use crate::near::{Wanted, likely, near_name};
+use crate::advice::{Wanted, likely, near_name};
 use std::alloc::AllocError;
 use std::fmt::Write;
 use wc_built_in::{standard_block, standard_fields, variable_at};
@@ -29,15 +29,13 @@ fn own_members(
     wanted: Section,
 ) -> Result<String, AllocError> {
     let mut names = String::new(refused.alloc);
-    let declarations = match block_named(refused, block) {
-        Some(unit) => unit.declarations.as_slice(),
-        None => &[],
-    };
-    for declaration in declarations {
-        for name in &declaration.names {
-            if declaration.section == wanted && names.len() <= LONGEST_LIST {
-                let mark = if names.is_empty() { "" } else { ", " };
-                write!(names, "{mark}{}", words(name.text).unwrap_or(""))?;
+    if let Some(unit) = block_named(refused, block) {
+        for declaration in &unit.declarations {
+            for name in &declaration.names {
+                if declaration.section == wanted && names.len() <= LONGEST_LIST {
+                    let mark = if names.is_empty() { "" } else { ", " };
+                    write!(names, "{mark}{}", words(name.text).unwrap_or(""))?;
+                }
             }
         }
     }
@@ -52,8 +50,7 @@ fn own_members(
     format!(in refused.alloc; "the {word}{end} {names} ({sign})")
 }
 
-/// What to write for a name that a block does not have as an input, or as an output: a near one, and what the block has. The name of its instance
-/// comes before the name.
+/// What to write for a name, after that of its instance, that a block does not have as an input or output: a near one, and what it has.
 pub(crate) fn member_advice(
     refused: &Refused<'_, '_>,
     block: &str,
@@ -131,8 +128,6 @@ pub(crate) fn address_advice(refused: &Refused<'_, '_>) -> Said {
     let Ok(address) = format!(in refused.alloc; "%{name}.{digits}") else {
         return Some(Err(AllocError));
     };
-    if variable_at(address.as_bytes()).is_none() {
-        return None;
-    }
+    variable_at(address.as_bytes())?;
     likely(refused, Some(&address))
 }

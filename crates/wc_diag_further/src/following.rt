@@ -73,8 +73,11 @@ pub(crate) fn may_follow(
         204 | 205 | 207 => changed.any(|it| it.first <= line && line <= it.last),
         401 => is_unnamed,
         402 | 403 => has(Mark::Unpaired) || is_result_unsure(lines, broken, line),
-        // a section that became VAR has neither inputs nor outputs
-        404 | 405 => has(Mark::Section),
+        // a section that became VAR, or may have, has neither inputs nor outputs
+        404 | 405 => {
+            let mut edges = lines.iter().filter(|line| line.region == Region::Edge);
+            has(Mark::Section) || edges.any(|it| broken.any(it.first, it.last, Mark::Uncut))
+        }
         406 => broken.any(line, end_of_unit(lines, line), Mark::Unlabelled),
         409 => is_unnamed || has(Mark::Section),
         _ => false,

@@ -55,21 +55,15 @@ pub struct Further {
 fn found_in(alloc: Global, text: &[u8], is_plate: bool) -> Result<Found, AllocError>
     ensures { IfOk result (IsFound is_plate text.now) }
 {
-    if is_plate {
-        return match plate(alloc, text) {
-            Ok(_) => Ok(Found::Accepted),
-            Err(Fault::Memory) => Err(AllocError),
-            Err(Fault::Refused { number, place }) => Ok(Found::Refused(LineFault {
-                number,
-                place,
-            })),
-        };
-    }
-    match load(alloc, text) {
-        Ok(_) => Ok(Found::Accepted),
-        Err(Fault::Memory) => Err(AllocError),
-        Err(Fault::Refused { number, place }) => Ok(Found::Refused(LineFault { number, place })),
-    }
+    let found = if is_plate {
+        plate(alloc, text).map(|_| Found::Accepted)
+    } else {
+        load(alloc, text).map(|_| Found::Accepted)
+    };
+    found.or_else(|fault| match fault {
+        Fault::Memory => Err(AllocError),
+        Fault::Refused { number, place } => Ok(Found::Refused(LineFault { number, place })),
+    })
 }
 
 /// The slice at which a text cannot be cut into tokens; nothing if the rest is not read on without it.
@@ -107,10 +101,9 @@ fn mending_of(
     if matches!(number, 202 | 203 | 208 | 306 | 411) {
         return Ok((None, number > 203));
     }
-    let tokens = match tokens(alloc, text) {
-        Ok(tokens) => tokens,
-        Err(Fault::Memory) => return Err(AllocError),
-        Err(Fault::Refused { .. }) => Vec::new(alloc),
+    // a text with a later refusal has tokens
+    let Ok(tokens) = tokens(alloc, text) else {
+        return Err(AllocError);
     };
     let lines = logical_lines(alloc, &tokens)?;
     let faulty = Faulty {

@@ -68,17 +68,8 @@ impl<'a, 't> LogicalLine<'a, 't> {
 
     /// Its tokens after its last semicolon.
     pub(crate) fn after_semicolon(&self) -> &'t [Token<'a>] {
-        let words = self
-            .all
-            .iter()
-            .rev()
-            .take_while(|it| it.shape != Shape::Semicolon)
-            .count();
-        slice(
-            self.all,
-            self.all.len().saturating_sub(words),
-            self.all.len(),
-        )
+        let mut slices = self.all.rsplit(|token| token.shape == Shape::Semicolon);
+        slices.next().unwrap_or(&[])
     }
 
     /// The meaning of its first word after its label.

@@ -4,7 +4,7 @@ use Rattle.std.proofs.lemmas.Bool.{ltb-false}
 use Rattle.std.proofs.lemmas.List.Sums.{count_by-le-length, sum_by-append}
 use Rattle.std.proofs.lemmas.Slice.Eq.{bytes_eq-Decides}
 use Rattle.std.specs.Prelude.{nat_lt, cond, bytes_eq}
-use Rattle.wc_diag_spans.specs.declared.refusal.Part.TheVariants.{Plate, Program, Next, Log}
+use Rattle.wc_job.specs.declared.input.Input.TheVariants.{Plate, Program, Next, Log}
 use Rattle.wc_laws_instrument.specs.Jobs.{IsMadeOf, IsNextPart}
 use Rattle.wc_diag_messages.specs.Above.{bytes_before, line_ends, next_line}
 use Rattle.wc_model.specs.Run.JobSections.{Sections, is_heading, longest_job, sections_in, sections_of, sections_or_refusal, whole_lines}

@@ -6,8 +6,8 @@ use Rattle.std.specs.List.{flat_map}
 use Rattle.std.specs.Str.{is_utf8}
 use Rattle.std.specs.Fmt.{digits, digits_onto, digit_glyph}
 use Rattle.wc_diag_spans.specs.declared.diagnostic.Span.{Span}
-use Rattle.wc_diag_spans.specs.declared.refusal.Part.{Part}
-use Rattle.wc_diag_spans.specs.declared.refusal.Part.TheVariants.{Log}
+use Rattle.wc_job.specs.declared.input.Input.{Input}
+use Rattle.wc_job.specs.declared.input.Input.TheVariants.{Log}
 use Rattle.wc_diag_spans.specs.declared.refusal.Refusal.{Refusal}
 use Rattle.wc_diag_messages.specs.Explanations.{IsKnown, IsPrintable, QuotesAndSays, left_out_text, numbered, quoted_text}
 use Rattle.wc_diag_messages.specs.Formats.{helped_text, position_text, short_text}
@@ -121,17 +121,17 @@ helped_above reported advice h k =
     joined reported (words_after (shown_text (codes "; help: ")) advice) h (words_above (shown_text (codes "; help: ")) advice (bytes_shown (codes "; help: ")) k)
 
 -- the place that is counted
-counted_above : (part : Part) (place : ℕ) → HasNoControls (counted_text part place)
+counted_above : (part : Input) (place : ℕ) → HasNoControls (counted_text part place)
 counted_above part place = search (joined, bytes_shown)
 
-row_above : (part : Part) (place : ℕ) → HasNoControls (row_text part place)
+row_above : (part : Input) (place : ℕ) → HasNoControls (row_text part place)
 row_above Log place = search (either, counted_above)
 row_above part place = tt
 
-section_above : (part : Part) (place : ℕ) → HasNoControls (section_text part place)
+section_above : (part : Input) (place : ℕ) → HasNoControls (section_text part place)
 section_above part place = search (joined, either, bytes_shown, counted_above)
 
-place_above : (in_job : Bool) (part : Part) (place : ℕ) → HasNoControls (place_text in_job part place)
+place_above : (in_job : Bool) (part : Input) (place : ℕ) → HasNoControls (place_text in_job part place)
 place_above in_job part place = either in_job (section_text part place) (row_text part place) (section_above part place) (row_above part place)
 
 line_above : (line : ℕ) → HasNoControls (line_text line)

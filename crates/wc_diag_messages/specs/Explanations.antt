@@ -2,8 +2,8 @@
 -- the page are pinned; the words between them are not (the profile's own).
 use Rattle.std.specs.Prelude.{◌≡◌, ℕ, ◌+◌, ◌-◌, ◌&&◌, min, Bool, true, false, nat_lt, List, [], ◌∷◌, ◌++◌, codes, length, take, if◌then◌else◌}
 use Rattle.wc_diag_spans.specs.Finds.{Finds, IsWithin}
-use Rattle.wc_diag_spans.specs.declared.refusal.Part.{Part}
-use Rattle.wc_diag_spans.specs.declared.refusal.Part.TheVariants.{Program, Next}
+use Rattle.wc_job.specs.declared.input.Input.{Input}
+use Rattle.wc_job.specs.declared.input.Input.TheVariants.{Program, Next}
 use Rattle.wc_diag_spans.specs.declared.refusal.Refusal.{Refusal}
 use Rattle.wc_diag_messages.specs.Snippets.{snippet_text}
 use Rattle.wc_diag_messages.specs.Locations.{alongside_text, line_text, margin_text, number_text, place_text}
@@ -13,7 +13,7 @@ use Rattle.wc_diag_messages.specs.declared.parts.Severity.{Severity}
 use Rattle.wc_diag_messages.specs.declared.parts.Severity.TheVariants.{Error, Warning}
 
 -- the part is a program
-abbrev pub is_program : Part → Bool
+abbrev pub is_program : Input → Bool
 is_program Program = true
 is_program Next = true
 is_program part = false

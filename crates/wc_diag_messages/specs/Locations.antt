@@ -2,8 +2,8 @@
 use Rattle.std.specs.Prelude.{◌≡◌, ℕ, ◌==◌, Bool, List, [], ◌∷◌, ◌++◌, Option, Some, None, length, replicate, codes, if◌then◌else◌}
 use Rattle.std.specs.Fmt.{decimal}
 use Rattle.wc_diag_spans.specs.declared.diagnostic.Span.{Span}
-use Rattle.wc_diag_spans.specs.declared.refusal.Part.{Part}
-use Rattle.wc_diag_spans.specs.declared.refusal.Part.TheVariants.{Job, Plate, Program, Next, Log}
+use Rattle.wc_job.specs.declared.input.Input.{Input}
+use Rattle.wc_job.specs.declared.input.Input.TheVariants.{Job, Plate, Program, Next, Log, Names}
 use Rattle.wc_diag_texts.specs.Plain.{column_of, shown_text}
 use Rattle.wc_diag_texts.specs.declared.message.Message.{Message}
 
@@ -33,35 +33,36 @@ abbrev pub column_text : List ℕ → Option Span → List ℕ
 column_text line span = line_text (first_column line span)
 
 -- the line with which a section of a job begins
-abbrev pub heading : Part → List ℕ
+abbrev pub heading : Input → List ℕ
 heading Job = []
+heading Names = []
 heading Plate = codes "@plate"
 heading Program = codes "@program"
 heading Next = codes "@next"
 heading Log = codes "@log"
 
 -- what is counted in a part
-abbrev pub counted_name : Part → List ℕ
+abbrev pub counted_name : Input → List ℕ
 counted_name Log = codes "row "
 counted_name part = codes "line "
 
 -- a line or a row by its number
-abbrev pub counted_text : Part → ℕ → List ℕ
+abbrev pub counted_text : Input → ℕ → List ℕ
 counted_text part place = shown_text (counted_name part) ++ number_text place
 
 -- a place in a section of a job; the section alone if no place is named
-abbrev pub section_text : Part → ℕ → List ℕ
+abbrev pub section_text : Input → ℕ → List ℕ
 section_text part place =
     if place == 0 then shown_text (heading part)
     else counted_text part place ++ shown_text (codes " of ") ++ shown_text (heading part)
 
 -- the row of a log, if one is named; the lines of other parts are those of the file
-abbrev pub row_text : Part → ℕ → List ℕ
+abbrev pub row_text : Input → ℕ → List ℕ
 row_text Log place = if place == 0 then [] else counted_text Log place
 row_text part place = []
 
 -- the place by which a refusal is counted, if it is not the line that is named
-abbrev pub place_text : Bool → Part → ℕ → List ℕ
+abbrev pub place_text : Bool → Input → ℕ → List ℕ
 place_text in_job part place = if in_job then section_text part place else row_text part place
 
 -- words between brackets; no brackets around nothing

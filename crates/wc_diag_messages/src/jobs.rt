@@ -2,8 +2,7 @@ ghost use Rattle.std.specs.Prelude.{◌≡◌, ◌≤◌, ◌+◌, IfNone, IfSom
 ghost use Rattle.wc_diag_messages.specs.Above.{IsBelow, line_ends, text_of};
 ghost use Rattle.wc_model.specs.Run.JobSections.{sections_of};
 
-use wc_diag_spans::Part;
-use wc_job::sections;
+use wc_job::{Input, sections};
 
 /// A section of a job.
 #[derive(Clone, Copy)]
@@ -42,7 +41,7 @@ fn above_log(above: u32, next: Option<&[u8]>) -> u32
 }
 
 /// The section of a job that is this part, if the job has its headings.
-pub fn section_of(job: &[u8], part: Part) -> Option<JobSection<'_>>
+pub fn section_of(job: &[u8], part: Input) -> Option<JobSection<'_>>
     ensures text { option_map (λ section. section.text.now) result
         ≡ text_of part (sections_of job.now) }
     ensures above { IfSome result (λ section. IsBelow job.now part section.above) }
@@ -53,14 +52,14 @@ pub fn section_of(job: &[u8], part: Part) -> Option<JobSection<'_>>
     let program = after_heading(1, found.plate);
     let next = after_heading(program, found.program);
     let (text, above) = match part {
-        Part::Job => return None,
-        Part::Plate => (found.plate, 1),
-        Part::Program => (found.program, program),
-        Part::Next => match found.next {
+        Input::Job | Input::Names => return None,
+        Input::Plate => (found.plate, 1),
+        Input::Program => (found.program, program),
+        Input::Next => match found.next {
             Some(text) => (text, next),
             None => return None,
         },
-        Part::Log => (found.log, above_log(next, found.next)),
+        Input::Log => (found.log, above_log(next, found.next)),
     };
     Some(JobSection { text, above })
 }

@@ -5,8 +5,9 @@ ghost use Rattle.wc_diag_messages.specs.Locations.{Writes, alongside_text, count
 
 use crate::parts::Parts;
 use std::alloc::{AllocError, Global};
-use wc_diag_spans::{Diagnostic, Part, Refusal};
+use wc_diag_spans::{Diagnostic, Refusal};
 use wc_diag_texts::{Message, column_of};
+use wc_job::Input;
 
 /// The line in what is named, if this one was found in the text; 0 if it is not known.
 pub(crate) fn named_line(refusal: &Refusal<'_>, found: u32) -> u32
@@ -16,7 +17,7 @@ pub(crate) fn named_line(refusal: &Refusal<'_>, found: u32) -> u32
         return refusal.above.saturating_add(found);
     }
     match refusal.part {
-        Part::Program | Part::Next if refusal.place > 0 => {
+        Input::Program | Input::Next if refusal.place > 0 => {
             refusal.above.saturating_add(refusal.place)
         }
         _ => 0,
@@ -58,30 +59,30 @@ pub(crate) fn first_column(diagnostic: &Diagnostic) -> usize
 }
 
 /// The line with which a section of a job begins.
-fn heading(part: Part) -> &'static str
+fn heading(part: Input) -> &'static str
     ensures { result.now ≡ heading part }
 {
     match part {
-        Part::Job => "",
-        Part::Plate => "@plate",
-        Part::Program => "@program",
-        Part::Next => "@next",
-        Part::Log => "@log",
+        Input::Job | Input::Names => "",
+        Input::Plate => "@plate",
+        Input::Program => "@program",
+        Input::Next => "@next",
+        Input::Log => "@log",
     }
 }
 
 /// What is counted in a part.
-fn counted_name(part: Part) -> &'static str
+fn counted_name(part: Input) -> &'static str
     ensures { result.now ≡ counted_name part }
 {
     match part {
-        Part::Log => "row ",
+        Input::Log => "row ",
         _ => "line ",
     }
 }
 
 /// Writes a line or a row by its number.
-fn write_counted(message: &mut Message, part: Part, place: u32) -> Result<(), AllocError>
+fn write_counted(message: &mut Message, part: Input, place: u32) -> Result<(), AllocError>
     ensures { OnOk result (Writes message.old message.new (counted_text part place)) }
 {
     message.say(counted_name(part))?;
@@ -89,7 +90,7 @@ fn write_counted(message: &mut Message, part: Part, place: u32) -> Result<(), Al
 }
 
 /// Writes a place in a section of a job.
-fn write_in_section(message: &mut Message, part: Part, place: u32) -> Result<(), AllocError>
+fn write_in_section(message: &mut Message, part: Input, place: u32) -> Result<(), AllocError>
     ensures { OnOk result (Writes message.old message.new (section_text part place)) }
 {
     if place == 0 {
@@ -101,11 +102,11 @@ fn write_in_section(message: &mut Message, part: Part, place: u32) -> Result<(),
 }
 
 /// Writes the row of a log.
-fn write_row(message: &mut Message, part: Part, place: u32) -> Result<(), AllocError>
+fn write_row(message: &mut Message, part: Input, place: u32) -> Result<(), AllocError>
     ensures { OnOk result (Writes message.old message.new (row_text part place)) }
 {
     match part {
-        Part::Log if place > 0 => write_counted(message, part, place),
+        Input::Log if place > 0 => write_counted(message, part, place),
         _ => Ok(()),
     }
 }

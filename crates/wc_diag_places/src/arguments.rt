@@ -1,9 +1,8 @@
-ghost use Rattle.std.specs.Prelude.{◌≡◌, ◌≤◌, ◌+◌, [], IfOk, None, length, min};
+ghost use Rattle.std.specs.Prelude.{◌≡◌, ◌≤◌, ◌+◌, IfOk, None, length, min};
 ghost use Rattle.std.specs.List.{position_or_len};
 ghost use Rattle.std.specs.Option.{option_copied};
 ghost use Rattle.wc_diag_places.specs.Arguments.{FindsBroken, KeepsNames, RuleIs};
 ghost use Rattle.wc_diag_places.specs.Lists.{direction_of, is_mark_shape, item_after, mark_after, text_at, value_end};
-ghost use Rattle.wc_diag_places.specs.OperandTokens.{list_end};
 
 use crate::kinds::operand_in;
 use crate::operand_tokens::{is_point, list_end, tokens_at};
@@ -94,10 +93,7 @@ pub(crate) fn item_after(tokens: &[Token<'_>], index: usize) -> Item
 pub(crate) fn text_at<'a>(tokens: &[Token<'a>], index: usize) -> &'a [u8]
     ensures { result.now ≡ text_at tokens.now index }
 {
-    match tokens.get(index) {
-        Some(token) => token.text,
-        None => b"",
-    }
+    tokens.get(index).map(|token| token.text).unwrap_or(b"")
 }
 
 /// One of a call's list that breaks a rule, with the number of the rule.
@@ -137,33 +133,6 @@ fn broken_rule<'a>(
     }
 }
 
-/// The first in the list of a call that breaks a rule, and that rule, by the names so far, of which there are none yet.
-fn first_broken_among<'a>(
-    names: &mut Names<'a>,
-    tables: &Tables<'a>,
-    unit: usize,
-    declared: DeclaredType,
-    tokens: &[Token<'a>],
-    end: usize,
-) -> Result<Option<Broken>, Fault>
-    requires none { names.old ≡ [] }
-    requires end { end ≡ list_end tokens.now }
-    ensures { IfOk result (λ found. FindsBroken tables.now unit declared tokens.now found) }
-{
-    let mut item = item_after(tokens, 2);
-    for _number in 0..end {
-        if item.name >= end {
-            return Ok(None);
-        }
-        let found = broken_rule(names, tables, unit, declared, tokens, item)?;
-        if let Some(number) = found {
-            return Ok(Some(Broken { item, number }));
-        }
-        item = item_after(tokens, item.end);
-    }
-    Ok(None)
-}
-
 /// The first in the list of a call that breaks a rule, and that rule; nothing if none does.
 pub(crate) fn first_broken_argument<'a>(
     alloc: Global,
@@ -175,5 +144,17 @@ pub(crate) fn first_broken_argument<'a>(
     ensures { IfOk result (λ found. FindsBroken tables.now unit declared tokens.now found) }
 {
     let mut names = Names::new(alloc);
-    first_broken_among(&mut names, tables, unit, declared, tokens, list_end(tokens))
+    let end = list_end(tokens);
+    let mut item = item_after(tokens, 2);
+    for _number in 0..end {
+        if item.name >= end {
+            return Ok(None);
+        }
+        let found = broken_rule(&mut names, tables, unit, declared, tokens, item)?;
+        if let Some(number) = found {
+            return Ok(Some(Broken { item, number }));
+        }
+        item = item_after(tokens, item.end);
+    }
+    Ok(None)
 }

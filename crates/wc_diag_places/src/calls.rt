@@ -18,7 +18,6 @@ use wc_names::{DeclaredType, Tables};
 pub struct InCall {
     from: usize,
     count: usize,
-    /// In which way.
     pub case: Case,
     /// Where the name of the offending input or output is; 0: there is none.
     pub name: usize,

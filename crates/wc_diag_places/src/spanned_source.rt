@@ -13,7 +13,6 @@ use wc_reader::read_tokens;
 /// A text that was read with the places of its tokens for their lines.
 #[derive(Drop)]
 pub struct SpannedSource<'a> {
-    /// Its tokens.
     pub tokens: Vec<Token<'a>>,
     /// What they spell; each line in it is the byte at which a token starts.
     pub source: Source<'a>,

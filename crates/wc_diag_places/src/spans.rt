@@ -2,11 +2,10 @@ ghost use Rattle.std.specs.Prelude.{◌≡◌, true, None, IfOk, IfNone, IfSome}
 ghost use Rattle.wc_model.specs.Language.Faults.{declaration_fault};
 ghost use Rattle.wc_names.specs.RepresentsText.{AreTables};
 ghost use Rattle.wc_diag_places.specs.Arguments.{IsArgument};
-ghost use Rattle.wc_diag_places.specs.LaterSpans.{IsAccepted, IsBodyFault, IsTokenFault, OfRead, OfRefusal, PointsTo, PointsToOffending, RefusesLater, unit_number};
+ghost use Rattle.wc_diag_places.specs.LaterSpans.{IsAccepted, IsBodyFault, IsTokenFault, OfRead, OfRefusal, PointsTo, RefusesLater};
 ghost use Rattle.wc_model.specs.Language.Scopes.{Scope};
-ghost use Rattle.wc_model.specs.Language.Views.{text_view};
 ghost use Rattle.wc_verify.specs.Seeing.{IsScope};
-ghost use Rattle.wc_diag_places.specs.OperandTokens.{IsOperatorOrOperand, IsOperandOf, is_listed, on_line, operator_of, operand_by_number, tokens_from};
+ghost use Rattle.wc_diag_places.specs.OperandTokens.{IsOperatorOrOperand, IsOperandOf, is_listed, on_line, operator_of, operand_by_number};
 
 use crate::arguments::text_at;
 use crate::calls::{InCall, at_index, offending_in_call, operand_of_call};
@@ -160,13 +159,15 @@ fn span_of_instruction<'a>(
     alloc: Global,
     spanned_source: &SpannedSource<'a>,
     tables: &Tables<'a>,
-    number: u16,
-    place: u32,
+    fault: Fault,
 ) -> RefusalSpan
-    ensures { let unit = unit_number (text_view spanned_source.now.source) place in
-        PointsToOffending (IsScope tables.now unit) number
-        (tokens_from spanned_source.now.tokens.items place) result }
+    ensures { OfRead spanned_source.now (λ bytes text. AreTables tables.now text
+        → OfRefusal fault (IsBodyFault text)
+        → RefusesLater bytes result.fault result.start result.length) }
 {
+    let Fault::Refused { number, place } = fault else {
+        return RefusalSpan::new(Fault::Memory, 0, 0);
+    };
     let tokens = tokens_from(&spanned_source.tokens, place);
     let unit = unit_at(&spanned_source.source, place);
     let Ok(found) = found_in(alloc, tables, unit, tokens, number) else {
@@ -193,25 +194,6 @@ fn span_of_instruction<'a>(
     }
 }
 
-/// A refusal of pass 4.
-fn span_of_body<'a>(
-    alloc: Global,
-    spanned_source: &SpannedSource<'a>,
-    tables: &Tables<'a>,
-    fault: Fault,
-) -> RefusalSpan
-    ensures { OfRead spanned_source.now (λ bytes text. AreTables tables.now text
-        → OfRefusal fault (IsBodyFault text)
-        → RefusesLater bytes result.fault result.start result.length) }
-{
-    match fault {
-        Fault::Refused { number, place } => {
-            span_of_instruction(alloc, spanned_source, tables, number, place)
-        }
-        Fault::Memory => RefusalSpan::new(Fault::Memory, 0, 0),
-    }
-}
-
 /// Where pass 4 or the costs refuse a text with these tables.
 fn span_after<'a>(
     alloc: Global,
@@ -226,7 +208,7 @@ fn span_after<'a>(
         → declaration_fault text ≡ None → IfNone result (IsAccepted text)) }
 {
     if let Err(fault) = validate_bodies(alloc, &spanned_source.source, tables) {
-        return Some(span_of_body(alloc, spanned_source, tables, fault));
+        return Some(span_of_instruction(alloc, spanned_source, tables, fault));
     }
     match measure(alloc, &spanned_source.source, tables) {
         Ok(()) => None,

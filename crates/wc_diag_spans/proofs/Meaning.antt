@@ -2,8 +2,8 @@
 use Rattle.std.proofs.Common.{◌≡◌, ◌<◌, ◌≤◌, refl, ℕ, List, Option, Some, None, IfSome, length, sym, subst}
 use Rattle.wc_diag_spans.specs.OffendingTokens.{HasLaterSpan, HasStop, IsKept, IsLaterOperand, IsOffendingBy, IsStop, IsStoppedBy, MeansSlice, MeansStop}
 use Rattle.wc_diag_spans.specs.Showing.{line_of_part, read_as}
-use Rattle.wc_diag_spans.specs.declared.refusal.Part.{Part}
-use Rattle.wc_diag_spans.specs.declared.refusal.Part.TheVariants.{Program, Next}
+use Rattle.wc_job.specs.declared.input.Input.{Input}
+use Rattle.wc_job.specs.declared.input.Input.TheVariants.{Program, Next}
 use Rattle.wc_diag_spans.specs.declared.diagnostic.Diagnostic.{Diagnostic}
 use Rattle.wc_diag_spans.specs.declared.diagnostic.Span.{Span}
 
@@ -28,7 +28,7 @@ span_shown number line text old new (Some s) has kept =
     (kept.found.start, subst (λ l. IsLaterOperand text number l kept.found.start s.length new.subject.items) (sym kept.on) same, kept.start)
 
 -- what a refusal of the tokens or of the reading means
-pub stopped_kept : (part : Part) (number place first other line : ℕ) (text : List ℕ) (old new : Diagnostic) → line ≡ line_of_part part place first
+pub stopped_kept : (part : Input) (number place first other line : ℕ) (text : List ℕ) (old new : Diagnostic) → line ≡ line_of_part part place first
     → (read_as part ≡ Program → number < 300 → HasStop text number line old) → IfSome new.span (λ s. IsKept old new (line_of_part part place other) s) → IsStoppedBy part number text new
 stopped_kept Program number place first other line text old new e has kept =
     λ below. stop_shown number place text old new new.span (subst (λ l. HasStop text number l old) e (has refl below)) kept
@@ -37,7 +37,7 @@ stopped_kept Next number place first other line text old new e has kept =
 stopped_kept part number place first other line text old new e has kept = tt
 
 -- what a later one means
-pub offending_kept : (part : Part) (number place first other line : ℕ) (text : List ℕ) (old new : Diagnostic) → line ≡ line_of_part part place first
+pub offending_kept : (part : Input) (number place first other line : ℕ) (text : List ℕ) (old new : Diagnostic) → line ≡ line_of_part part place first
     → (read_as part ≡ Program → 300 ≤ number → HasLaterSpan text number line old) → IfSome new.span (λ s. IsKept old new (line_of_part part place other) s) → IsOffendingBy part number text new
 offending_kept Program number place first other line text old new e has kept =
     λ above. span_shown number place text old new new.span (subst (λ l. HasLaterSpan text number l old) e (has refl above)) kept

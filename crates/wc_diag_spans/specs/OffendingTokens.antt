@@ -3,8 +3,8 @@ use Rattle.std.specs.Prelude.{◌≡◌, ◌≤◌, ◌<◌, ℕ, List, Some, If
 use Rattle.wc_diag_spans.specs.Lines.{column_at}
 use Rattle.wc_diag_spans.specs.declared.diagnostic.Diagnostic.{Diagnostic}
 use Rattle.wc_diag_spans.specs.declared.diagnostic.Span.{Span}
-use Rattle.wc_diag_spans.specs.declared.refusal.Part.{Part}
-use Rattle.wc_diag_spans.specs.declared.refusal.Part.TheVariants.{Program, Next}
+use Rattle.wc_job.specs.declared.input.Input.{Input}
+use Rattle.wc_job.specs.declared.input.Input.TheVariants.{Program, Next}
 use Rattle.wc_model.specs.declared.fault.Fault.TheVariants.{Refused}
 use Rattle.wc_diag_places.specs.LaterSpans.{IsLaterSpan}
 use Rattle.wc_diag_stops.specs.ReadingSpans.{IsAt, StopsReading}
@@ -28,7 +28,7 @@ abbrev pub StopsProgram : ℕ → List ℕ → Diagnostic → Type 0
 StopsProgram number text diagnostic =
     number < 300 → IfSome diagnostic.span (λ span. MeansStop text number diagnostic.line diagnostic.shown.items span)
 
-abbrev pub IsStoppedBy : Part → ℕ → List ℕ → Diagnostic → Type 0
+abbrev pub IsStoppedBy : Input → ℕ → List ℕ → Diagnostic → Type 0
 IsStoppedBy Program number text diagnostic = StopsProgram number text diagnostic
 IsStoppedBy Next number text diagnostic = StopsProgram number text diagnostic
 IsStoppedBy part number text diagnostic = Unit {0}
@@ -56,7 +56,7 @@ abbrev pub IsOfProgram : ℕ → List ℕ → Diagnostic → Type 0
 IsOfProgram number text diagnostic =
     300 ≤ number → IfSome diagnostic.span (λ span. MeansSlice text number diagnostic.line diagnostic.shown.items diagnostic.subject.items span)
 
-abbrev pub IsOffendingBy : Part → ℕ → List ℕ → Diagnostic → Type 0
+abbrev pub IsOffendingBy : Input → ℕ → List ℕ → Diagnostic → Type 0
 IsOffendingBy Program number text diagnostic = IsOfProgram number text diagnostic
 IsOffendingBy Next number text diagnostic = IsOfProgram number text diagnostic
 IsOffendingBy part number text diagnostic = Unit {0}

@@ -1,19 +1,5 @@
+use wc_job::Input;
 use wc_record::RefusedRow;
-
-/// An input of the program, or a section of a job.
-#[derive(Clone, Copy, PartialEq, Eq)]
-pub enum Part {
-    /// A job, whose sections are the others.
-    Job,
-    /// The plate.
-    Plate,
-    /// The program's text.
-    Program,
-    /// The text of the program that takes its place.
-    Next,
-    /// The log.
-    Log,
-}
 
 /// What is available of what is refused.
 #[derive(Clone, Copy)]
@@ -26,7 +12,6 @@ pub enum Evidence<'a> {
     Row(&'a RefusedRow),
     /// A list of names on one line, of which no program has the one that is there.
     Names {
-        /// The list.
         list: &'a [u8],
         /// The first byte of the name, counted from 0.
         start: usize,
@@ -45,7 +30,7 @@ pub struct Refusal<'a> {
     /// The line or the row, counted from 1 in its part; 0 if none is named.
     pub place: u32,
     /// What is refused.
-    pub part: Part,
+    pub part: Input,
     /// What it is called: the path of a file, or `standard input`.
     pub name: &'a [u8],
     /// Whether it is a section of a job.

@@ -8,13 +8,14 @@ use crate::diagnostic::Diagnostic;
 use crate::lines::line_at;
 use crate::plates::find_plate_fault;
 use crate::programs::find_program_fault;
-use crate::refusal::{Evidence, Part, Refusal};
+use crate::refusal::{Evidence, Refusal};
 use crate::rows::{report_row, shown_row};
 use std::alloc::{AllocError, Global};
 use wc_diag_advice::watched_advice;
 use wc_diag_mistakes::{Said, said_text};
 use wc_diag_places::{SpannedSource, read_by_places};
 use wc_diag_stops::{bytes_at, first_word};
+use wc_job::Input;
 use wc_model::Fault;
 use wc_record::RefusedRow;
 
@@ -26,17 +27,17 @@ fn find_in(
     text: &[u8],
 ) -> Result<(), AllocError>
     requires { diagnostic.old.span ≡ None }
-    ensures stopped { read_as refusal.now.part ≡ Part.Program → refusal.now.number < 300
+    ensures stopped { read_as refusal.now.part ≡ Input.Program → refusal.now.number < 300
         → IfOk result
         (λ _. HasStop text.now refusal.now.number diagnostic.old.line diagnostic.new) }
-    ensures offending { read_as refusal.now.part ≡ Part.Program → 300 ≤ refusal.now.number
+    ensures offending { read_as refusal.now.part ≡ Input.Program → 300 ≤ refusal.now.number
         → IfOk result
         (λ _. HasLaterSpan text.now refusal.now.number diagnostic.old.line diagnostic.new) }
 {
     match refusal.part {
-        Part::Program | Part::Next => find_program_fault(alloc, diagnostic, text, refusal.number),
-        Part::Plate => find_plate_fault(alloc, diagnostic, text, refusal.number),
-        Part::Job | Part::Log => Ok(()),
+        Input::Program | Input::Next => find_program_fault(alloc, diagnostic, text, refusal.number),
+        Input::Plate => find_plate_fault(alloc, diagnostic, text, refusal.number),
+        Input::Job | Input::Log | Input::Names => Ok(()),
     }
 }
 
@@ -45,9 +46,9 @@ fn line_of_part(refusal: &Refusal<'_>, found: u32) -> u32
     ensures { result ≡ line_of_part refusal.now.part refusal.now.place found }
 {
     match refusal.part {
-        Part::Job | Part::Log => 0,
-        Part::Plate => found,
-        Part::Program | Part::Next => refusal.place,
+        Input::Job | Input::Log | Input::Names => 0,
+        Input::Plate => found,
+        Input::Program | Input::Next => refusal.place,
     }
 }
 

@@ -1,5 +1,5 @@
 -- One event more of a body. (No rule of the language.)
-use Rattle.std.proofs.Common.{◌≡◌, ℕ, ◌+◌, ◌<◌, Bool, not, ◌&&◌, ◌||◌, List, [], ◌∷◌, ◌++◌, Option, append_assoc, length, get_or, reverse, take, ap, ◌∙◌, arith}
+use Rattle.std.proofs.Common.{◌≡◌, ℕ, ◌+◌, ◌<◌, Bool, not, ◌&&◌, ◌||◌, List, [], ◌∷◌, ◌++◌, Option, append_assoc, length, get_or, reverse, take, refl, ap, ◌∙◌, arith}
 use Rattle.std.proofs.lemmas.List.{map_push, reverse-append, take_more}
 use Rattle.std.specs.Prelude.{if◌then◌else◌}
 use Rattle.std.specs.List.{flat_map, list_any}
@@ -9,7 +9,7 @@ use Rattle.wc_diag_warnings.specs.Events.{Happening}
 use Rattle.wc_diag_warnings.specs.Warnings.{Caution, address_of, begins_stretch, caution, doing_begins, event_cautions, event_number, is_above_reached, is_stored_again, is_unasked}
 use Rattle.wc_diag_warnings.specs.Edges.{is_reached}
 use Rattle.wc_diag_warnings.specs.Seen.{event_view, events_view}
-use Rattle.wc_diag_warnings.specs.declared.event.Event.{Event}
+use Rattle.wc_diag_warnings.specs.declared.events.Event.{Event}
 
 -- the events before the next, newest first
 pub one_more_before : (events : List Event) (i : ℕ) (other : Event) → i < length events →
@@ -17,6 +17,11 @@ pub one_more_before : (events : List Event) (i : ℕ) (other : Event) → i < le
 one_more_before events i other below =
     ap (λ es. reverse (events_view es)) (take_more events i other below) ∙ ap reverse (map_push event_view (take i events) (get_or events i other))
     ∙ reverse-append (events_view (take i events)) (event_view (get_or events i other) ∷ [])
+
+-- some event reads the validity
+pub asked_in : (events : List Event) → list_any (λ e. reads_valid (event_view e)) events ≡ list_any reads_valid (events_view events)
+asked_in [] = refl
+asked_in (e ∷ events) = ap (λ b. reads_valid (event_view e) || b) (asked_in events)
 
 -- a truth that comes last may come before the second
 swapped : (v b w : Bool) → ((v || b) || w) ≡ (v || (w || b))

@@ -13,9 +13,9 @@ use Rattle.wc_diag_warnings.specs.Events.{Happening}
 use Rattle.wc_diag_warnings.specs.Paths.{Source, AreFrom, IsFollowed, is_from, leads, marks, starts}
 use Rattle.wc_diag_warnings.specs.Seen.{deed_view}
 use Rattle.wc_diag_warnings.specs.declared.edges.Ahead.{Ahead}
-use Rattle.wc_diag_warnings.specs.declared.event.Deed.{Deed}
-use Rattle.wc_diag_warnings.specs.declared.event.Deed.TheVariants.{Jump}
-use Rattle.wc_diag_warnings.specs.declared.paths.Paths.{Paths}
+use Rattle.wc_diag_warnings.specs.declared.events.Deed.{Deed}
+use Rattle.wc_diag_warnings.specs.declared.events.Deed.TheVariants.{Jump}
+use Rattle.wc_diag_warnings.specs.declared.edges.Paths.{Paths}
 
 -- the paths to an event go on to the next one, and to the label to which it jumps
 pub followed_more : (before : List Happening) (e : Happening) (old new : Ahead) (paths : Paths) → IsFollowed before old → AreFrom paths before e →

@@ -11,7 +11,7 @@ use Rattle.wc_diag_warnings.specs.Addresses.{stores}
 use Rattle.wc_diag_warnings.specs.Edges.{Passed, comes_by_jump, comes_down, is_on, passed}
 use Rattle.wc_diag_warnings.specs.Events.{Labels, Happening}
 use Rattle.wc_diag_warnings.specs.declared.edges.Ahead.{Ahead}
-use Rattle.wc_diag_warnings.specs.declared.paths.Paths.{Paths}
+use Rattle.wc_diag_warnings.specs.declared.edges.Paths.{Paths}
 
 -- the body's start, or the stores of the output of a number
 pub data Source : Type 0 where

@@ -15,12 +15,12 @@ use Rattle.wc_model.specs.declared.tree.Line.{Line}
 use Rattle.wc_diag_warnings.specs.Events.{Doing, Begins, Labels, Reads, Stores, Sets, Calls, Gives, Jumps, Returns, Happening, at}
 use Rattle.wc_diag_warnings.specs.Uses.{Used, doing_calls, doing_gives, doing_reads, doing_writes}
 use Rattle.wc_diag_warnings.specs.Warnings.{Caution}
-use Rattle.wc_diag_warnings.specs.declared.event.Deed.{Deed}
-use Rattle.wc_diag_warnings.specs.declared.event.Deed.TheVariants as deeds
-use Rattle.wc_diag_warnings.specs.declared.event.Event.{Event}
+use Rattle.wc_diag_warnings.specs.declared.events.Deed.{Deed}
+use Rattle.wc_diag_warnings.specs.declared.events.Deed.TheVariants as deeds
+use Rattle.wc_diag_warnings.specs.declared.events.Event.{Event}
 use Rattle.wc_diag_warnings.specs.declared.used.Uses.{Uses}
-use Rattle.wc_diag_warnings.specs.declared.uses.Use.{Use}
-use Rattle.wc_diag_warnings.specs.declared.uses.Use.TheVariants.{Read, Written, Called, Given}
+use Rattle.wc_diag_warnings.specs.declared.used.Use.{Use}
+use Rattle.wc_diag_warnings.specs.declared.used.Use.TheVariants.{Read, Written, Called, Given}
 use Rattle.wc_diag_warnings.specs.declared.warning.Warning.{Warning}
 
 abbrev pub deed_view : Deed → Doing

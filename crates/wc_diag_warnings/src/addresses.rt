@@ -5,9 +5,9 @@ ghost use Rattle.wc_built_in.specs.Direct.{direct_at};
 ghost use Rattle.wc_model.specs.Language.DirectVariables.{DirectVariable};
 ghost use Rattle.wc_model.specs.Language.Views.{term_view};
 ghost use Rattle.wc_diag_warnings.specs.Addresses.{is_direct, is_such, reads_valid, reads_weight, stores};
-ghost use Rattle.wc_diag_warnings.specs.Seen.{event_view, events_view};
+ghost use Rattle.wc_diag_warnings.specs.Seen.{event_view};
 
-use crate::event::{Deed, Event};
+use crate::events::{Deed, Event};
 use wc_built_in::variable_at;
 use wc_model::Operand;
 
@@ -43,16 +43,13 @@ pub(crate) fn reads_weight(event: &Event<'_>) -> bool
     ensures { result ≡ reads_weight (event_view event.now) }
 {
     match &event.deed {
-        Deed::Read(operand) => match direct_of(operand) {
-            Some(number) => 22 <= number && number < FIRST_OUTPUT,
-            None => false,
-        },
+        Deed::Read(operand) => matches!(direct_of(operand), Some(22..=24)),
         _ => false,
     }
 }
 
 /// Whether the event reads `%IX1.5`, which says that there is an indication.
-pub(crate) fn reads_valid(event: &Event<'_>) -> bool
+fn reads_valid(event: &Event<'_>) -> bool
     ensures { result ≡ reads_valid (event_view event.now) }
 {
     match &event.deed {
@@ -63,12 +60,7 @@ pub(crate) fn reads_valid(event: &Event<'_>) -> bool
 
 /// Whether some event reads `%IX1.5`.
 pub(crate) fn is_asked(events: &[Event<'_>]) -> bool
-    ensures { result ≡ list_any reads_valid (events_view events.now) }
+    ensures { result ≡ list_any (λ event. reads_valid (event_view event)) events.now }
 {
-    for event in events {
-        if reads_valid(event) {
-            return true;
-        }
-    }
-    false
+    events.iter().any(|event| reads_valid(event))
 }

@@ -1,16 +1,15 @@
-ghost use Rattle.std.specs.Prelude.{◌≡◌, ◌<◌, nat_eq, not, ◌&&◌, ◌||◌, if◌then◌else◌, [], List, OnOk};
+ghost use Rattle.std.specs.Prelude.{◌≡◌, ◌<◌, nat_eq, not, ◌&&◌, if◌then◌else◌, List, OnOk};
 ghost use Rattle.std.specs.List.{list_any};
 ghost use Rattle.wc_model.specs.Language.Names.{name_of};
 ghost use Rattle.wc_diag_warnings.specs.Events.{Happening};
-ghost use Rattle.wc_diag_warnings.specs.Paths.{AreFrom, IsFollowed};
+ghost use Rattle.wc_diag_warnings.specs.Paths.{AreFrom};
 ghost use Rattle.wc_diag_warnings.specs.Seen.{event_view, events_view, Warns};
-ghost use Rattle.wc_diag_warnings.specs.Warnings.{address_of, body_cautions, caution, doing_begins, event_number, is_stored_again, outputs_in};
+ghost use Rattle.wc_diag_warnings.specs.Warnings.{address_of, body_cautions, doing_begins, event_number, is_stored_again, outputs_in};
 
 use crate::addresses::{FIRST_OUTPUT, is_asked, reads_weight, stored};
 use crate::declared::warn;
-use crate::edges::{Ahead, at_start, follow, paths_to};
-use crate::event::{Deed, Event};
-use crate::paths::{Paths, is_stored};
+use crate::edges::{Paths, at_start, follow, is_stored, paths_to};
+use crate::events::{Deed, Event};
 use crate::warning::Warning;
 use std::alloc::{AllocError, Global};
 use wc_model::{Operand, UnitKind};
@@ -35,15 +34,12 @@ fn address_of<'a>(event: &Event<'a>) -> &'a [u8]
 /// What is known of an event and of those before it.
 #[derive(Clone, Copy)]
 struct Known {
-    /// An instruction begins.
     begins: bool,
     /// The instruction before it is reached, or there is none.
     above: bool,
-    /// The event is reached.
     reached: bool,
     /// It stores an output that is stored on a path to it.
     again: bool,
-    /// It reads a weight.
     weighs: bool,
     /// A weight is read before, or `%IX1.5` anywhere.
     asked: bool,
@@ -76,28 +72,6 @@ fn is_above(event: Known) -> bool
     }
 }
 
-/// Whether a weight is read or `%IX1.5` anywhere, after an event.
-fn is_asked_now(event: Known) -> bool
-    ensures { result ≡ (event.asked || event.weighs) }
-{
-    event.asked || event.weighs
-}
-
-/// Adds the warning of an event, if there is one.
-fn warn_event<'a>(
-    warnings: &mut Vec<Warning<'a>>,
-    event: &Event<'a>,
-    number: Option<u8>,
-) -> Result<(), AllocError>
-    ensures added { OnOk result (Warns warnings.old.items warnings.new.items
-        (caution number event.now.line (address_of (event_view event.now).doing))) }
-{
-    match number {
-        Some(number) => warn(warnings, number, event.line, address_of(event)),
-        None => Ok(()),
-    }
-}
-
 /// Whether the directly represented variable of that number is an output of the unit: the program alone has outputs.
 #[tactic(auto, using(crate::proofs::Again::output_is))]
 fn is_output(kind: UnitKind, number: u8) -> bool
@@ -121,37 +95,6 @@ fn is_again(kind: UnitKind, event: &Event<'_>, paths: Paths) -> bool
     }
 }
 
-/// Adds the warnings of a body's events, from its start on.
-fn warn_events<'a>(
-    warnings: &mut Vec<Warning<'a>>,
-    kind: UnitKind,
-    ahead: &mut Ahead<'a>,
-    events: &[Event<'a>],
-) -> Result<(), AllocError>
-    requires { IsFollowed [] ahead.old }
-    ensures added { OnOk result (Warns warnings.old.items warnings.new.items
-        (body_cautions kind (events_view events.now))) }
-{
-    let mut above = true;
-    let mut asked = is_asked(events);
-    for event in events {
-        let paths = paths_to(ahead, event);
-        let known = Known {
-            begins: begins(event),
-            above,
-            reached: paths.started,
-            again: is_again(kind, event, paths),
-            weighs: reads_weight(event),
-            asked,
-        };
-        warn_event(warnings, event, number_of(known))?;
-        follow(ahead, event, paths)?;
-        above = is_above(known);
-        asked = is_asked_now(known);
-    }
-    Ok(())
-}
-
 /// Adds the warnings of a body.
 pub(crate) fn warn_body<'a>(
     alloc: Global,
@@ -163,5 +106,22 @@ pub(crate) fn warn_body<'a>(
         (body_cautions kind (events_view events.now))) }
 {
     let mut ahead = at_start(alloc);
-    warn_events(warnings, kind, &mut ahead, events)
+    let mut above = true;
+    let mut asked = is_asked(events);
+    for event in events {
+        let paths = paths_to(&ahead, event);
+        let known = Known {
+            begins: begins(event),
+            above,
+            reached: paths.started,
+            again: is_again(kind, event, paths),
+            weighs: reads_weight(event),
+            asked,
+        };
+        warn(warnings, number_of(known), event.line, address_of(event))?;
+        follow(&mut ahead, event, paths)?;
+        above = is_above(known);
+        asked = known.asked | known.weighs;
+    }
+    Ok(())
 }

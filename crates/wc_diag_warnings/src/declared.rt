@@ -3,7 +3,7 @@ ghost use Rattle.wc_model.specs.Language.Declarations.{declared_by, variables_of
 ghost use Rattle.wc_model.specs.Language.Names.{name_of};
 ghost use Rattle.wc_model.specs.Language.Views.{declaration_view, unit_view};
 ghost use Rattle.wc_diag_warnings.specs.Seen.{uses_view, variable_view, Warns};
-ghost use Rattle.wc_diag_warnings.specs.Warnings.{caution, declared_cautions, instance_number, is_timer, number_by, use_number, variable_cautions, variable_number};
+ghost use Rattle.wc_diag_warnings.specs.Warnings.{caution, declared_cautions, instance_number, is_timer, number_by, use_number, variable_number};
 
 use crate::used::Uses;
 use crate::warning::Warning;
@@ -87,32 +87,18 @@ fn number_of(kind: UnitKind, declaration: &Decl<'_>, word: Word<'_>, uses: &Uses
     }
 }
 
-/// Adds a warning.
+/// Adds the warning of that number, if there is one.
 pub(crate) fn warn<'a>(
     warnings: &mut Vec<Warning<'a>>,
-    number: u8,
+    number: Option<u8>,
     line: u32,
     name: &'a [u8],
 ) -> Result<(), AllocError>
     ensures added { OnOk result (Warns warnings.old.items warnings.new.items
-        (caution (Some number) line (name_of name.now))) }
+        (caution number line (name_of name.now))) }
 {
-    Ok(warnings.push(Warning { number, line, name })?)
-}
-
-/// Adds the warning of a name, if there is one.
-fn warn_name<'a>(
-    warnings: &mut Vec<Warning<'a>>,
-    kind: UnitKind,
-    declaration: &Decl<'a>,
-    word: Word<'a>,
-    uses: &Uses<'_>,
-) -> Result<(), AllocError>
-    ensures added { OnOk result (Warns warnings.old.items warnings.new.items
-        (variable_cautions kind (uses_view uses.now) (variable_view declaration.now word.entry))) }
-{
-    match number_of(kind, declaration, word, uses) {
-        Some(number) => warn(warnings, number, word.line, word.text),
+    match number {
+        Some(number) => Ok(warnings.push(Warning { number, line, name })?),
         None => Ok(()),
     }
 }
@@ -129,7 +115,8 @@ fn warn_declaration<'a>(
         (declared_by (declaration_view declaration.now)))) }
 {
     for word in &declaration.names {
-        warn_name(warnings, kind, declaration, *word, uses)?;
+        let number = number_of(kind, declaration, *word, uses);
+        warn(warnings, number, word.line, word.text)?;
     }
     Ok(())
 }

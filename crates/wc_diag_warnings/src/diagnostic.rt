@@ -7,8 +7,7 @@ ghost use Rattle.wc_diag_warnings.specs.Warnings.{declared_cautions, unit_cautio
 
 use crate::body::warn_body;
 use crate::declared::warn_declared;
-use crate::event::Event;
-use crate::events::events_of;
+use crate::events::{Event, events_of};
 use crate::used::{fill, unused};
 use crate::warning::Warning;
 use std::alloc::{AllocError, Global};

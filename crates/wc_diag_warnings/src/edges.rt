@@ -1,25 +1,73 @@
-ghost use Rattle.std.specs.Prelude.{◌≡◌, ◌&&◌, ◌||◌, not, [], ◌∷◌, List, OnOk};
+ghost use Rattle.std.specs.Prelude.{◌≡◌, ◌<◌, ◌&&◌, ◌||◌, false, not, [], ◌∷◌, List, OnOk};
 ghost use Rattle.wc_model.specs.Language.Declarations.{same_name};
 ghost use Rattle.wc_model.specs.Language.Names.{name_of};
 ghost use Rattle.wc_names.specs.Keys.{name_of_key};
 ghost use Rattle.wc_names.specs.declared.key.Key.{Key as Keyed};
 ghost use Rattle.wc_diag_warnings.specs.Edges.{doing_leaves};
 ghost use Rattle.wc_diag_warnings.specs.Events.{Happening};
-ghost use Rattle.wc_diag_warnings.specs.Paths.{Source, AreFrom, IsFollowed, is_from, leads, marks};
+ghost use Rattle.wc_diag_warnings.specs.Paths.{Source, Store, AreFrom, IsFollowed, is_from, is_store, leads, marks};
 ghost use Rattle.wc_diag_warnings.specs.Seen.{event_view};
 
 use crate::addresses::stored;
-use crate::event::{Deed, Event};
-use crate::paths::{Paths, both, from_store, no_paths};
+use crate::events::{Deed, Event};
 use indexmap::IndexMap;
 use std::alloc::{AllocError, Global};
 use wc_model::Condition;
 use wc_names::Key;
 
+/// From where paths come to an event.
+#[derive(Clone, Copy)]
+pub(crate) struct Paths {
+    /// Whether one comes from the body's start.
+    pub(crate) started: bool,
+    /// The outputs from a store of which one comes: the bit of each one's number.
+    pub(crate) stored: u64,
+}
+
+/// No paths.
+fn no_paths() -> Paths
+    ensures { (source : Source) → is_from result source ≡ false }
+{
+    Paths {
+        started: false,
+        stored: 0,
+    }
+}
+
+/// All of these and those.
+fn both(these: Paths, those: Paths) -> Paths
+    ensures { (source : Source) → is_from result source
+        ≡ (is_from these source || is_from those source) }
+{
+    Paths {
+        started: these.started | those.started,
+        stored: these.stored | those.stored,
+    }
+}
+
+/// These, and one from a store of the output of that number.
+fn from_store(paths: Paths, output: u8) -> Paths
+    requires { output < 64 }
+    ensures { (source : Source) → is_from result source
+        ≡ (is_from paths source || is_store output source) }
+{
+    Paths {
+        started: paths.started,
+        stored: paths.stored | 1 << output,
+    }
+}
+
+/// Whether one comes from a store of the output of that number.
+pub(crate) fn is_stored(paths: Paths, output: u8) -> bool
+    requires { output < 64 }
+    ensures { result ≡ is_from paths (Store output) }
+{
+    (paths.stored >> output) & 1 == 1
+}
+
 /// Where the paths to the events before go on.
 #[derive(Drop)]
 pub(crate) struct Ahead<'a> {
-    /// Those to the next event.
     next: Paths,
     /// Those by jumps to each label.
     labels: IndexMap<Key<'a>, Paths>,
@@ -43,8 +91,7 @@ fn leaves(event: &Event<'_>) -> bool
     ensures { result ≡ doing_leaves (event_view event.now).doing }
 {
     match event.deed {
-        Deed::Jump { condition, .. } => condition == Condition::Always,
-        Deed::Return(condition) => condition == Condition::Always,
+        Deed::Jump { condition, .. } | Deed::Return(condition) => condition == Condition::Always,
         _ => false,
     }
 }
@@ -69,10 +116,9 @@ fn to_label(labels: &IndexMap<Key<'_>, Paths>, label: &[u8]) -> Paths
     ensures { (source : Source) → is_from result source
         ≡ leads labels.now (name_of label.now) source }
 {
-    match labels.get(&Key { text: label }) {
-        Some(paths) => *paths,
-        None => no_paths(),
-    }
+    labels
+        .get(&Key { text: label })
+        .map_or(no_paths(), |paths| *paths)
 }
 
 /// The paths to the event after those before.

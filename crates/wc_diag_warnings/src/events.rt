@@ -1,14 +1,47 @@
 ghost use Rattle.std.specs.Prelude.{◌≡◌, ℕ, [], ◌∷◌, ◌++◌, IfOk, OnOk, map, option_map};
-ghost use Rattle.std.specs.List.{flat_map};
 ghost use Rattle.wc_model.specs.Language.Names.{name_of};
 ghost use Rattle.wc_model.specs.Language.Tree.{Lines};
 ghost use Rattle.wc_model.specs.Language.Views.{assignment_view, line_view, lines_view, term_view, word_view};
 ghost use Rattle.wc_diag_warnings.specs.Events.{Begins, argument_events, at, call_events, events_of, label_events, line_events, opening_events, storing_event};
 ghost use Rattle.wc_diag_warnings.specs.Seen.{deed_events, deed_view, events_view, instr_view, Adds};
 
-use crate::event::{Deed, Event};
 use std::alloc::{AllocError, Global};
-use wc_model::{Argument, Direction, Instr, Line, Operand, Storing, Word};
+use wc_model::{Argument, Condition, Direction, Instr, Line, Operand, Storing, Word};
+
+/// What an instruction does: with what it names, or with the way on.
+#[derive(Clone, Copy)]
+pub(crate) enum Deed<'a> {
+    /// An instruction begins.
+    Begin,
+    Label(&'a [u8]),
+    /// LD, an operator or an input of a call reads it.
+    Read(Operand<'a>),
+    /// ST, STN or an output of a call stores it.
+    Store(Operand<'a>),
+    /// S or R writes it, if the current result is TRUE.
+    Set(Operand<'a>),
+    Call(&'a [u8]),
+    /// The call's list gives the instance this input.
+    Give {
+        instance: &'a [u8],
+        input: &'a [u8],
+    },
+    /// JMP, JMPC, JMPCN.
+    Jump {
+        condition: Condition,
+        label: &'a [u8],
+    },
+    /// RET, RETC, RETCN.
+    Return(Condition),
+}
+
+/// A deed and its line of the text.
+#[derive(Clone, Copy)]
+pub(crate) struct Event<'a> {
+    /// Counted from 1.
+    pub(crate) line: u32,
+    pub(crate) deed: Deed<'a>,
+}
 
 /// Adds an event.
 fn put<'a>(events: &mut Vec<Event<'a>>, line: u32, deed: Deed<'a>) -> Result<(), AllocError>
@@ -46,23 +79,6 @@ fn put_argument<'a>(
         }
         Direction::OutOf => put(events, line, Deed::Store(argument.value)),
     }
-}
-
-/// Adds the events of a call's list.
-fn put_arguments<'a>(
-    events: &mut Vec<Event<'a>>,
-    line: u32,
-    instance: &'a [u8],
-    arguments: &[Argument<'a>],
-) -> Result<(), AllocError>
-    ensures added { OnOk result (Adds events.old.items events.new.items
-        (flat_map (argument_events line (name_of instance.now))
-        (map assignment_view arguments.now))) }
-{
-    for argument in arguments {
-        put_argument(events, line, instance, argument)?;
-    }
-    Ok(())
 }
 
 /// Adds the beginning of an instruction, and its one deed if it has one.
@@ -104,7 +120,10 @@ fn put_call<'a>(
         (map assignment_view arguments.now))) }
 {
     put_step(events, line, Some(Deed::Call(instance)))?;
-    put_arguments(events, line, instance, arguments)
+    for argument in arguments {
+        put_argument(events, line, instance, argument)?;
+    }
+    Ok(())
 }
 
 /// What the operand of an opening line is: read.
@@ -139,13 +158,14 @@ fn put_instr<'a>(events: &mut Vec<Event<'a>>, instr: &Instr<'a>) -> Result<(), A
         (Adds events.old.items events.new.items (line_events (instr_view instr.now))) }
 {
     match instr {
-        Instr::Load { operand, line, .. } => put_step(events, *line, Some(Deed::Read(*operand))),
         Instr::Store {
             storing,
             target,
             line,
         } => put_step(events, *line, Some(stored(*storing, *target))),
-        Instr::Apply { operand, line, .. } => put_step(events, *line, Some(Deed::Read(*operand))),
+        Instr::Load { operand, line, .. } | Instr::Apply { operand, line, .. } => {
+            put_step(events, *line, Some(Deed::Read(*operand)))
+        }
         Instr::Defer {
             operand,
             inside,

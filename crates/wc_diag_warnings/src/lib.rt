@@ -7,12 +7,9 @@ mod body;
 mod declared;
 mod diagnostic;
 mod edges;
-mod event;
 mod events;
 mod laws;
-mod paths;
 mod used;
-mod uses;
 mod warning;
 
 pub use diagnostic::find_warnings;

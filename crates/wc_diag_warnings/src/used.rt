@@ -1,17 +1,65 @@
-ghost use Rattle.std.specs.Prelude.{◌≡◌, ◌||◌, [], OnOk, option_map};
+ghost use Rattle.std.specs.Prelude.{◌≡◌, ◌&&◌, ◌||◌, [], OnOk, codes, option_map};
 ghost use Rattle.std.specs.List.{list_any};
 ghost use Rattle.wc_model.specs.Language.DeclarationRules.{is_among};
+ghost use Rattle.wc_model.specs.Language.Declarations.{same_name};
 ghost use Rattle.wc_model.specs.Language.Names.{Name, name_of};
-ghost use Rattle.wc_diag_warnings.specs.Seen.{does, events_view, uses_view};
-ghost use Rattle.wc_diag_warnings.specs.Uses.{is_this, used_in};
+ghost use Rattle.wc_model.specs.Language.Views.{term_view};
+ghost use Rattle.wc_diag_warnings.specs.Seen.{does, event_view, events_view, uses_view};
+ghost use Rattle.wc_diag_warnings.specs.Uses.{is_this, is_variable, used_in};
 
-use crate::event::Event;
-use crate::uses::{Use, name_used};
+use crate::events::{Deed, Event};
 use std::alloc::{AllocError, Global};
+use wc_model::{Operand, is_word};
 use wc_names::Names;
 
+/// How a name is used; an instance is given a PT.
+#[derive(Clone, Copy)]
+enum Use {
+    Read,
+    Written,
+    Called,
+    Given,
+}
+
+/// The variable that an operand is.
+fn variable_of<'a>(operand: Operand<'a>) -> Option<&'a [u8]>
+    ensures { (name : Name) → is_variable (term_view operand.entry) name
+        ≡ is_this (option_map (λ text. name_of text.now) result) name }
+{
+    match operand {
+        Operand::Name(text) => Some(text),
+        Operand::Literal(_) | Operand::Address(_) | Operand::Field { .. } => None,
+    }
+}
+
+/// The instance, if the input is PT.
+fn given_time<'a>(instance: &'a [u8], input: &[u8]) -> Option<&'a [u8]>
+    ensures { (name : Name) → (same_name (name_of instance.now) name
+        && same_name (name_of input.now) (codes "pt"))
+        ≡ is_this (option_map (λ text. name_of text.now) result) name }
+{
+    is_word(input, b"PT").then_some(instance)
+}
+
+/// The name that the event uses so.
+fn name_used<'a>(wanted: Use, event: &Event<'a>) -> Option<&'a [u8]>
+    ensures { (name : Name) → does wanted (event_view event.now).doing name
+        ≡ is_this (option_map (λ text. name_of text.now) result) name }
+{
+    match (wanted, event.deed) {
+        (Use::Read, Deed::Read(operand)) => variable_of(operand),
+        (Use::Written, Deed::Store(target) | Deed::Set(target)) => variable_of(target),
+        (Use::Called, Deed::Call(instance)) => Some(instance),
+        (Use::Given, Deed::Give { instance, input }) => given_time(instance, input),
+        (Use::Given, Deed::Store(Operand::Field { instance, field })) => given_time(
+            instance, field,
+        ),
+        _ => None,
+    }
+}
+
 /// Adds a name, if there is one.
-pub(crate) fn add<'a>(names: &mut Names<'a>, name: Option<&'a [u8]>) -> Result<(), AllocError>
+fn add<'a>(names: &mut Names<'a>, name: Option<&'a [u8]>) -> Result<(), AllocError>
     ensures added { OnOk result ((other : Name) → is_among names.new other
         ≡ (is_among names.old other
         || is_this (option_map (λ text. name_of text.now) name.entry) other)) }
@@ -40,13 +88,9 @@ fn add_used<'a>(names: &mut Names<'a>, wanted: Use, events: &[Event<'a>]) -> Res
 /// The names that the events of a unit use.
 #[derive(Drop)]
 pub(crate) struct Uses<'a> {
-    /// Variables that are read.
     pub(crate) read: Names<'a>,
-    /// Variables that are written.
     pub(crate) written: Names<'a>,
-    /// Instances that are called.
     pub(crate) called: Names<'a>,
-    /// Instances that are given a PT.
     pub(crate) given: Names<'a>,
 }
 

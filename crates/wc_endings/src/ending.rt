@@ -1,11 +1,18 @@
 ghost use Rattle.std.specs.Prelude.{◌≡◌, ℕ};
 ghost use Rattle.wc_endings.specs.Endings.{EndsAfter, EndsRefused, ReportsFailures, ReportsWriteFaults, ending_of, raised, status_of};
 
-use crate::input::{Input, Stopped};
 use std::alloc::Global;
+use wc_job::Input;
 use wc_model::{ByteOut, write_whole};
 use wc_report::refused_line;
 use wc_run::RunFault;
+
+/// Why a command stopped, and the input that was being read or answered then.
+#[derive(Clone, Copy, PartialEq, Eq)]
+pub struct Stopped {
+    pub input: Input,
+    pub fault: RunFault,
+}
 
 /// How a command ended.
 #[derive(Clone, Copy, PartialEq, Eq)]
@@ -14,7 +21,6 @@ pub enum Ending {
     Done,
     /// An input breaks a rule: the line of the refusal was written last.
     Refused {
-        /// The input that breaks it.
         input: Input,
         /// The rule's number, by the list of refusals.
         number: u16,
@@ -23,12 +29,10 @@ pub enum Ending {
     },
     /// An input's reader failed, or as much of the log was read as may be.
     ReadFault {
-        /// The input.
         input: Input,
     },
     /// The writer failed, or took nothing.
     WriteFault,
-    /// Memory was refused.
     NoMemory,
 }
 
@@ -37,12 +41,11 @@ impl Ending {
     pub fn of(answer: Result<(), Stopped>) -> Ending
         ensures { result ≡ ending_of answer }
     {
-        let stopped = match answer {
+        let Stopped { input, fault } = match answer {
             Ok(()) => return Ending::Done,
             Err(stopped) => stopped,
         };
-        let input = stopped.input;
-        match stopped.fault {
+        match fault {
             RunFault::Refused { number, place } => Ending::Refused {
                 input,
                 number,
@@ -62,8 +65,7 @@ impl Ending {
         match self {
             Ending::Done => 0,
             Ending::Refused { .. } => 1,
-            Ending::ReadFault { .. } => 3,
-            Ending::WriteFault => 3,
+            Ending::ReadFault { .. } | Ending::WriteFault => 3,
             Ending::NoMemory => 4,
         }
     }
@@ -105,12 +107,11 @@ pub fn end<W: ByteOut>(alloc: Global, answer: Result<(), Stopped>, writer: &mut 
         → ReportsWriteFaults (raised answer) before (W.failure_count writer.old)
         → ReportsFailures result before (W.failure_count writer.new) }
 {
-    let stopped = match answer {
+    let Stopped { input, fault } = match answer {
         Ok(()) => return Ending::Done,
         Err(stopped) => stopped,
     };
-    let input = stopped.input;
-    match stopped.fault {
+    match fault {
         RunFault::Refused { number, place } => end_refused(alloc, input, number, place, writer),
         RunFault::Read => Ending::ReadFault { input },
         RunFault::Write => Ending::WriteFault,

@@ -3,11 +3,8 @@
 #![tactic(auto)]
 
 mod ending;
-mod input;
 mod unit_lines;
-mod unit_report;
 
-pub use ending::{Ending, end};
-pub use input::{Input, Stopped};
-pub use unit_lines::text_of_units;
-pub use unit_report::write_units;
+pub use ending::{Ending, Stopped, end};
+pub use unit_lines::{text_of_units, write_units};
+pub use wc_job::Input;

@@ -7,17 +7,9 @@ ghost use Rattle.wc_model.specs.Language.Scans.{is_bit_set};
 ghost use Rattle.wc_model.specs.declared.kind.SlotKind.TheVariants as slots;
 ghost use Rattle.wc_store.specs.Slots.{with_four};
 
-use crate::written::{set_count, set_truth};
+use crate::fields::{set_count, set_truth};
 use wc_model::Image;
 use wc_store::Store;
-
-/// Whether a bit is 1.
-fn is_set(bits: u16, bit: u8) -> bool
-    requires { bit < 16 }
-    ensures { result ≡ is_bit_set bits bit }
-{
-    (bits >> bit) % 2 == 1
-}
 
 /// Four bits as numbers, the lowest first.
 #[derive(Clone, Copy)]
@@ -105,7 +97,7 @@ fn copy_bits<S: Store>(store: &mut S, first: usize, count: u8, bits: u16)
         → AreBefore now (S.slot_kinds store.new) (S.numbers store.new) }
 {
     for bit in 0..count {
-        set_truth(store, first + usize::from(bit), is_set(bits, bit));
+        set_truth(store, first + usize::from(bit), (bits >> bit) % 2 == 1);
     }
 }
 

@@ -2,35 +2,21 @@
 //! process image that goes to the inputs, and what is at the outputs. It knows no text and no other body.
 #![tactic(auto)]
 
-mod count;
 mod course;
-mod ctu;
 mod fields;
 mod image;
-mod logic;
-mod numbers_written;
 mod operators;
 mod outputs;
 mod own_lines;
 mod places;
-mod plain_lines;
-mod r_trig;
-mod reading;
-mod results;
-mod rs;
-mod sr;
+mod plain_blocks;
 mod standard;
-mod stored_block;
 mod tof;
 mod ton;
 mod tp;
-mod written;
 
-pub use count::{Count, count_on, with_lines};
-pub use course::{Flow, Moved, next_line};
+pub use course::{Count, Flow, Moved, count_on, next_line, with_lines};
 pub use image::copy_image;
-pub use numbers_written::number_written;
-pub use outputs::read_outputs;
-pub use own_lines::step;
-pub use plain_lines::go_on;
-pub use reading::number_at;
+pub use outputs::{number_at, read_outputs};
+pub use own_lines::{go_on, step};
+pub use places::number_written;

@@ -1,21 +1,11 @@
-ghost use Rattle.std.specs.Prelude.{◌≡◌, ◌+◌, ◌*◌, ◌^◌, ◌<◌, ◌≤◌, ℕ, ℤ, Some, map, sum, pos, length, slice_get, if◌then◌else◌};
+ghost use Rattle.std.specs.Prelude.{◌≡◌, ◌+◌, ◌*◌, ◌^◌, ◌<◌, ◌≤◌, ℕ, ℤ, Some, map, sum, pos, length, slice_get};
 ghost use Rattle.wc_execution.specs.Lines.{AreAll};
 ghost use Rattle.wc_model.specs.Language.DirectVariables.{numbers_below};
 ghost use Rattle.wc_model.specs.declared.kind.SlotKind.TheVariants as slots;
 
 use crate::fields::{count_at, truth_at};
-use wc_model::Outputs;
+use wc_model::{Outputs, Place};
 use wc_store::Store;
-
-/// Whether an output bit is TRUE.
-fn is_on<S: Store>(store: &S, bit: u8) -> bool
-    requires bit { bit < 16 }
-    requires slots { AreAll slots.Bool (S.slot_kinds store.now) 25 16 }
-    requires capacity { length (S.slot_kinds store.now) ≤ 65536 }
-    ensures { slice_get (S.numbers store.now) (25 + bit) ≡ Some (pos (if result then 1 else 0)) }
-{
-    truth_at(store, 25 + usize::from(bit))
-}
 
 /// The output bits, bit i for `%QX0.i`, which are at the places from 25 on.
 fn bits<S: Store>(store: &S) -> u16
@@ -26,22 +16,12 @@ fn bits<S: Store>(store: &S) -> u16
         → result ≡ sum (map (λ i. 2 ^ i * on i) (numbers_below 16)) }
 {
     let mut bits = 0;
-    for bit in 0..16 {
-        if is_on(store, bit) {
+    for bit in 0_u8..16 {
+        if truth_at(store, 25 + usize::from(bit)) {
             bits += 1 << bit;
         }
     }
     bits
-}
-
-/// An output word.
-fn word<S: Store>(store: &S, number: usize) -> i32
-    requires number { number < 4 }
-    requires slots { AreAll slots.Dint (S.slot_kinds store.now) 41 4 }
-    requires capacity { length (S.slot_kinds store.now) ≤ 65536 }
-    ensures { slice_get (S.numbers store.now) (41 + number) ≡ Some result }
-{
-    count_at(store, 41 + number)
 }
 
 /// What is at the outputs.
@@ -59,10 +39,22 @@ pub fn read_outputs<S: Store>(store: &S) -> Outputs
     Outputs {
         bits: bits(store),
         words: [
-            word(store, 0),
-            word(store, 1),
-            word(store, 2),
-            word(store, 3),
+            count_at(store, 41),
+            count_at(store, 42),
+            count_at(store, 43),
+            count_at(store, 44),
         ],
+    }
+}
+
+/// The number at a place, if the store has that place.
+pub fn number_at<S: Store>(store: &S, place: Place) -> Option<i64>
+    ensures { result ≡ slice_get (S.numbers store.now) place.0 }
+{
+    let at = usize::from(place.0);
+    if at < store.size() {
+        Some(store.get_at(at))
+    } else {
+        None
     }
 }

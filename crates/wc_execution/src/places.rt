@@ -1,10 +1,12 @@
-ghost use Rattle.std.specs.Prelude.{◌≡◌, ◌≤◌, ℕ, Some, IsSome, false, length, true};
+ghost use Rattle.std.specs.Prelude.{◌≡◌, ◌≤◌, ℕ, Some, IsSome, false, length, true, []};
 ghost use Rattle.wc_text_flat.specs.NumberOperators.{flipped};
+ghost use Rattle.wc_execution.specs.Lines.{held, loaded, negated_if, passed, stored, written, AreBefore, here_at, no_calls, state_of};
+ghost use Rattle.wc_execution.specs.Writing.{IsStorable, IsWritable};
+ghost use Rattle.wc_text_flat.specs.FlatSeen.{number_stored, number_written};
 ghost use Rattle.wc_model.specs.declared.operator.Storing.TheVariants as stores;
-ghost use Rattle.wc_execution.specs.Lines.{held, loaded, negated_if, passed, stored, written, AreBefore};
 
 use crate::operators::truth;
-use wc_model::{Place, Storing};
+use wc_model::{Code, Place, Storing};
 use wc_store::Store;
 
 /// The negation of a number that is 0 or 1.
@@ -123,4 +125,35 @@ pub(crate) fn pass<S: Store>(store: &mut S, base: usize, place: Place, target: P
 {
     let number = read(store, base, place);
     write(store, base, target, number);
+}
+
+/// What ST, STN, S and R write of a result: S and R nothing if it is FALSE.
+fn number_stored(storing: Storing, current: i32) -> Option<i32>
+    requires { IsStorable storing current }
+    ensures { result ≡ number_stored storing current }
+{
+    match storing {
+        Storing::Result => Some(current),
+        Storing::Negation => Some(flipped(current)),
+        Storing::Set => { if truth(current) { Some(1) } else { None } }
+        Storing::Reset => { if truth(current) { Some(0) } else { None } }
+    }
+}
+
+/// The number that a line is going to write to the place that it names. It stays a call: where nobody asks for the
+/// number, what only reads is compiled to nothing, but once it is inlined its choice by the line would stay.
+#[inline(never)]
+pub fn number_written<S: Store>(store: &S, current: i32, line: &Code, base: usize) -> Option<i32>
+    requires capacity { length (S.slot_kinds store.now) ≤ 65536 }
+    requires there { IsWritable base (S.slot_kinds store.now) (S.numbers store.now) current
+        line.now }
+    ensures { result ≡ number_written (here_at base 0 (S.slot_kinds store.now) no_calls)
+        (state_of current [] (S.numbers store.now)) line.now }
+{
+    match *line {
+        Code::Store { storing, .. } => number_stored(storing, current),
+        Code::ArgumentNumber { number, .. } => Some(number),
+        Code::ArgumentPlace { place, .. } => Some(read(store, base, place)),
+        _ => None,
+    }
 }

@@ -4,9 +4,10 @@ ghost use Rattle.wc_model.specs.Language.BlockCalls.{tof_contents};
 ghost use Rattle.wc_model.specs.Language.Blocks.{tof_step};
 ghost use Rattle.wc_model.specs.declared.block.StandardBlock.TheVariants as blocks;
 
-use crate::fields::{moment_at, phase_at, time_at, truth_at};
-use crate::stored_block::StoredBlock;
-use crate::written::{set_moment, set_phase, set_time, set_truth};
+use crate::fields::{
+    moment_at, phase_at, set_moment, set_phase, set_time, set_truth, time_at, truth_at,
+};
+use crate::standard::StoredBlock;
 use wc_blocks::Tof;
 use wc_store::Store;
 

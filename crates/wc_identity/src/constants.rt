@@ -6,8 +6,8 @@ macro_rules! with_constants {
         $macro!(
             "0.1.0",
             "rattle-kit-13 logic dac8208d650f15bf",
-            "09453a878a592f615355a46c0a740ae72d921703c4b2640e76e26f99b2b3714a",
-            "0e604e53c07d78eabccac83a86307e01ee8133f41de9d6cd7c893c67f33d4aa3"
+            "f0f1a093c207711dd01067e4b7d01c9e2af928f885285f612cd6e4d085024c62",
+            "227721550f9d599fb43d7f1665411ee734434676b38571a3bc9f7fb2008d4f14"
         )
     };
 }

@@ -9,7 +9,7 @@ use crate::spread::spread;
 use circular_buffer::HeapCircularBuffer;
 use std::alloc::Global;
 use std::marker::Model;
-use wc_model::Fault;
+use wc_model::{Fault, or_memory};
 use wc_plate::Plate;
 
 /// An indicator: what it shows is a function of its plate and of all that has come to it.
@@ -42,16 +42,13 @@ impl Indicator {
     {
         let window = plate.window() as usize;
         let zero = plate.zero_counts();
-        match HeapCircularBuffer::with_capacity(alloc, window) {
-            Ok(latest) => Ok(Indicator {
-                plate,
-                latest,
-                last: None,
-                zero,
-                tare: None,
-            }),
-            Err(_) => Err(Fault::Memory),
-        }
+        Ok(Indicator {
+            plate,
+            latest: or_memory(HeapCircularBuffer::with_capacity(alloc, window))?,
+            last: None,
+            zero,
+            tare: None,
+        })
     }
 
     /// Takes a sample of the sensor.
@@ -190,16 +187,15 @@ impl Indicator {
     pub fn gross(&self) -> Option<i32>
         ensures { Reports indication.gross self.now result }
     {
-        let weight = self.in_units(self.gross_intervals());
-        if self.valid() { Some(weight) } else { None }
+        self.valid()
+            .then_some(self.in_units(self.gross_intervals()))
     }
 
     /// The net weight, in units of the last decimal, if there is an indication.
     pub fn net(&self) -> Option<i32>
         ensures { Reports indication.net self.now result }
     {
-        let weight = self.in_units(self.net_intervals());
-        if self.valid() { Some(weight) } else { None }
+        self.valid().then_some(self.in_units(self.net_intervals()))
     }
 
     /// What is shown: the net weight while a tare is active, else the gross weight.

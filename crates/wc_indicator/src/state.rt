@@ -12,11 +12,7 @@ impl Indicator {
             (indication.zero_point p history)) self.now
             result }
     {
-        if self.zero == self.plate.zero_counts() {
-            None
-        } else {
-            Some(self.zero)
-        }
+        (self.zero != self.plate.zero_counts()).then_some(self.zero)
     }
 
     /// The sample at which the tare was taken, if one is active.

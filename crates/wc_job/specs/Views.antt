@@ -1,8 +1,8 @@
 -- What the answers of this crate represent.
 use Rattle.std.specs.Prelude.{◌≡◌, ℕ, ◌+◌, ◌<◌, ◌==◌, min, List, [], ◌∷◌, length, codes, Option, Some, None, Result, Ok, Err, option_map}
 use Rattle.std.specs.List.{position_or_len}
-use Rattle.wc_job.specs.declared.headings.Heading.{Heading}
-use Rattle.wc_job.specs.declared.headings.Heading.TheVariants.{Plate, Program, Next, Log}
+use Rattle.wc_job.specs.declared.cutting.Heading.{Heading}
+use Rattle.wc_job.specs.declared.cutting.Heading.TheVariants.{Plate, Program, Next, Log}
 use Rattle.wc_job.specs.declared.parts.SplitLine.{SplitLine}
 use Rattle.wc_job.specs.declared.parts.Sections as answer
 use Rattle.wc_model.specs.Run.JobSections.{Parted, Sections, whole_lines}

@@ -2,11 +2,11 @@
 #![tactic(auto)]
 
 mod cutting;
-mod headings;
-mod lines;
+mod input;
 mod parts;
 mod reading;
 
 pub use cutting::sections;
+pub use input::Input;
 pub use parts::Sections;
 pub use reading::{ReadFault, read_whole};

@@ -1,13 +1,10 @@
 /// The sections of a job, each with the line end before the next heading.
 #[derive(Clone, Copy)]
 pub struct Sections<'a> {
-    /// The text of the plate.
     pub plate: &'a [u8],
-    /// The text of the program.
     pub program: &'a [u8],
     /// The text of the next program, if it has its heading.
     pub next: Option<&'a [u8]>,
-    /// The bytes of the log.
     pub log: &'a [u8],
 }
 

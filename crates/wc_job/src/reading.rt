@@ -11,13 +11,10 @@ use wc_model::{ByteIn, LONGEST_JOB};
 /// Why the bytes of a job are not known.
 #[derive(Clone, Copy, Debug, Error)]
 pub enum ReadFault {
-    /// There are more than 1048576.
     #[error("more than 1048576 bytes")]
     TooLong,
-    /// A read failed.
     #[error("read fault")]
     Read,
-    /// Memory is refused.
     #[error("out of memory")]
     Memory,
 }

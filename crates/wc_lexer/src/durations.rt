@@ -1,9 +1,9 @@
 ghost use Rattle.std.specs.Prelude.{◌≡◌, ◌^◌, ◌-◌, ◌*◌, ◌+◌, ◌∷◌, ◌<◌, ◌≤◌, ◌&&◌, ◌||◌, IfSome, if◌then◌else◌, drop, map, length, option_map, option_and_then, count_by, not};
 ghost use Rattle.std.specs.Bool.{nat_le, nat_lt, then_some};
 ghost use Rattle.std.specs.Char.{is_ascii_digit};
-ghost use Rattle.std.specs.List.{after_first, before_first, list_all, list_any};
+ghost use Rattle.std.specs.List.{before_first, list_all, list_any};
 ghost use Rattle.std.specs.Str.Parse.{digits_value};
-ghost use Rattle.wc_lexer.specs.Parts.{IsParsedPart, IsParsedSum, are_later, parsed_fraction, part_by};
+ghost use Rattle.wc_lexer.specs.Parts.{IsParsedPart, IsParsedSum, are_later, parsed_fraction};
 ghost use Rattle.wc_lexer.specs.Widths.{within_64_bits};
 ghost use Rattle.wc_model.specs.Text.Characters.{begins, is_empty, is_point, is_underscore};
 ghost use Rattle.wc_model.specs.Text.Digits.{are_digits, value_of_digits};
@@ -11,7 +11,7 @@ ghost use Rattle.wc_model.specs.Text.Durations.{are_duration_parts, billionths, 
 
 use crate::numbers::{are_digits, signed, value_of_digits};
 use crate::prefixes::{
-    begins_with, following_first, length_before, letterless_length, letters_length,
+    begins_with, cut_at, following_first, length_before, letterless_length, letters_length,
 };
 use wc_model::is_word;
 
@@ -33,7 +33,6 @@ struct ParsedPart {
     below: u64,
     /// Its whole number.
     whole: u64,
-    /// It has a point.
     has_point: bool,
     /// How long it is, in billionths of a millisecond.
     billionths: u64,
@@ -46,34 +45,23 @@ fn unit_named(letters: &[u8]) -> Option<TimeUnit>
         (unit_named letters.now) }
     ensures positive { IfSome result (λ unit. 1 ≤ unit.milliseconds) }
 {
-    if is_word(letters, b"d") {
-        Some(TimeUnit {
-            milliseconds: 86_400_000,
-            below: 0,
-        })
+    let (milliseconds, below) = if is_word(letters, b"d") {
+        (86_400_000, 0)
     } else if is_word(letters, b"h") {
-        Some(TimeUnit {
-            milliseconds: 3_600_000,
-            below: 24,
-        })
+        (3_600_000, 24)
     } else if is_word(letters, b"m") {
-        Some(TimeUnit {
-            milliseconds: 60_000,
-            below: 60,
-        })
+        (60_000, 60)
     } else if is_word(letters, b"s") {
-        Some(TimeUnit {
-            milliseconds: 1_000,
-            below: 60,
-        })
+        (1_000, 60)
     } else if is_word(letters, b"ms") {
-        Some(TimeUnit {
-            milliseconds: 1,
-            below: 1_000,
-        })
+        (1, 1_000)
     } else {
-        None
-    }
+        return None;
+    };
+    Some(TimeUnit {
+        milliseconds,
+        below,
+    })
 }
 
 /// The number of characters the digits have, without underscores.
@@ -148,10 +136,10 @@ fn fraction(text: &[u8]) -> Option<u64>
         (digits_value 10 text.now * 10 ^ (9 - length text.now))) }
 {
     if 1 <= text.len() && text.len() <= 9 && has_digits_alone(text) {
-        match value_of_digits(10, text) {
-            Some(value) => product(value, last_digit_billionths(text.len())),
-            None => None,
-        }
+        product(
+            value_of_digits(10, text)?,
+            last_digit_billionths(text.len()),
+        )
     } else {
         None
     }
@@ -175,38 +163,9 @@ fn billionths(whole: u64, fraction: u64, milliseconds: u64) -> Option<u64>
     requires { 1 ≤ milliseconds }
     ensures { result ≡ within_64_bits ((whole * 10 ^ 9 + fraction) * milliseconds) }
 {
-    match product(whole, 1_000_000_000) {
-        Some(whole) => match sum(whole, fraction) {
-            Some(number) => product(number, milliseconds),
-            None => None,
-        },
-        None => None,
-    }
-}
-
-/// A part by its unit and its numbers.
-fn part_by(
-    unit: TimeUnit,
-    whole: Option<u64>,
-    fraction: Option<u64>,
-    has_point: bool,
-) -> Option<ParsedPart>
-    requires { 1 ≤ unit.milliseconds }
-    ensures { result ≡ part_by unit whole fraction has_point }
-{
-    match (whole, fraction) {
-        (Some(whole), Some(fraction)) => match billionths(whole, fraction, unit.milliseconds) {
-            Some(billionths) => Some(ParsedPart {
-                milliseconds: unit.milliseconds,
-                below: unit.below,
-                whole,
-                has_point,
-                billionths,
-            }),
-            None => None,
-        },
-        _ => None,
-    }
+    let whole = product(whole, 1_000_000_000)?;
+    let number = sum(whole, fraction)?;
+    product(number, milliseconds)
 }
 
 /// The number has a point.
@@ -224,22 +183,13 @@ fn before_point(number: &[u8]) -> &[u8]
     before
 }
 
-/// What follows the point, nothing if there is none.
-fn after_point(number: &[u8]) -> &[u8]
-    ensures { result.now ≡ after_first is_point number.now }
-{
-    let (_, rest) = number.split_at(length_before(number, b'.'));
-    following_first(rest)
-}
-
 /// The billionths after the point, none if there is no point.
 fn fraction_of(number: &[u8]) -> Option<u64>
     ensures { result ≡ parsed_fraction number.now }
 {
-    if has_point(number) {
-        fraction(after_point(number))
-    } else {
-        Some(0)
+    match cut_at(number, b'.') {
+        Some((_, after)) => fraction(after),
+        None => Some(0),
     }
 }
 
@@ -247,15 +197,17 @@ fn fraction_of(number: &[u8]) -> Option<u64>
 fn parse_duration_part(number: &[u8], letters: &[u8]) -> Option<ParsedPart>
     ensures { IsParsedPart (record { number = number.now; letters = letters.now }) result }
 {
-    let Some(unit) = unit_named(letters) else {
-        return None;
-    };
-    part_by(
-        unit,
-        whole(before_point(number)),
-        fraction_of(number),
-        has_point(number),
-    )
+    let unit = unit_named(letters)?;
+    let whole = whole(before_point(number))?;
+    let fraction = fraction_of(number)?;
+    let billionths = billionths(whole, fraction, unit.milliseconds)?;
+    Some(ParsedPart {
+        milliseconds: unit.milliseconds,
+        below: unit.below,
+        whole,
+        has_point: has_point(number),
+        billionths,
+    })
 }
 
 /// The number without an underscore before it.
@@ -295,16 +247,6 @@ fn may_occur_first(part: ParsedPart, is_last: bool) -> bool
     !part.has_point || is_last
 }
 
-/// The sum of a part and the later ones, if they have one and it has 64 bits.
-fn with_part(first: u64, later: Option<u64>) -> Option<u64>
-    ensures { result ≡ option_and_then (λ more. within_64_bits (first + more)) later }
-{
-    match later {
-        Some(more) => sum(first, more),
-        None => None,
-    }
-}
-
 /// The billionths of the parts after a part with a unit so long.
 fn later_billionths(text: &[u8], above: u64) -> Option<u64>
     ensures { IsParsedSum (are_later above (map without_separator (parts_of text.now)))
@@ -314,13 +256,14 @@ fn later_billionths(text: &[u8], above: u64) -> Option<u64>
         return Some(0);
     }
     let (number, letters, rest) = first_part(text);
-    let Some(first) = parse_duration_part(without_separator(number), letters) else {
-        return None;
-    };
+    let first = parse_duration_part(without_separator(number), letters)?;
     if !may_occur_after(first, above, is_last(rest)) {
         return None;
     }
-    with_part(first.billionths, later_billionths(rest, first.milliseconds))
+    sum(
+        first.billionths,
+        later_billionths(rest, first.milliseconds)?,
+    )
 }
 
 /// The billionths of all parts.
@@ -332,22 +275,21 @@ fn all_billionths(text: &[u8]) -> Option<u64>
         return None;
     }
     let (number, letters, rest) = first_part(text);
-    let Some(first) = parse_duration_part(number, letters) else {
-        return None;
-    };
+    let first = parse_duration_part(number, letters)?;
     if !may_occur_first(first, is_last(rest)) {
         return None;
     }
-    with_part(first.billionths, later_billionths(rest, first.milliseconds))
+    sum(
+        first.billionths,
+        later_billionths(rest, first.milliseconds)?,
+    )
 }
 
 /// The milliseconds of the parts with that sign.
 fn milliseconds(negative: bool, text: &[u8]) -> Option<i32>
     ensures { result ≡ milliseconds_of negative (duration_parts text.now) }
 {
-    let Some(sum) = all_billionths(text) else {
-        return None;
-    };
+    let sum = all_billionths(text)?;
     if sum % 1_000_000_000 == 0 {
         signed(negative, sum / 1_000_000_000)
     } else {

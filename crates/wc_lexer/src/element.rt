@@ -7,11 +7,10 @@ ghost use Rattle.wc_model.specs.Text.Blanks.{from_bracket};
 ghost use Rattle.wc_model.specs.Text.Characters.{begins, starts_identifier};
 
 use crate::Shape;
-use crate::identifiers::identifier_prefix;
 use crate::lengths::lexeme_length;
 use crate::numbers::signed;
 use crate::plain_numbers::plain_number;
-use crate::prefixes::{begins_with, following_first};
+use crate::prefixes::{begins_with, following_first, identifier_prefix};
 use crate::shapes::{is_name, shape};
 use crate::spaces::{from_bracket, opens_comment, starts_space};
 

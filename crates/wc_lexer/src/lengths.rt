@@ -3,8 +3,7 @@ ghost use Rattle.wc_laws_grammar.specs.Reaches.{hash_reach, is_mark_before, reac
 ghost use Rattle.wc_lexer.specs.Sights.{mark_reach_of};
 
 use crate::Shape;
-use crate::characters::{is_sign, starts_identifier};
-use crate::marks::{mark, may_occur_before};
+use crate::characters::{is_sign, mark, may_occur_before, starts_identifier};
 use crate::prefixes::{address_length, identifier_length, number_length};
 
 /// How long the value of a typed literal is.

@@ -4,9 +4,7 @@
 mod characters;
 mod durations;
 mod element;
-mod identifiers;
 mod lengths;
-mod marks;
 mod numbers;
 mod plain_numbers;
 mod prefixes;

@@ -84,10 +84,7 @@ pub(crate) fn value_of_digits(base: u64, text: &[u8]) -> Option<u64>
     let mut rest = text;
     while let [first, after @ ..] = rest {
         if *first != b'_' {
-            let Some(next) = with_digit(value, base, *first) else {
-                return None;
-            };
-            value = next;
+            value = with_digit(value, base, *first)?;
         }
         rest = after;
     }
@@ -151,10 +148,7 @@ pub(crate) fn number_in_32_bits(negative: bool, size: Option<u64>) -> Option<i32
         ≡ option_and_then
         (λ number. within_32_bits (if negative then neg_ℤ (pos number) else pos number)) size }
 {
-    match size {
-        Some(size) => signed(negative, size),
-        None => None,
-    }
+    signed(negative, size?)
 }
 
 /// The value of a whole-number literal.

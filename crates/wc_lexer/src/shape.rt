@@ -1,7 +1,6 @@
 /// What a token is.
 #[derive(Clone, Copy, PartialEq, Eq)]
 pub enum Shape {
-    /// An identifier.
     Identifier,
     /// A whole-number literal with its value.
     Whole(i32),

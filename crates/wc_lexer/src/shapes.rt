@@ -6,9 +6,8 @@ ghost use Rattle.wc_model.specs.Language.Names.{name_of};
 ghost use Rattle.wc_model.specs.Text.Shapes.{duration_shape, identifier_shape, literal_shape, number_shape, shape_of, truth_shape, typed_shape, mark_of};
 
 use crate::Shape;
-use crate::characters::{is_sign, starts_identifier};
+use crate::characters::{is_sign, mark, starts_identifier};
 use crate::durations::duration;
-use crate::marks::mark;
 use crate::numbers::{has_single_underscores, whole_number};
 use crate::prefixes::cut_at;
 use wc_model::{LONGEST_NAME, is_word};

@@ -42,12 +42,12 @@ fn stop_at(number: u16, line: u32, place: usize, rest: &[u8]) -> Stop
     }
 }
 
-/// Out of memory, which no slice causes.
-fn stop_for_memory() -> Stop
-    ensures { result ≡ record { fault = Fault.Memory; start = 0; length = 0 } }
+/// A fault that no slice causes.
+fn stop_without_slice(fault: Fault) -> Stop
+    ensures { result ≡ record { fault = fault; start = 0; length = 0 } }
 {
     Stop {
-        fault: Fault::Memory,
+        fault,
         start: 0,
         length: 0,
     }
@@ -61,14 +61,10 @@ pub fn tokens_or_stop<'a>(alloc: Global, text: &'a [u8]) -> Result<Vec<Token<'a>
     ensures stopped { IfErr result (λ stop. StopsAt text.now stop.fault stop.start stop.length) }
 {
     if text.len() > MOST_BYTES {
-        return Err(Stop {
-            fault: Fault::Refused {
-                number: 107,
-                place: 0,
-            },
-            start: 0,
-            length: 0,
-        });
+        return Err(stop_without_slice(Fault::Refused {
+            number: 107,
+            place: 0,
+        }));
     }
     let mut tokens = Vec::new(alloc);
     let mut start = 0_usize;
@@ -91,7 +87,7 @@ pub fn tokens_or_stop<'a>(alloc: Global, text: &'a [u8]) -> Result<Vec<Token<'a>
                     line,
                 };
                 if tokens.push(token).is_err() {
-                    return Err(stop_for_memory());
+                    return Err(stop_without_slice(Fault::Memory));
                 }
                 (count, first_feeds(rest))
             }

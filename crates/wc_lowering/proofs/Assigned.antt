@@ -1,5 +1,5 @@
 -- The arguments of a call, one after the other from the last.
-use Rattle.std.proofs.Common.{◌≡◌, ℕ, zero, suc, Bool, true, false, not, List, [], ◌∷◌, map, drop, refl, ap, ◌∙◌}
+use Rattle.std.proofs.Common.{◌≡◌, ℕ, zero, suc, Bool, true, false, not, List, [], ◌∷◌, map, drop, refl, ap, sym, subst, ◌∙◌}
 use Rattle.std.specs.Prelude.{if◌then◌else◌}
 use Rattle.wc_text_flat.specs.Lowered.{IsArgument, IsOutput}
 use Rattle.wc_model.specs.Language.Names.{Name}
@@ -10,7 +10,7 @@ use Rattle.wc_model.specs.declared.operator.Direction.{Direction}
 use Rattle.wc_model.specs.declared.operator.Direction.TheVariants.{Into, OutOf}
 use Rattle.wc_lowering.specs.FlatLines.{FlatLines, put_line}
 use Rattle.wc_lowering.specs.Lowerable.{ArePassable, IsPassable, IsReadable, IsWritable}
-use Rattle.wc_lowering.specs.Lowering.{AddsArguments, AddsOutputs}
+use Rattle.wc_lowering.specs.Lowering.{AddsArguments, AddsOutputs, AddsPassed, IsPassed, same_direction}
 
 -- none yet, and one more before them
 pub none_added : (scope : Scope) (instance : Name) (line : ℕ) (flat : FlatLines) → AddsArguments scope instance line [] flat flat
@@ -49,6 +49,63 @@ one_out a rest e = ap (λ b. if not b then a ∷ outputs_of rest else outputs_of
 
 pub none_out : (a : Assignment) (rest : List Assignment) → goes_in a ≡ true → outputs_of (a ∷ rest) ≡ outputs_of rest
 none_out a rest e = ap (λ b. if not b then a ∷ outputs_of rest else outputs_of rest) e
+
+-- whether one goes in, by its direction
+pub goes_into : (a : Assignment) → a.direction ≡ Into → goes_in a ≡ true
+goes_into a e = by a.direction e
+  where
+    by : (d : Direction) → d ≡ Into → (elim d as (λ x. Bool) [ Into ↦ true | OutOf ↦ false ]) ≡ true
+    by Into e = refl
+    by OutOf e = cc
+
+pub goes_out : (a : Assignment) → a.direction ≡ OutOf → goes_in a ≡ false
+goes_out a e = by a.direction e
+  where
+    by : (d : Direction) → d ≡ OutOf → (elim d as (λ x. Bool) [ Into ↦ true | OutOf ↦ false ]) ≡ false
+    by Into e = cc
+    by OutOf e = refl
+
+-- what is told of two directions
+pub is_same : (d e : Direction) → same_direction d e ≡ true → d ≡ e
+is_same Into Into h = refl
+is_same Into OutOf h = cc
+is_same OutOf Into h = cc
+is_same OutOf OutOf h = refl
+
+pub is_other : (d e : Direction) → same_direction d e ≡ false → d ≡ e → ⊥
+is_other Into Into h same = cc
+is_other Into OutOf h same = cc
+is_other OutOf Into h same = cc
+is_other OutOf OutOf h same = cc
+
+-- a direction that is not one is the other
+the_other : (d : Direction) → (d ≡ Into → ⊥) → d ≡ OutOf
+the_other Into differs = absurd (differs refl)
+the_other OutOf differs = refl
+
+the_one : (d : Direction) → (d ≡ OutOf → ⊥) → d ≡ Into
+the_one Into differs = refl
+the_one OutOf differs = absurd (differs refl)
+
+-- none of a direction yet, one more of it, and one of the other, which adds nothing
+pub none_passed : (d : Direction) (scope : Scope) (instance : Name) (line : ℕ) (flat : FlatLines) → AddsPassed d scope instance line [] flat flat
+none_passed Into scope instance line flat = none_added scope instance line flat
+none_passed OutOf scope instance line flat = none_given scope instance line flat
+
+pub one_passed : (d : Direction) (scope : Scope) (instance : Name) (line : ℕ) (a : Assignment) (rest : List Assignment) (old so_far new : FlatLines) (code : Code) → a.direction ≡ d → IsPassed a.direction scope instance a code → AddsPassed d scope instance line rest old so_far → new ≡ put_line code line so_far →
+    AddsPassed d scope instance line (a ∷ rest) old new
+one_passed Into scope instance line a rest old so_far new code e is h put =
+    subst (λ xs. AddsArguments scope instance line xs old new) (sym (one_in a rest (goes_into a e)))
+    (one_added scope instance line a (inputs_of rest) old so_far new code (subst (λ d. IsPassed d scope instance a code) e is) h put)
+one_passed OutOf scope instance line a rest old so_far new code e is h put =
+    subst (λ xs. AddsOutputs scope instance line xs old new) (sym (one_out a rest (goes_out a e)))
+    (one_given scope instance line a (outputs_of rest) old so_far new code (subst (λ d. IsPassed d scope instance a code) e is) h put)
+
+pub other_passed : (d : Direction) (scope : Scope) (instance : Name) (line : ℕ) (a : Assignment) (rest : List Assignment) (old new : FlatLines) → (a.direction ≡ d → ⊥) → AddsPassed d scope instance line rest old new → AddsPassed d scope instance line (a ∷ rest) old new
+other_passed Into scope instance line a rest old new differs h =
+    subst (λ xs. AddsArguments scope instance line xs old new) (sym (none_in a rest (goes_out a (the_other a.direction differs)))) h
+other_passed OutOf scope instance line a rest old new differs h =
+    subst (λ xs. AddsOutputs scope instance line xs old new) (sym (none_out a rest (goes_into a (the_one a.direction differs)))) h
 
 -- what one that goes in asks, and one that goes out
 pub asks_in : (scope : Scope) (instance : Name) (a : Assignment) → goes_in a ≡ true → IsPassable scope instance a.direction a.formal a.actual → IsReadable scope a.actual × IsWritable scope (Field instance a.formal)

@@ -1,14 +1,16 @@
 -- What is lowered so far, from the last line to the first. (No rule of the language.)
-use Rattle.std.specs.Prelude.{◌≡◌, ℕ, ◌+◌, List, [], ◌∷◌, ◌++◌, length, map, Option, Some, None, if◌then◌else◌}
+use Rattle.std.specs.Prelude.{◌≡◌, ℕ, ◌+◌, Bool, true, false, List, [], ◌∷◌, ◌++◌, length, map, Option, Some, None, if◌then◌else◌}
 use Rattle.wc_text_flat.specs.FlatPaths.{sources_of, step_sources}
-use Rattle.wc_text_flat.specs.Lowered.{AreArguments, AreOutputs, IsLowered, IsOpening, IsStepLowered, lines_ahead}
+use Rattle.wc_text_flat.specs.Lowered.{AreArguments, AreOutputs, IsArgument, IsLowered, IsOpening, IsOutput, IsStepLowered, lines_ahead}
 use Rattle.wc_model.specs.Language.Declarations.{named_in, same_name}
 use Rattle.wc_model.specs.Language.Kinds.{BodyLine, AloneLine, PlainLine, NestedLine}
 use Rattle.wc_model.specs.Language.Names.{Name}
 use Rattle.wc_model.specs.Language.Scopes.{Scope}
-use Rattle.wc_model.specs.Language.Tree.{Assignment, Lines, Word}
+use Rattle.wc_model.specs.Language.Tree.{Assignment, Lines, Word, inputs_of, outputs_of}
 use Rattle.wc_model.specs.declared.code.Code.{Code}
 use Rattle.wc_model.specs.declared.code.Code.TheVariants.{Close}
+use Rattle.wc_model.specs.declared.operator.Direction.{Direction}
+use Rattle.wc_model.specs.declared.operator.Direction.TheVariants.{Into, OutOf}
 use Rattle.wc_model.specs.declared.operator.Operator.{Operator}
 use Rattle.wc_lowering.specs.FlatLines.{FlatLines}
 
@@ -54,6 +56,22 @@ AddsArguments scope instance line inputs old new =
 abbrev pub AddsOutputs : Scope → Name → ℕ → List Assignment → FlatLines → FlatLines → Type 0
 AddsOutputs scope instance line outputs old new =
     Adds (AreOutputs scope instance outputs) (map (λ output. line) outputs) old new
+
+-- two directions are the same
+abbrev pub same_direction : Direction → Direction → Bool
+same_direction Into Into = true
+same_direction Into OutOf = false
+same_direction OutOf Into = false
+same_direction OutOf OutOf = true
+
+-- the flat line of an argument, by its direction, and the flat lines of those of a call's list that have one
+abbrev pub IsPassed : Direction → Scope → Name → Assignment → Code → Type 0
+IsPassed Into scope instance argument code = IsArgument scope instance argument code
+IsPassed OutOf scope instance argument code = IsOutput scope instance argument code
+
+abbrev pub AddsPassed : Direction → Scope → Name → ℕ → List Assignment → FlatLines → FlatLines → Type 0
+AddsPassed Into scope instance line list old new = AddsArguments scope instance line (inputs_of list) old new
+AddsPassed OutOf scope instance line list old new = AddsOutputs scope instance line (outputs_of list) old new
 
 -- the flat lines of these lines, and of nothing else
 abbrev pub IsFlat : Scope → Lines → FlatLines → Type 0

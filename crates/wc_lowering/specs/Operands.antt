@@ -1,7 +1,7 @@
 -- What represents an operand on a flat line. (No rule of the language.)
 use Rattle.wc_text_flat.specs.Lowered.{Operand, Number, At}
-use Rattle.wc_lowering.specs.declared.flat_operand.FlatOperand.{FlatOperand}
-use Rattle.wc_lowering.specs.declared.flat_operand.FlatOperand.TheVariants as flat
+use Rattle.wc_lowering.specs.declared.operands.FlatOperand.{FlatOperand}
+use Rattle.wc_lowering.specs.declared.operands.FlatOperand.TheVariants as flat
 
 -- an operand on a flat line
 abbrev pub operand_view : FlatOperand → Operand

@@ -1,18 +1,18 @@
-ghost use Rattle.std.specs.Prelude.{◌≡◌, ℕ, ◌+◌, ◌<◌, IfOk, OnOk, IsOkUnless, Option, option_map};
+ghost use Rattle.std.specs.Prelude.{◌≡◌, ℕ, ◌+◌, ◌<◌, IfOk, OnOk, IsOkUnless, Option};
 ghost use Rattle.wc_model.specs.Language.Names.{name_of};
 ghost use Rattle.wc_model.specs.Language.Scopes.{Scope};
 ghost use Rattle.wc_model.specs.Language.Tree.{Lines, Word as LabelWord};
-ghost use Rattle.wc_model.specs.Language.Views.{line_view, lines_view, word_view};
+ghost use Rattle.wc_model.specs.Language.Views.{line_view, lines_view};
 ghost use Rattle.wc_lowering.specs.Lowerable.{IsAhead, IsLowerable, IsLineLowerable, IsNear};
-ghost use Rattle.wc_lowering.specs.Lowering.{HoldsLabels, IsFlat, IsKeptFlat, KeepsLabel};
+ghost use Rattle.wc_lowering.specs.Lowering.{HoldsLabels, IsFlat, IsKeptFlat};
 ghost use Rattle.wc_verify.specs.Instructions.{instr_line};
 ghost use Rattle.wc_verify.specs.Seeing.{IsScope};
 
 use crate::flat::Flat;
 use crate::inside::put_instr;
 use crate::labels::LabelCounts;
-use std::alloc::Global;
-use wc_model::{Fault, Instr, Line, Word};
+use std::alloc::{AllocError, Global};
+use wc_model::{Fault, Instr, Line, or_memory};
 use wc_names::Tables;
 
 /// The number of the flat lines that are there before a label.
@@ -49,26 +49,7 @@ fn instr_ahead<'a>(labels: &LabelCounts<'a>, instr: &Instr<'a>, count: usize) ->
 fn distance(left: usize, count: usize) -> u32
     ensures { (n : ℕ) → n + left ≡ count → n < 4294967296 → result ≡ n }
 {
-    match u32::try_from(count.saturating_sub(left)) {
-        Ok(distance) => distance,
-        Err(_) => u32::MAX,
-    }
-}
-
-/// Keeps a line's label, if it has one.
-fn keep<'a>(
-    labels: &mut LabelCounts<'a>,
-    label: Option<Word<'a>>,
-    count: usize,
-) -> Result<(), Fault>
-    ensures kept { OnOk result
-        (KeepsLabel (option_map word_view label.entry) count labels.old labels.new) }
-    ensures memory { IsOkUnless result Fault.Memory }
-{
-    match label {
-        Some(word) => labels.set(word.text, count),
-        None => Ok(()),
-    }
+    u32::try_from(count.saturating_sub(left)).unwrap_or(u32::MAX)
 }
 
 /// Puts the flat lines of a line of a body before those that are there, and keeps its label.
@@ -78,18 +59,20 @@ fn put_line<'a>(
     line: &Line<'a>,
     labels: &mut LabelCounts<'a>,
     flat: &mut Flat,
-) -> Result<(), Fault>
-    ensures put { OnOk result
+) -> Result<(), AllocError>
+    ensures { OnOk result
         ((scope : Scope) (rest : Lines) → IsScope tables.now unit scope
         → IsLowerable scope (line_view line.now rest) → IsKeptFlat scope rest labels.old flat.old
         → IsKeptFlat scope (line_view line.now rest) labels.new flat.new) }
-    ensures memory { IsOkUnless result Fault.Memory }
 {
     if let Some(instr) = &line.instr {
         let skip = instr_ahead(labels, instr, flat.len());
         put_instr(tables, unit, instr, skip, flat)?;
     }
-    keep(labels, line.label, flat.len())
+    match line.label {
+        Some(word) => labels.set(word.text, flat.len()),
+        None => Ok(()),
+    }
 }
 
 /// The lowered lines of a body.
@@ -110,7 +93,7 @@ pub fn flat_body<'a>(
         let Some(last) = lines.get(index) else {
             continue;
         };
-        put_line(tables, unit, last, &mut labels, &mut flat)?;
+        or_memory(put_line(tables, unit, last, &mut labels, &mut flat))?;
     }
     Ok(flat)
 }

@@ -1,4 +1,4 @@
-ghost use Rattle.std.specs.Prelude.{◌≡◌, ◌+◌, ◌<◌, Some, OnOk, IsOkUnless, length, map};
+ghost use Rattle.std.specs.Prelude.{◌≡◌, ◌+◌, ◌<◌, Some, OnOk, length, map};
 ghost use Rattle.wc_names.specs.Numbered.{numbered_type};
 ghost use Rattle.wc_text_flat.specs.FlatPaths.{step_sources};
 ghost use Rattle.wc_text_flat.specs.Lowered.{IsBodyOf, IsStepLowered, first_place};
@@ -11,29 +11,26 @@ ghost use Rattle.wc_lowering.specs.Lowerable.{ArePassable, IsCallable};
 ghost use Rattle.wc_lowering.specs.Lowering.{Adds};
 ghost use Rattle.wc_verify.specs.Seeing.{IsScope};
 
-use crate::arguments::{put_inputs, put_outputs};
+use crate::arguments::put_arguments;
 use crate::flat::Flat;
-use wc_model::{Argument, Code, Condition, Fault, Place};
+use std::alloc::AllocError;
+use wc_model::{Argument, Code, Condition, Direction, Place};
 use wc_names::{DeclaredType, Tables};
 
 /// The number of a unit in 16 bits.
 fn unit_number(number: usize) -> u16
     ensures { number < 65536 → result ≡ number }
 {
-    match u16::try_from(number) {
-        Ok(number) => number,
-        Err(_) => u16::MAX,
-    }
+    u16::try_from(number).unwrap_or(u16::MAX)
 }
 
 /// The number of flat lines after a call's own, for its inputs, its body and its outputs.
 fn call_length(arguments: usize) -> u32
     ensures { arguments < 65536 → result ≡ 1 + arguments }
 {
-    match u32::try_from(arguments) {
-        Ok(arguments) => arguments.saturating_add(1),
-        Err(_) => u32::MAX,
-    }
+    u32::try_from(arguments)
+        .unwrap_or(u32::MAX)
+        .saturating_add(1)
 }
 
 /// The body of an instance of this type, whose places begin there.
@@ -71,26 +68,25 @@ pub(crate) fn put_call<'a>(
     unit: usize,
     condition: Condition,
     instance: &[u8],
-    arguments: &[Argument<'a>],
+    list: &[Argument<'a>],
     line: u32,
     flat: &mut Flat,
-) -> Result<(), Fault>
-    ensures put { OnOk result
+) -> Result<(), AllocError>
+    ensures { OnOk result
         ((scope : Scope) (rest : Lines) → IsScope tables.now unit scope
         → IsCallable scope (type_of scope (name_of instance.now))
-        → ArePassable scope (name_of instance.now) (map assignment_view arguments.now)
-        → length (map assignment_view arguments.now) < 65536
+        → ArePassable scope (name_of instance.now) (map assignment_view list.now)
+        → length (map assignment_view list.now) < 65536
         → Adds
         (IsStepLowered scope rest
-        (Call condition (name_of instance.now) (map assignment_view arguments.now)))
+        (Call condition (name_of instance.now) (map assignment_view list.now)))
         (step_sources line
-        (Call condition (name_of instance.now) (map assignment_view arguments.now)))
+        (Call condition (name_of instance.now) (map assignment_view list.now)))
         flat.old flat.new) }
-    ensures memory { IsOkUnless result Fault.Memory }
 {
-    put_outputs(tables, unit, instance, arguments, line, flat)?;
+    put_arguments(tables, unit, instance, list, Direction::OutOf, line, flat)?;
     flat.put(body_line(tables, unit, instance), line)?;
-    put_inputs(tables, unit, instance, arguments, line, flat)?;
-    let skip = call_length(arguments.len());
+    put_arguments(tables, unit, instance, list, Direction::Into, line, flat)?;
+    let skip = call_length(list.len());
     flat.put(Code::Call { condition, skip }, line)
 }

@@ -1,9 +1,9 @@
-ghost use Rattle.std.specs.Prelude.{◌≡◌, OnOk, IsOkUnless, length};
+ghost use Rattle.std.specs.Prelude.{◌≡◌, OnOk, length};
 ghost use Rattle.wc_lowering.specs.FlatLines.{FlatLines, no_lines, put_line, turned_lines};
 
-use std::alloc::Global;
+use std::alloc::{AllocError, Global};
 use std::marker::Model;
-use wc_model::{Code, Fault};
+use wc_model::Code;
 
 /// Flat lines with the lines of the text at which they are. They grow from the last line to the
 /// first.
@@ -38,17 +38,11 @@ impl Flat {
     }
 
     /// Puts a flat line, at a line of the text, before those that are there.
-    pub(crate) fn put(&mut self, line: Code, source: u32) -> Result<(), Fault>
-        ensures put { OnOk result (self.new ≡ put_line line source self.old) }
-        ensures memory { IsOkUnless result Fault.Memory }
+    pub(crate) fn put(&mut self, line: Code, source: u32) -> Result<(), AllocError>
+        ensures { OnOk result (self.new ≡ put_line line source self.old) }
     {
-        let Ok(()) = self.code.push(line) else {
-            return Err(Fault::Memory);
-        };
-        let Ok(()) = self.sources.push(source) else {
-            return Err(Fault::Memory);
-        };
-        Ok(())
+        self.code.push(line)?;
+        Ok(self.sources.push(source)?)
     }
 
     /// The flat lines and their lines of the text, from the first to the last.

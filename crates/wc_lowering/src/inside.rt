@@ -1,4 +1,4 @@
-ghost use Rattle.std.specs.Prelude.{Option, OnOk, IsOkUnless, option_map};
+ghost use Rattle.std.specs.Prelude.{Option, OnOk, option_map};
 ghost use Rattle.wc_model.specs.Language.Kinds.{NestedLine};
 ghost use Rattle.wc_model.specs.Language.Scopes.{Scope};
 ghost use Rattle.wc_model.specs.Language.Tree.{Lines, Word};
@@ -12,7 +12,8 @@ ghost use Rattle.wc_verify.specs.Seeing.{IsScope};
 use crate::calls::put_call;
 use crate::flat::Flat;
 use crate::steps::{apply, load, opening, store};
-use wc_model::{Code, Fault, Instr, Line, Operand, Operator};
+use std::alloc::AllocError;
+use wc_model::{Code, Instr, Line, Operand, Operator};
 use wc_names::Tables;
 
 /// Puts the flat lines of a parenthesis before those that are there.
@@ -26,15 +27,14 @@ fn put_nested<'a>(
     line: u32,
     close: u32,
     flat: &mut Flat,
-) -> Result<(), Fault>
-    ensures put { OnOk result
+) -> Result<(), AllocError>
+    ensures { OnOk result
         ((scope : Scope) (rest : Lines) (label : Option Word) → IsScope tables.now unit scope
         → IsOpenable scope (option_map term_view operand.now)
         → IsInsideLowerable scope (lines_view inside.now.items)
         → AddsLine scope rest
         (NestedLine label line operator (option_map term_view operand.now)
         (lines_view inside.now.items) close) flat.old flat.new) }
-    ensures memory { IsOkUnless result Fault.Memory }
 {
     flat.put(Code::Close { operator }, close)?;
     put_inside(tables, unit, inside, flat)?;
@@ -50,12 +50,11 @@ pub(crate) fn put_instr<'a>(
     instr: &Instr<'a>,
     skip: u32,
     flat: &mut Flat,
-) -> Result<(), Fault>
-    ensures put { OnOk result
+) -> Result<(), AllocError>
+    ensures { OnOk result
         ((scope : Scope) (rest : Lines) (label : Option Word) → IsScope tables.now unit scope
         → IsLineLowerable scope (IsAhead rest skip) (instr_line instr.now label)
         → AddsLine scope rest (instr_line instr.now label) flat.old flat.new) }
-    ensures memory { IsOkUnless result Fault.Memory }
 {
     match instr {
         Instr::Load {
@@ -116,13 +115,12 @@ fn put_inside_line<'a>(
     unit: usize,
     line: &Line<'a>,
     flat: &mut Flat,
-) -> Result<(), Fault>
-    ensures put { OnOk result
+) -> Result<(), AllocError>
+    ensures { OnOk result
         ((scope : Scope) (rest : Lines) (first : FlatLines) → IsScope tables.now unit scope
         → IsInsideLowerable scope (line_view line.now rest)
         → AddsLines scope rest first flat.old
         → AddsLines scope (line_view line.now rest) first flat.new) }
-    ensures memory { IsOkUnless result Fault.Memory }
 {
     match &line.instr {
         Some(instr) => put_instr(tables, unit, instr, 0, flat),
@@ -137,12 +135,11 @@ fn put_inside<'a>(
     unit: usize,
     lines: &Vec<Line<'a>>,
     flat: &mut Flat,
-) -> Result<(), Fault>
-    ensures put { OnOk result
+) -> Result<(), AllocError>
+    ensures { OnOk result
         ((scope : Scope) → IsScope tables.now unit scope
         → IsInsideLowerable scope (lines_view lines.now.items)
         → AddsLines scope (lines_view lines.now.items) flat.old flat.new) }
-    ensures memory { IsOkUnless result Fault.Memory }
 {
     for index in (0..lines.len()).rev() {
         let Some(last) = lines.get(index) else {

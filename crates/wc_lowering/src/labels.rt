@@ -1,12 +1,11 @@
-ghost use Rattle.std.specs.Prelude.{◌≡◌, ℕ, [], List, Some, OnOk, IsOkUnless, if◌then◌else◌};
+ghost use Rattle.std.specs.Prelude.{◌≡◌, ℕ, [], List, Some, OnOk, if◌then◌else◌};
 ghost use Rattle.wc_model.specs.Language.Declarations.{named_in, same_name};
 ghost use Rattle.wc_model.specs.Language.Names.{Name, name_of};
 ghost use Rattle.wc_verify.specs.Rows.{named_rows};
 
 use indexmap::IndexMap;
-use std::alloc::Global;
+use std::alloc::{AllocError, Global};
 use std::marker::Model;
-use wc_model::Fault;
 use wc_names::Key;
 
 /// The labels of a body, with the number of flat lines from each to the last.
@@ -35,23 +34,17 @@ impl<'a> LabelCounts<'a> {
     pub(crate) fn get(&self, name: &[u8]) -> Option<usize>
         ensures { result ≡ named_in self.now (name_of name.now) }
     {
-        match self.entries.get(&Key { text: name }) {
-            Some(left) => Some(*left),
-            None => None,
-        }
+        Some(*self.entries.get(&Key { text: name })?)
     }
 
     /// Keeps a label with its count in place of what was kept of it.
-    pub(crate) fn set(&mut self, name: &'a [u8], left: usize) -> Result<(), Fault>
-        ensures rows { OnOk result
+    pub(crate) fn set(&mut self, name: &'a [u8], left: usize) -> Result<(), AllocError>
+        ensures { OnOk result
             ((other : Name)
             → named_in self.new other
             ≡ (if same_name (name_of name.now) other then Some left else named_in self.old other)) }
-        ensures memory { IsOkUnless result Fault.Memory }
     {
-        match self.entries.insert(Key { text: name }, left) {
-            Ok(_) => Ok(()),
-            Err(_) => Err(Fault::Memory),
-        }
+        self.entries.insert(Key { text: name }, left)?;
+        Ok(())
     }
 }

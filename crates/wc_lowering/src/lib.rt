@@ -5,7 +5,6 @@ mod arguments;
 mod body;
 mod calls;
 mod flat;
-mod flat_operand;
 mod inside;
 mod labels;
 mod operands;

@@ -8,9 +8,17 @@ ghost use Rattle.wc_lowering.specs.Lowerable.{HasPlace, IsReadable};
 ghost use Rattle.wc_lowering.specs.Operands.{operand_view};
 ghost use Rattle.wc_verify.specs.Seeing.{IsScope};
 
-use crate::flat_operand::FlatOperand;
 use wc_model::{Operand, Place, Value};
 use wc_names::Tables;
+
+/// What represents an operand on a flat line.
+#[derive(Clone, Copy)]
+pub(crate) enum FlatOperand {
+    /// A literal's number.
+    Number(i32),
+    /// A place of the unit's frame.
+    At(Place),
+}
 
 /// A literal as a number.
 fn number_of(value: Value) -> i32

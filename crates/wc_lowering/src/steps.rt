@@ -1,14 +1,13 @@
 ghost use Rattle.std.specs.Prelude.{◌≡◌, Option, [], ◌∷◌, option_map, if◌then◌else◌, pos, ◌-ℤ◌};
-ghost use Rattle.wc_text_flat.specs.Lowered.{IsOpening, IsStepLowered, apply_line, argument_line, load_line, short_line};
+ghost use Rattle.wc_text_flat.specs.Lowered.{IsOpening, IsStepLowered, argument_line};
 ghost use Rattle.wc_model.specs.Language.Scopes.{Scope};
 ghost use Rattle.wc_model.specs.Language.Tree.{Apply, Lines, Load, Store};
 ghost use Rattle.wc_model.specs.Language.Views.{term_view};
-ghost use Rattle.wc_lowering.specs.Lowerable.{IsBitWhere, IsLoadable, IsNegatable, IsOpenable, IsReadable, IsWritable};
+ghost use Rattle.wc_lowering.specs.Lowerable.{IsBitWhere, IsLoadable, IsOpenable, IsReadable, IsWritable};
 ghost use Rattle.wc_lowering.specs.Operands.{operand_view};
 ghost use Rattle.wc_verify.specs.Seeing.{IsScope};
 
-use crate::flat_operand::FlatOperand;
-use crate::operands::{flat_operand, place_of};
+use crate::operands::{FlatOperand, flat_operand, place_of};
 use wc_model::{Code, Operand, Operator, Place, Storing};
 use wc_names::Tables;
 
@@ -20,39 +19,6 @@ fn loaded(negated: bool, number: i32) -> i32
         return number;
     }
     if number == 0 { 1 } else { 0 }
-}
-
-/// The flat line of LD and LDN with an operand.
-fn load_line(negated: bool, operand: FlatOperand) -> Code
-    ensures { IsNegatable negated (operand_view operand)
-        → result ≡ load_line negated (operand_view operand) }
-{
-    match operand {
-        FlatOperand::Number(number) => Code::LoadNumber {
-            number: loaded(negated, number),
-        },
-        FlatOperand::At(place) => Code::LoadPlace { negated, place },
-    }
-}
-
-/// The flat line of an operator with an operand.
-fn apply_line(operator: Operator, operand: FlatOperand) -> Code
-    ensures { result ≡ apply_line operator (operand_view operand) }
-{
-    match operand {
-        FlatOperand::Number(number) => Code::ApplyNumber { operator, number },
-        FlatOperand::At(place) => Code::ApplyPlace { operator, place },
-    }
-}
-
-/// An opening line in the short form.
-fn short_line(operand: FlatOperand) -> Code
-    ensures { result ≡ short_line (operand_view operand) }
-{
-    match operand {
-        FlatOperand::Number(number) => Code::OpenNumber { number },
-        FlatOperand::At(place) => Code::OpenPlace { place },
-    }
 }
 
 /// The flat line of an argument for the input at a place.
@@ -76,7 +42,12 @@ pub(crate) fn load<'a>(
         → IsReadable scope (term_view operand.now) → IsLoadable negated (term_view operand.now)
         → IsStepLowered scope rest (Load negated (term_view operand.now)) (result ∷ []) }
 {
-    load_line(negated, flat_operand(tables, unit, operand))
+    match flat_operand(tables, unit, operand) {
+        FlatOperand::Number(number) => Code::LoadNumber {
+            number: loaded(negated, number),
+        },
+        FlatOperand::At(place) => Code::LoadPlace { negated, place },
+    }
 }
 
 /// ST, STN, S and R.
@@ -107,7 +78,10 @@ pub(crate) fn apply<'a>(
         → IsReadable scope (term_view operand.now)
         → IsStepLowered scope rest (Apply operator (term_view operand.now)) (result ∷ []) }
 {
-    apply_line(operator, flat_operand(tables, unit, operand))
+    match flat_operand(tables, unit, operand) {
+        FlatOperand::Number(number) => Code::ApplyNumber { operator, number },
+        FlatOperand::At(place) => Code::ApplyPlace { operator, place },
+    }
 }
 
 /// An opening line.
@@ -117,7 +91,10 @@ pub(crate) fn opening<'a>(tables: &Tables<'a>, unit: usize, operand: &Option<Ope
         → IsOpening scope (option_map term_view operand.now) result }
 {
     match operand {
-        Some(operand) => short_line(flat_operand(tables, unit, operand)),
+        Some(operand) => match flat_operand(tables, unit, operand) {
+            FlatOperand::Number(number) => Code::OpenNumber { number },
+            FlatOperand::At(place) => Code::OpenPlace { place },
+        },
         None => Code::Open,
     }
 }

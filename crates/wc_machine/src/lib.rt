@@ -2,16 +2,13 @@
 #![tactic(auto)]
 
 mod body;
-mod carry;
 mod executable;
-mod first;
 mod line;
 mod machine;
-mod observer;
 mod own_line;
 mod pairs;
 mod seen;
-mod started;
+mod stores;
 
 pub use machine::Machine;
 pub use seen::SeenLine;

@@ -11,11 +11,9 @@ ghost use Rattle.wc_model.specs.Language.Tree.{Text};
 ghost use Rattle.wc_model.specs.Language.Views.{text_view};
 
 use crate::body::run;
-use crate::carry::carried_over;
 use crate::executable::Executable;
-use crate::first::first_store;
-use crate::observer::{LineObserver, NoObserver};
-use crate::seen::{SeenLine, Sight};
+use crate::seen::{LineObserver, NoObserver, SeenLine, Sight};
+use crate::stores::{carried_over, first_store};
 use std::alloc::Global;
 use std::marker::Model;
 use wc_cost::Loaded;

@@ -11,71 +11,56 @@ use crate::place::Place;
 pub enum Code {
     /// LD of a literal; that of LDN is negated already.
     LoadNumber {
-        /// What is loaded.
         number: i32,
     },
     /// LD, or LDN if negated, of a place.
     LoadPlace {
-        /// Whether what is there is negated.
         negated: bool,
-        /// What is loaded.
         place: Place,
     },
     /// ST, STN, S, R.
     Store {
-        /// What is stored of the result.
         storing: Storing,
-        /// Where.
         target: Place,
     },
     /// An operator with a literal.
     ApplyNumber {
-        /// The operator.
         operator: Operator,
         /// The second operand; not 0 for DIV and MOD.
         number: i32,
     },
     /// An operator with a place.
     ApplyPlace {
-        /// The operator.
         operator: Operator,
-        /// Where the second operand is.
         place: Place,
     },
-    /// NOT.
     Not,
     /// The opening line of a deferred operator: the result is put by, and there is none.
     Open,
     /// The same in the short form, with a literal as the new result.
     OpenNumber {
-        /// What is loaded.
         number: i32,
     },
     /// The same in the short form, with what is at a place as the new result.
     OpenPlace {
-        /// What is loaded.
         place: Place,
     },
     /// The `)`: the result last put by, and the operator with the result as its second operand.
     Close {
-        /// The deferred operator.
         operator: Operator,
     },
     /// A jump ahead.
     Jump {
-        /// When it acts.
         condition: Condition,
         /// The number of flat lines it passes over.
         skip: u32,
     },
     /// The end of the body.
     Return {
-        /// When it acts.
         condition: Condition,
     },
     /// A call: its arguments and its block's body follow it.
     Call {
-        /// When it is made.
         condition: Condition,
         /// The number of flat lines passed over if it is not made.
         skip: u32,
@@ -84,19 +69,16 @@ pub enum Code {
     ArgumentNumber {
         /// The input's place. It precedes the number, so that a line takes 8 bytes.
         target: Place,
-        /// What is assigned.
         number: i32,
     },
     /// What is at a place as an argument of the call that is being made.
     ArgumentPlace {
-        /// What is assigned.
         place: Place,
         /// The input's place.
         target: Place,
     },
     /// The body of a standard block.
     Standard {
-        /// The block.
         block: StandardBlock,
         /// The first place of the instance.
         at: Place,

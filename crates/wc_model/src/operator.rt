@@ -6,19 +6,14 @@ pub enum Operator {
     And,
     /// ANDN and `&N`: the operand is negated first.
     Andn,
-    /// OR.
     Or,
     /// ORN: the operand is negated first.
     Orn,
-    /// XOR.
     Xor,
     /// XORN: the operand is negated first.
     Xorn,
-    /// ADD.
     Add,
-    /// SUB.
     Sub,
-    /// MUL.
     Mul,
     /// DIV, toward zero.
     Div,

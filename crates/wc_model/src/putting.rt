@@ -7,10 +7,7 @@ use std::alloc::AllocError;
 pub fn or_memory<T>(made: Result<T, AllocError>) -> Result<T, Fault>
     ensures { MatchResult made (λ value. result ≡ Ok value) (λ error. result ≡ Err Fault.Memory) }
 {
-    match made {
-        Ok(value) => Ok(value),
-        Err(_) => Err(Fault::Memory),
-    }
+    made.map_err(|_| Fault::Memory)
 }
 
 /// Appends bytes to a text. `Memory` is the only fault.

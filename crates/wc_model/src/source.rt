@@ -13,24 +13,19 @@ pub struct Source<'a> {
 /// What a program organisation unit is (IEC 61131-3:2003, 2.5).
 #[derive(Clone, Copy, PartialEq, Eq)]
 pub enum UnitKind {
-    /// FUNCTION_BLOCK.
     FunctionBlock,
-    /// PROGRAM.
     Program,
 }
 
 /// A program organisation unit (IEC 61131-3:2003, 2.5).
 #[derive(Drop)]
 pub struct Unit<'a> {
-    /// A function block or the program.
     pub kind: UnitKind,
     /// The line of its first keyword.
     pub line: u32,
-    /// Its name.
     pub name: Word<'a>,
     /// Its declarations in text order.
     pub declarations: Vec<Decl<'a>, Global>,
-    /// Its lines.
     pub body: Vec<Line<'a>, Global>,
 }
 
@@ -48,11 +43,9 @@ pub enum Section {
 /// A declaration: names of one type, with a value that they have at first.
 #[derive(Drop)]
 pub struct Decl<'a> {
-    /// The section in which it is.
     pub section: Section,
     /// The names in text order.
     pub names: Vec<Word<'a>, Global>,
-    /// The type.
     pub type_name: Word<'a>,
     /// The value after `:=`.
     pub initial: Option<Initial>,

@@ -18,74 +18,56 @@ pub struct Line<'a> {
 pub enum Instr<'a> {
     /// LD, or LDN if negated.
     Load {
-        /// Whether the operand is negated.
         negated: bool,
-        /// What is loaded.
         operand: Operand<'a>,
-        /// Its line.
         line: u32,
     },
     /// ST, STN, S, R.
     Store {
-        /// What is stored.
         storing: Storing,
-        /// Where.
         target: Operand<'a>,
-        /// Its line.
         line: u32,
     },
     /// An operator with its operand.
     Apply {
-        /// The operator.
         operator: Operator,
         /// The second operand; the first is the current result.
         operand: Operand<'a>,
-        /// Its line.
         line: u32,
     },
     /// An operator that is deferred to the `)` that closes it.
     Defer {
-        /// The operator.
         operator: Operator,
         /// What the short form loads first.
         operand: Option<Operand<'a>>,
-        /// The lines inside.
         inside: Vec<Line<'a>, Global>,
         /// The line of the operator.
         line: u32,
         /// The line of the `)`.
         close: u32,
     },
-    /// NOT.
     Not {
-        /// Its line.
         line: u32,
     },
     /// JMP, JMPC, JMPCN.
     Jump {
-        /// When it acts.
         condition: Condition,
         /// Where it goes on, as it is spelled.
         label: &'a [u8],
-        /// Its line.
         line: u32,
     },
     /// CAL, CALC, CALCN.
     Call {
-        /// When it acts.
         condition: Condition,
         /// The instance whose block is called, as it is spelled.
         instance: &'a [u8],
         /// The inputs that are assigned and the outputs that are given out, in written order.
         arguments: Vec<Argument<'a>, Global>,
-        /// Its line.
         line: u32,
     },
     /// RET, RETC, RETCN.
     Return {
-        /// When it acts.
         condition: Condition,
-        /// Its line.
         line: u32,
     },
 }

@@ -4,7 +4,6 @@ ghost use Rattle.wc_model.specs.Language.Values.{wrap};
 /// A value with its kind (IEC 61131-3:2003, 2.3.1).
 #[derive(Clone, Copy, PartialEq, Eq)]
 pub enum Value {
-    /// A BOOL.
     Bool(bool),
     /// A DINT, or a whole-number literal.
     Dint(i32),

@@ -42,10 +42,8 @@ pub fn write_whole<W: ByteOut>(writer: &mut W, text: &[u8]) -> Result<(), WriteF
 {
     let mut at = 0;
     while at < text.len() {
-        match write_some(writer, &text[at..]) {
-            Ok(count) => at += count,
-            Err(fault) => return Err(fault),
-        }
+        let count = write_some(writer, &text[at..])?;
+        at += count;
     }
     Ok(())
 }

@@ -1,6 +1,6 @@
 -- What is so of a fault is so of it if it is propagated.
 use Rattle.std.proofs.Common.{◌≡◌, Result, Ok, Err, sym, subst}
-use Rattle.std.specs.Prelude.{OnOk}
+use Rattle.std.specs.Prelude.{IfOk, MatchResult, OnOk}
 use Rattle.std.specs.Result.{IsErr, IsErrAnd}
 use Rattle.wc_model.specs.declared.fault.Fault.{Fault}
 
@@ -17,3 +17,8 @@ on_ok (Err e) go h = tt
 pub both_ok : {X E P Q R : Type 0} (r : Result X E) → (P → Q → R) → OnOk r P → OnOk r Q → OnOk r R
 both_ok (Ok x) go h k = go h k
 both_ok (Err e) go h k = tt
+
+-- what a call promises of its value, also where its lack of memory is given as another fault
+pub handed_on : {X E F : Type 0} (P : X → Type 0) (fault : F) (made : Result X E) (given : Result X F) → MatchResult made (λ value. given ≡ Ok value) (λ error. given ≡ Err fault) → IfOk made P → IfOk given P
+handed_on P fault (Ok value) given is h = rw is h
+handed_on P fault (Err error) given is h = rw is tt

@@ -5,9 +5,7 @@ use wc_model::{Kind, Place};
 pub struct Entity {
     /// Its kind; an instance has none.
     pub kind: Option<Kind>,
-    /// Whether it may be read from the body.
     pub readable: bool,
-    /// Whether it may be written from the body.
     pub writable: bool,
     /// Its place in the unit's frame; a literal and an instance have none.
     pub place: Option<Place>,

@@ -5,9 +5,7 @@ use wc_model::{Kind, Place, Section};
 pub struct Field<'a> {
     /// The name, as it is spelled.
     pub name: &'a [u8],
-    /// The section in which it is declared.
     pub section: Section,
-    /// Its kind.
     pub kind: Kind,
     /// Its place in the unit's frame.
     pub place: Place,

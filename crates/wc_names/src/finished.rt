@@ -1,4 +1,4 @@
-ghost use Rattle.std.specs.Prelude.{◌≡◌, ◌+◌, ◌++◌, List, Some, IfOk, OnOk, IsOkUnless, length, option_map, slice_get};
+ghost use Rattle.std.specs.Prelude.{◌≡◌, ◌+◌, ◌++◌, List, Some, IfOk, OnOk, length, option_map, slice_get};
 ghost use Rattle.wc_model.specs.Language.Frames.{first_numbers, frame_of, slot_kinds};
 ghost use Rattle.wc_model.specs.Language.Store.{block_places, unit_places, variable_places};
 ghost use Rattle.wc_model.specs.Language.Declarations.{Variable as Declared, is_block, type_named};
@@ -14,11 +14,10 @@ use crate::frame::{
 };
 use crate::unit_table::UnitTable;
 use crate::variable::Variable;
-use std::alloc::Global;
-use wc_model::Fault;
+use std::alloc::{AllocError, Global};
 
 /// Adds the slots of an instance of a unit before, of which they are finished.
-fn push_finished(frame: &mut Frame, finished: &[Frame], unit: usize) -> Result<(), Fault>
+fn push_finished(frame: &mut Frame, finished: &[Frame], unit: usize) -> Result<(), AllocError>
     ensures kinds { OnOk result
         ((more : Frame) → slice_get finished.now unit ≡ Some more
         → frame.new.kinds.items ≡ frame.old.kinds.items ++ more.kinds.items) }
@@ -27,7 +26,6 @@ fn push_finished(frame: &mut Frame, finished: &[Frame], unit: usize) -> Result<(
         → frame.new.initials.items ≡ frame.old.initials.items ++ more.initials.items) }
     ensures first { OnOk result
         (EachHoldsFirst finished.now → HoldsFirst frame.old → HoldsFirst frame.new) }
-    ensures memory { IsOkUnless result Fault.Memory }
 {
     match finished.get(unit) {
         Some(more) => append(frame, more),
@@ -36,7 +34,7 @@ fn push_finished(frame: &mut Frame, finished: &[Frame], unit: usize) -> Result<(
 }
 
 /// Adds the slots of a variable. Those of an instance of a unit before are finished.
-fn push_row(frame: &mut Frame, finished: &[Frame], row: &Variable) -> Result<(), Fault>
+fn push_row(frame: &mut Frame, finished: &[Frame], row: &Variable) -> Result<(), AllocError>
     ensures grown { (units : List UnitTable) (before : List ProgramUnit) (u : ProgramUnit)
         (v : Declared) → Represents units before u → AreFinished units (length before) finished.now
         → row.now.initial ≡ option_map (λ i. i.value) v.initial
@@ -47,7 +45,6 @@ fn push_row(frame: &mut Frame, finished: &[Frame], row: &Variable) -> Result<(),
         (variable_places (block_places before) (type_named before v.type_name) v.initial))) }
     ensures first { OnOk result
         (EachHoldsFirst finished.now → HoldsFirst frame.old → HoldsFirst frame.new) }
-    ensures memory { IsOkUnless result Fault.Memory }
 {
     match row.declared {
         DeclaredType::Elementary(kind) => {
@@ -64,13 +61,12 @@ fn push_unit<'a>(
     finished: &[Frame],
     units: &[UnitTable<'a>],
     unit: usize,
-) -> Result<(), Fault>
+) -> Result<(), AllocError>
     ensures grown { (before : List ProgramUnit) (u : ProgramUnit) → Represents units.now before u
         → unit ≡ length before → AreFinished units.now unit finished.now
         → OnOk result (IsGrown frame.old frame.new (contents_of (unit_places before u))) }
     ensures first { OnOk result
         (EachHoldsFirst finished.now → HoldsFirst frame.old → HoldsFirst frame.new) }
-    ensures memory { IsOkUnless result Fault.Memory }
 {
     let Some(table) = units.get(unit) else {
         return Ok(());
@@ -87,17 +83,16 @@ fn finish<'a>(
     finished: &mut Vec<Frame>,
     units: &[UnitTable<'a>],
     unit: usize,
-) -> Result<(), Fault>
+) -> Result<(), AllocError>
     ensures finished { OnOk result
         (AreFinished units.now unit finished.old.items
         → AreFinished units.now (unit + 1) finished.new.items) }
     ensures first { OnOk result
         (EachHoldsFirst finished.old.items → EachHoldsFirst finished.new.items) }
-    ensures memory { IsOkUnless result Fault.Memory }
 {
     let mut frame = no_slots(alloc);
     push_unit(&mut frame, finished, units, unit)?;
-    finished.push(frame).map_err(|_| Fault::Memory)?;
+    finished.push(frame)?;
     Ok(())
 }
 
@@ -107,10 +102,9 @@ fn finish_before<'a>(
     alloc: Global,
     units: &[UnitTable<'a>],
     unit: usize,
-) -> Result<Vec<Frame>, Fault>
+) -> Result<Vec<Frame>, AllocError>
     ensures finished { IfOk result (λ frames. AreFinished units.now unit frames.items) }
     ensures first { IfOk result (λ frames. EachHoldsFirst frames.items) }
-    ensures memory { IsOkUnless result Fault.Memory }
 {
     let mut finished = Vec::new(alloc);
     for number in 0..unit {
@@ -120,10 +114,9 @@ fn finish_before<'a>(
 }
 
 /// The slots that precede those of a unit's variables.
-fn direct_variable_slots(alloc: Global, is_block: bool) -> Result<Frame, Fault>
+fn direct_variable_slots(alloc: Global, is_block: bool) -> Result<Frame, AllocError>
     ensures begins { IfOk result (IsStarted is_block) }
     ensures first { IfOk result HoldsFirst }
-    ensures memory { IsOkUnless result Fault.Memory }
 {
     let mut frame = no_slots(alloc);
     if is_block {
@@ -146,7 +139,11 @@ fn is_function_block<'a>(units: &[UnitTable<'a>], unit: usize) -> bool
 }
 
 /// The slots of a unit's frame: a program's begins with the directly represented variables.
-pub(crate) fn slots<'a>(alloc: Global, units: &[UnitTable<'a>], unit: usize) -> Result<Frame, Fault>
+pub(crate) fn slots<'a>(
+    alloc: Global,
+    units: &[UnitTable<'a>],
+    unit: usize,
+) -> Result<Frame, AllocError>
     ensures kinds { (scope : Scope) → Represents units.now scope.before scope.unit
         → unit ≡ length scope.before
         → IfOk result (λ frame. frame.kinds.items ≡ slot_kinds (frame_of scope)) }
@@ -154,7 +151,6 @@ pub(crate) fn slots<'a>(alloc: Global, units: &[UnitTable<'a>], unit: usize) -> 
         → unit ≡ length scope.before
         → IfOk result (λ frame. frame.initials.items ≡ first_numbers (frame_of scope)) }
     ensures first { IfOk result HoldsFirst }
-    ensures memory { IsOkUnless result Fault.Memory }
 {
     let finished = finish_before(alloc, units, unit)?;
     let mut frame = direct_variable_slots(alloc, is_function_block(units, unit))?;

@@ -15,7 +15,6 @@ use wc_model::{Direction, Kind, Section};
 /// An input or an output of an instance.
 #[derive(Clone, Copy, PartialEq, Eq)]
 pub struct Formal {
-    /// Its kind.
     pub kind: Kind,
     /// Its place, counted from the first place of the instance.
     pub place: u16,

@@ -1,4 +1,4 @@
-ghost use Rattle.std.specs.Prelude.{◌≡◌, ◌+◌, ◌++◌, ◌∷◌, [], Option, Some, OnOk, IsOkUnless, length, map, option_map, pos, replicate};
+ghost use Rattle.std.specs.Prelude.{◌≡◌, ◌+◌, ◌++◌, ◌∷◌, [], Option, Some, OnOk, length, map, option_map, pos, replicate};
 ghost use Rattle.wc_model.specs.Language.Frames.{content_number, slot_kind_of};
 ghost use Rattle.wc_model.specs.Language.Store.{first_content, standard_fields, zero_of};
 ghost use Rattle.wc_model.specs.Language.DirectVariables.{direct_variables, kind_of_direct};
@@ -7,9 +7,9 @@ ghost use Rattle.wc_laws_language.specs.FirstNumbers.{IsFirst};
 ghost use Rattle.wc_laws_language.specs.Typing.{slot_of_kind};
 ghost use Rattle.wc_names.specs.Slots.{HoldsFirst, IsGrown};
 
-use std::alloc::Global;
+use std::alloc::{AllocError, Global};
 use wc_built_in::standard_fields;
-use wc_model::{Fault, Kind, SlotKind, StandardBlock, Value, or_memory};
+use wc_model::{Kind, SlotKind, StandardBlock, Value};
 
 /// The slots of a unit's frame, in the order of its places.
 #[derive(Drop)]
@@ -21,29 +21,27 @@ pub struct Frame {
 }
 
 /// Adds a slot that holds a number at first.
-pub(crate) fn push(frame: &mut Frame, kind: SlotKind, number: i64) -> Result<(), Fault>
+pub(crate) fn push(frame: &mut Frame, kind: SlotKind, number: i64) -> Result<(), AllocError>
     ensures kinds { OnOk result
         (frame.new.kinds.items ≡ frame.old.kinds.items ++ kind ∷ []) }
     ensures initials { OnOk result
         (frame.new.initials.items ≡ frame.old.initials.items ++ number ∷ []) }
     ensures first { OnOk result
         (IsFirst kind number → HoldsFirst frame.old → HoldsFirst frame.new) }
-    ensures memory { IsOkUnless result Fault.Memory }
 {
-    frame.kinds.push(kind).map_err(|_| Fault::Memory)?;
-    frame.initials.push(number).map_err(|_| Fault::Memory)?;
+    frame.kinds.push(kind)?;
+    frame.initials.push(number)?;
     Ok(())
 }
 
 /// Adds slots of these kinds that hold 0 at first.
-fn push_zeros(frame: &mut Frame, kinds: &[SlotKind]) -> Result<(), Fault>
+fn push_zeros(frame: &mut Frame, kinds: &[SlotKind]) -> Result<(), AllocError>
     ensures kinds { OnOk result
         (frame.new.kinds.items ≡ frame.old.kinds.items ++ kinds.now) }
     ensures initials { OnOk result
         (frame.new.initials.items
         ≡ frame.old.initials.items ++ replicate (length kinds.now) (pos 0)) }
     ensures first { OnOk result (HoldsFirst frame.old → HoldsFirst frame.new) }
-    ensures memory { IsOkUnless result Fault.Memory }
 {
     for kind in kinds {
         push(frame, *kind, 0)?;
@@ -80,11 +78,10 @@ pub(crate) fn first_number(kind: Kind, literal: Option<Value>) -> i64
 }
 
 /// Adds the slots of an instance of a standard function block.
-pub(crate) fn push_standard(frame: &mut Frame, block: StandardBlock) -> Result<(), Fault>
+pub(crate) fn push_standard(frame: &mut Frame, block: StandardBlock) -> Result<(), AllocError>
     ensures grown { OnOk result
         (IsGrown frame.old frame.new (map (λ f. f.1) (standard_fields block))) }
     ensures first { OnOk result (HoldsFirst frame.old → HoldsFirst frame.new) }
-    ensures memory { IsOkUnless result Fault.Memory }
 {
     for field in standard_fields(block) {
         push(frame, field.slot, 0)?;
@@ -93,17 +90,16 @@ pub(crate) fn push_standard(frame: &mut Frame, block: StandardBlock) -> Result<(
 }
 
 /// Adds the slots of another frame.
-pub(crate) fn append(frame: &mut Frame, more: &Frame) -> Result<(), Fault>
+pub(crate) fn append(frame: &mut Frame, more: &Frame) -> Result<(), AllocError>
     ensures kinds { OnOk result
         (frame.new.kinds.items ≡ frame.old.kinds.items ++ more.now.kinds.items) }
     ensures initials { OnOk result
         (frame.new.initials.items ≡ frame.old.initials.items ++ more.now.initials.items) }
     ensures first { OnOk result
         (HoldsFirst more.now → HoldsFirst frame.old → HoldsFirst frame.new) }
-    ensures memory { IsOkUnless result Fault.Memory }
 {
-    or_memory(frame.kinds.extend_from_slice(&more.kinds))?;
-    or_memory(frame.initials.extend_from_slice(&more.initials))?;
+    frame.kinds.extend_from_slice(&more.kinds)?;
+    frame.initials.extend_from_slice(&more.initials)?;
     Ok(())
 }
 
@@ -120,11 +116,10 @@ pub(crate) fn no_slots(alloc: Global) -> Frame
 }
 
 /// Adds the slots of the directly represented variables.
-pub(crate) fn push_direct(frame: &mut Frame) -> Result<(), Fault>
+pub(crate) fn push_direct(frame: &mut Frame) -> Result<(), AllocError>
     ensures grown { OnOk result
         (IsGrown frame.old frame.new (map (λ v. zero_of (kind_of_direct v)) direct_variables)) }
     ensures first { OnOk result (HoldsFirst frame.old → HoldsFirst frame.new) }
-    ensures memory { IsOkUnless result Fault.Memory }
 {
     push_zeros(frame, &[SlotKind::Bool; 22])?;
     push_zeros(frame, &[SlotKind::Dint; 3])?;

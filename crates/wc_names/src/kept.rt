@@ -26,7 +26,7 @@ use crate::lookup::{address, number, row};
 use crate::naming::{entity, place_at};
 use crate::unit_table::{DIRECT_VARIABLES, UnitTable};
 use std::alloc::Global;
-use wc_model::{Direction, Fault, Operand, Path, Place};
+use wc_model::{Direction, Fault, Operand, Path, Place, or_memory};
 
 /// The names of a text with what they represent. They borrow the text, not its tree.
 #[derive(Drop)]
@@ -194,6 +194,6 @@ impl<'a> Tables<'a> {
             (λ frame. AreFirst frame.kinds.items frame.initials.items) }
         ensures memory { IsOkUnless result Fault.Memory }
     {
-        slots(alloc, &self.units, unit)
+        or_memory(slots(alloc, &self.units, unit))
     }
 }

@@ -37,14 +37,11 @@ fn field_at(block: StandardBlock, names: &[&[u8]]) -> Option<u16>
         (λ (e : List Name × Content). same_path e.0 (map (λ n. name_of n.now) names.now)) 0
         (map (λ f. (f.0 ∷ [], f.1)) (standard_fields block)) }
 {
-    let Some((name, rest)) = names.split_first() else {
-        return None;
-    };
+    let (name, rest) = names.split_first()?;
     if let Some(_) = rest.split_first() {
         return None;
     }
-    let found = field_named(block, name)?;
-    Some(found.number)
+    Some(field_named(block, name)?.number)
 }
 
 /// The number of a path's place within a variable of an elementary type.
@@ -77,9 +74,7 @@ pub(crate) fn number<'a>(units: &[UnitTable<'a>], unit: usize, names: &[&[u8]]) 
         (λ (e : List Name × Content). same_path e.0 (map (λ n. name_of n.now) names.now))
         (first_place u) (unit_places before u) }
 {
-    let Some((name, rest)) = names.split_first() else {
-        return None;
-    };
+    let (name, rest) = names.split_first()?;
     let row = row(units, unit, name)?;
     number_after(units, row, rest)
 }

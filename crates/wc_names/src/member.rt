@@ -18,7 +18,6 @@ use wc_model::{Kind, Section, SlotKind, StandardBlock};
 /// A name that can follow an instance and a dot.
 #[derive(Clone, Copy)]
 pub(crate) struct Member {
-    /// The section in which its block declares it.
     pub(crate) section: Section,
     /// Its kind; an instance has none.
     pub(crate) kind: Option<Kind>,

@@ -4,9 +4,7 @@ use wc_model::{Section, Value};
 /// A variable of a unit, as its table keeps it.
 #[derive(Clone, Copy)]
 pub struct Variable {
-    /// The section in which it is declared.
     pub section: Section,
-    /// Its type.
     pub declared: DeclaredType,
     /// Its place in the unit's frame, or the first one of an instance.
     pub first: u16,

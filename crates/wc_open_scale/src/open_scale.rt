@@ -143,9 +143,6 @@ impl<'a, S: Store> OpenScale<'a, S> {
     pub fn last(&self) -> Option<u64>
         ensures { result ≡ option_map (λ machine. machine.last) self.now.machine }
     {
-        match &self.machine {
-            Some(machine) => Some(machine.last()),
-            None => None,
-        }
+        Some(self.machine.as_ref()?.last())
     }
 }

@@ -34,11 +34,10 @@ fn trace_at<S: Store>(
     ensures memory { IsOkUnless result.1 Fault.Memory }
 {
     let (steps, lines) = machine.trace(alloc, ms, image);
-    let outputs = machine.outputs();
     let record = Record {
         ms,
         steps: steps.0,
-        outputs,
+        outputs: machine.outputs(),
     };
     (record, lines)
 }

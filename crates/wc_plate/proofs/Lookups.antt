@@ -1,9 +1,11 @@
 -- What a look-up in a TOML table finds, as the rules for a plate see it.
-use Rattle.std.proofs.Common.{◌≡◌, ℕ, Bool, true, false, cond, ◌&&◌, ◌||◌, List, [], ◌∷◌, refl, sym, ap, ◌∙◌, string_bytes, nat_cmp, Ordering, Less, Equal, Greater, is_eq, String, Global}
+use Rattle.std.proofs.Common.{◌≡◌, ℕ, Bool, true, false, cond, ◌&&◌, ◌||◌, List, [], ◌∷◌, Result, Ok, Err, refl, sym, ap, subst, ◌∙◌, string_bytes, nat_cmp, Ordering, Less, Equal, Greater, is_eq, String, Global}
 use Rattle.std.proofs.lemmas.Map.Text.{is_eq-slice_cmp}
-use Rattle.std.specs.Prelude.{Option, Some, None, is_some, option_map, option_and_then, find}
+use Rattle.std.specs.Prelude.{Option, Some, None, is_some, option_map, option_and_then, find, IfErr, IfOk}
 use Rattle.std.specs.List.{list_all, list_any}
 use Rattle.std.specs.Map.{keys_of}
+use Rattle.std.specs.Option.{ok_or}
+use Rattle.std.specs.Result.{IsErr, IsErrAnd}
 use Rattle.std.specs.Str.{bytes_eq}
 use Rattle.std.specs.Ordering.{match_ordering}
 use Rattle.std.specs.Cmp.Lexicographic.{slice_cmp, nat_list_eq_equiv}
@@ -86,3 +88,18 @@ there key ms d found = ap is_some (entry_found key ms) ∙ ap (λ o. is_some (op
 -- a key that is not there has no value
 pub not_there : (key : List ℕ) (ms : Members) → None ≡ get_member key ms → entry_at (entries_of ms) key ≡ None
 not_there key ms found = entry_found key ms ∙ ap (option_map entry_of) (sym found)
+
+-- what is found, or the rule that is broken without it
+pub if_found : {T E : Type 0} (P : T → Type 0) (o : Option T) (e : E) (r : Result T E) → r ≡ ok_or o e → ((x : T) → o ≡ Some x → P x) → IfOk r P
+if_found P (Some x) e r is some = subst (λ a. IfOk a P) (sym is) (some x refl)
+if_found P None e r is some = subst (λ a. IfOk a P) (sym is) tt
+
+pub if_missing : {T E : Type 0} (Q : E → Type 0) (o : Option T) (e : E) (r : Result T E) → r ≡ ok_or o e → (o ≡ None → Q e) → IfErr r Q
+if_missing Q (Some x) e r is none = subst (λ a. IfErr a Q) (sym is) tt
+if_missing Q None e r is none = subst (λ a. IfErr a Q) (sym is) (none refl)
+
+-- what `?` returns of a fault
+pub if_given : {T U E : Type 0} (Q : E → Type 0) (o : Option U) (e given : E) (r : Result T E) → IsErr r × IsErrAnd r (λ x. x ≡ given) → Err given ≡ ok_or o e → o ≡ None → Q e → IfErr r Q
+if_given Q (Some x) e given r gives is none holds = absurd (cc)
+if_given Q None e given (Ok x) gives is none holds = tt
+if_given Q None e given (Err x) gives is none holds = let same : e ≡ given = cc in subst Q (same ∙ sym gives.1) holds

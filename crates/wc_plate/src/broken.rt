@@ -53,8 +53,7 @@ impl BrokenRule<'_> {
             BrokenRule::Decimals => 504,
             BrokenRule::Interval { .. } => 505,
             BrokenRule::Load { .. } => 506,
-            BrokenRule::ZeroCounts => 507,
-            BrokenRule::SpanCounts { .. } => 507,
+            BrokenRule::ZeroCounts | BrokenRule::SpanCounts { .. } => 507,
             BrokenRule::Window => 508,
         }
     }

@@ -52,13 +52,8 @@ fn text_at<'t>(table: &'t Table, key: &'static str) -> Result<&'t str, BrokenRul
         (λ text. plate.text_at (entries_of (table_view table.now)) key.now ≡ Some text.now) }
     ensures fault { IfErr result (BlamesText (entries_of (table_view table.now)) key.now) }
 {
-    match table.get(key) {
-        Some(value) => match value.as_str() {
-            Some(text) => Ok(text),
-            None => Err(BrokenRule::WrongKind { key }),
-        },
-        None => Err(BrokenRule::MissingKey { key }),
-    }
+    let value = table.get(key).ok_or(BrokenRule::MissingKey { key })?;
+    value.as_str().ok_or(BrokenRule::WrongKind { key })
 }
 
 /// The whole number of a key.
@@ -67,34 +62,22 @@ fn number_at(table: &Table, key: &'static str) -> Result<i64, BrokenRule<'static
         (λ number. plate.number_at (entries_of (table_view table.now)) key.now ≡ Some number) }
     ensures fault { IfErr result (BlamesNumber (entries_of (table_view table.now)) key.now) }
 {
-    match table.get(key) {
-        Some(value) => match value.as_integer() {
-            Some(number) => Ok(number),
-            None => Err(BrokenRule::WrongKind { key }),
-        },
-        None => Err(BrokenRule::MissingKey { key }),
-    }
+    let value = table.get(key).ok_or(BrokenRule::MissingKey { key })?;
+    value.as_integer().ok_or(BrokenRule::WrongKind { key })
 }
 
 /// The values of the seven keys, or the first of them that is missing or not of its kind.
 fn each_key(table: &Table) -> Result<Written<'_>, BrokenRule<'static>>
     ensures { ReadsEach (entries_of (table_view table.now)) result }
 {
-    let unit = text_at(table, "unit")?;
-    let decimals = number_at(table, "decimals")?;
-    let max = number_at(table, "max")?;
-    let e = number_at(table, "e")?;
-    let zero_counts = number_at(table, "zero_counts")?;
-    let span_counts = number_at(table, "span_counts")?;
-    let window = number_at(table, "window")?;
     Ok(Written {
-        unit,
-        decimals,
-        max,
-        e,
-        zero_counts,
-        span_counts,
-        window,
+        unit: text_at(table, "unit")?,
+        decimals: number_at(table, "decimals")?,
+        max: number_at(table, "max")?,
+        e: number_at(table, "e")?,
+        zero_counts: number_at(table, "zero_counts")?,
+        span_counts: number_at(table, "span_counts")?,
+        window: number_at(table, "window")?,
     })
 }
 
@@ -117,9 +100,6 @@ pub(crate) fn written_in(table: &Table) -> Result<Written<'_>, BrokenRule<'_>>
             key,
             missing: missing_key(table),
         }),
-        None => match each_key(table) {
-            Ok(written) => Ok(written),
-            Err(rule) => Err(rule),
-        },
+        None => Ok(each_key(table)?),
     }
 }

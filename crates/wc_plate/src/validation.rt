@@ -27,11 +27,8 @@ fn between(low: u32, high: u32, number: i64) -> Option<u32>
     ensures fits { is_some result ≡ plate.is_between (pos low) (pos high) number }
     ensures same { IfSome result (λ x. (number ≡ pos x) × (low ≤ x) × (x ≤ high)) }
 {
-    if number >= low as i64 && number <= high as i64 {
-        Some(number as u32)
-    } else {
-        None
-    }
+    let number = u32::try_from(number).ok()?;
+    (low <= number && number <= high).then_some(number)
 }
 
 /// Counts that can be a sample.
@@ -39,11 +36,8 @@ fn sample(counts: i64) -> Option<i32>
     ensures fits { is_some result ≡ plate.is_between least_sample greatest_sample counts }
     ensures same { IfSome result (λ x. counts ≡ x) }
 {
-    if counts >= i64::from(LEAST_COUNTS) && counts <= i64::from(GREATEST_COUNTS) {
-        Some(counts as i32)
-    } else {
-        None
-    }
+    let counts = i32::try_from(counts).ok()?;
+    (LEAST_COUNTS <= counts && counts <= GREATEST_COUNTS).then_some(counts)
 }
 
 /// Whether this number of decimals allows the scale interval.
@@ -101,38 +95,25 @@ fn count(max: i64, e: u32) -> Option<u32>
         (λ n. (max ≡ pos (n * e)) × (int_div max (pos e) ≡ pos n) × (n ≤ 10000)) }
 {
     let (e, n) = (e as i64, max / e as i64);
-    if max % e <= 0 && n >= 500 && n <= 10000 {
-        Some(n as u32)
-    } else {
-        None
-    }
+    let is_count = max % e <= 0 && n >= 500 && n <= 10000;
+    is_count.then_some(u32::try_from(n).ok()?)
 }
 
 /// The plate of what is written, or the first rule that it breaks.
 pub(crate) fn validate_written(written: &Written) -> Result<Plate, BrokenRule<'static>>
     ensures { Validates (written_seen written.now) result }
 {
-    let Some(unit) = line_unit(written.unit) else {
-        return Err(BrokenRule::Unit);
-    };
-    let Some(decimals) = between(0, 3, written.decimals) else {
-        return Err(BrokenRule::Decimals);
-    };
-    let Some(e) = interval(unit, decimals, written.e) else {
-        return Err(BrokenRule::Interval { unit, decimals });
-    };
+    let unit = line_unit(written.unit).ok_or(BrokenRule::Unit)?;
+    let decimals = between(0, 3, written.decimals).ok_or(BrokenRule::Decimals)?;
+    let e = interval(unit, decimals, written.e).ok_or(BrokenRule::Interval { unit, decimals })?;
     let Some(n) = count(written.max, e) else {
         return Err(BrokenRule::Load { e });
     };
-    let Some(zero_counts) = sample(written.zero_counts) else {
-        return Err(BrokenRule::ZeroCounts);
-    };
+    let zero_counts = sample(written.zero_counts).ok_or(BrokenRule::ZeroCounts)?;
     let Some(span_counts) = between(4 * n, 8000000, written.span_counts) else {
         return Err(BrokenRule::SpanCounts { n });
     };
-    let Some(window) = between(2, 16, written.window) else {
-        return Err(BrokenRule::Window);
-    };
+    let window = between(2, 16, written.window).ok_or(BrokenRule::Window)?;
     Ok(Plate {
         unit,
         decimals,

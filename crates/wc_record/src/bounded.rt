@@ -9,8 +9,7 @@ ghost use Rattle.wc_record.specs.Reading.{borrowed, borrowed_bytes};
 
 use crate::place::Place;
 use memchr::memchr_iter;
-use std::io;
-use std::io::Read;
+use std::io::{self, Read};
 use wc_model::{ByteIn, MOST_SPENT};
 
 /// Whether as much of a log was read as may be: 134217728 bytes and calls since the start, or a

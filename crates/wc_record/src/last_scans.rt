@@ -5,7 +5,7 @@ ghost use Rattle.wc_record.specs.Recorders.{HoldsLast};
 use circular_buffer::HeapCircularBuffer;
 use std::alloc::Global;
 use std::marker::Model;
-use wc_model::{Fault, Outputs};
+use wc_model::{Fault, Outputs, or_memory};
 
 /// What is kept of a scan.
 #[derive(Clone, Copy, PartialEq, Eq)]
@@ -46,10 +46,8 @@ impl Recorder {
         ensures empty { IfOk result (λ recorder. HoldsLast recorder number []) }
         ensures memory { IsOkUnless result Fault.Memory }
     {
-        match HeapCircularBuffer::with_capacity(alloc, number as usize) {
-            Ok(ring) => Ok(Recorder { ring }),
-            Err(_) => Err(Fault::Memory),
-        }
+        let ring = or_memory(HeapCircularBuffer::with_capacity(alloc, number as usize))?;
+        Ok(Recorder { ring })
     }
 
     /// Keeps the record of one scan more; if there is no space for it, the oldest goes. It takes

@@ -34,10 +34,9 @@ const ENDS_CAPACITY: usize = 4;
 fn buffer_record(alloc: Global) -> Result<ByteRecord, LogFault>
     ensures memory { IfErr result (λ raised. raised ≡ LogFault.Memory) }
 {
-    match ByteRecord::with_capacity(alloc, RECORD_CAPACITY, ENDS_CAPACITY) {
-        Ok(row) => Ok(row),
-        Err(_) => Err(LogFault::Memory),
-    }
+    ByteRecord::with_capacity(alloc, RECORD_CAPACITY, ENDS_CAPACITY)
+        .ok()
+        .ok_or(LogFault::Memory)
 }
 
 /// How a log ended.
@@ -45,7 +44,6 @@ fn buffer_record(alloc: Global) -> Result<ByteRecord, LogFault>
 pub(crate) enum LogEnd {
     /// No row is left.
     AllRead,
-    /// A fault occurred.
     Raised(LogFault),
 }
 

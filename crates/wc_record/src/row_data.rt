@@ -13,7 +13,6 @@ use csv::ByteRecord;
 pub(crate) enum RowFault {
     /// They break the rule of this number.
     Refused(u16),
-    /// Memory was refused.
     Memory,
 }
 

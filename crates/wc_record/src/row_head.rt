@@ -25,7 +25,6 @@ pub enum HeadKind {
     Bytes,
     /// The inputs from now on; bit i is `%IX0.i`.
     Inputs(u16),
-    /// A scan.
     Scan,
     /// A change to the next program.
     Change,

@@ -7,7 +7,6 @@ pub struct Row {
     pub number: u32,
     /// Its moment in milliseconds, below 2^40 and not before that of the row before it.
     pub ms: u64,
-    /// What it brings.
     pub kind: RowKind,
 }
 
@@ -20,7 +19,6 @@ pub enum RowKind {
     Bytes(Vec<u8>),
     /// The inputs from now on; bit i is `%IX0.i`.
     Inputs(u16),
-    /// A scan.
     Scan,
     /// A change to the next program.
     Change,
@@ -40,7 +38,6 @@ pub enum LogFault {
     /// The reader failed, or as much was read as may be.
     #[error("read fault")]
     Read,
-    /// Memory was refused.
     #[error("out of memory")]
     Memory,
 }

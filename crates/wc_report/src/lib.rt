@@ -2,10 +2,8 @@
 #![tactic(auto)]
 
 mod backward;
-mod digits;
 mod lines;
 mod numbers;
 
-pub use digits::put_hex;
 pub use lines::{path_line, put_answer_line, put_scan_line, refused_line, unit_line};
-pub use numbers::{put_number, put_signed};
+pub use numbers::{put_hex, put_number, put_signed};

@@ -4,8 +4,7 @@ ghost use Rattle.wc_model.specs.Say.Report.{AnswerLine, ScanLine, line_text};
 ghost use Rattle.wc_model.specs.Say.UnitReport.{path_line, unit_line};
 
 use crate::backward;
-use crate::digits::put_hex;
-use crate::numbers::spaced_lines;
+use crate::numbers::{put_hex, spaced_lines};
 use std::alloc::Global;
 use wc_model::{Fault, Outputs, Steps, or_memory, put_bytes};
 

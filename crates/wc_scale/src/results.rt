@@ -34,7 +34,6 @@ pub const NO_VARIABLE: u32 = 12;
 #[repr(C)]
 #[derive(Clone, Copy)]
 pub struct Refusal {
-    /// The status.
     pub status: u32,
     /// The number of the rule that the text breaks, 0 if it is not refused.
     pub number: u32,
@@ -46,7 +45,6 @@ pub struct Refusal {
 #[repr(C)]
 #[derive(Clone, Copy)]
 pub struct Answer {
-    /// The status.
     pub status: u32,
     /// The number of bytes the answer has, 0 if the byte completes no request.
     pub length: u32,
@@ -58,7 +56,6 @@ pub struct Answer {
 #[repr(C)]
 #[derive(Clone, Copy)]
 pub struct Scanned {
-    /// The status.
     pub status: u32,
     /// The number of steps the scan took.
     pub steps: u32,
@@ -72,7 +69,6 @@ pub struct Scanned {
 #[repr(C)]
 #[derive(Clone, Copy)]
 pub struct Reading {
-    /// The status.
     pub status: u32,
     /// Stable, over, under, centre of zero, tare active, valid, the lowest bit first.
     pub flags: u32,
@@ -85,7 +81,6 @@ pub struct Reading {
 #[repr(C)]
 #[derive(Clone, Copy)]
 pub struct PreludeAnswer {
-    /// The status.
     pub status: u32,
     /// The number of samples the window holds, 2 to 16.
     pub window: u32,
@@ -113,7 +108,6 @@ pub struct PreludeAnswer {
 #[repr(C)]
 #[derive(Clone, Copy)]
 pub struct Engraved {
-    /// The status.
     pub status: u32,
     /// The unit in three bytes, as the line writes it: `g`, `kg` or `t`, and spaces after it; zeros of a closed scale.
     pub unit: [u8; 3],
@@ -129,7 +123,6 @@ pub struct Engraved {
 #[repr(C)]
 #[derive(Clone, Copy)]
 pub struct PlateDigest {
-    /// The status.
     pub status: u32,
     /// SHA-256 of the plate's lines; zeros of a closed scale.
     pub bytes: [u8; 32],
@@ -139,7 +132,6 @@ pub struct PlateDigest {
 #[repr(C)]
 #[derive(Clone, Copy)]
 pub struct VariableRead {
-    /// The status.
     pub status: u32,
     /// 1 of a BOOL, 2 of a DINT, 3 of a TIME; 0 if there is no value.
     pub kind: u32,

@@ -10,6 +10,10 @@ use Rattle.wc_indicator.specs.Kept.{IndicatorState, RepresentsHistory}
 use Rattle.wc_sma.specs.declared.line.Line.{Line}
 use Rattle.wc_sma.specs.Representation.{RepresentsBytes, HasFailed}
 
+-- more has come to the plate and the history that the indicator represents
+abbrev pub Adds : (History → History) → IndicatorState → IndicatorState → Type 0
+Adds more old new = (p : PlateData) (history : History) → RepresentsHistory old p history → RepresentsHistory new p (more history)
+
 -- The chunk is taken: the requests that it completes are acted on, and the writer has taken their answers, in order.
 pub record Feeds (line : Line) (indicator : IndicatorState) (taken : Option (List ℕ)) (line' : Line) (indicator' : IndicatorState) (taken' : Option (List ℕ))
     (chunk : List ℕ) : Type 0 where

@@ -4,6 +4,7 @@ ghost use Rattle.wc_model.specs.Instrument.WeighingHistories.{SetZero, SetTare, 
 ghost use Rattle.wc_model.specs.Instrument.Answers as answers;
 ghost use Rattle.wc_indicator.specs.Kept.{RepresentsHistory, Reports};
 ghost use Rattle.wc_sma.specs.Asking.{asked_view};
+ghost use Rattle.wc_sma.specs.Feeding.{Adds};
 ghost use Rattle.wc_sma.specs.Seen.{command_view};
 ghost use Rattle.wc_sma.specs.Replies.{reply_bytes};
 
@@ -16,15 +17,12 @@ use wc_indicator::Indicator;
 pub(crate) enum Reply {
     /// The status and this weight, and what it is an answer to.
     Weight(Mode, Asked),
-    /// That the request is not known.
     Unknown,
 }
 
 /// Sets zero, and says what the answer is to.
 fn set_zero(indicator: &mut Indicator) -> Asked
-    ensures represents { (p : PlateData) (history : History)
-        → RepresentsHistory indicator.old p history
-        → RepresentsHistory indicator.new p (SetZero ∷ history) }
+    ensures represents { Adds (λ history. SetZero ∷ history) indicator.old indicator.new }
     ensures asked { Reports answers.asked_zero indicator.old (asked_view result) }
 {
     match indicator.set_zero() {
@@ -35,9 +33,7 @@ fn set_zero(indicator: &mut Indicator) -> Asked
 
 /// Takes a tare, and says what the answer is to.
 fn take_tare(indicator: &mut Indicator) -> Asked
-    ensures represents { (p : PlateData) (history : History)
-        → RepresentsHistory indicator.old p history
-        → RepresentsHistory indicator.new p (SetTare ∷ history) }
+    ensures represents { Adds (λ history. SetTare ∷ history) indicator.old indicator.new }
     ensures asked { Reports answers.asked_tare indicator.old (asked_view result) }
 {
     match indicator.set_tare() {
@@ -48,10 +44,8 @@ fn take_tare(indicator: &mut Indicator) -> Asked
 
 /// Acts on a request, and gives the reply, which gives the indication after it.
 pub(crate) fn act(command: Command, indicator: &mut Indicator) -> Reply
-    ensures represents { (p : PlateData) (history : History)
-        → RepresentsHistory indicator.old p history
-        → RepresentsHistory indicator.new p (answers.after_command
-        (command_view command) history) }
+    ensures represents { Adds (answers.after_command (command_view command)) indicator.old
+        indicator.new }
     ensures answer { (p : PlateData) (history : History) → RepresentsHistory indicator.old p history
         → reply_bytes p (answers.after_command (command_view command) history) result
         ≡ answers.answer_to p (command_view command) history }

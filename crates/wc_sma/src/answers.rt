@@ -9,9 +9,7 @@ use wc_indicator::Indicator;
 /// Which weight is asked for.
 #[derive(Clone, Copy, PartialEq, Eq)]
 pub enum Mode {
-    /// What the indicator shows.
     Shown,
-    /// The tare value.
     Tare,
 }
 
@@ -20,9 +18,7 @@ pub enum Mode {
 pub enum Asked {
     /// A question, or a command that was accepted.
     Plain,
-    /// A zero command that was refused.
     ZeroRefused,
-    /// A tare command that was refused.
     TareRefused,
 }
 

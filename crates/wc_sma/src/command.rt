@@ -6,7 +6,6 @@ ghost use Rattle.wc_sma.specs.Seen.{seen_in, asked_by, command_view};
 /// What the line knows of a request's text so far.
 #[derive(Clone, Copy, PartialEq, Eq)]
 pub(crate) enum Seen {
-    /// No byte has come.
     Nothing,
     /// This byte alone.
     One(u8),
@@ -21,11 +20,9 @@ pub enum Command {
     AskWeight,
     /// Set zero.
     Zero,
-    /// Take a tare.
     TakeTare,
     /// The tare value.
     AskTare,
-    /// Clear the tare.
     Clear,
     /// It is not a request that the line knows.
     Unknown,
@@ -49,10 +46,7 @@ pub(crate) fn after_byte(started: Option<Seen>, byte: u8) -> Option<Seen>
     match byte {
         b'\n' => Some(Seen::Nothing),
         b'\r' | 0x1b => None,
-        _ => match started {
-            Some(seen) => Some(with_byte(seen, byte)),
-            None => None,
-        },
+        _ => Some(with_byte(started?, byte)),
     }
 }
 

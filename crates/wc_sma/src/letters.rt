@@ -17,15 +17,11 @@ pub enum Status {
     Normal,
     /// The gross weight is within a quarter of an interval of zero.
     CentreOfZero,
-    /// Overload.
     Over,
     /// Too far below zero.
     Under,
-    /// No sample has come yet.
     NoSample,
-    /// The zero command of this answer was refused.
     ZeroRefused,
-    /// The tare command of this answer was refused.
     TareRefused,
 }
 

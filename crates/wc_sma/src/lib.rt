@@ -7,7 +7,6 @@ mod answers;
 mod command;
 mod letters;
 mod line;
-mod open_request;
 mod requests;
 mod weight;
 

@@ -1,17 +1,20 @@
-ghost use Rattle.std.specs.Prelude.{◌≡◌, ◌⊎◌, ℕ, List, [], ◌∷◌, false, Option, option_map, IfOk, IfErr, IsErr};
+ghost use Rattle.std.specs.Prelude.{◌≡◌, ◌⊎◌, ℕ, List, [], ◌∷◌, false, Option, option_map, IfOk, IfErr, IsErr, OnErr, OnOk};
+ghost use Rattle.wc_laws_instrument.specs.Preludes.{text_kept};
 ghost use Rattle.wc_model.specs.Instrument.Plates.{PlateData};
 ghost use Rattle.wc_model.specs.Instrument.WeighingHistories.{History};
 ghost use Rattle.wc_model.specs.Instrument.Answers as answers;
+ghost use Rattle.wc_model.specs.Instrument.Requests.{open_request};
 ghost use Rattle.std.specs.Io.KnownBytes.{Appends};
 ghost use Rattle.wc_indicator.specs.Kept.{RepresentsHistory};
 ghost use Rattle.wc_sma.specs.Seen.{seen_in, command_view, completes};
 ghost use Rattle.wc_model.specs.Run.Writing.{HasFailedSince, TakesPrefix};
 ghost use Rattle.wc_sma.specs.Representation.{RepresentsBytes, HasFailed};
-ghost use Rattle.wc_sma.specs.Feeding.{Feeds, Fails};
+ghost use Rattle.wc_sma.specs.Feeding.{Adds, Feeds, Fails};
 
 use crate::acting::{Reply, act};
 use crate::answers::answer;
 use crate::command::{Command, Seen, after_byte, command_of};
+use arrayvec::ArrayVec;
 use wc_indicator::Indicator;
 use wc_model::{ByteOut, WriteFault, write_whole};
 
@@ -36,10 +39,8 @@ fn serve<W: ByteOut>(
     indicator: &mut Indicator,
     writer: &mut W,
 ) -> Result<(), WriteFault>
-    ensures represents { (p : PlateData) (history : History)
-        → RepresentsHistory indicator.old p history
-        → RepresentsHistory indicator.new p (answers.after_command
-        (command_view command) history) }
+    ensures represents { Adds (answers.after_command (command_view command)) indicator.old
+        indicator.new }
     ensures whole { IfOk result
         (λ done. (p : PlateData) (history : History) → RepresentsHistory indicator.old p history
         → Appends (W.bytes_taken writer.old) (W.bytes_taken writer.new)
@@ -56,6 +57,23 @@ fn serve<W: ByteOut>(
         Reply::Weight(mode, asked) => write_whole(writer, &answer(indicator, mode, asked)),
         Reply::Unknown => write_whole(writer, b"\n?\r"),
     }
+}
+
+/// The text of which this is known, as far as it matters: two question marks represent any of two
+/// bytes or more.
+fn kept_text(seen: Seen) -> ArrayVec<u8, 2>
+    ensures { (text : List ℕ) → seen ≡ seen_in text → result.items ≡ text_kept text }
+{
+    let mut text = ArrayVec::new();
+    match seen {
+        Seen::Nothing => {}
+        Seen::One(byte) => text.push(byte),
+        Seen::More => {
+            text.push(b'?');
+            text.push(b'?');
+        }
+    }
+    text
 }
 
 impl Line {
@@ -77,16 +95,14 @@ impl Line {
         writer: &mut W,
     ) -> Result<(), WriteFault>
         requires { self.old.failed ≡ false }
-        ensures feeds { IfOk result
-            (λ done.
-            Feeds self.old indicator.old (W.bytes_taken writer.old) self.new indicator.new
+        ensures feeds { OnOk result
+            (Feeds self.old indicator.old (W.bytes_taken writer.old) self.new indicator.new
             (W.bytes_taken writer.new) (byte ∷ [])) }
         ensures works { IfOk result (λ done. self.new.failed ≡ false) }
         ensures steady { IfOk result
             (λ done. W.failure_count writer.new ≡ W.failure_count writer.old) }
-        ensures fails { IfErr result
-            (λ e.
-            Fails self.old indicator.old (W.bytes_taken writer.old) self.new indicator.new
+        ensures fails { OnErr result
+            (Fails self.old indicator.old (W.bytes_taken writer.old) self.new indicator.new
             (W.bytes_taken writer.new) (byte ∷ [])) }
         ensures device { IfErr result
             (λ e. HasFailedSince (W.failure_count writer.old) (W.failure_count writer.new)) }
@@ -139,5 +155,14 @@ impl Line {
             self.take_byte(*byte, indicator, writer)?;
         }
         Ok(())
+    }
+
+    /// The text so far of the request that is open, if one is, as far as it matters. A text of two
+    /// bytes or more is not a command, whatever it goes on with: two question marks represent it.
+    pub fn open_request(&self) -> Option<ArrayVec<u8, 2>>
+        ensures { (before : List ℕ) → RepresentsBytes self.now before
+            → option_map (λ text. text.items) result ≡ option_map text_kept (open_request before) }
+    {
+        Some(kept_text(self.started?))
     }
 }

@@ -32,9 +32,6 @@ impl RequestReader {
     {
         let request = completed(self.started, byte);
         self.started = after_byte(self.started, byte);
-        match request {
-            Some(seen) => Some(command_of(seen)),
-            None => None,
-        }
+        Some(command_of(request?))
     }
 }

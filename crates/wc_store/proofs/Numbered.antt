@@ -8,7 +8,7 @@ use Rattle.wc_model.specs.declared.kind.SlotKind.{SlotKind}
 use Rattle.wc_store.proofs.Ranges.{range_at, written_fits}
 use Rattle.wc_store.specs.Inside.{ArePlacesFrom, kinds_in, numbers_in, tag_view, number_view}
 use Rattle.wc_store.specs.Slots.{AreInRange, IsInRangeAt}
-use Rattle.wc_store.specs.declared.tagged.TaggedNumber.{TaggedNumber}
+use Rattle.wc_store.specs.declared.named_store.TaggedNumber.{TaggedNumber}
 
 -- a place has this number
 abbrev pub is_place : ℕ → ℕ → Bool

@@ -6,8 +6,8 @@ use Rattle.wc_model.specs.declared.kind.SlotKind.TheVariants as slots
 use Rattle.wc_store.specs.Slots.{SlotNumbers, AreInRange}
 use Rattle.wc_store.specs.declared.named_store.NamedStore.TheInside.{Inside as NamedFields}
 use Rattle.wc_store.specs.declared.slot_store.SlotStore.TheInside.{Inside as SlotFields}
-use Rattle.wc_store.specs.declared.tagged.TaggedNumber.{TaggedNumber}
-use Rattle.wc_store.specs.declared.tagged.TaggedNumber.TheVariants as tagged
+use Rattle.wc_store.specs.declared.named_store.TaggedNumber.{TaggedNumber}
+use Rattle.wc_store.specs.declared.named_store.TaggedNumber.TheVariants as tagged
 
 -- a store of plain numbers
 abbrev pub slots_view : SlotFields → SlotNumbers

@@ -4,8 +4,6 @@
 mod named_store;
 mod slot_store;
 mod store;
-mod tagged;
-mod zeros;
 
 pub use named_store::NamedStore;
 pub use slot_store::SlotStore;

@@ -4,7 +4,7 @@ ghost use Rattle.wc_store.specs.Slots.{with_four};
 use crate::store::Store;
 use std::alloc::Global;
 use std::marker::Model;
-use wc_model::{Fault, Place, SlotKind};
+use wc_model::{Fault, Place, SlotKind, or_memory};
 
 /// A store of plain numbers: a read and a write are an index each. The kinds are kept next to them.
 #[derive(Drop)]
@@ -43,14 +43,9 @@ impl Store for SlotStore {
     ghost numbers = { λ store. store.numbers };
 
     fn make(alloc: Global, kinds: &[SlotKind]) -> Result<Self, Fault> {
-        let numbers = match vec![in alloc; 0_i64; kinds.len()] {
-            Ok(numbers) => numbers,
-            Err(_) => return Err(Fault::Memory),
-        };
-        match Vec::from_slice(alloc, kinds) {
-            Ok(kinds) => Ok(SlotStore { numbers, kinds }),
-            Err(_) => Err(Fault::Memory),
-        }
+        let numbers = or_memory(vec![in alloc; 0_i64; kinds.len()])?;
+        let kinds = or_memory(Vec::from_slice(alloc, kinds))?;
+        Ok(SlotStore { numbers, kinds })
     }
 
     fn size(&self) -> usize {

@@ -13,24 +13,22 @@ pub reported-raised : (test : Bool) (fault : ReadingFault) (line : ℕ)
 reported-raised true fault line = refl
 reported-raised false fault line = refl
 
--- a third test that fails
-pub third-fails : (first second : Bool) (fault : ReadingFault) (line : ℕ) → fault_if (first && second && false) fault line ≡ None
-third-fails true true fault line = refl
-third-fails true false fault line = refl
-third-fails false second fault line = refl
+-- what is found at an operator if the unit is full
+pub full-meets : (first full : Bool) (line : ℕ) → full ≡ true → (if◌then◌else◌ {A = Option Fault} first (Some (Refused 208 line)) None) ≡ option_map fault_of (fault_if (first && full) TooMany line)
+full-meets true full line e = rw e refl
+full-meets false full line e = refl
 
--- a third test that holds
-pub third-holds : (first second : Bool) (fault : ReadingFault) (line : ℕ) → fault_if (first && second && true) fault line ≡ fault_if (first && second) fault line
-third-holds true true fault line = refl
-third-holds true false fault line = refl
-third-holds false second fault line = refl
+-- nothing is found if it is not
+pub not-full-meets : (first full : Bool) (line : ℕ) → full ≡ false → None ≡ option_map fault_of (fault_if (first && full) TooMany line)
+not-full-meets true full line e = rw e refl
+not-full-meets false full line e = refl
 
 -- nothing is found at a label
-pub label-meets : (first : Bool) (line : ℕ) → None ≡ option_map fault_of (fault_if (first && not true) TooMany line)
-label-meets true line = refl
-label-meets false line = refl
+pub label-meets : (first full : Bool) (line : ℕ) → None ≡ option_map fault_of (fault_if (first && not true && full) TooMany line)
+label-meets true full line = refl
+label-meets false full line = refl
 
--- what is found at an operator
-pub operator-meets : (first : Bool) (line : ℕ) → (if◌then◌else◌ {A = Option Fault} first (Some (Refused 208 line)) None) ≡ option_map fault_of (fault_if (first && not false) TooMany line)
-operator-meets true line = refl
-operator-meets false line = refl
+-- what is found where no colon follows
+pub no-label-meets : (first full : Bool) (line : ℕ) → option_map fault_of (fault_if (first && full) TooMany line) ≡ option_map fault_of (fault_if (first && not false && full) TooMany line)
+no-label-meets true full line = refl
+no-label-meets false full line = refl

@@ -3,7 +3,7 @@ ghost use Rattle.wc_laws_grammar.specs.LineMoves as lines;
 ghost use Rattle.wc_laws_grammar.specs.Moves as moves;
 ghost use Rattle.wc_model.specs.Text.Limits.{most_lines};
 ghost use Rattle.wc_model.specs.Text.Positions as positions;
-ghost use Rattle.wc_model.specs.Language.Tree as tree;
+ghost use Rattle.wc_model.specs.Language.Names.{name_of};
 ghost use Rattle.wc_model.specs.Language.Tree.{ProgramUnit};
 ghost use Rattle.wc_model.specs.Language.Views.{lines_view, term_view, unit_view, word_view};
 ghost use Rattle.wc_text_lines.specs.LineViews.{started_view, shape_view, step_view};
@@ -12,8 +12,8 @@ ghost use Rattle.wc_text_bodies.specs.BodyViews.{IsCounted, position_view, openi
 use crate::tree_lines::{label_line, nested_line, step_line};
 use std::alloc::{AllocError, Global};
 use std::mem;
-use wc_model::{Line, MOST_LINES, Operand, Operator, Unit, Word};
-use wc_text_lines::{LineShape, StartedLine, Step};
+use wc_model::{Line, MOST_LINES, Operand, Operator, Section, Unit, Word};
+use wc_text_lines::{LineShape, StartedLine, Step, section_named};
 
 /// A parenthesis that is open.
 #[derive(Drop)]
@@ -215,4 +215,16 @@ pub fn is_full(body: &Body) -> bool
         → result ≡ moves.is_full (position_view units body.now) }
 {
     body.count >= MOST_LINES
+}
+
+/// The section that a word begins, if no line of the body has come.
+pub fn section_of_word(done: &[Line], text: &[u8]) -> Option<Section>
+    requires { moves.are_no_lines (lines_view done.now) ≡ (length done.now == 0) }
+    ensures { result ≡ moves.section_of_word (lines_view done.now) (name_of text.now) }
+{
+    if done.is_empty() {
+        section_named(text)
+    } else {
+        None
+    }
 }

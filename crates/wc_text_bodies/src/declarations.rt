@@ -1,11 +1,10 @@
-ghost use Rattle.std.specs.Prelude.{◌≡◌, ◌++◌, ◌∷◌, [], ℕ, IfOk, List, OnOk, Some, map, option_map};
-ghost use Rattle.wc_text_bodies.specs.SectionViews.{declaring_view, section_view};
+ghost use Rattle.std.specs.Prelude.{◌≡◌, ◌++◌, ◌∷◌, [], IfOk, List, Some, map, option_map};
+ghost use Rattle.wc_text_bodies.specs.SectionViews.{Leads, LeadsOn, declaring_view, section_view};
 ghost use Rattle.wc_laws_grammar.specs.Moves as moves;
 ghost use Rattle.wc_laws_grammar.specs.Words.{literal_of};
 ghost use Rattle.wc_text_lines.specs.Words.{symbol_view};
 ghost use Rattle.wc_model.specs.Language.Tree.{ProgramUnit};
 ghost use Rattle.wc_model.specs.Language.Views.{unit_view, word_view};
-ghost use Rattle.wc_model.specs.declared.source.Section.{Section};
 
 use std::alloc::{AllocError, Global};
 use wc_lexer::{Shape, Token};
@@ -40,29 +39,7 @@ pub enum SectionPlace<'a> {
     AfterSection,
 }
 
-/// Adds a declaration after a unit's others.
-fn add_declaration<'a>(
-    unit: &mut Unit<'a>,
-    section: Section,
-    names: Vec<Word<'a>, Global>,
-    type_name: Word<'a>,
-    initial: Option<Initial>,
-) -> Result<(), AllocError>
-    ensures { OnOk result
-        (unit_view unit.new
-        ≡ moves.with_declaration (unit_view unit.old) section (map word_view names.entry.items)
-        (word_view type_name.entry) initial) }
-{
-    unit.declarations.push(Decl {
-        section,
-        names,
-        type_name,
-        initial,
-    })?;
-    Ok(())
-}
-
-/// After the `;` of a declaration.
+/// After the `;` of a declaration, which is added after the unit's others.
 fn end_declaration<'a>(
     unit: &mut Unit<'a>,
     section: Section,
@@ -77,7 +54,12 @@ fn end_declaration<'a>(
         (moves.with_declaration (unit_view unit.old) section (map word_view names.entry.items)
         (word_view type_name.entry) initial) section moves.Undeclared)) }
 {
-    add_declaration(unit, section, names, type_name, initial)?;
+    unit.declarations.push(Decl {
+        section,
+        names,
+        type_name,
+        initial,
+    })?;
     Ok(Some(SectionPlace::WithinSection(DeclarationState::Undeclared)))
 }
 
@@ -96,48 +78,29 @@ fn with_name<'a>(
     Ok(DeclarationState::AfterNames(names))
 }
 
-/// After the identifier that begins a declaration or ends the section.
-fn at_first_name<'a>(alloc: Global, name: Word<'a>) -> Result<SectionPlace<'a>, AllocError>
-    ensures { IfOk result
-        (λ place. (units : List ProgramUnit) (unit : ProgramUnit) (section : Section)
-        → section_view units unit section place
-        ≡ moves.at_first_name units unit section (word_view name.entry)) }
-{
-    if ends_section(name.text) {
-        Ok(SectionPlace::AfterSection)
-    } else {
-        let state = with_name(Vec::new(alloc), name)?;
-        Ok(SectionPlace::WithinSection(state))
-    }
-}
-
 /// After the token that begins a declaration or ends the section.
 fn at_undeclared<'a>(
     alloc: Global,
     token: Token<'a>,
 ) -> Result<Option<SectionPlace<'a>>, AllocError>
-    ensures { IfOk result
-        (λ next. (units : List ProgramUnit) (unit : ProgramUnit) (section : Section)
-        → option_map (section_view units unit section) next
-        ≡ moves.declaration_move units unit section moves.Undeclared
-        (symbol_view token.entry) token.entry.line) }
+    ensures { IfOk result (λ next. Leads DeclarationState.Undeclared token.entry next) }
 {
-    match token.shape {
-        Shape::LineEnd => Ok(Some(SectionPlace::WithinSection(DeclarationState::Undeclared))),
+    let state = match token.shape {
+        Shape::LineEnd => DeclarationState::Undeclared,
         Shape::Identifier => {
-            let place = at_first_name(alloc, word(token))?;
-            Ok(Some(place))
+            if ends_section(token.text) {
+                return Ok(Some(SectionPlace::AfterSection));
+            }
+            with_name(Vec::new(alloc), word(token))?
         }
-        _ => Ok(None),
-    }
+        _ => return Ok(None),
+    };
+    Ok(Some(SectionPlace::WithinSection(state)))
 }
 
 /// After the token that follows a name: a comma or the colon.
 fn at_names<'a>(names: Vec<Word<'a>, Global>, token: Token<'a>) -> Option<SectionPlace<'a>>
-    ensures { (units : List ProgramUnit) (unit : ProgramUnit) (section : Section) (line : ℕ)
-        → option_map (section_view units unit section) result
-        ≡ moves.declaration_move units unit section
-        (moves.AfterNames (map word_view names.entry.items)) (symbol_view token.entry) line }
+    ensures { Leads (DeclarationState.AfterNames names.entry) token.entry result }
 {
     let state = match token.shape {
         Shape::LineEnd => DeclarationState::AfterNames(names),
@@ -153,41 +116,26 @@ fn at_next_name<'a>(
     names: Vec<Word<'a>, Global>,
     token: Token<'a>,
 ) -> Result<Option<SectionPlace<'a>>, AllocError>
-    ensures { IfOk result
-        (λ next. (units : List ProgramUnit) (unit : ProgramUnit) (section : Section)
-        → option_map (section_view units unit section) next
-        ≡ moves.declaration_move units unit section
-        (moves.AfterComma (map word_view names.entry.items))
-        (symbol_view token.entry) token.entry.line) }
+    ensures { IfOk result (λ next. Leads (DeclarationState.AfterComma names.entry) token.entry next) }
 {
-    match token.shape {
-        Shape::LineEnd => Ok(Some(SectionPlace::WithinSection(DeclarationState::AfterComma(
-            names,
-        )))),
-        Shape::Identifier => {
-            let state = with_name(names, word(token))?;
-            Ok(Some(SectionPlace::WithinSection(state)))
-        }
-        _ => Ok(None),
-    }
+    let state = match token.shape {
+        Shape::LineEnd => DeclarationState::AfterComma(names),
+        Shape::Identifier => with_name(names, word(token))?,
+        _ => return Ok(None),
+    };
+    Ok(Some(SectionPlace::WithinSection(state)))
 }
 
 /// After the token that follows the colon: the type.
 fn at_type<'a>(names: Vec<Word<'a>, Global>, token: Token<'a>) -> Option<SectionPlace<'a>>
-    ensures { (units : List ProgramUnit) (unit : ProgramUnit) (section : Section)
-        → option_map (section_view units unit section) result
-        ≡ moves.declaration_move units unit section
-        (moves.AfterColon (map word_view names.entry.items))
-        (symbol_view token.entry) token.entry.line }
+    ensures { Leads (DeclarationState.AfterColon names.entry) token.entry result }
 {
-    match token.shape {
-        Shape::LineEnd => Some(SectionPlace::WithinSection(DeclarationState::AfterColon(names))),
-        Shape::Identifier => Some(SectionPlace::WithinSection(DeclarationState::AfterType(
-            names,
-            word(token),
-        ))),
-        _ => None,
-    }
+    let state = match token.shape {
+        Shape::LineEnd => DeclarationState::AfterColon(names),
+        Shape::Identifier => DeclarationState::AfterType(names, word(token)),
+        _ => return None,
+    };
+    Some(SectionPlace::WithinSection(state))
 }
 
 /// The literal that the token is, also TRUE and FALSE.
@@ -203,45 +151,26 @@ fn literal(token: Token) -> Option<Value>
     }
 }
 
-/// After a declaration's literal, if the token is one.
-fn after_literal<'a>(
-    names: Vec<Word<'a>, Global>,
-    type_name: Word<'a>,
-    token: Token<'a>,
-) -> Option<SectionPlace<'a>>
-    ensures { (units : List ProgramUnit) (unit : ProgramUnit) (section : Section)
-        → option_map (section_view units unit section) result
-        ≡ moves.at_value units unit section (map word_view names.entry.items)
-        (word_view type_name.entry) token.entry.line (literal_of (symbol_view token.entry)) }
-{
-    let line = token.line;
-    match literal(token) {
-        Some(value) => Some(SectionPlace::WithinSection(DeclarationState::AfterValue(
-            names,
-            type_name,
-            Initial { value, line },
-        ))),
-        None => None,
-    }
-}
-
 /// After the token that follows `:=`: the value.
 fn at_value<'a>(
     names: Vec<Word<'a>, Global>,
     type_name: Word<'a>,
     token: Token<'a>,
 ) -> Option<SectionPlace<'a>>
-    ensures { (units : List ProgramUnit) (unit : ProgramUnit) (section : Section)
-        → option_map (section_view units unit section) result
-        ≡ moves.declaration_move units unit section
-        (moves.AfterAssign (map word_view names.entry.items) (word_view type_name.entry))
-        (symbol_view token.entry) token.entry.line }
+    ensures { Leads (DeclarationState.AfterAssign names.entry type_name.entry) token.entry result }
 {
     match token.shape {
         Shape::LineEnd => Some(SectionPlace::WithinSection(DeclarationState::AfterAssign(
             names, type_name,
         ))),
-        _ => after_literal(names, type_name, token),
+        _ => {
+            let line = token.line;
+            let value = literal(token)?;
+            let initial = Initial { value, line };
+            Some(SectionPlace::WithinSection(DeclarationState::AfterValue(
+                names, type_name, initial,
+            )))
+        }
     }
 }
 
@@ -254,22 +183,17 @@ fn after_type<'a>(
     token: Token<'a>,
 ) -> Result<Option<SectionPlace<'a>>, AllocError>
     ensures { IfOk result
-        (λ next. (units : List ProgramUnit) (line : ℕ)
-        → option_map (section_view units (unit_view unit.new) section) next
-        ≡ moves.declaration_move units (unit_view unit.old) section
-        (moves.AfterType (map word_view names.entry.items) (word_view type_name.entry))
-        (symbol_view token.entry) line) }
+        (λ next.
+        LeadsOn unit.old section (DeclarationState.AfterType names.entry type_name.entry)
+        token.entry unit.new next) }
 {
-    match token.shape {
-        Shape::LineEnd => Ok(Some(SectionPlace::WithinSection(DeclarationState::AfterType(
-            names, type_name,
-        )))),
-        Shape::Assign => Ok(Some(SectionPlace::WithinSection(DeclarationState::AfterAssign(
-            names, type_name,
-        )))),
-        Shape::Semicolon => end_declaration(unit, section, names, type_name, None),
-        _ => Ok(None),
-    }
+    let state = match token.shape {
+        Shape::LineEnd => DeclarationState::AfterType(names, type_name),
+        Shape::Assign => DeclarationState::AfterAssign(names, type_name),
+        Shape::Semicolon => return end_declaration(unit, section, names, type_name, None),
+        _ => return Ok(None),
+    };
+    Ok(Some(SectionPlace::WithinSection(state)))
 }
 
 /// After the token that follows a value: the `;`.
@@ -282,11 +206,9 @@ fn after_value<'a>(
     token: Token<'a>,
 ) -> Result<Option<SectionPlace<'a>>, AllocError>
     ensures { IfOk result
-        (λ next. (units : List ProgramUnit) (line : ℕ)
-        → option_map (section_view units (unit_view unit.new) section) next
-        ≡ moves.declaration_move units (unit_view unit.old) section
-        (moves.AfterValue (map word_view names.entry.items) (word_view type_name.entry) initial)
-        (symbol_view token.entry) line) }
+        (λ next.
+        LeadsOn unit.old section (DeclarationState.AfterValue names.entry type_name.entry initial)
+        token.entry unit.new next) }
 {
     match token.shape {
         Shape::LineEnd => Ok(Some(SectionPlace::WithinSection(DeclarationState::AfterValue(

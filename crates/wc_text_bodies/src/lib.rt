@@ -6,13 +6,11 @@ mod bodies;
 mod declarations;
 mod line_faults;
 mod open_lines;
-mod sections;
-mod started_faults;
 mod tree_lines;
 
-pub use bodies::{Body, Opening, add_label, add_shape, add_step, body_start, close, is_full};
+pub use bodies::{
+    Body, Opening, add_label, add_shape, add_step, body_start, close, is_full, section_of_word,
+};
 pub use declarations::{DeclarationState, SectionPlace, declaration_move};
-pub use line_faults::start_fault;
+pub use line_faults::{start_fault, state_fault};
 pub use open_lines::{open_in, open_on};
-pub use sections::section_of_word;
-pub use started_faults::state_fault;

@@ -1,56 +1,37 @@
-ghost use Rattle.std.specs.Prelude.{◌≡◌, ◌∷◌, [], ◌&&◌, List, Option, Some, None, is_some, not, option_map, if◌then◌else◌};
+ghost use Rattle.std.specs.Prelude.{◌≡◌, ◌∷◌, [], ◌&&◌, List, Some, None, is_some, length, nat_le, option_map, if◌then◌else◌};
 ghost use Rattle.wc_laws_grammar.specs.Moves as moves;
 ghost use Rattle.wc_laws_grammar.specs.Words as words;
 ghost use Rattle.wc_model.specs.Text.Keywords.{end_word};
+ghost use Rattle.wc_model.specs.Text.Limits.{most_depth};
 ghost use Rattle.wc_model.specs.Text.Positions as positions;
 ghost use Rattle.wc_model.specs.Text.ReadingFaults as faults;
 ghost use Rattle.wc_model.specs.Language.Tree.{ProgramUnit};
-ghost use Rattle.wc_text_bodies.specs.BodyViews.{IsCounted, fault_of, position_view, opening_view, openings_view};
+ghost use Rattle.wc_text_bodies.specs.BodyViews.{IsCounted, fault_of, position_view, openings_view};
+ghost use Rattle.wc_text_lines.specs.LineViews.{started_view, in_line_view, line_state_view};
 ghost use Rattle.wc_text_lines.specs.Words.{symbol_view};
 
 use crate::bodies::{Body, Opening, has_content, innermost, is_full};
 use wc_lexer::{Shape, Token};
-use wc_model::{Fault, UnitKind};
-use wc_text_lines::{ends_unit, is_transfer, operation_of};
+use wc_model::{Fault, MOST_DEPTH, UnitKind};
+use wc_text_lines::{
+    InLine, LineState, Operating, StartedLine, ends_unit, is_transfer, operation_of,
+};
+
+/// The refusal of that number on that line.
+pub(crate) fn refused(number: u16, place: u32) -> Fault
+    ensures { result ≡ Fault.Refused number place }
+{
+    Fault::Refused { number, place }
+}
 
 /// The refusal if the test holds.
-pub(crate) fn refused_if(test: bool, number: u16, place: u32) -> Option<Fault>
+fn refused_if(test: bool, number: u16, place: u32) -> Option<Fault>
     ensures { result ≡ (if test then Some (Fault.Refused number place) else None) }
 {
     if test {
-        Some(Fault::Refused { number, place })
+        Some(refused(number, place))
     } else {
         None
-    }
-}
-
-/// A line too many, if the unit has as many as it may.
-fn full_fault(body: &Body, line: u32) -> Option<Fault>
-    requires { IsCounted body.now }
-    ensures { (units : List ProgramUnit)
-        → result
-        ≡ option_map fault_of
-        (moves.fault_if (moves.is_full (position_view units body.now)) faults.TooMany line) }
-{
-    refused_if(is_full(body), 208, line)
-}
-
-/// What is wrong with the `)` of a parenthesis.
-fn inner_closing_fault<'a>(body: &Body<'a>, opening: &Opening<'a>, line: u32) -> Option<Fault>
-    requires { IsCounted body.now }
-    ensures { (units : List ProgramUnit) (outer : List positions.Opening)
-        → result
-        ≡ option_map fault_of
-        (moves.fault_at_closing (position_view units body.now)
-        (opening_view opening.now ∷ outer) line) }
-{
-    if has_content(opening, &body.done) {
-        full_fault(body, line)
-    } else {
-        Some(Fault::Refused {
-            number: 204,
-            place: line,
-        })
     }
 }
 
@@ -64,11 +45,14 @@ fn closing_fault(body: &Body, line: u32) -> Option<Fault>
         (openings_view [] body.now.openings.items) line) }
 {
     match innermost(&body.openings) {
-        Some(opening) => inner_closing_fault(body, opening, line),
-        None => Some(Fault::Refused {
-            number: 206,
-            place: line,
-        }),
+        Some(opening) => {
+            if has_content(opening, &body.done) {
+                refused_if(is_full(body), 208, line)
+            } else {
+                Some(refused(204, line))
+            }
+        }
+        None => Some(refused(206, line)),
     }
 }
 
@@ -82,21 +66,6 @@ fn is_operator(token: Token) -> bool
     }
 }
 
-/// What is wrong with an operator that begins a line if the unit has as many as it may. A label
-/// is not one.
-fn full_operator_fault(token: Token, colon: bool) -> Option<Fault>
-    ensures { result
-        ≡ option_map fault_of
-        (moves.fault_if (is_some (words.operation_of (symbol_view token.entry)) && not colon)
-        faults.TooMany token.entry.line) }
-{
-    if colon {
-        None
-    } else {
-        refused_if(is_operator(token), 208, token.line)
-    }
-}
-
 /// What is wrong with an operator that begins a line: it is one line too many. A label is not one.
 fn operator_fault(body: &Body, token: Token, colon: bool) -> Option<Fault>
     requires { IsCounted body.now }
@@ -106,10 +75,10 @@ fn operator_fault(body: &Body, token: Token, colon: bool) -> Option<Fault>
         (moves.fault_at_operator (position_view units body.now)
         (symbol_view token.entry) token.entry.line colon) }
 {
-    if is_full(body) {
-        full_operator_fault(token, colon)
-    } else {
+    if colon {
         None
+    } else {
+        labelled_fault(body, token)
     }
 }
 
@@ -143,57 +112,6 @@ fn is_end_word(token: Token, kind: UnitKind) -> bool
     }
 }
 
-/// What is wrong with a token that begins a line in parentheses, other than a `)`, a label and a
-/// transfer.
-fn inner_fault(body: &Body, open_line: u32, token: Token, colon: bool) -> Option<Fault>
-    requires { IsCounted body.now }
-    ensures { (units : List ProgramUnit)
-        → result
-        ≡ option_map fault_of
-        (moves.first_fault
-        (moves.fault_if
-        (moves.has_name (symbol_view token.entry) (end_word body.now.unit.kind))
-        faults.ParenthesisNotPaired open_line)
-        (moves.fault_at_operator (position_view units body.now)
-        (symbol_view token.entry) token.entry.line colon)) }
-{
-    if is_end_word(token, body.unit.kind) {
-        Some(Fault::Refused {
-            number: 206,
-            place: open_line,
-        })
-    } else {
-        operator_fault(body, token, colon)
-    }
-}
-
-/// What is wrong with a token that begins a line in parentheses, other than a `)` and a transfer.
-fn label_fault(body: &Body, open_line: u32, token: Token, colon: bool) -> Option<Fault>
-    requires { IsCounted body.now }
-    ensures { (units : List ProgramUnit)
-        → result
-        ≡ option_map fault_of
-        (moves.first_fault
-        (moves.fault_if
-        (moves.is_identifier (symbol_view token.entry) && colon)
-        faults.NotAllowedInParentheses token.entry.line)
-        (moves.first_fault
-        (moves.fault_if
-        (moves.has_name (symbol_view token.entry) (end_word body.now.unit.kind))
-        faults.ParenthesisNotPaired open_line)
-        (moves.fault_at_operator (position_view units body.now)
-        (symbol_view token.entry) token.entry.line colon))) }
-{
-    if begins_label(token, colon) {
-        Some(Fault::Refused {
-            number: 205,
-            place: token.line,
-        })
-    } else {
-        inner_fault(body, open_line, token, colon)
-    }
-}
-
 /// What is wrong with the first token of a line in parentheses, other than a `)`.
 fn inside_fault(body: &Body, open_line: u32, token: Token, colon: bool) -> Option<Fault>
     requires { IsCounted body.now }
@@ -205,12 +123,13 @@ fn inside_fault(body: &Body, open_line: u32, token: Token, colon: bool) -> Optio
         (symbol_view token.entry) token.entry.line colon) }
 {
     if begins_transfer(token) {
-        Some(Fault::Refused {
-            number: 205,
-            place: token.line,
-        })
+        Some(refused(205, token.line))
+    } else if begins_label(token, colon) {
+        Some(refused(205, token.line))
+    } else if is_end_word(token, body.unit.kind) {
+        Some(refused(206, open_line))
     } else {
-        label_fault(body, open_line, token, colon)
+        operator_fault(body, token, colon)
     }
 }
 
@@ -246,7 +165,7 @@ pub fn start_fault(body: &Body, token: Token, colon: bool) -> Option<Fault>
 }
 
 /// What is wrong with an operator after a label: it is one line too many.
-pub(crate) fn labelled_fault(body: &Body, token: Token) -> Option<Fault>
+fn labelled_fault(body: &Body, token: Token) -> Option<Fault>
     requires { IsCounted body.now }
     ensures { (units : List ProgramUnit)
         → result
@@ -255,9 +174,62 @@ pub(crate) fn labelled_fault(body: &Body, token: Token) -> Option<Fault>
         (is_some (words.operation_of (symbol_view token.entry)) && moves.is_full
         (position_view units body.now)) faults.TooMany token.entry.line) }
 {
-    if is_operator(token) {
-        full_fault(body, token.line)
+    if is_full(body) {
+        refused_if(is_operator(token), 208, token.line)
     } else {
         None
+    }
+}
+
+/// What is wrong with an operator's bracket: it is one too deep.
+fn depth_fault<'a>(openings: &[Opening<'a>], line: u32) -> Option<Fault>
+    ensures { result
+        ≡ option_map fault_of
+        (moves.fault_if
+        (nat_le most_depth (length (openings_view [] openings.now))) faults.TooDeep line) }
+{
+    refused_if(openings.len() >= MOST_DEPTH, 207, line)
+}
+
+/// What is wrong with a token of an instruction that has started: a bracket after its operator.
+fn in_line_fault<'a>(
+    body: &Body<'a>,
+    started: &StartedLine<'a>,
+    state: &InLine<'a>,
+    token: Token<'a>,
+) -> Option<Fault>
+    ensures { (units : List ProgramUnit)
+        → result
+        ≡ option_map fault_of
+        (moves.fault_on_line (position_view units body.now)
+        (in_line_view (started_view started.now) state.now)
+        (symbol_view token.entry) token.entry.line) }
+{
+    match state {
+        InLine::Operated(operating) => match operating {
+            Operating::Applies(_) => match token.shape {
+                Shape::Opening => depth_fault(&body.openings, started.line),
+                _ => None,
+            },
+            _ => None,
+        },
+        _ => None,
+    }
+}
+
+/// What is wrong with a token of a line that has started: an operator after a label, or a
+/// bracket after an operator.
+pub fn state_fault<'a>(body: &Body<'a>, line: &LineState<'a>, token: Token<'a>) -> Option<Fault>
+    requires { IsCounted body.now }
+    ensures { (units : List ProgramUnit)
+        → result
+        ≡ option_map fault_of
+        (moves.fault_on_line (position_view units body.now) (line_state_view line.now)
+        (symbol_view token.entry) token.entry.line) }
+{
+    match line {
+        LineState::Labelled(_) => labelled_fault(body, token),
+        LineState::Instructing(started, state) => in_line_fault(body, started, state, token),
+        _ => None,
     }
 }

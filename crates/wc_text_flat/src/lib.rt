@@ -3,21 +3,17 @@
 //! clause is the law, or an example that computes.
 #![tactic(auto)]
 
-mod bounds;
 mod examples;
-mod meaning;
-mod trace;
+mod laws;
 
-pub use bounds::{
-    flat_code_has_the_worst_path, flat_code_is_short, lowered_code_keeps_within, lowered_code_nests,
-};
 pub use examples::{
     block_is_called, body_is_lowered, jump_passes_over, nothing_else_has_a_meaning,
     parentheses_defer, timer_is_called,
 };
-pub use meaning::{
-    calls_are_runs, ended_bodies_are_over, first_numbers_are_contents, flat_code_means_the_text,
-    flat_code_scans_the_text, held_numbers_stay_held, outputs_are_numbers,
+pub use laws::{
+    calls_are_runs, ended_bodies_are_over, first_numbers_are_contents,
+    flat_code_has_the_worst_path, flat_code_is_seen_as_the_text, flat_code_is_short,
+    flat_code_means_the_text, flat_code_scans_the_text, held_numbers_stay_held,
+    lowered_code_keeps_within, lowered_code_nests, outputs_are_numbers, seen_is_the_trace,
     skipped_lines_are_dropped,
 };
-pub use trace::{flat_code_is_seen_as_the_text, seen_is_the_trace};

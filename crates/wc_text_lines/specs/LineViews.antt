@@ -1,10 +1,12 @@
 -- What the reader's states on a line represent.
-use Rattle.std.specs.Prelude.{Some, None, true, false, map, option_map}
+use Rattle.std.specs.Prelude.{◌≡◌, Bool, Option, Some, None, true, false, map, option_map}
 use Rattle.wc_laws_grammar.specs.LineMoves as lines
 use Rattle.wc_laws_grammar.specs.Words.{step_of}
+use Rattle.wc_lexer.specs.declared.shape.Token.{Token}
 use Rattle.wc_model.specs.Language.Tree as tree
 use Rattle.wc_model.specs.Language.Views.{assignment_view, name_view, term_view, word_view}
-use Rattle.wc_text_lines.specs.Words.{operating_view}
+use Rattle.wc_model.specs.Text.Grammar.{Setting}
+use Rattle.wc_text_lines.specs.Words.{operating_view, symbol_view}
 use Rattle.wc_text_lines.specs.declared.line_state.StartedLine.{StartedLine}
 use Rattle.wc_text_lines.specs.declared.line_state.Formal.{Formal}
 use Rattle.wc_text_lines.specs.declared.line_state.InList.{InList}
@@ -84,3 +86,8 @@ line_state_view (Worded label) = lines.Worded (word_view label)
 line_state_view (Labelled label) = lines.Labelled (word_view label)
 line_state_view (LabelAlone label) = lines.Ended (lines.LabelAlone (word_view label))
 line_state_view (Instructing started at) = in_line_view (started_view started) at
+
+-- where the token leads on the line of an instruction, with whatever it has started
+abbrev pub LeadsTo : InLine → Token → Option InLine → Type 0
+LeadsTo state token next = (started : lines.StartedLine) (setting : Setting) (colon : Bool)
+    → option_map (in_line_view started) next ≡ lines.line_move setting (in_line_view started state) (symbol_view token) token.line colon

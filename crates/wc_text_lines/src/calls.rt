@@ -1,9 +1,5 @@
-ghost use Rattle.std.specs.Prelude.{◌≡◌, ℕ, Bool, IfOk, option_map};
-ghost use Rattle.wc_laws_grammar.specs.LineMoves as lines;
-ghost use Rattle.wc_model.specs.Text.Grammar.{Setting};
-ghost use Rattle.wc_model.specs.Language.Views.{name_view};
-ghost use Rattle.wc_text_lines.specs.LineViews.{formal_view, in_line_view, item_view, listed_view};
-ghost use Rattle.wc_text_lines.specs.Words.{symbol_view};
+ghost use Rattle.std.specs.Prelude.{IfOk};
+ghost use Rattle.wc_text_lines.specs.LineViews.{LeadsTo};
 
 use crate::line_state::{Formal, InLine, InList, LineShape, Listed, OperandOf, Step};
 use crate::operands::at_operand;
@@ -19,11 +15,7 @@ pub(crate) fn at_instance<'a>(
     instance: Word<'a>,
     token: Token<'a>,
 ) -> Option<InLine<'a>>
-    ensures { (started : lines.StartedLine) (setting : Setting) (line : ℕ) (colon : Bool)
-        → option_map (in_line_view started) result
-        ≡ lines.line_move setting
-        (lines.Instanced started condition (name_view instance.entry))
-        (symbol_view token.entry) line colon }
+    ensures { LeadsTo (InLine.Instanced condition instance.entry) token.entry result }
 {
     let call = Listed {
         condition,
@@ -39,10 +31,7 @@ pub(crate) fn at_instance<'a>(
 
 /// After the token that follows the list's bracket: an input or output, or the list's end.
 fn at_first<'a>(call: Listed<'a>, token: Token<'a>) -> Option<InLine<'a>>
-    ensures { (started : lines.StartedLine) (line : ℕ)
-        → option_map (in_line_view started) result
-        ≡ lines.at_list started (listed_view call.entry) lines.AtFirst
-        (symbol_view token.entry) line }
+    ensures { LeadsTo (InLine.Listing call.entry InList.AtFirst) token.entry result }
 {
     match token.shape {
         Shape::LineEnd => Some(InLine::Listing(call, InList::AtFirst)),
@@ -54,10 +43,7 @@ fn at_first<'a>(call: Listed<'a>, token: Token<'a>) -> Option<InLine<'a>>
 
 /// After the token that follows a comma: an input or output.
 fn at_next<'a>(call: Listed<'a>, token: Token<'a>) -> Option<InLine<'a>>
-    ensures { (started : lines.StartedLine) (line : ℕ)
-        → option_map (in_line_view started) result
-        ≡ lines.at_list started (listed_view call.entry) lines.AtNext
-        (symbol_view token.entry) line }
+    ensures { LeadsTo (InLine.Listing call.entry InList.AtNext) token.entry result }
 {
     match token.shape {
         Shape::LineEnd => Some(InLine::Listing(call, InList::AtNext)),
@@ -68,29 +54,15 @@ fn at_next<'a>(call: Listed<'a>, token: Token<'a>) -> Option<InLine<'a>>
 
 /// After the token that follows the name of an input or output: its `:=` or `=>`.
 fn at_assign<'a>(call: Listed<'a>, word: Word<'a>, token: Token<'a>) -> Option<InLine<'a>>
-    ensures { (started : lines.StartedLine) (line : ℕ)
-        → option_map (in_line_view started) result
-        ≡ lines.at_list started (listed_view call.entry)
-        (lines.AtAssign (name_view word.entry)) (symbol_view token.entry) line }
+    ensures { LeadsTo (InLine.Listing call.entry (InList.AtAssign word.entry)) token.entry result }
 {
-    match token.shape {
-        Shape::LineEnd => Some(InLine::Listing(call, InList::AtAssign(word))),
-        Shape::Assign => Some(InLine::Listing(
-            call,
-            InList::AtValue(Formal {
-                direction: Direction::Into,
-                word,
-            }),
-        )),
-        Shape::Arrow => Some(InLine::Listing(
-            call,
-            InList::AtValue(Formal {
-                direction: Direction::OutOf,
-                word,
-            }),
-        )),
-        _ => None,
-    }
+    let direction = match token.shape {
+        Shape::LineEnd => return Some(InLine::Listing(call, InList::AtAssign(word))),
+        Shape::Assign => Direction::Into,
+        Shape::Arrow => Direction::OutOf,
+        _ => return None,
+    };
+    Some(InLine::Listing(call, InList::AtValue(Formal { direction, word })))
 }
 
 /// After the token that follows `:=` or `=>`: a value, or a target.
@@ -100,10 +72,7 @@ fn at_value<'a>(
     token: Token<'a>,
 ) -> Result<Option<InLine<'a>>, AllocError>
     ensures { IfOk result
-        (λ next. (started : lines.StartedLine)
-        → option_map (in_line_view started) next
-        ≡ lines.at_list started (listed_view call.entry)
-        (lines.AtValue (formal_view formal.entry)) (symbol_view token.entry) token.entry.line) }
+        (λ next. LeadsTo (InLine.Listing call.entry (InList.AtValue formal.entry)) token.entry next) }
 {
     match token.shape {
         Shape::LineEnd => Ok(Some(InLine::Listing(call, InList::AtValue(formal)))),
@@ -113,10 +82,7 @@ fn at_value<'a>(
 
 /// After the token that follows a whole argument: a comma, or the list's end.
 fn at_end<'a>(call: Listed<'a>, token: Token<'a>) -> Option<InLine<'a>>
-    ensures { (started : lines.StartedLine) (line : ℕ)
-        → option_map (in_line_view started) result
-        ≡ lines.at_list started (listed_view call.entry) lines.AtEnd
-        (symbol_view token.entry) line }
+    ensures { LeadsTo (InLine.Listing call.entry InList.AtEnd) token.entry result }
 {
     match token.shape {
         Shape::LineEnd => Some(InLine::Listing(call, InList::AtEnd)),
@@ -132,11 +98,7 @@ pub(crate) fn at_list<'a>(
     item: InList<'a>,
     token: Token<'a>,
 ) -> Result<Option<InLine<'a>>, AllocError>
-    ensures { IfOk result
-        (λ next. (started : lines.StartedLine)
-        → option_map (in_line_view started) next
-        ≡ lines.at_list started (listed_view call.entry) (item_view item.entry)
-        (symbol_view token.entry) token.entry.line) }
+    ensures { IfOk result (λ next. LeadsTo (InLine.Listing call.entry item.entry) token.entry next) }
 {
     match item {
         InList::AtFirst => Ok(at_first(call, token)),

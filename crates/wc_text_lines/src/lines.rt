@@ -1,11 +1,11 @@
-ghost use Rattle.std.specs.Prelude.{◌≡◌, ℕ, Bool, IfOk, Option, option_map};
+ghost use Rattle.std.specs.Prelude.{◌≡◌, ℕ, Bool, false, IfOk, Option, option_map};
 ghost use Rattle.wc_laws_grammar.specs.LineMoves as lines;
 ghost use Rattle.wc_laws_grammar.specs.Words as words;
 ghost use Rattle.wc_model.specs.Text.Grammar.{Setting, InBody, InParentheses};
 ghost use Rattle.wc_model.specs.Language.Names.{name_of};
 ghost use Rattle.wc_model.specs.Language.Tree as tree;
-ghost use Rattle.wc_model.specs.Language.Views.{term_view, word_view};
-ghost use Rattle.wc_text_lines.specs.LineViews.{started_view, in_line_view, line_state_view, step_view, whole_view};
+ghost use Rattle.wc_model.specs.Language.Views.{word_view};
+ghost use Rattle.wc_text_lines.specs.LineViews.{LeadsTo, started_view, in_line_view, line_state_view};
 ghost use Rattle.wc_text_lines.specs.Words.{operating_view, operation_view, symbol_view};
 
 use crate::calls::{at_instance, at_list};
@@ -52,10 +52,7 @@ fn at_operator<'a>(label: Option<Word<'a>>, token: Token<'a>) -> Option<LineStat
         ≡ lines.at_operator (option_map word_view label.entry) token.entry.line
         (words.operation_of (symbol_view token.entry)) }
 {
-    match operation_of(token) {
-        Some(operation) => Some(after_operator(label, token.line, operation)),
-        None => None,
-    }
+    Some(after_operator(label, token.line, operation_of(token)?))
 }
 
 /// After a line's first identifier that no colon follows. One that is not an operator may still
@@ -93,15 +90,11 @@ pub fn at_start_inside<'a>(token: Token<'a>) -> Option<LineState<'a>>
         ≡ lines.line_move InParentheses lines.Start
         (symbol_view token.entry) token.entry.line colon }
 {
-    match operation_of(token) {
-        Some(operation) => {
-            if is_transfer(operation) {
-                None
-            } else {
-                Some(after_operator(None, token.line, operation))
-            }
-        }
-        None => None,
+    let operation = operation_of(token)?;
+    if is_transfer(operation) {
+        None
+    } else {
+        Some(after_operator(None, token.line, operation))
     }
 }
 
@@ -164,10 +157,7 @@ fn at_bracketed<'a>(operator: Operator, token: Token<'a>) -> Result<Option<InLin
 
 /// After the token that follows a jump's operator: its label.
 fn at_target<'a>(condition: Condition, token: Token<'a>) -> Option<InLine<'a>>
-    ensures { (started : lines.StartedLine) (setting : Setting) (line : ℕ) (colon : Bool)
-        → option_map (in_line_view started) result
-        ≡ lines.line_move setting (lines.Jumped started condition)
-        (symbol_view token.entry) line colon }
+    ensures { LeadsTo (InLine.Jumped condition) token.entry result }
 {
     match token.shape {
         Shape::Identifier => {
@@ -180,45 +170,10 @@ fn at_target<'a>(condition: Condition, token: Token<'a>) -> Option<InLine<'a>>
 
 /// After the token that follows a call's operator: its instance.
 fn at_called<'a>(condition: Condition, token: Token<'a>) -> Option<InLine<'a>>
-    ensures { (started : lines.StartedLine) (setting : Setting) (line : ℕ) (colon : Bool)
-        → option_map (in_line_view started) result
-        ≡ lines.line_move setting (lines.Called started condition)
-        (symbol_view token.entry) line colon }
+    ensures { LeadsTo (InLine.Called condition) token.entry result }
 {
     match token.shape {
         Shape::Identifier => Some(InLine::Instanced(condition, word(token))),
-        _ => None,
-    }
-}
-
-/// After the token that follows a whole instruction: the line's end.
-#[inline(always)]
-fn at_step_end<'a>(step: Step<'a>, token: Token<'a>) -> Option<InLine<'a>>
-    ensures { (started : lines.StartedLine) (setting : Setting) (line : ℕ) (colon : Bool)
-        → option_map (in_line_view started) result
-        ≡ lines.line_move setting (lines.Stepped started (step_view step.entry))
-        (symbol_view token.entry) line colon }
-{
-    match token.shape {
-        Shape::LineEnd => Some(InLine::Formed(LineShape::Instructs(step), true)),
-        _ => None,
-    }
-}
-
-/// After the token that follows the operand of an opening line: the line's end.
-fn at_opening_end<'a>(
-    operator: Operator,
-    operand: Operand<'a>,
-    token: Token<'a>,
-) -> Option<InLine<'a>>
-    ensures { (started : lines.StartedLine) (setting : Setting) (line : ℕ) (colon : Bool)
-        → option_map (in_line_view started) result
-        ≡ lines.line_move setting
-        (lines.BracketedWith started operator (term_view operand.entry))
-        (symbol_view token.entry) line colon }
-{
-    match token.shape {
-        Shape::LineEnd => Some(InLine::Formed(LineShape::Opens(operator, Some(operand)), true)),
         _ => None,
     }
 }
@@ -230,13 +185,17 @@ fn at_opening<'a>(
     token: Token<'a>,
 ) -> Result<Option<InLine<'a>>, AllocError>
     ensures { IfOk result
-        (λ next. (started : lines.StartedLine) (setting : Setting) (colon : Bool)
-        → option_map (in_line_view started) next
-        ≡ lines.line_move setting (whole_view started (LineShape.Opens operator operand.entry))
-        (symbol_view token.entry) token.entry.line colon) }
+        (λ next.
+        LeadsTo (InLine.Formed (LineShape.Opens operator operand.entry) false) token.entry next) }
 {
     match operand {
-        Some(operand) => Ok(at_opening_end(operator, operand, token)),
+        Some(operand) => match token.shape {
+            Shape::LineEnd => {
+                let line_shape = LineShape::Opens(operator, Some(operand));
+                Ok(Some(InLine::Formed(line_shape, true)))
+            }
+            _ => Ok(None),
+        },
         None => at_bracketed(operator, token),
     }
 }
@@ -247,14 +206,13 @@ fn at_whole<'a>(
     line_shape: LineShape<'a>,
     token: Token<'a>,
 ) -> Result<Option<InLine<'a>>, AllocError>
-    ensures { IfOk result
-        (λ next. (started : lines.StartedLine) (setting : Setting) (colon : Bool)
-        → option_map (in_line_view started) next
-        ≡ lines.line_move setting (whole_view started line_shape.entry)
-        (symbol_view token.entry) token.entry.line colon) }
+    ensures { IfOk result (λ next. LeadsTo (InLine.Formed line_shape.entry false) token.entry next) }
 {
     match line_shape {
-        LineShape::Instructs(step) => Ok(at_step_end(step, token)),
+        LineShape::Instructs(step) => match token.shape {
+            Shape::LineEnd => Ok(Some(InLine::Formed(LineShape::Instructs(step), true))),
+            _ => Ok(None),
+        },
         LineShape::Opens(operator, operand) => at_opening(operator, operand, token),
     }
 }
@@ -266,11 +224,7 @@ fn in_line_move<'a>(
     state: InLine<'a>,
     token: Token<'a>,
 ) -> Result<Option<InLine<'a>>, AllocError>
-    ensures { IfOk result
-        (λ next. (started : lines.StartedLine) (setting : Setting) (colon : Bool)
-        → option_map (in_line_view started) next
-        ≡ lines.line_move setting (in_line_view started state.entry)
-        (symbol_view token.entry) token.entry.line colon) }
+    ensures { IfOk result (λ next. LeadsTo state.entry token.entry next) }
 {
     match state {
         InLine::Operated(operating) => at_operated(operating, token),
@@ -297,23 +251,7 @@ fn instructing<'a>(started: StartedLine<'a>, state: Option<InLine<'a>>) -> Optio
     ensures { option_map line_state_view result
         ≡ option_map (in_line_view (started_view started.entry)) state.entry }
 {
-    match state {
-        Some(state) => Some(LineState::Instructing(started, state)),
-        None => None,
-    }
-}
-
-/// After the token that follows a label: its colon.
-fn at_colon<'a>(label: Word<'a>, token: Token<'a>) -> Option<LineState<'a>>
-    ensures { (setting : Setting) (line : ℕ) (colon : Bool)
-        → option_map line_state_view result
-        ≡ lines.line_move setting (lines.Worded (word_view label.entry))
-        (symbol_view token.entry) line colon }
-{
-    match token.shape {
-        Shape::Colon => Some(LineState::Labelled(label)),
-        _ => None,
-    }
+    Some(LineState::Instructing(started, state?))
 }
 
 /// After one more token of a line that has started; none if no line goes on so.
@@ -330,7 +268,10 @@ pub fn line_move<'a>(
         (symbol_view token.entry) token.entry.line colon) }
 {
     match state {
-        LineState::Worded(label) => Ok(at_colon(label, token)),
+        LineState::Worded(label) => match token.shape {
+            Shape::Colon => Ok(Some(LineState::Labelled(label))),
+            _ => Ok(None),
+        },
         LineState::Labelled(label) => Ok(at_labelled(label, token)),
         LineState::LabelAlone(_) => Ok(None),
         LineState::Instructing(started, state) => {

@@ -1,11 +1,9 @@
-ghost use Rattle.std.specs.Prelude.{◌≡◌, ℕ, Bool, IfOk, Some, option_map};
+ghost use Rattle.std.specs.Prelude.{◌≡◌, false, IfOk, Some, option_map};
 ghost use Rattle.wc_laws_grammar.specs.LineMoves as lines;
-ghost use Rattle.wc_model.specs.Text.Grammar.{Setting};
 ghost use Rattle.wc_model.specs.Text.Marks as marks;
-ghost use Rattle.wc_model.specs.Language.Tree as tree;
 ghost use Rattle.wc_model.specs.Language.Views.{name_view, term_view};
-ghost use Rattle.wc_text_lines.specs.LineViews.{formal_view, in_line_view, listed_view, owner_view};
-ghost use Rattle.wc_text_lines.specs.Words.{operating_view, symbol_view};
+ghost use Rattle.wc_text_lines.specs.LineViews.{LeadsTo, formal_view, in_line_view, listed_view, owner_view};
+ghost use Rattle.wc_text_lines.specs.Words.{symbol_view};
 
 use crate::line_state::{Formal, InLine, InList, LineShape, Listed, OperandOf, Step};
 use crate::operators::Operating;
@@ -61,16 +59,6 @@ fn after_operand<'a>(
     }
 }
 
-/// After a literal where an operand is.
-fn after_literal<'a>(owner: OperandOf<'a>, value: Value) -> Result<Option<InLine<'a>>, AllocError>
-    ensures { IfOk result
-        (λ next. (started : lines.StartedLine)
-        → option_map (in_line_view started) next
-        ≡ Some (lines.after_operand started (owner_view owner.entry) (tree.Constant value))) }
-{
-    after_operand(owner, Operand::Literal(value))
-}
-
 /// After the first token of an operand; none if none begins so.
 pub(crate) fn at_operand<'a>(
     owner: OperandOf<'a>,
@@ -84,12 +72,12 @@ pub(crate) fn at_operand<'a>(
 {
     match token.shape {
         Shape::Identifier => match truth(token.text) {
-            Some(value) => after_literal(owner, Value::Bool(value)),
+            Some(value) => after_operand(owner, Operand::Literal(Value::Bool(value))),
             None => Ok(Some(InLine::Named(owner, word(token), false))),
         },
-        Shape::Whole(number) => after_literal(owner, Value::Dint(number)),
-        Shape::Duration(milliseconds) => after_literal(owner, Value::Time(milliseconds)),
-        Shape::Truth(value) => after_literal(owner, Value::Bool(value)),
+        Shape::Whole(number) => after_operand(owner, Operand::Literal(Value::Dint(number))),
+        Shape::Duration(time) => after_operand(owner, Operand::Literal(Value::Time(time))),
+        Shape::Truth(value) => after_operand(owner, Operand::Literal(Value::Bool(value))),
         Shape::Address => after_operand(owner, Operand::Address(word(token))),
         _ => Ok(None),
     }
@@ -123,42 +111,6 @@ fn after_value<'a>(
     }
 }
 
-/// After the token that follows an instruction's name that is the whole operand.
-fn after_step_name<'a>(operating: Operating, name: Word<'a>, token: Token<'a>) -> Option<InLine<'a>>
-    ensures { (started : lines.StartedLine)
-        → option_map (in_line_view started) result
-        ≡ lines.after_name started (lines.OfStep (operating_view operating))
-        (name_view name.entry) (symbol_view token.entry) }
-{
-    match token.shape {
-        Shape::LineEnd => {
-            let step = Step::Operate(operating, Operand::Name(name.text));
-            Some(InLine::Formed(LineShape::Instructs(step), true))
-        }
-        _ => None,
-    }
-}
-
-/// After the token that follows an opening line's name that is the whole operand.
-fn after_opening_name<'a>(
-    operator: Operator,
-    name: Word<'a>,
-    token: Token<'a>,
-) -> Option<InLine<'a>>
-    ensures { (started : lines.StartedLine)
-        → option_map (in_line_view started) result
-        ≡ lines.after_name started (lines.OfOpening operator)
-        (name_view name.entry) (symbol_view token.entry) }
-{
-    match token.shape {
-        Shape::LineEnd => Some(InLine::Formed(
-            LineShape::Opens(operator, Some(Operand::Name(name.text))),
-            true,
-        )),
-        _ => None,
-    }
-}
-
 /// After the token that follows a name that is the whole operand.
 fn after_whole_name<'a>(
     owner: OperandOf<'a>,
@@ -172,8 +124,20 @@ fn after_whole_name<'a>(
         (symbol_view token.entry)) }
 {
     match owner {
-        OperandOf::OfStep(operating) => Ok(after_step_name(operating, name, token)),
-        OperandOf::OfOpening(operator) => Ok(after_opening_name(operator, name, token)),
+        OperandOf::OfStep(operating) => match token.shape {
+            Shape::LineEnd => {
+                let step = Step::Operate(operating, Operand::Name(name.text));
+                Ok(Some(InLine::Formed(LineShape::Instructs(step), true)))
+            }
+            _ => Ok(None),
+        },
+        OperandOf::OfOpening(operator) => match token.shape {
+            Shape::LineEnd => {
+                let line_shape = LineShape::Opens(operator, Some(Operand::Name(name.text)));
+                Ok(Some(InLine::Formed(line_shape, true)))
+            }
+            _ => Ok(None),
+        },
         OperandOf::OfArgument(call, formal) => after_value(call, formal, name, token),
     }
 }
@@ -184,12 +148,7 @@ fn at_named<'a>(
     name: Word<'a>,
     token: Token<'a>,
 ) -> Result<Option<InLine<'a>>, AllocError>
-    ensures { IfOk result
-        (λ next. (started : lines.StartedLine) (setting : Setting) (line : ℕ) (colon : Bool)
-        → option_map (in_line_view started) next
-        ≡ lines.line_move setting
-        (lines.Named started (owner_view owner.entry) (name_view name.entry))
-        (symbol_view token.entry) line colon) }
+    ensures { IfOk result (λ next. LeadsTo (InLine.Named owner.entry name.entry false) token.entry next) }
 {
     match token.shape {
         Shape::Point => Ok(Some(InLine::Named(owner, name, true))),
@@ -247,11 +206,7 @@ pub(crate) fn after_name<'a>(
     token: Token<'a>,
 ) -> Result<Option<InLine<'a>>, AllocError>
     ensures { IfOk result
-        (λ next. (started : lines.StartedLine) (setting : Setting) (line : ℕ) (colon : Bool)
-        → option_map (in_line_view started) next
-        ≡ lines.line_move setting
-        (in_line_view started (InLine.Named owner.entry name.entry pointed))
-        (symbol_view token.entry) line colon) }
+        (λ next. LeadsTo (InLine.Named owner.entry name.entry pointed) token.entry next) }
 {
     if pointed {
         at_field(owner, name, token)

@@ -56,10 +56,7 @@ fn operation_for(keyword: Keyword) -> Option<Operation>
 fn any_operation(text: &[u8]) -> Option<Operation>
     ensures { option_map operation_view result ≡ words.found words.operations (name_of text.now) }
 {
-    match keyword_named(text) {
-        Some(keyword) => operation_for(keyword),
-        None => None,
-    }
+    operation_for(keyword_named(text)?)
 }
 
 /// The operator that the word is if it is one of the most frequent, in capitals. These are found without the list of words.

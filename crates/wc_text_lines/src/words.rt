@@ -53,10 +53,7 @@ fn section_for(keyword: Keyword) -> Option<Section>
 pub fn section_named(text: &[u8]) -> Option<Section>
     ensures { result ≡ words.found words.section_words (name_of text.now) }
 {
-    match keyword_named(text) {
-        Some(keyword) => section_for(keyword),
-        None => None,
-    }
+    section_for(keyword_named(text)?)
 }
 
 /// The kind of unit that a reserved word begins.
@@ -73,10 +70,7 @@ fn unit_for(keyword: Keyword) -> Option<UnitKind>
 pub fn unit_kind(text: &[u8]) -> Option<UnitKind>
     ensures { result ≡ words.found words.unit_kinds (name_of text.now) }
 {
-    match keyword_named(text) {
-        Some(keyword) => unit_for(keyword),
-        None => None,
-    }
+    unit_for(keyword_named(text)?)
 }
 
 /// The token's text with its line.

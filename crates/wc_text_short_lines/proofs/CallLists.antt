@@ -12,7 +12,7 @@ use Rattle.wc_lexer.specs.declared.shape.Token.{Token}
 use Rattle.wc_model.specs.Language.Names.{Name, name_of}
 use Rattle.wc_model.specs.Language.Tree.{Assignment, Call, Term}
 use Rattle.wc_model.specs.Text.Grammar.{sign_of}
-use Rattle.wc_model.specs.Text.Marks.{Mark, Identifier, OpeningBracket, ClosingBracket, Comma, LineEnd}
+use Rattle.wc_model.specs.Text.Marks.{Mark, Identifier, OpeningBracket, ClosingBracket, LineEnd}
 use Rattle.wc_model.specs.Text.Positions.{Position}
 use Rattle.wc_model.specs.Text.Reading.{mark_of_token, symbol_of}
 use Rattle.wc_model.specs.declared.operator.Condition.{Condition}
@@ -89,6 +89,13 @@ takes_last call all (input ∷ assign ∷ operand ∷ closing ∷ end ∷ follow
 -- some arguments, and then others
 pub lists_then : (call more all : Listed) (xs ys zs : List Mark) → ListsOn call xs more ys → ListsOn more ys all zs → ListsOn call xs all zs
 lists_then call more all xs ys zs g h = record { same = λ p started. record { same = λ last. (g.same p started).same last ∙ (h.same p started).same last } }
+
+-- some arguments, and then those after them, in one list of tokens
+pub arguments_then : (call more all : Listed) (tokens following : List Token) (n m : ℕ) → following ≡ drop n tokens → ListsOn call (marks_of tokens) more (marks_of (drop n tokens))
+    → ListsOn more (marks_of following) all (marks_of (drop m following)) → ListsOn call (marks_of tokens) all (marks_of (drop (n + m) tokens))
+arguments_then call more all tokens following n m e g h =
+    subst (λ xs. ListsOn call (marks_of tokens) all (marks_of xs)) (drop-drop m n tokens)
+    (lists_then call more all (marks_of tokens) (marks_of (drop n tokens)) (marks_of (drop m (drop n tokens))) g (subst (λ xs. ListsOn more (marks_of xs) all (marks_of (drop m xs))) e h))
 
 -- arguments and then the last one, in one list of tokens
 pub ends_then : (call more all : Listed) (tokens following : List Token) (n m : ℕ) → following ≡ drop n tokens → ListsOn call (marks_of tokens) more (marks_of (drop n tokens))

@@ -1,7 +1,8 @@
 -- Where the walk comes by the tokens of a short line.
 use Rattle.std.proofs.Common.{◌≡◌, ℕ, Bool, false, true, List, [], ◌∷◌, Option, Some, None, refl, sym, ap, subst, ◌∙◌, is_some, not, option_map, IfSome, ◌≤◌, drop, length, get_or, arith}
+use Rattle.std.proofs.lemmas.Bool.{eqb-true}
 use Rattle.std.proofs.lemmas.List.{drop-drop}
-use Rattle.std.specs.Prelude.{◌&&◌, ◌+◌}
+use Rattle.std.specs.Prelude.{◌&&◌, ◌+◌, ◌==◌}
 use Rattle.wc_laws_grammar.specs.LineMoves as lines
 use Rattle.wc_laws_grammar.specs.Moves as moves
 use Rattle.wc_laws_grammar.specs.Moves.{State, colon_next, fault_at, move, fault_at_line, start_move, section_of_word, is_full, fault_if, on_line, after_line}
@@ -15,7 +16,6 @@ use Rattle.wc_model.specs.Text.Keywords.{end_word}
 use Rattle.wc_model.specs.Text.Marks.{Mark, Symbol, Identifier, Whole, Duration, Truth, Direct, Colon, LineEnd}
 use Rattle.wc_model.specs.Text.Positions.{Position}
 use Rattle.wc_model.specs.Text.ReadingFaults.{TooMany}
-use Rattle.wc_model.specs.declared.operator.Condition.{Condition}
 use Rattle.wc_lexer.specs.Views.{shape_view, token_view}
 use Rattle.wc_lexer.specs.declared.shape.Shape.TheVariants as Shape
 use Rattle.wc_lexer.specs.declared.shape.Token.{Token}
@@ -23,9 +23,15 @@ use Rattle.wc_model.specs.Text.Reading.{mark_of_token, symbol_of}
 use Rattle.wc_text_short_lines.proofs.WalkSteps.{at_move}
 use Rattle.wc_text_short_lines.specs.Walks.{walk}
 use Rattle.wc_text_short_lines.specs.Several.{Begins, GoesOn, IsLine, Makes, name_or_truth, operand_of}
-use Rattle.wc_text_bodies.specs.BodyViews.{fault_of}
+use Rattle.wc_text_bodies.specs.BodyViews.{fault_of, openings_view}
+use Rattle.wc_text_bodies.specs.declared.bodies.Opening.{Opening}
 use Rattle.wc_text_lines.specs.Words.{marks_of, operation_view, symbol_view}
 use Rattle.wc_text_lines.specs.declared.operators.Operation.{Operation as CodeOperation}
+
+-- no parenthesis is open
+pub none_open : (xs : List Opening) (n : ℕ) → n ≡ length xs → (n == 0) ≡ true → openings_view [] xs ≡ []
+none_open [] n same e = refl
+none_open (x ∷ xs) n same e = let zero_of : n ≡ 0 = eqb-true n 0 e in absurd (omega (arith, same))
 
 -- after one token
 pub one_on : (state next : State) (mark : Mark) (following : List Mark) (colon : Bool) → colon_next following false ≡ colon → fault_at state mark.symbol mark.line colon ≡ None
@@ -131,16 +137,6 @@ makes_operated operating mark term e = record {
   ends = λ p line end following. operand_ends p (record { label = None; line = line }) operating mark.symbol mark.line end following term e;
 }
 
--- a call without a list
-makes_call : (condition : Condition) (bytes : List ℕ) (line : ℕ) → Makes (words.Calls condition) (record { symbol = Identifier bytes; line = line }) (tree.Call condition (name_of bytes) [])
-makes_call condition bytes line = record { no_colon = refl; ends = λ p line end following. record { same = λ last. refl } }
-
--- an instance with which it is made
-pub makes_call_of : (condition : Condition) (token : Token) → token.shape ≡ Shape.Identifier → Makes (words.Calls condition) (mark_of_token (token_view token)) (tree.Call condition (name_of token.text.now) [])
-makes_call_of condition token e =
-    subst (λ s. Makes (words.Calls condition) (record { symbol = symbol_of (shape_view s) token.text.now; line = token.line }) (tree.Call condition (name_of token.text.now) [])) (sym e)
-    (makes_call condition token.text.now token.line)
-
 -- a word that is an operator at the start of a line
 pub begins_line : (p : Position) (bytes : List ℕ) (operation : Operation) → p.openings ≡ [] → is_full p ≡ false → same_name (name_of bytes) (end_word p.unit.kind) ≡ false
     → section_of_word p.done (name_of bytes) ≡ None → Some operation ≡ found operations (name_of bytes) → Begins p bytes operation
@@ -231,11 +227,11 @@ label_taken p next label colon end following opened a b c n =
 
 -- a label alone at the start of the tokens that are left
 pub takes_label : (p next : Position) (tokens : List Token) (other : Token) (word : tree.Word) → 3 ≤ length tokens → p.openings ≡ []
-    → symbol_view (get_or tokens 0 other) ≡ Identifier (get_or tokens 0 other).text.now → symbol_view (get_or tokens 1 other) ≡ Colon → symbol_view (get_or tokens 2 other) ≡ LineEnd
+    → (get_or tokens 0 other).shape ≡ Shape.Identifier → (get_or tokens 1 other).shape ≡ Shape.Colon → (get_or tokens 2 other).shape ≡ Shape.LineEnd
     → word ≡ record { line = (get_or tokens 0 other).line; name = name_of (get_or tokens 0 other).text.now } → next ≡ after_line p (lines.LabelAlone word)
     → GoesOn (moves.AtLine p) (marks_of tokens) (moves.AtLine next) (marks_of (drop 3 tokens))
 takes_label p next [] other word le opened a b c w n = absurd (omega (arith, le))
 takes_label p next (label ∷ []) other word le opened a b c w n = absurd (omega (arith, le))
 takes_label p next (label ∷ colon ∷ []) other word le opened a b c w n = absurd (omega (arith, le))
 takes_label p next (label ∷ colon ∷ end ∷ following) other word le opened a b c w n =
-    label_taken p next label colon end following opened a b c (n ∙ ap (λ it. after_line p (lines.LabelAlone it)) w)
+    label_taken p next label colon end following opened (ap (λ s. symbol_of (shape_view s) label.text.now) a) (ap (λ s. symbol_of (shape_view s) colon.text.now) b) (ap (λ s. symbol_of (shape_view s) end.text.now) c) (n ∙ ap (λ it. after_line p (lines.LabelAlone it)) w)

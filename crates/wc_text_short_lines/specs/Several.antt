@@ -1,19 +1,29 @@
 -- Tokens that are taken several at a time. (No rule of the language.)
-use Rattle.std.specs.Prelude.{◌≡◌, ℕ, Bool, false, List, ◌∷◌, Option, Some, None}
+use Rattle.std.specs.Prelude.{◌≡◌, ◌<◌, ℕ, Bool, false, List, ◌∷◌, Option, Some, None, drop}
 use Rattle.wc_laws_grammar.specs.LineMoves.{AtNext, formal_of, StartedLine, Instructs, Listed, Listing, after_operator, with_argument}
 use Rattle.wc_laws_grammar.specs.Moves.{State, AtLine, OnLine, after_line, is_colon, fault_at, move, on_line}
 use Rattle.wc_laws_grammar.specs.Words.{Operation, found, truths}
 use Rattle.wc_model.specs.Language.Names.{Name, name_of}
-use Rattle.wc_model.specs.Language.Tree.{Assignment, Call, Step, Term, Constant, Address, Variable}
+use Rattle.wc_lexer.specs.declared.shape.Token.{Token}
+use Rattle.wc_model.specs.Language.Tree.{Assignment, Call, ProgramUnit, Step, Term, Constant, Address, Variable}
 use Rattle.wc_model.specs.Text.Marks.{Mark, Symbol, Identifier, Whole, Duration, Truth, Direct, ClosingBracket, Comma, LineEnd}
 use Rattle.wc_model.specs.Text.Positions.{Position}
 use Rattle.wc_model.specs.declared.value.Value.TheVariants.{Bool as BoolValue, Dint, Time}
+use Rattle.wc_text_bodies.specs.BodyViews.{position_view}
+use Rattle.wc_text_bodies.specs.declared.bodies.Body.{Body}
+use Rattle.wc_text_lines.specs.LineViews.{listed_view}
+use Rattle.wc_text_lines.specs.Words.{marks_of}
+use Rattle.wc_text_lines.specs.declared.line_state.Listed.{Listed as CodeListed}
 use Rattle.wc_text_short_lines.specs.Walks.{walk}
 
 -- A text whose walk is at one state with these tokens to come is read as if it were at the
 -- other with those: the walk says the same, and stops at the same state.
 pub record GoesOn (state : State) (marks : List Mark) (next : State) (following : List Mark) : Type 0 where
   pub same : (last : ℕ) → walk state marks last ≡ walk next following last
+
+-- The first n tokens are the lines by which the one body became the other.
+abbrev pub TakesLines : Body → List Token → ℕ → Body → Type 0
+TakesLines old tokens n new = (units : List ProgramUnit) → GoesOn (AtLine (position_view units old)) (marks_of tokens) (AtLine (position_view units new)) (marks_of (drop n tokens))
 
 -- At the start of a line, if these bytes are an operator and nothing is wrong with them.
 pub record Begins (p : Position) (bytes : List ℕ) (operation : Operation) : Type 0 where
@@ -42,6 +52,14 @@ pub record ListEnds (call : Listed) (marks : List Mark) (all : Listed) (followin
   pub same : (p : Position) (started : StartedLine)
       → GoesOn (OnLine p (Listing started call AtNext)) marks
       (AtLine (after_line p (Instructs started.label started.line (Call all.condition all.instance all.arguments)))) following
+
+-- The first n tokens are arguments by which the one call became the other, each with its comma.
+abbrev pub TakesArguments : CodeListed → List Token → ℕ → CodeListed → Type 0
+TakesArguments old tokens n new = ListsOn (listed_view old) (marks_of tokens) (listed_view new) (marks_of (drop n tokens))
+
+-- If n is not 0, the first n tokens are the rest of the list by which the one call became the other.
+abbrev pub TakesList : CodeListed → List Token → ℕ → CodeListed → Type 0
+TakesList old tokens n new = 0 < n → ListEnds (listed_view old) (marks_of tokens) (listed_view new) (marks_of (drop n tokens))
 
 -- The three are an argument, which a comma or the list's end may follow.
 pub record IsArgument (input assign operand : Mark) (argument : Assignment) : Type 0 where

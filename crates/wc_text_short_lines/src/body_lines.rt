@@ -1,25 +1,20 @@
-ghost use Rattle.std.specs.Prelude.{◌≡◌, ◌≤◌, [], false, length, drop, IfOk, IfSome, IsTrue, List, OnOk, option_map};
-ghost use Rattle.wc_laws_grammar.specs.Moves as moves;
-ghost use Rattle.wc_laws_grammar.specs.Words as words;
-ghost use Rattle.wc_model.specs.Language.Declarations.{same_name};
-ghost use Rattle.wc_model.specs.Language.Names.{name_of};
-ghost use Rattle.wc_model.specs.Text.Keywords.{end_word};
+ghost use Rattle.std.specs.Prelude.{◌≡◌, ◌≤◌, length, IfOk, IfSome, List, OnOk, option_map};
 ghost use Rattle.wc_lexer.specs.Views.{token_view};
 ghost use Rattle.wc_model.specs.Language.Tree.{ProgramUnit};
 ghost use Rattle.wc_model.specs.Language.Views.{term_view};
 ghost use Rattle.wc_model.specs.Text.Reading.{mark_of_token};
-ghost use Rattle.wc_text_lines.specs.LineViews.{step_view};
-ghost use Rattle.wc_text_short_lines.specs.Several.{Begins, GoesOn, IsLine, Makes, operand_of};
 ghost use Rattle.wc_text_bodies.specs.BodyViews.{IsCounted, position_view};
-ghost use Rattle.wc_text_lines.specs.Words.{marks_of, operating_view, operation_view, symbol_view};
+ghost use Rattle.wc_text_lines.specs.LineViews.{step_view};
+ghost use Rattle.wc_text_lines.specs.Words.{operation_view, symbol_view};
+ghost use Rattle.wc_text_short_lines.specs.Several.{Begins, IsLine, Makes, TakesLines, operand_of};
 
-use crate::label_lines::take_empty;
+use crate::section_lines::empty_line;
 use std::alloc::{AllocError, Global};
 use wc_lexer::{Shape, Token};
-use wc_model::{Condition, Operand, Value};
-use wc_text_bodies::{Body, add_step, is_full, section_of_word};
+use wc_model::{Operand, Value};
+use wc_text_bodies::{Body, add_label, add_step, is_full, section_of_word};
 use wc_text_lines::{
-    Listed, Operating, Operation, StartedLine, Step, ends_unit, operation_named, truth, word,
+    Listed, Operation, StartedLine, Step, ends_unit, operation_named, truth, word,
 };
 
 /// The operand that the token is by itself.
@@ -41,39 +36,17 @@ pub fn operand_of<'a>(token: Token<'a>) -> Option<Operand<'a>>
     }
 }
 
-/// The instruction of the operator with the token as its whole operand.
-fn operation_with<'a>(operating: Operating, token: Token<'a>) -> Option<Step<'a>>
+/// The instruction that the operator and the token after it are, if the line ends there.
+fn step_with<'a>(alloc: Global, operation: Operation, token: Token<'a>) -> Option<Step<'a>>
     ensures { IfSome result
         (λ step.
-        Makes (words.Operates (operating_view operating)) (mark_of_token (token_view token.entry))
+        Makes (operation_view operation) (mark_of_token (token_view token.entry))
         (step_view step)) }
 {
-    match operand_of(token) {
-        Some(operand) => Some(Step::Operate(operating, operand)),
-        None => None,
-    }
-}
-
-/// The jump to the label that the token is.
-fn jump_to<'a>(condition: Condition, token: Token<'a>) -> Option<Step<'a>>
-    ensures { IfSome result
-        (λ step.
-        Makes (words.Jumps condition) (mark_of_token (token_view token.entry)) (step_view step)) }
-{
-    match token.shape {
-        Shape::Identifier => Some(Step::Jump(condition, word(token))),
-        _ => None,
-    }
-}
-
-/// The call without a list of the instance that the token is.
-fn call_to<'a>(alloc: Global, condition: Condition, token: Token<'a>) -> Option<Step<'a>>
-    ensures { IfSome result
-        (λ step.
-        Makes (words.Calls condition) (mark_of_token (token_view token.entry)) (step_view step)) }
-{
-    match token.shape {
-        Shape::Identifier => Some(Step::Call(Listed {
+    match (operation, token.shape) {
+        (Operation::Operates(operating), _) => Some(Step::Operate(operating, operand_of(token)?)),
+        (Operation::Jumps(when), Shape::Identifier) => Some(Step::Jump(when, word(token))),
+        (Operation::Calls(condition), Shape::Identifier) => Some(Step::Call(Listed {
             condition,
             instance: word(token),
             arguments: Vec::new(alloc),
@@ -82,41 +55,8 @@ fn call_to<'a>(alloc: Global, condition: Condition, token: Token<'a>) -> Option<
     }
 }
 
-/// The instruction that the operator and the token after it are, if the line ends there.
-fn step_with<'a>(alloc: Global, operation: Operation, token: Token<'a>) -> Option<Step<'a>>
-    ensures { IfSome result
-        (λ step.
-        Makes (operation_view operation) (mark_of_token (token_view token.entry))
-        (step_view step)) }
-{
-    match operation {
-        Operation::Operates(operating) => operation_with(operating, token),
-        Operation::Jumps(condition) => jump_to(condition, token),
-        Operation::Calls(condition) => call_to(alloc, condition, token),
-        _ => None,
-    }
-}
-
-/// Whether a line that begins with this word is read as its operator says: no parenthesis is open,
-/// the unit is not full, and the word ends no unit.
-fn is_plain_start(body: &Body, text: &[u8]) -> bool
-    requires { IsCounted body.now }
-    ensures opened { IsTrue result → (units : List ProgramUnit)
-        → (position_view units body.now).openings ≡ [] }
-    ensures not_full { IsTrue result → (units : List ProgramUnit)
-        → moves.is_full (position_view units body.now) ≡ false }
-    ensures unended { IsTrue result
-        → same_name (name_of text.now) (end_word body.now.unit.kind) ≡ false }
-{
-    if is_full(body) {
-        false
-    } else {
-        body.openings.is_empty() && !ends_unit(text, body.unit.kind)
-    }
-}
-
 /// The operator that the word is at the start of a line with no parenthesis open, if it is
-/// neither a line too many nor the start of a section.
+/// neither a line too many, the end of the unit nor the start of a section.
 #[inline(always)]
 pub(crate) fn operation_at<'a>(body: &Body<'a>, text: &[u8]) -> Option<Operation>
     requires { IsCounted body.now }
@@ -124,7 +64,7 @@ pub(crate) fn operation_at<'a>(body: &Body<'a>, text: &[u8]) -> Option<Operation
         (λ operation. (units : List ProgramUnit)
         → Begins (position_view units body.now) text.now (operation_view operation)) }
 {
-    if !is_plain_start(body, text) {
+    if is_full(body) || !body.openings.is_empty() || ends_unit(text, body.unit.kind) {
         return None;
     }
     match section_of_word(&body.done, text) {
@@ -147,12 +87,47 @@ fn step_at<'a>(
         (mark_of_token (token_view second.entry)) (step_view step)) }
 {
     match first.shape {
-        Shape::Identifier => match operation_at(body, first.text) {
-            Some(operation) => step_with(alloc, operation, second),
-            None => None,
-        },
+        Shape::Identifier => step_with(alloc, operation_at(body, first.text)?, second),
         _ => None,
     }
+}
+
+/// Reads a label alone on its line with no parenthesis open, and returns the number of its tokens:
+/// none if none is here.
+#[inline(always)]
+fn take_label<'a>(body: &mut Body<'a>, tokens: &[Token<'a>]) -> Result<usize, AllocError>
+    requires { IsCounted body.old }
+    ensures goes_on { IfOk result (λ taken. TakesLines body.old tokens.now taken body.new) }
+    ensures counted { OnOk result (IsCounted body.new) }
+    ensures within { IfOk result (λ taken. taken ≤ length tokens.now) }
+{
+    let [label, colon, end, ..] = tokens else {
+        return Ok(0);
+    };
+    if !body.openings.is_empty() {
+        return Ok(0);
+    }
+    let (Shape::Identifier, Shape::Colon, Shape::LineEnd) = (label.shape, colon.shape, end.shape)
+    else {
+        return Ok(0);
+    };
+    add_label(body, word(*label))?;
+    Ok(3)
+}
+
+/// Reads an empty line and a label alone, if each is here, and returns the number of their
+/// tokens.
+#[inline(always)]
+fn take_empty<'a>(body: &mut Body<'a>, tokens: &[Token<'a>]) -> Result<usize, AllocError>
+    requires { IsCounted body.old }
+    ensures goes_on { IfOk result (λ taken. TakesLines body.old tokens.now taken body.new) }
+    ensures counted { OnOk result (IsCounted body.new) }
+    ensures within { IfOk result (λ taken. taken ≤ length tokens.now) }
+{
+    let empty = empty_line(tokens);
+    let (_, following) = tokens.split_at(empty);
+    let taken = take_label(body, following)?;
+    Ok(empty + taken)
 }
 
 /// Reads a line of an operator with its operand, its label or its instance, and returns the number of its tokens:
@@ -164,10 +139,7 @@ fn take_step<'a>(
     tokens: &[Token<'a>],
 ) -> Result<usize, AllocError>
     requires { IsCounted body.old }
-    ensures goes_on { IfOk result
-        (λ taken. (units : List ProgramUnit)
-        → GoesOn (moves.AtLine (position_view units body.old)) (marks_of tokens.now)
-        (moves.AtLine (position_view units body.new)) (marks_of (drop taken tokens.now))) }
+    ensures goes_on { IfOk result (λ taken. TakesLines body.old tokens.now taken body.new) }
     ensures counted { OnOk result (IsCounted body.new) }
     ensures within { IfOk result (λ taken. taken ≤ length tokens.now) }
 {
@@ -199,10 +171,7 @@ pub(crate) fn take_line<'a>(
     tokens: &[Token<'a>],
 ) -> Result<usize, AllocError>
     requires { IsCounted body.old }
-    ensures goes_on { IfOk result
-        (λ taken. (units : List ProgramUnit)
-        → GoesOn (moves.AtLine (position_view units body.old)) (marks_of tokens.now)
-        (moves.AtLine (position_view units body.new)) (marks_of (drop taken tokens.now))) }
+    ensures goes_on { IfOk result (λ taken. TakesLines body.old tokens.now taken body.new) }
     ensures counted { OnOk result (IsCounted body.new) }
     ensures within { IfOk result (λ taken. taken ≤ length tokens.now) }
 {

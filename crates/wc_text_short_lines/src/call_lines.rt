@@ -1,4 +1,4 @@
-ghost use Rattle.std.specs.Prelude.{◌≡◌, ◌+◌, ◌≤◌, ◌<◌, length, drop, IfOk, IfSome, List, OnOk};
+ghost use Rattle.std.specs.Prelude.{◌≡◌, ◌≤◌, length, drop, IfOk, IfSome, List, OnOk};
 ghost use Rattle.wc_laws_grammar.specs.LineMoves as lines;
 ghost use Rattle.wc_laws_grammar.specs.Moves as moves;
 ghost use Rattle.wc_lexer.specs.Views.{token_view};
@@ -6,10 +6,10 @@ ghost use Rattle.wc_model.specs.Language.Tree.{ProgramUnit};
 ghost use Rattle.wc_model.specs.Language.Views.{assignment_view};
 ghost use Rattle.wc_model.specs.Text.Grammar.{sign_of};
 ghost use Rattle.wc_model.specs.Text.Reading.{mark_of_token};
-ghost use Rattle.wc_text_lines.specs.LineViews.{listed_view};
-ghost use Rattle.wc_text_short_lines.specs.Several.{BeginsCall, GoesOn, IsArgument, ListEnds, ListsOn};
 ghost use Rattle.wc_text_bodies.specs.BodyViews.{IsCounted, position_view};
+ghost use Rattle.wc_text_lines.specs.LineViews.{listed_view};
 ghost use Rattle.wc_text_lines.specs.Words.{marks_of};
+ghost use Rattle.wc_text_short_lines.specs.Several.{BeginsCall, GoesOn, IsArgument, TakesArguments, TakesLines, TakesList};
 
 use crate::body_lines::{operand_of, operation_at, take_line};
 use std::alloc::{AllocError, Global};
@@ -37,15 +37,12 @@ fn argument_of<'a>(name: Token<'a>, sign: Token<'a>, operand: Token<'a>) -> Opti
         IsArgument (mark_of_token (token_view name.entry)) (mark_of_token (token_view sign.entry))
         (mark_of_token (token_view operand.entry)) (assignment_view argument)) }
 {
-    match (name.shape, direction_of(sign)) {
-        (Shape::Identifier, Some(direction)) => match operand_of(operand) {
-            Some(value) => Some(Argument {
-                direction,
-                name: name.text,
-                value,
-            }),
-            None => None,
-        },
+    match name.shape {
+        Shape::Identifier => Some(Argument {
+            direction: direction_of(sign)?,
+            name: name.text,
+            value: operand_of(operand)?,
+        }),
         _ => None,
     }
 }
@@ -65,10 +62,7 @@ fn add_argument<'a>(call: &mut Listed<'a>, argument: Argument<'a>) -> Result<(),
 /// Reads an argument and the comma after it, and returns the number of their tokens: none if they
 /// are not here.
 fn take_argument<'a>(call: &mut Listed<'a>, tokens: &[Token<'a>]) -> Result<usize, AllocError>
-    ensures goes_on { IfOk result
-        (λ taken.
-        ListsOn (listed_view call.old) (marks_of tokens.now) (listed_view call.new)
-        (marks_of (drop taken tokens.now))) }
+    ensures goes_on { IfOk result (λ taken. TakesArguments call.old tokens.now taken call.new) }
     ensures within { IfOk result (λ taken. taken ≤ length tokens.now) }
 {
     let [input, assign, operand, comma, ..] = tokens else {
@@ -77,46 +71,22 @@ fn take_argument<'a>(call: &mut Listed<'a>, tokens: &[Token<'a>]) -> Result<usiz
     let Shape::Comma = comma.shape else {
         return Ok(0);
     };
-    match argument_of(*input, *assign, *operand) {
-        Some(argument) => {
-            add_argument(call, argument)?;
-            Ok(4)
-        }
-        None => Ok(0),
-    }
-}
-
-/// Reads an argument and its comma at that index, if they are there, and says where the next
-/// token is.
-fn take_argument_at<'a>(
-    call: &mut Listed<'a>,
-    tokens: &[Token<'a>],
-    index: usize,
-) -> Result<usize, AllocError>
-    requires { index ≤ length tokens.now }
-    ensures goes_on { IfOk result
-        (λ next.
-        ListsOn (listed_view call.old) (marks_of (drop index tokens.now)) (listed_view call.new)
-        (marks_of (drop next tokens.now))) }
-    ensures on { IfOk result (λ next. index ≤ next) }
-    ensures within { IfOk result (λ next. next ≤ length tokens.now) }
-{
-    let (_, left) = tokens.split_at(index);
-    let taken = take_argument(call, left)?;
-    Ok(index + taken)
+    let Some(argument) = argument_of(*input, *assign, *operand) else {
+        return Ok(0);
+    };
+    add_argument(call, argument)?;
+    Ok(4)
 }
 
 /// Reads the arguments that commas follow, and returns the number of their tokens.
 fn take_arguments<'a>(call: &mut Listed<'a>, tokens: &[Token<'a>]) -> Result<usize, AllocError>
-    ensures goes_on { IfOk result
-        (λ taken.
-        ListsOn (listed_view call.old) (marks_of tokens.now) (listed_view call.new)
-        (marks_of (drop taken tokens.now))) }
+    ensures goes_on { IfOk result (λ taken. TakesArguments call.old tokens.now taken call.new) }
     ensures within { IfOk result (λ taken. taken ≤ length tokens.now) }
 {
     let mut place = 0;
     for _index in 0..tokens.len() {
-        let next = take_argument_at(call, tokens, place)?;
+        let (_, left) = tokens.split_at(place);
+        let next = place + take_argument(call, left)?;
         if next == place {
             return Ok(next);
         }
@@ -128,10 +98,7 @@ fn take_arguments<'a>(call: &mut Listed<'a>, tokens: &[Token<'a>]) -> Result<usi
 /// Reads the last argument with the list's end and the line's, and returns the number of their
 /// tokens: none if they are not here.
 fn take_last<'a>(call: &mut Listed<'a>, tokens: &[Token<'a>]) -> Result<usize, AllocError>
-    ensures ends { IfOk result
-        (λ taken. 0 < taken
-        → ListEnds (listed_view call.old) (marks_of tokens.now) (listed_view call.new)
-        (marks_of (drop taken tokens.now))) }
+    ensures ends { IfOk result (λ taken. TakesList call.old tokens.now taken call.new) }
     ensures within { IfOk result (λ taken. taken ≤ length tokens.now) }
 {
     let [input, assign, operand, closing, end, ..] = tokens else {
@@ -140,31 +107,23 @@ fn take_last<'a>(call: &mut Listed<'a>, tokens: &[Token<'a>]) -> Result<usize, A
     let (Shape::Closing, Shape::LineEnd) = (closing.shape, end.shape) else {
         return Ok(0);
     };
-    match argument_of(*input, *assign, *operand) {
-        Some(argument) => {
-            add_argument(call, argument)?;
-            Ok(5)
-        }
-        None => Ok(0),
-    }
+    let Some(argument) = argument_of(*input, *assign, *operand) else {
+        return Ok(0);
+    };
+    add_argument(call, argument)?;
+    Ok(5)
 }
 
 /// Reads a call's arguments with the list's end and the line's, and returns the number of their
 /// tokens: none if no such list is here.
 fn take_list<'a>(call: &mut Listed<'a>, tokens: &[Token<'a>]) -> Result<usize, AllocError>
-    ensures ends { IfOk result
-        (λ taken. 0 < taken
-        → ListEnds (listed_view call.old) (marks_of tokens.now) (listed_view call.new)
-        (marks_of (drop taken tokens.now))) }
+    ensures ends { IfOk result (λ taken. TakesList call.old tokens.now taken call.new) }
     ensures within { IfOk result (λ taken. taken ≤ length tokens.now) }
 {
     let before = take_arguments(call, tokens)?;
     let (_, following) = tokens.split_at(before);
     let last = take_last(call, following)?;
-    if last == 0 {
-        return Ok(0);
-    }
-    Ok(before + last)
+    Ok(if last == 0 { 0 } else { before + last })
 }
 
 /// The call whose list begins with these tokens: its operator, its instance, the bracket and the
@@ -186,8 +145,8 @@ fn call_at<'a>(
 {
     match (operator.shape, instance.shape, opening.shape, input.shape) {
         (Shape::Identifier, Shape::Identifier, Shape::Opening, Shape::Identifier) => {
-            match operation_at(body, operator.text) {
-                Some(Operation::Calls(condition)) => Some(Listed {
+            match operation_at(body, operator.text)? {
+                Operation::Calls(condition) => Some(Listed {
                     condition,
                     instance: word(instance),
                     arguments: Vec::new(alloc),
@@ -207,10 +166,7 @@ fn take_call<'a>(
     tokens: &[Token<'a>],
 ) -> Result<usize, AllocError>
     requires { IsCounted body.old }
-    ensures goes_on { IfOk result
-        (λ taken. (units : List ProgramUnit)
-        → GoesOn (moves.AtLine (position_view units body.old)) (marks_of tokens.now)
-        (moves.AtLine (position_view units body.new)) (marks_of (drop taken tokens.now))) }
+    ensures goes_on { IfOk result (λ taken. TakesLines body.old tokens.now taken body.new) }
     ensures counted { OnOk result (IsCounted body.new) }
     ensures within { IfOk result (λ taken. taken ≤ length tokens.now) }
 {

@@ -4,7 +4,6 @@
 
 mod body_lines;
 mod call_lines;
-mod label_lines;
 mod section_lines;
 
 pub use body_lines::operand_of;

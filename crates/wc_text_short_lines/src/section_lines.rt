@@ -1,50 +1,16 @@
-ghost use Rattle.std.specs.Prelude.{◌≡◌, ◌≤◌, ◌∷◌, [], drop, false, length, IfOk, IsTrue, List, None, OnOk};
+ghost use Rattle.std.specs.Prelude.{◌≡◌, ◌≤◌, ◌∷◌, [], drop, length, IfOk, List, None, OnOk};
 ghost use Rattle.wc_laws_grammar.specs.Moves as moves;
-ghost use Rattle.wc_model.specs.Language.Declarations.{same_name};
-ghost use Rattle.wc_model.specs.Language.Names.{name_of};
 ghost use Rattle.wc_model.specs.Language.Tree.{ProgramUnit};
 ghost use Rattle.wc_model.specs.Language.Views.{unit_view, word_view};
-ghost use Rattle.wc_model.specs.Text.Keywords.{end_var};
-ghost use Rattle.wc_model.specs.Text.Marks.{Colon, Identifier, Semicolon};
 ghost use Rattle.wc_model.specs.Text.Positions.{Position};
 ghost use Rattle.wc_model.specs.declared.source.Section.{Section};
 ghost use Rattle.wc_text_short_lines.specs.Several.{GoesOn};
-ghost use Rattle.wc_text_lines.specs.Words.{marks_of, symbol_view};
+ghost use Rattle.wc_text_lines.specs.Words.{marks_of};
 
 use std::alloc::{AllocError, Global};
 use wc_lexer::{Shape, Token};
 use wc_model::{Decl, Section, Unit, Word};
 use wc_text_lines::{ends_section, word};
-
-/// Whether the token is a declaration's name.
-fn is_name(token: Token) -> bool
-    ensures name { IsTrue result → symbol_view token.entry ≡ Identifier token.entry.text.now }
-    ensures more { IsTrue result → same_name (name_of token.entry.text.now) end_var ≡ false }
-{
-    match token.shape {
-        Shape::Identifier => !ends_section(token.text),
-        _ => false,
-    }
-}
-
-/// Whether the tokens are a colon and then a type.
-fn is_typed(colon: Token, type_name: Token) -> bool
-    ensures colon { IsTrue result → symbol_view colon.entry ≡ Colon }
-    ensures type_name { IsTrue result
-        → symbol_view type_name.entry ≡ Identifier type_name.entry.text.now }
-{
-    matches!(
-        (colon.shape, type_name.shape),
-        (Shape::Colon, Shape::Identifier)
-    )
-}
-
-/// Whether the token is a semicolon.
-fn is_semicolon(token: Token) -> bool
-    ensures { IsTrue result → symbol_view token.entry ≡ Semicolon }
-{
-    matches!(token.shape, Shape::Semicolon)
-}
 
 /// The number of tokens an empty line has: none if the tokens do not begin with a line's end.
 #[inline(always)]
@@ -57,11 +23,8 @@ pub(crate) fn empty_line(tokens: &[Token]) -> usize
         (moves.Declaring units unit section moves.Undeclared) (marks_of (drop result tokens.now)) }
     ensures within { result ≤ length tokens.now }
 {
-    let [first, ..] = tokens else {
-        return 0;
-    };
-    match first.shape {
-        Shape::LineEnd => 1,
+    match tokens {
+        [first, ..] if matches!(first.shape, Shape::LineEnd) => 1,
         _ => 0,
     }
 }
@@ -109,7 +72,15 @@ fn take_plain<'a>(
     let [name, colon, type_name, end, ..] = tokens else {
         return Ok(0);
     };
-    if !is_name(*name) || !is_typed(*colon, *type_name) || !is_semicolon(*end) {
+    let (Shape::Identifier, Shape::Colon, Shape::Identifier, Shape::Semicolon) = (
+        name.shape,
+        colon.shape,
+        type_name.shape,
+        end.shape,
+    ) else {
+        return Ok(0);
+    };
+    if ends_section(name.text) {
         return Ok(0);
     }
     add_plain(alloc, unit, section, word(*name), word(*type_name))?;

@@ -1,24 +1,19 @@
-ghost use Rattle.std.specs.Prelude.{◌≡◌, IfOk, IsOkUnless, Option, drop, map, option_and_then, slice_get};
+ghost use Rattle.std.specs.Prelude.{◌≡◌, IfOk, IsOkUnless, drop, map, option_and_then, slice_get};
 ghost use Rattle.std.specs.Option.{is_none};
 ghost use Rattle.wc_built_in.specs.Fields.{is_named, value_kind};
 ghost use Rattle.wc_model.specs.Language.Declarations.{member_named, standard_members};
 ghost use Rattle.wc_model.specs.Language.Frames.{location_of};
 ghost use Rattle.wc_model.specs.Language.Names.{name_of};
-ghost use Rattle.wc_model.specs.Language.Scopes.{Scope, type_of};
 ghost use Rattle.wc_model.specs.Language.Store.{Path as Named};
-ghost use Rattle.wc_model.specs.Language.Tree.{Text};
 ghost use Rattle.wc_model.specs.Language.Views.{text_view};
-ghost use Rattle.wc_names.specs.Numbered.{IsUnit, numbered_type};
-ghost use Rattle.wc_names.specs.RepresentsText.{AreTables};
-ghost use Rattle.wc_text_variables.specs.Names.{is_hidden, is_hidden_field};
+ghost use Rattle.wc_text_variables.specs.Names.{is_address, is_hidden, is_hidden_field, parts_in};
 ghost use Rattle.wc_text_variables.specs.Numbered.{variable_at_location, variable_named};
 
-use crate::names::{is_address, parts_of};
-use std::alloc::Global;
+use std::alloc::{AllocError, Global};
 use wc_built_in::field_named;
 use wc_cost::Loaded;
-use wc_model::{Fault, Kind, Path, Place, Section, SlotKind, StandardBlock};
-use wc_names::{DeclaredType, Tables};
+use wc_model::{Fault, Kind, Path, Place, Section, SlotKind, StandardBlock, or_memory};
+use wc_names::DeclaredType;
 
 /// A variable of a program.
 #[derive(Clone, Copy)]
@@ -45,10 +40,7 @@ fn value_kind(kind: SlotKind) -> Option<Kind>
 fn kind_at(kinds: &[SlotKind], place: Place) -> Option<Kind>
     ensures { result ≡ option_and_then value_kind (slice_get kinds.now place.0) }
 {
-    match kinds.get(usize::from(place.0)) {
-        Some(kind) => value_kind(*kind),
-        None => None,
-    }
+    value_kind(*kinds.get(usize::from(place.0))?)
 }
 
 /// The variable at the place that a path names in a program.
@@ -59,24 +51,16 @@ fn variable_at_location(loaded: &Loaded<'_>, path: &Path<'_>) -> Option<NamedVar
 {
     // A program is loaded, so its text has a last unit.
     let _units = loaded.units();
-    let place = match loaded.place(path) {
-        Some(place) => place,
-        None => return None,
-    };
-    match kind_at(loaded.kinds(), place) {
-        Some(kind) => Some(NamedVariable { place, kind }),
-        None => None,
-    }
+    let place = loaded.place(path)?;
+    let kind = kind_at(loaded.kinds(), place)?;
+    Some(NamedVariable { place, kind })
 }
 
 /// Whether texts can name what is declared in a section of a standard block.
 fn is_named(section: Section) -> bool
     ensures { result ≡ is_named section }
 {
-    match section {
-        Section::Input | Section::Output => true,
-        Section::Own => false,
-    }
+    !matches!(section, Section::Own)
 }
 
 /// Whether texts cannot name a field of a standard block.
@@ -100,18 +84,6 @@ fn is_hidden_at(block: StandardBlock, names: &[&[u8]], index: usize) -> bool
     }
 }
 
-/// The type of a variable of a unit.
-fn declared_type(tables: &Tables<'_>, unit: usize, name: &[u8]) -> Option<DeclaredType>
-    ensures { (text : Text) (scope : Scope) → AreTables tables.now text → IsUnit text unit scope
-        → result ≡ option_and_then (numbered_type scope.before)
-        (type_of scope (name_of name.now)) }
-{
-    match tables.variable(unit, name) {
-        Some(located) => Some(located.declared),
-        None => None,
-    }
-}
-
 /// Whether the names of a path lead to a field of a standard block that texts cannot name.
 fn leads_to_hidden(loaded: &Loaded<'_>, names: &[&[u8]]) -> bool
     ensures { result ≡ is_hidden (text_view loaded.now.source)
@@ -123,16 +95,30 @@ fn leads_to_hidden(loaded: &Loaded<'_>, names: &[&[u8]]) -> bool
         let Some(name) = names.get(index) else {
             return false;
         };
-        let Some(declared) = declared_type(tables, unit, name) else {
+        let Some(located) = tables.variable(unit, name) else {
             return false;
         };
-        match declared {
+        match located.declared {
             DeclaredType::Block(block) => unit = block,
             DeclaredType::Standard(block) => return is_hidden_at(block, names, index + 1),
             DeclaredType::Elementary(_) => return false,
         }
     }
     false
+}
+
+/// The parts of a name, which are between its dots.
+fn parts_of<'n>(alloc: Global, name: &'n [u8]) -> Result<Vec<&'n [u8]>, AllocError>
+    ensures { IfOk result (λ parts. map (λ part. part.now) parts.items ≡ parts_in name.now) }
+{
+    name.split(|byte| *byte == b'.').collect(alloc)
+}
+
+/// Whether a name is an address.
+fn is_address(name: &[u8]) -> bool
+    ensures { result ≡ is_address name.now }
+{
+    name.first().is_some_and(|byte| *byte == b'%')
 }
 
 /// What a name means in a program: `fill`, `dose.timer.ET` through instances of blocks, or a directly represented variable as
@@ -150,7 +136,7 @@ pub fn variable_named(
     if is_address(name) {
         return Ok(variable_at_location(loaded, &Path::Address(name)));
     }
-    let parts = parts_of(alloc, name)?;
+    let parts = or_memory(parts_of(alloc, name))?;
     if leads_to_hidden(loaded, &parts) {
         return Ok(None);
     }

@@ -1,7 +1,7 @@
-ghost use Rattle.std.specs.Prelude.{◌≡◌, ◌++◌, ◌∷◌, [], ℕ, List, Option, Some, OnOk, IsOkUnless, true, false, codes, option_map};
+ghost use Rattle.std.specs.Prelude.{◌≡◌, ◌++◌, ℕ, List, Option, Some, OnOk, IsOkUnless, true, false, codes, option_map};
 ghost use Rattle.std.specs.Fmt.{signed_decimal};
 ghost use Rattle.wc_model.specs.Language.Store.{Plain};
-ghost use Rattle.wc_view_changes.specs.ChangeReport.{content_text, line_text, lost_text, note_on, note_text, reason_text};
+ghost use Rattle.wc_view_changes.specs.ChangeReport.{content_text, line_text, lost_text, note_on, note_text};
 ghost use Rattle.wc_view_changes.specs.ChangeReport as texts;
 ghost use Rattle.wc_model.specs.Language.Frames.{content_number};
 ghost use Rattle.wc_model.specs.Language.Scopes.{kind_of};
@@ -68,19 +68,6 @@ fn put_shape(out: &mut Vec<u8>, shape: Shape) -> Result<(), Fault>
     }
 }
 
-/// Puts why a variable begins with its first value, and the end of its line.
-fn put_reason(out: &mut Vec<u8>, old_type: Option<&[u8]>) -> Result<(), Fault>
-    ensures { Puts out.old out.new result
-        (reason_text (option_map (λ spelled. spelled.now) old_type.entry) ++ (10 ∷ [])) }
-{
-    let Some(spelled) = old_type else {
-        return put_bytes(out, b"new\n");
-    };
-    put_bytes(out, b"was ")?;
-    put_bytes(out, spelled)?;
-    put_bytes(out, b"\n")
-}
-
 /// Puts what a line says first, and the names of its variable.
 fn put_names(out: &mut Vec<u8>, word: &[u8], path: (&[u8], &[u8])) -> Result<(), Fault>
     ensures { Puts out.old out.new result
@@ -102,7 +89,7 @@ pub(crate) fn put_kept(out: &mut Vec<u8>, path: (&[u8], &[u8])) -> Result<(), Fa
     put_bytes(out, b"\n")
 }
 
-/// Puts the line of a variable that begins with its first value.
+/// Puts the line of a variable that begins with its first value, and why.
 pub(crate) fn put_first(
     out: &mut Vec<u8>,
     path: (&[u8], &[u8]),
@@ -116,8 +103,12 @@ pub(crate) fn put_first(
     put_names(out, b"first ", path)?;
     put_bytes(out, b" ")?;
     put_shape(out, shape)?;
-    put_bytes(out, b" ")?;
-    put_reason(out, old_type)
+    let Some(spelled) = old_type else {
+        return put_bytes(out, b" new\n");
+    };
+    put_bytes(out, b" was ")?;
+    put_bytes(out, spelled)?;
+    put_bytes(out, b"\n")
 }
 
 /// Puts the line of a variable of the old program that is lost.

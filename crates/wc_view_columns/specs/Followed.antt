@@ -28,13 +28,6 @@ is_refusal None = false
 is_refusal (Some NotUnderstood) = false
 is_refusal (Some (Weight reading)) = is_refused reading.status
 
--- when a command was, if it sets a zero or a tare, is refused that, or clears the tare
-abbrev pub mark_of : ℕ → Command → Option ℕ
-mark_of ms Zero = Some ms
-mark_of ms TakeTare = Some ms
-mark_of ms Clear = Some ms
-mark_of ms command = None
-
 -- what happened and a request of a command, by whether its answer refuses it: it counts as it does, and nothing else changes
 abbrev pub marked_by : ℕ → Command → Bool → Events → Events
 marked_by ms Zero false old = record old { zeros = counted (old.zeros + 1); marked = Some ms }

@@ -1,7 +1,7 @@
 ghost use Rattle.std.specs.Prelude.{◌≡◌, ◌+◌, ◌≤◌, ℕ, [], ◌∷◌, ◌++◌, List, drop, length, max};
 ghost use Rattle.wc_model.specs.Instrument.Requests.{requests_in};
 ghost use Rattle.wc_sma.specs.Representation.{HasRead};
-ghost use Rattle.wc_view_columns.specs.Followed.{AreCounted, HasFollowed, IsMarked, after_answer, is_refusal, mark_of};
+ghost use Rattle.wc_view_columns.specs.Followed.{AreCounted, HasFollowed, IsMarked, after_answer, is_refusal};
 ghost use Rattle.wc_view_columns.specs.Happened.{AreBoth, counted};
 ghost use Rattle.wc_view_columns.specs.Rows.{nothing};
 ghost use Rattle.wc_view_columns.specs.declared.events.Request.{Request};
@@ -32,18 +32,8 @@ fn is_refusal(answer: Option<Answer>) -> bool
     }
 }
 
-/// When a request sets a zero or a tare, is refused that, or clears the tare.
-fn mark_of(request: &Request) -> Option<u64>
-    ensures { result ≡ mark_of request.now.ms request.now.command }
-{
-    match request.command {
-        Command::Zero | Command::TakeTare | Command::Clear => Some(request.ms),
-        _ => None,
-    }
-}
-
 /// What happened in some time.
-#[derive(Clone, Copy)]
+#[derive(Clone, Copy, Default)]
 pub struct Events {
     /// How often a zero or a tare was set, each refused, and the tare cleared.
     pub zeros: u32,
@@ -59,7 +49,6 @@ pub struct Events {
     /// The steps of the longest scan.
     pub steps: u32,
     pub requests: u32,
-    /// The last request.
     pub last: Option<Request>,
 }
 
@@ -69,19 +58,7 @@ impl Events {
         ensures none { result ≡ nothing }
         ensures counts { AreCounted [] result }
     {
-        Events {
-            zeros: 0,
-            zeros_refused: 0,
-            tares: 0,
-            tares_refused: 0,
-            clears: 0,
-            changes: 0,
-            marked: None,
-            scans: 0,
-            steps: 0,
-            requests: 0,
-            last: None,
-        }
+        Events::default()
     }
 
     /// These and later ones.
@@ -123,19 +100,20 @@ impl Events {
         self.last = Some(request);
     }
 
-    /// Counts what a request did, and keeps when.
+    /// Counts that a request set a zero or a tare, was refused that, or cleared the tare, and keeps when.
     fn mark(&mut self, request: Request)
         ensures { IsMarked request.ms request.command (is_refusal request.answer) self.old
             self.new }
     {
-        self.marked = mark_of(&request).or(self.marked);
+        let before = self.marked;
+        self.marked = Some(request.ms);
         match (request.command, is_refusal(request.answer)) {
             (Command::Zero, true) => self.zeros_refused = self.zeros_refused.saturating_add(1),
             (Command::Zero, false) => self.zeros = self.zeros.saturating_add(1),
             (Command::TakeTare, true) => self.tares_refused = self.tares_refused.saturating_add(1),
             (Command::TakeTare, false) => self.tares = self.tares.saturating_add(1),
             (Command::Clear, _) => self.clears = self.clears.saturating_add(1),
-            _ => {}
+            _ => self.marked = before,
         }
     }
 }
@@ -153,12 +131,10 @@ fn answer_at(answers: &[u8], at: usize) -> (Option<Answer>, usize)
     ensures left { drop result.1 answers.now ≡ after_answer result.0 (drop at answers.now) }
     ensures within { result.1 ≤ length answers.now }
 {
-    let answer = first_answer(&answers[at..]);
-    let left = match &answer {
-        Some(answer) => at + answer_length(answer),
-        None => at,
-    };
-    (answer, left)
+    match first_answer(&answers[at..]) {
+        Some(answer) => (Some(answer), at + answer_length(&answer)),
+        None => (None, at),
+    }
 }
 
 impl Tracker {

@@ -1,5 +1,5 @@
 -- Which bytes the fields of a line have.
-use Rattle.std.proofs.Common.{◌≡◌, ◌<◌, ◌≤◌, ◌+◌, ◌/◌, ◌%◌, ◌^◌, ℕ, zero, suc, ℤ, pos, negsuc, true, false, cond, nat_lt, rules, List, [], ◌∷◌, ◌++◌, length, Ok, refl, sym, ap, ◌∙◌, arith}
+use Rattle.std.proofs.Common.{◌≡◌, ◌<◌, ◌≤◌, ◌+◌, ◌/◌, ◌%◌, ◌^◌, ℕ, zero, suc, ℤ, pos, negsuc, true, false, cond, nat_lt, rules, List, [], ◌∷◌, ◌++◌, length, Result, Ok, Err, refl, sym, ap, subst, ◌∙◌, arith}
 use Rattle.hex.proofs.HexLemmas.{decode_sized-encode_lower}
 use Rattle.hex.specs.Hex.{IsBytes, decode_sized}
 use Rattle.std.proofs.lemmas.Bool.Decides.{nat_tests}
@@ -10,6 +10,7 @@ use Rattle.std.specs.Fmt.{signed_decimal}
 use Rattle.std.specs.Int.{from_be_bytes}
 use Rattle.std.specs.List.{prefix_len}
 use Rattle.std.specs.Prelude.{decimal}
+use Rattle.std.specs.Result.{MatchResult, result_unwrap_or}
 use Rattle.std.specs.Str.Parse.{AllDigits}
 use Rattle.wc_diag_texts.specs.Numbers.{is_refusal}
 use Rattle.wc_view_decode.specs.Fields.{AreFieldBytes}
@@ -67,6 +68,12 @@ word_decoded field word small e =
     let bytes : List ℕ = (word / 256) ∷ (word % 256) ∷ [] in
     ap (λ text. decode_sized text 2) (e ∙ sym (digits_same bytes (bytes_of_word word small)))
     ∙ decode_sized-encode_lower bytes 2 refl (bytes_of_word word small)
+
+-- what holds of all that is no fault holds of what is given, if there is no fault
+pub given_of : {T E : Type 0} (P : T → Type 0) (Q : E → Type 0) (r : Result T E) (default given : T) → MatchResult r P Q → ((e : E) → Q e → ⊥)
+    → given ≡ result_unwrap_or r default → P given
+given_of P Q (Ok x) default given holds never e = subst P (sym e) holds
+given_of P Q (Err fault) default given holds never e = absurd (never fault holds)
 
 -- a number of 16 bits is that of its bytes
 pub word_again : (word : ℕ) → from_be_bytes w16 ((word / 256) ∷ (word % 256) ∷ []) ≡ word

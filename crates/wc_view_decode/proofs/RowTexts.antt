@@ -1,5 +1,5 @@
 -- Texts that are put together part by part.
-use Rattle.std.proofs.Common.{◌≡◌, ◌+◌, ℕ, suc, ℤ, List, [], ◌∷◌, ◌++◌, length, get_or, refl, ap, ◌∙◌, arith, rules}
+use Rattle.std.proofs.Common.{◌≡◌, ◌+◌, ℕ, suc, ℤ, List, [], ◌∷◌, ◌++◌, length, get_or, refl, sym, ap, ◌∙◌, arith, rules}
 use Rattle.std.proofs.lemmas.List.{append_assoc, append-nil}
 use Rattle.std.specs.Fmt.{signed_decimal}
 use Rattle.wc_view_decode.specs.Formats.{bit_text, bits_text, named_words, none_text, of_bits}
@@ -10,8 +10,8 @@ pub one_more : (old p q t u : List ℕ) → t ≡ old ++ p → u ≡ t ++ q → 
 one_more old p q t u e f = f ∙ ap (λ x. x ++ q) e ∙ append_assoc old p q
 
 -- two parts more
-pub two_more : (old p q r t u : List ℕ) → t ≡ old ++ p → u ≡ t ++ q ++ r → u ≡ old ++ (p ++ q ++ r)
-two_more old p q r t u e f = one_more old (p ++ q) r (t ++ q) u (one_more old p q t (t ++ q) e refl) f
+pub two_more : (old p q r t u : List ℕ) → t ≡ old ++ p → u ≡ t ++ (q ++ r) → u ≡ old ++ (p ++ q ++ r)
+two_more old p q r t u e f = one_more old (p ++ q) r (t ++ q) u (one_more old p q t (t ++ q) e refl) (f ∙ sym (append_assoc t q r))
 
 -- a part more, under another name
 pub named_more : (old p q s t u : List ℕ) → t ≡ old ++ p → u ≡ t ++ s → s ≡ q → u ≡ old ++ (p ++ q)
@@ -31,8 +31,8 @@ all_bits format bits n old t text all none e = one_more old (none_text format bi
 
 -- four words, each after its name
 pub four_words : (old t1 t2 t3 t4 n1 n2 n3 n4 : List ℕ) (ws : List ℤ) (d : ℤ) → length ws ≡ 4
-    → t1 ≡ old ++ n1 ++ signed_decimal (get_or ws 0 d) → t2 ≡ t1 ++ n2 ++ signed_decimal (get_or ws 1 d)
-    → t3 ≡ t2 ++ n3 ++ signed_decimal (get_or ws 2 d) → t4 ≡ t3 ++ n4 ++ signed_decimal (get_or ws 3 d)
+    → t1 ≡ old ++ (n1 ++ signed_decimal (get_or ws 0 d)) → t2 ≡ t1 ++ (n2 ++ signed_decimal (get_or ws 1 d))
+    → t3 ≡ t2 ++ (n3 ++ signed_decimal (get_or ws 2 d)) → t4 ≡ t3 ++ (n4 ++ signed_decimal (get_or ws 3 d))
     → t4 ≡ old ++ named_words (n1 ∷ n2 ∷ n3 ∷ n4 ∷ []) ws
 unfolding named_words
 four_words old t1 t2 t3 t4 n1 n2 n3 n4 (a ∷ b ∷ c ∷ e ∷ []) d size e1 e2 e3 e4 = rw (e4, e3, e2, e1) (search (rules, append_assoc, append-nil))

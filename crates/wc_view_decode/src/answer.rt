@@ -15,7 +15,6 @@ pub struct Reading {
 /// An answer of the line.
 #[derive(Clone, Copy)]
 pub enum Answer {
-    /// A weight.
     Weight(Reading),
     /// The request is not one that the line knows.
     NotUnderstood,

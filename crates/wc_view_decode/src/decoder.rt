@@ -1,13 +1,14 @@
 ghost use Rattle.std.specs.Prelude.{◌≡◌, ◌<◌, ◌∷◌, [], false, length, IsOkUnless};
 ghost use Rattle.wc_view_decode.specs.Decoding.{longest_line};
+ghost use Rattle.wc_view_decode.specs.Formats.{Puts, closing, is_shown, opening, passed_on, unknown};
 ghost use Rattle.wc_view_decode.specs.Representation.{Finishes, PutsLine, TakesBytes};
 
 use crate::entry_formats::put_entry;
 use crate::format::DecodeFormat;
 use crate::lines::line_entry;
-use crate::unknown_lines::{put_closing, put_opening, put_passed, put_passed_on, put_unknown};
 use std::alloc::Global;
 use wc_model::{Fault, put_bytes};
+use wc_report::put_hex;
 
 /// The most bytes before the line feed of a line that is looked at.
 const LONGEST_LINE: usize = 65536;
@@ -18,6 +19,67 @@ pub(crate) struct Decoder {
     pub(crate) format: DecodeFormat,
     pub(crate) line: Vec<u8>,
     pub(crate) is_long: bool,
+}
+
+/// Appends what precedes a line that is not of a report to a text.
+fn put_opening(text: &mut Vec<u8>, format: DecodeFormat) -> Result<(), Fault>
+    ensures { Puts text.old text.new result (opening format) }
+{
+    match format {
+        DecodeFormat::Text => put_bytes(text, b"? "),
+        DecodeFormat::Table => put_bytes(text, b",?,,,,,,,,,,,,,,,,,,,,,,\""),
+    }
+}
+
+/// Appends what follows such a line to a text.
+fn put_closing(text: &mut Vec<u8>, format: DecodeFormat) -> Result<(), Fault>
+    ensures { Puts text.old text.new result (closing format) }
+{
+    match format {
+        DecodeFormat::Text => put_bytes(text, b"\n"),
+        DecodeFormat::Table => put_bytes(text, b"\"\n"),
+    }
+}
+
+/// Whether a byte is printable ASCII other than the backslash with which one begins that is shown by its digits.
+fn is_shown(byte: u8) -> bool
+    ensures { result ≡ is_shown byte }
+{
+    byte >= 32 && byte <= 126 && byte != b'\\'
+}
+
+/// Appends a byte of such a line to a text: for people nothing on which a terminal acts.
+fn put_passed(text: &mut Vec<u8>, format: DecodeFormat, byte: u8) -> Result<(), Fault>
+    ensures { Puts text.old text.new result (passed_on format (byte ∷ [])) }
+{
+    match format {
+        DecodeFormat::Text if is_shown(byte) => put_bytes(text, &[byte]),
+        DecodeFormat::Text => {
+            put_bytes(text, b"\\x")?;
+            put_hex(text, &[byte])
+        }
+        DecodeFormat::Table if byte == b'"' => put_bytes(text, b"\"\""),
+        DecodeFormat::Table => put_bytes(text, &[byte]),
+    }
+}
+
+/// Appends bytes of such a line to a text.
+fn put_passed_on(text: &mut Vec<u8>, format: DecodeFormat, bytes: &[u8]) -> Result<(), Fault>
+    ensures { Puts text.old text.new result (passed_on format bytes.now) }
+{
+    for byte in bytes {
+        put_passed(text, format, *byte)?;
+    }
+    Ok(())
+}
+
+/// Appends a line that is not of a report to a text.
+fn put_unknown(text: &mut Vec<u8>, format: DecodeFormat, line: &[u8]) -> Result<(), Fault>
+    ensures { Puts text.old text.new result (unknown format line.now) }
+{
+    put_opening(text, format)?;
+    put_passed_on(text, format, line)?;
+    put_closing(text, format)
 }
 
 /// Appends what is written for a line with its line feed to a text.

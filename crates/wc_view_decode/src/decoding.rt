@@ -36,25 +36,16 @@ fn read_chunk<R: ByteIn>(input: &mut R, start: u64, buffer: &mut [u8]) -> Result
     if is_exhausted(start, input.spent()) {
         return Err(DecodeFault::Read);
     }
-    match input.read(buffer) {
-        Ok(count) => Ok(count),
-        Err(_) => Err(DecodeFault::Read),
-    }
+    input.read(buffer).map_err(|_| DecodeFault::Read)
 }
 
 /// Writes a text.
 fn write_text<W: ByteOut>(output: &mut W, text: &[u8]) -> Result<(), DecodeFault>
     ensures text { WritesText (W.bytes_taken output.old) (W.bytes_taken output.new) result
         text.now }
-    ensures steady { IfOk result (λ done. W.failure_count output.new ≡ W.failure_count output.old) }
-    ensures fault { IfErr result (λ fault. fault ≡ DecodeFault.Write) }
-    ensures cause { IfErr result
-        (λ fault. HasFailedSince (W.failure_count output.old) (W.failure_count output.new)) }
+    ensures faults { WritesOnly result (W.failure_count output.old) (W.failure_count output.new) }
 {
-    match write_whole(output, text) {
-        Ok(()) => Ok(()),
-        Err(_) => Err(DecodeFault::Write),
-    }
+    write_whole(output, text).map_err(|_| DecodeFault::Write)
 }
 
 /// Decodes a chunk of a report, and writes what is said of it.

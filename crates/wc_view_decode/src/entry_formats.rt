@@ -1,4 +1,4 @@
-ghost use Rattle.std.specs.Prelude.{◌≡◌, ◌<◌, ◌++◌, decimal, IsOkUnless, OnOk};
+ghost use Rattle.std.specs.Prelude.{◌≡◌, ◌<◌, ◌++◌, decimal};
 ghost use Rattle.std.specs.Fmt.{signed_decimal};
 ghost use Rattle.wc_view_decode.specs.declared.format.DecodeFormat.TheVariants.{Table, Text};
 ghost use Rattle.wc_view_decode.specs.Lines.{entry_content};
@@ -12,9 +12,7 @@ use wc_report::{put_number, put_signed};
 
 /// Appends a number after its label to a text.
 fn put_number_after(text: &mut Vec<u8>, label: &[u8], number: u64) -> Result<(), Fault>
-    ensures number { OnOk result (text.new.items
-        ≡ text.old.items ++ label.now ++ decimal number) }
-    ensures memory { IsOkUnless result Fault.Memory }
+    ensures { Puts text.old text.new result (label.now ++ decimal number) }
 {
     put_bytes(text, label)?;
     put_number(text, number)
@@ -65,9 +63,7 @@ fn put_bits(text: &mut Vec<u8>, format: DecodeFormat, bits: u16) -> Result<(), F
 
 /// Appends a word after its name to a text.
 fn put_word(text: &mut Vec<u8>, name: &[u8], word: &i32) -> Result<(), Fault>
-    ensures word { OnOk result (text.new.items
-        ≡ text.old.items ++ name.now ++ signed_decimal word.now) }
-    ensures memory { IsOkUnless result Fault.Memory }
+    ensures { Puts text.old text.new result (name.now ++ signed_decimal word.now) }
 {
     put_bytes(text, name)?;
     put_signed(text, i64::from(*word))

@@ -18,7 +18,6 @@ pub enum DecodeFault {
     /// A write failed, or took nothing.
     #[error("write fault")]
     Write,
-    /// Memory was refused.
     #[error("out of memory")]
     Memory,
 }

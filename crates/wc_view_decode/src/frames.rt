@@ -46,18 +46,14 @@ fn weight_in(frame: &[u8]) -> Option<Answer>
     if !is_framed(frame) {
         return None;
     }
-    let status = Status::of_letter(frame[1])?;
-    let kind = WeightKind::of_letter(frame[3])?;
-    let is_stable = stable_of_letter(frame[4])?;
-    let unit = MassUnit::of_letters(&frame[16..19])?;
     let mut weight = [0; 10];
     weight.copy_from_slice(&frame[6..16]);
     Some(Answer::Weight(Reading {
-        status,
-        kind,
-        is_stable,
+        status: Status::of_letter(frame[1])?,
+        kind: WeightKind::of_letter(frame[3])?,
+        is_stable: stable_of_letter(frame[4])?,
         weight,
-        unit,
+        unit: MassUnit::of_letters(&frame[16..19])?,
     }))
 }
 

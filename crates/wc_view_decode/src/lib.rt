@@ -6,11 +6,9 @@ mod answer_texts;
 mod decoder;
 mod decoding;
 mod entry_formats;
-mod fields;
 mod format;
 mod frames;
 mod lines;
-mod unknown_lines;
 
 pub use answer::{Answer, Reading};
 pub use answer_texts::{kind_text, motion_text, status_text, unit_text};

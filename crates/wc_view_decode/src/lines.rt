@@ -1,17 +1,90 @@
-ghost use Rattle.std.specs.Prelude.{◌≡◌, ℕ, ℤ, List, IfOk, IsOkUnless, option_map, slice_index};
+// A field that is not a number is read as one all the same: what is read is written again and compared.
+ghost use Rattle.std.specs.Prelude.{◌≡◌, ◌<◌, ◌≤◌, ◌^◌, ℕ, ℤ, List, FitsSigned, IfOk, IsOkUnless, decimal, length, nat_lt, option_map, slice_index, true};
+ghost use Rattle.std.specs.Fmt.{signed_decimal};
+ghost use Rattle.std.specs.List.{prefix_len};
 ghost use Rattle.hex.specs.Hex.{IsBytes};
-ghost use Rattle.wc_view_decode.specs.Fields.{words_text};
+ghost use Rattle.wc_diag_texts.specs.Numbers.{is_refusal};
+ghost use Rattle.wc_view_decode.specs.Fields.{CutsField, words_text};
 ghost use Rattle.wc_view_decode.specs.Lines.{AreContentOf, AreWords, InRange, IsEntryOf, RefusalContent, ScanContent, content_text, entry_content, refusal_content, scan_content};
-ghost use Rattle.wc_model.specs.Run.Hex.{hex_of_bytes};
+ghost use Rattle.wc_model.specs.Run.Hex.{hex_of_bytes, hex_of_word};
 ghost use Rattle.wc_model.specs.declared.image.Outputs.{Outputs};
+ghost use mir.Syntax.{w32};
 
 use crate::answer::{RefusalRow, ReportEntry, ScanRow};
-use crate::fields::{bits, cut_field, moment, refusal_number, signed_number, small_number};
 use crate::frames::answers_of;
 use hex::FromHexError;
 use std::alloc::Global;
+use std::str;
 use wc_model::{Fault, Outputs, Steps};
 use wc_report::{put_answer_line, put_scan_line, refused_line};
+
+/// The number of bytes before the first space or line feed.
+fn field_length(text: &[u8]) -> usize
+    ensures first { result ≡ prefix_len (λ byte. nat_lt 32 byte) text.now }
+    ensures within { result ≤ length text.now }
+{
+    text.iter().take_while(|byte| **byte > b' ').count()
+}
+
+/// The first field, and what follows the space or the line feed that ends it.
+fn cut_field(text: &[u8]) -> (&[u8], &[u8])
+    ensures { CutsField text.now result.0.now result.1.now }
+{
+    let (field, rest) = text.split_at(field_length(text));
+    (field, rest.get(1..).unwrap_or(rest))
+}
+
+/// The number of a field.
+fn number(field: &[u8]) -> u64
+    ensures { (n : ℕ) → n < 2 ^ 64 → field.now ≡ decimal n → result ≡ n }
+{
+    let text = str::from_utf8(field).unwrap_or("");
+    text.parse::<u64>().unwrap_or(0)
+}
+
+/// The same in 32 bits.
+fn small_number(field: &[u8]) -> u32
+    ensures { (n : ℕ) → n < 2 ^ 32 → field.now ≡ decimal n → result ≡ n }
+{
+    u32::try_from(number(field)).unwrap_or(0)
+}
+
+/// The moment of a field: none is above 1099511627775.
+fn moment(field: &[u8]) -> u64
+    ensures within { result < 2 ^ 40 }
+    ensures number { (n : ℕ) → n < 2 ^ 40 → field.now ≡ decimal n → result ≡ n }
+{
+    let ms = number(field);
+    if ms < 1 << 40 { ms } else { 0 }
+}
+
+/// The number of a refusal, of which there is one.
+fn refusal_number(field: &[u8]) -> u16
+    ensures known { is_refusal result ≡ true }
+    ensures number { (n : ℕ) → is_refusal n ≡ true → field.now ≡ decimal n → result ≡ n }
+{
+    let number = u16::try_from(number(field)).unwrap_or(0);
+    let is_known = wc_diag_texts::entry_of(number).is_some();
+    if is_known { number } else { 101 }
+}
+
+/// The word of a field.
+fn signed_number(field: &[u8]) -> i32
+    ensures fits { FitsSigned w32 result }
+    ensures number { (z : ℤ) → FitsSigned w32 z → field.now ≡ signed_decimal z → result ≡ z }
+{
+    let text = str::from_utf8(field).unwrap_or("");
+    text.parse::<i32>().unwrap_or(0)
+}
+
+/// The bits of a field.
+fn bits(field: &[u8]) -> u16
+    ensures { (word : ℕ) → word < 2 ^ 16 → field.now ≡ hex_of_word word → result ≡ word }
+{
+    let mut bytes = [0; 2];
+    let _whole = hex::decode_to_slice(field, &mut bytes);
+    u16::from_be_bytes(bytes)
+}
 
 /// The four words of a line.
 fn words_in(text: &[u8]) -> [i32; 4]

@@ -6,8 +6,8 @@ use Rattle.wc_endings.specs.Endings.{EndsAfter, EndsAfterFault, ReportsFailures,
 use Rattle.wc_controller.specs.Files.{Observed}
 use Rattle.wc_controller.specs.InputRuns.{RunsAs, RunsUpTo}
 use Rattle.wc_controller.specs.InputStates.{InputStates}
-use Rattle.wc_endings.specs.declared.input.Input.{Input}
-use Rattle.wc_endings.specs.declared.input.Stopped.{Stopped}
+use Rattle.wc_job.specs.declared.input.Input.{Input}
+use Rattle.wc_endings.specs.declared.ending.Stopped.{Stopped}
 use Rattle.wc_model.specs.Run.Log.{Record}
 use Rattle.wc_run.specs.declared.fault.RunFault.{RunFault}
 use Rattle.wc_run.specs.declared.fault.RunFault.TheVariants.{Refused, Read, Write, Memory}

@@ -106,7 +106,6 @@ pub(crate) enum Curve {
     Net,
     /// An output word.
     Word(usize),
-    /// A variable.
     Variable(usize),
 }
 

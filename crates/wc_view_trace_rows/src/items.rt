@@ -2,11 +2,11 @@ ghost use Rattle.std.specs.Prelude.{◌≡◌, ◌<◌, ◌+◌, [], ℕ, List, 
 ghost use Rattle.wc_view_trace_rows.specs.Items.{AreLastCalls, block_of, is_call_at};
 ghost use Rattle.wc_view_trace_rows.specs.Levels.{levels_after, levels_view};
 ghost use Rattle.wc_view_trace_rows.specs.Rows.{outputs_of};
-ghost use Rattle.wc_view_trace_rows.specs.Scans.{AreShown, HasOutputs, IsItem, is_last_call};
+ghost use Rattle.wc_view_trace_rows.specs.Scans.{AreShown, IsItem};
 
 use crate::item::Item;
 use crate::legend::Legend;
-use crate::levels::{Levels, Said};
+use crate::levels::Levels;
 use crate::outputs::{number_in, outputs_of};
 use std::alloc::Global;
 use wc_machine::{Machine, SeenLine};
@@ -60,15 +60,6 @@ impl LastCalls {
         }
         Ok(LastCalls { items })
     }
-
-    /// Whether the item of that number, from 1, made the last call of the block that starts there.
-    fn is_last(&self, number: usize, place: usize) -> bool
-        ensures { (places : ℕ) (lines : List SeenLine)
-            → AreLastCalls self.now.items.items places lines
-            → result ≡ is_last_call places lines number place }
-    {
-        self.items.get(place).is_some_and(|item| *item == number)
-    }
 }
 
 /// What is known while the items of a scan are gone through in order.
@@ -107,41 +98,13 @@ impl Items {
         ensures levels { IfOk result (λ items. levels_view items.levels ≡ []) }
         ensures memory { IsOkUnless result Fault.Memory }
     {
-        let calls = LastCalls::find(alloc, legend.places(), lines)?;
+        let calls = LastCalls::find(alloc, legend.kinds.len(), lines)?;
         Ok(Items {
-            levels: Levels::new(alloc),
+            levels: Levels {
+                levels: Vec::new(alloc),
+            },
             calls,
         })
-    }
-
-    /// An item of which that is said.
-    fn item(
-        &self,
-        machine: &Machine<'_, SlotStore>,
-        number: usize,
-        seen: &SeenLine,
-        said: Said,
-    ) -> Item
-        ensures seen { result.seen ≡ seen.now }
-        ensures said { result.said ≡ said }
-        ensures outputs { (places : ℕ) (lines : List SeenLine)
-            → AreLastCalls self.now.calls.items.items places lines
-            → HasOutputs places machine.now lines number (block_of seen.now) result }
-    {
-        let mut item = Item {
-            seen: *seen,
-            said,
-            is_last_call: false,
-            first: None,
-            second: None,
-        };
-        if let Some((block, place)) = block_of(seen) {
-            item.is_last_call = self.calls.is_last(number, place);
-            let (first, second) = numbers_of(machine, block, place, item.is_last_call);
-            item.first = first;
-            item.second = second;
-        }
-        item
     }
 
     /// The next item, which has that number among those of the scan, from 1. `Memory` is the only
@@ -164,7 +127,20 @@ impl Items {
         ensures calls { self.new.calls ≡ self.old.calls }
         ensures memory { IsOkUnless result Fault.Memory }
     {
-        let said = self.levels.follow(alloc, legend, seen)?;
-        Ok(self.item(machine, number, seen, said))
+        let mut item = Item {
+            seen: *seen,
+            said: self.levels.follow(alloc, legend, seen)?,
+            is_last_call: false,
+            first: None,
+            second: None,
+        };
+        if let Some((block, place)) = block_of(seen) {
+            let last = self.calls.items.get(place);
+            item.is_last_call = last.is_some_and(|last| *last == number);
+            let (first, second) = numbers_of(machine, block, place, item.is_last_call);
+            item.first = first;
+            item.second = second;
+        }
+        Ok(item)
     }
 }

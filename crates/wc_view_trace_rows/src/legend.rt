@@ -1,9 +1,6 @@
-ghost use Rattle.std.specs.Prelude.{◌≡◌, ◌+◌, ◌++◌, ◌∷◌, [], IfOk, IsOkUnless, OnOk, length};
-ghost use Rattle.wc_model.specs.Language.CarriedPlaces.{frame_of_text};
-ghost use Rattle.wc_model.specs.Language.Frames.{slot_kinds};
+ghost use Rattle.std.specs.Prelude.{◌≡◌, ◌+◌, IfOk, IsOkUnless};
 ghost use Rattle.wc_model.specs.Language.Views.{text_view};
 ghost use Rattle.wc_view_trace_rows.specs.Legends.{IsLegendOf, kind_at, line_of, line_starts, literal_kind, name_of, note_of};
-ghost use Rattle.wc_view_trace_rows.specs.Named.{IsWhole, notes_named, text_named};
 ghost use Rattle.wc_view_changes.specs.Shapes.{Puts};
 
 use crate::notes::{Note, Notes, note_among};
@@ -18,27 +15,20 @@ pub struct Legend {
     text: Vec<u8>,
     starts: Vec<usize>,
     notes: Notes,
-    kinds: Vec<SlotKind>,
-}
-
-/// Puts where a line starts.
-fn put_start(starts: &mut Vec<usize>, start: usize) -> Result<(), Fault>
-    ensures { Puts starts.old starts.new result (start ∷ []) }
-{
-    starts.push(start).map_err(|_| Fault::Memory)
+    pub(crate) kinds: Vec<SlotKind>,
 }
 
 /// Puts where the lines of a text start, and where one would start after the last.
 fn put_starts(starts: &mut Vec<usize>, text: &[u8]) -> Result<(), Fault>
     ensures { Puts starts.old starts.new result (line_starts text.now) }
 {
-    put_start(starts, 0)?;
+    starts.push(0).map_err(|_| Fault::Memory)?;
     for (index, byte) in text.iter().enumerate() {
         if *byte == b'\n' {
-            put_start(starts, index + 1)?;
+            starts.push(index + 1).map_err(|_| Fault::Memory)?;
         }
     }
-    put_start(starts, text.len() + 1)
+    starts.push(text.len() + 1).map_err(|_| Fault::Memory)
 }
 
 impl Legend {
@@ -51,29 +41,17 @@ impl Legend {
         let mut legend = Legend {
             text: Vec::new(alloc),
             starts: Vec::new(alloc),
-            notes: Notes::new(alloc),
+            notes: Notes {
+                notes: Vec::new(alloc),
+                names: Vec::new(alloc),
+            },
             kinds: Vec::new(alloc),
         };
-        legend.copy(text, loaded)?;
+        put_bytes(&mut legend.text, text)?;
+        put_starts(&mut legend.starts, text)?;
+        note_units(&mut legend.notes, loaded.checked().source())?;
+        or_memory(legend.kinds.extend_from_slice(loaded.kinds()))?;
         Ok(legend)
-    }
-
-    /// Takes over what is said of a text and its program, since both are borrowed for the time of a call.
-    fn copy(&mut self, text: &[u8], loaded: &Loaded<'_>) -> Result<(), Fault>
-        requires { IsWhole self.old.notes }
-        ensures text { OnOk result (self.new.text.items ≡ self.old.text.items ++ text.now) }
-        ensures starts { OnOk result
-            (self.new.starts.items ≡ self.old.starts.items ++ line_starts text.now) }
-        ensures named { OnOk result (notes_named self.new.notes
-            ≡ notes_named self.old.notes ++ text_named (text_view loaded.now.source)) }
-        ensures kinds { OnOk result (self.new.kinds.items ≡ self.old.kinds.items
-            ++ slot_kinds (frame_of_text (text_view loaded.now.source))) }
-        ensures memory { IsOkUnless result Fault.Memory }
-    {
-        put_bytes(&mut self.text, text)?;
-        put_starts(&mut self.starts, text)?;
-        note_units(&mut self.notes, loaded.checked().source())?;
-        or_memory(self.kinds.extend_from_slice(loaded.kinds()))
     }
 
     /// The bytes of a line of the text, counted from 1, without its end.
@@ -109,13 +87,6 @@ impl Legend {
         ensures { result.now ≡ name_of self.now note.now }
     {
         self.notes.names.get(note.start..note.end).unwrap_or(b"")
-    }
-
-    /// The number of places the program's frame has.
-    pub(crate) fn places(&self) -> usize
-        ensures { result ≡ length self.now.kinds.items }
-    {
-        self.kinds.len()
     }
 
     /// The kind of a place of the instance that begins there.

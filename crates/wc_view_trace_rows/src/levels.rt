@@ -1,6 +1,6 @@
-ghost use Rattle.std.specs.Prelude.{◌≡◌, ◌+◌, ◌<◌, ◌++◌, ◌∷◌, [], OnOk, IfOk, length, IsOkUnless};
+ghost use Rattle.std.specs.Prelude.{◌≡◌, ◌<◌, OnOk, IfOk, length, IsOkUnless};
 ghost use Rattle.wc_model.specs.Language.Kinds.{kind_after_operator};
-ghost use Rattle.wc_view_trace_rows.specs.Levels.{after_seen, closed, fresh, level_left, level_view, levels_after, levels_at, levels_view, note_said, opened, operated, said_of, written_kind};
+ghost use Rattle.wc_view_trace_rows.specs.Levels.{after_seen, closed, level_left, level_view, levels_after, levels_at, levels_view, note_said, opened, said_of, written_kind};
 
 use crate::legend::Legend;
 use crate::notes::Note;
@@ -12,7 +12,7 @@ use wc_model::{Code, Fault, Kind, Operator};
 /// What is known of a body while its lines are gone through: the kind of its result, the kinds of those that are put by, and
 /// the number of items of the list of its last call that were passed.
 #[derive(Drop)]
-struct BodyLevel {
+pub(crate) struct BodyLevel {
     kind: Option<Kind>,
     put_by: Vec<Option<Kind>>,
     items: usize,
@@ -21,7 +21,7 @@ struct BodyLevel {
 /// The bodies that are being executed, the program first.
 #[derive(Drop)]
 pub(crate) struct Levels {
-    levels: Vec<BodyLevel>,
+    pub(crate) levels: Vec<BodyLevel>,
 }
 
 /// What is said of a row besides its numbers: the kind of the result, the kind of what is written, and the note of the
@@ -52,10 +52,7 @@ impl BodyLevel {
             ≡ closed (level_view self.old) (level_view self.old).put_by
             (kind_after_operator operator) }
     {
-        match self.put_by.pop() {
-            Some(kind) => self.kind = kind_after_operator(operator, kind),
-            None => self.kind = kind_after_operator(operator, None),
-        }
+        self.kind = kind_after_operator(operator, self.put_by.pop().flatten());
     }
 
     /// Passes a line: the kind of the result is the one after it then.
@@ -65,29 +62,11 @@ impl BodyLevel {
         ensures memory { IsOkUnless result Fault.Memory }
     {
         match seen.line {
-            Code::LoadNumber { .. } => {
-                self.kind = legend.literal_kind(seen.source);
-                Ok(())
-            }
-            Code::LoadPlace { place, .. } => {
-                self.kind = legend.kind(seen.base, place);
-                Ok(())
-            }
-            Code::Open => self.open(None),
-            Code::OpenNumber { .. } => self.open(legend.literal_kind(seen.source)),
-            Code::OpenPlace { place } => self.open(legend.kind(seen.base, place)),
-            _ => {
-                self.operate(&seen.line);
-                Ok(())
-            }
-        }
-    }
-
-    /// Passes a line that loads nothing.
-    fn operate(&mut self, line: &Code)
-        ensures { level_view self.new ≡ operated line.now (level_view self.old) }
-    {
-        match *line {
+            Code::LoadNumber { .. } => self.kind = legend.literal_kind(seen.source),
+            Code::LoadPlace { place, .. } => self.kind = legend.kind(seen.base, place),
+            Code::Open => self.open(None)?,
+            Code::OpenNumber { .. } => self.open(legend.literal_kind(seen.source))?,
+            Code::OpenPlace { place } => self.open(legend.kind(seen.base, place))?,
             Code::ApplyNumber { operator, .. } | Code::ApplyPlace { operator, .. } => {
                 self.kind = kind_after_operator(operator, self.kind);
             }
@@ -98,17 +77,7 @@ impl BodyLevel {
             }
             _ => {}
         }
-    }
-
-    /// What is said of a line that was passed.
-    fn said(&self, legend: &Legend, seen: &SeenLine) -> Said
-        ensures { result ≡ said_of legend.now seen.now (level_view self.now) }
-    {
-        Said {
-            result: self.kind,
-            written: written_kind(legend, seen),
-            note: note_said(legend, seen, self.items),
-        }
+        Ok(())
     }
 }
 
@@ -138,30 +107,6 @@ fn note_said(legend: &Legend, seen: &SeenLine, items: usize) -> Option<Note>
 }
 
 impl Levels {
-    /// The program before its first line.
-    pub(crate) fn new(alloc: Global) -> Levels
-        ensures { levels_view result ≡ [] }
-    {
-        Levels {
-            levels: Vec::new(alloc),
-        }
-    }
-
-    /// Begins a body, of which no line is passed.
-    fn begin(&mut self, alloc: Global) -> Result<(), Fault>
-        ensures begins { OnOk result (levels_view self.new ≡ levels_view self.old ++ fresh ∷ []) }
-        ensures one { OnOk result
-            (length self.new.levels.items ≡ length self.old.levels.items + 1) }
-        ensures memory { IsOkUnless result Fault.Memory }
-    {
-        let level = BodyLevel {
-            kind: None,
-            put_by: Vec::new(alloc),
-            items: 0,
-        };
-        self.levels.push(level).map_err(|_| Fault::Memory)
-    }
-
     /// Goes to the body at that depth of calls; one that is deeper is left, and one that is new begins.
     fn go_to(&mut self, alloc: Global, depth: u32) -> Result<(), Fault>
         ensures there { OnOk result (depth < length self.new.levels.items) }
@@ -171,7 +116,12 @@ impl Levels {
         let count = depth as usize + 1;
         self.levels.truncate(count);
         for _level in self.levels.len()..count {
-            self.begin(alloc)?;
+            let level = BodyLevel {
+                kind: None,
+                put_by: Vec::new(alloc),
+                items: 0,
+            };
+            self.levels.push(level).map_err(|_| Fault::Memory)?;
         }
         Ok(())
     }
@@ -192,6 +142,10 @@ impl Levels {
         self.go_to(alloc, seen.depth)?;
         let level = &mut self.levels[seen.depth as usize];
         level.pass(legend, seen)?;
-        Ok(level.said(legend, seen))
+        Ok(Said {
+            result: level.kind,
+            written: written_kind(legend, seen),
+            note: note_said(legend, seen, level.items),
+        })
     }
 }

@@ -1,8 +1,7 @@
-ghost use Rattle.std.specs.Prelude.{◌≡◌, ◌≤◌, ◌<◌, [], ℕ, length, slice_get, slice_index_or};
+ghost use Rattle.std.specs.Prelude.{◌≡◌, ◌≤◌, ◌<◌, ℕ, length, slice_get, slice_index_or};
 ghost use Rattle.wc_view_trace_rows.specs.Notes.{AreInOrder, note_among, of_line};
 ghost use Rattle.wc_view_trace_rows.specs.declared.notes.Note.{Note as OneNote};
 
-use std::alloc::Global;
 use wc_model::Kind;
 
 /// What a line of the text names, besides its flat lines: of a load the kind of its literal, of a store its target, of a
@@ -25,19 +24,6 @@ pub(crate) struct Notes {
     pub(crate) notes: Vec<Note>,
     pub(crate) names: Vec<u8>,
     ghost in_order: { AreInOrder notes.items },
-}
-
-impl Notes {
-    /// No notes.
-    pub(crate) fn new(alloc: Global) -> Notes
-        ensures notes { result.notes.items ≡ [] }
-        ensures names { result.names.items ≡ [] }
-    {
-        Notes {
-            notes: Vec::new(alloc),
-            names: Vec::new(alloc),
-        }
-    }
 }
 
 /// The number of notes of lines before that one, if they are in the order of their lines.

@@ -5,7 +5,7 @@ ghost use Rattle.wc_model.specs.Language.Scopes.{kind_of};
 ghost use Rattle.wc_model.specs.Language.Tree.{Lines};
 ghost use Rattle.wc_model.specs.Language.Views.{assignment_view, line_view, lines_view, term_view, text_view};
 ghost use Rattle.wc_verify.specs.Instructions.{instr_line};
-ghost use Rattle.wc_view_trace_rows.specs.Named.{Adds, IsWhole, call_named, dotted, item_named, items_named, line_named, lines_named, named_as, notes_named, opening_named, operand_named, text_named};
+ghost use Rattle.wc_view_trace_rows.specs.Named.{Adds, IsWhole, call_named, dotted, items_named, line_named, lines_named, named_as, notes_named, opening_named, operand_named, text_named};
 ghost use Rattle.wc_view_changes.specs.Shapes.{Puts};
 
 use crate::notes::{Note, Notes};
@@ -21,20 +21,14 @@ impl Notes {
         let start = self.names.len();
         put_name(&mut self.names, name, field)?;
         // The lines of a text ascend, so this is the line.
-        let line = match self.notes.last() {
-            Some(last) => line.max(last.line),
-            None => line,
-        };
+        let line = self.notes.last().map_or(line, |last| line.max(last.line));
         let note = Note {
             line,
             kind,
             start,
             end: self.names.len(),
         };
-        match self.notes.push(note) {
-            Ok(()) => Ok(()),
-            Err(_) => Err(Fault::Memory),
-        }
+        self.notes.push(note).map_err(|_| Fault::Memory)
     }
 }
 
@@ -75,25 +69,6 @@ fn note_operand(notes: &mut Notes, line: u32, operand: &Operand<'_>) -> Result<(
     }
 }
 
-/// Notes an item of a call's list, if it has that direction.
-fn note_item(
-    notes: &mut Notes,
-    line: u32,
-    instance: &[u8],
-    direction: Direction,
-    argument: &Argument<'_>,
-) -> Result<(), Fault>
-    requires { IsWhole notes.old }
-    ensures { Adds notes.old notes.new result
-        (item_named direction (name_of instance.now) (assignment_view argument.now)) }
-{
-    match (direction, argument.direction) {
-        (Direction::Into, Direction::Into) => notes.add(line, None, instance, argument.name),
-        (Direction::OutOf, Direction::OutOf) => note_operand(notes, line, &argument.value),
-        _ => Ok(()),
-    }
-}
-
 /// Notes the items of a call's list that have one direction, in written order.
 fn note_items(
     notes: &mut Notes,
@@ -107,7 +82,11 @@ fn note_items(
         (items_named direction (name_of instance.now) (map assignment_view arguments.now)) }
 {
     for argument in arguments {
-        note_item(notes, line, instance, direction, argument)?;
+        match (direction, argument.direction) {
+            (Direction::Into, Direction::Into) => notes.add(line, None, instance, argument.name)?,
+            (Direction::OutOf, Direction::OutOf) => note_operand(notes, line, &argument.value)?,
+            _ => {}
+        }
     }
     Ok(())
 }

@@ -1,12 +1,10 @@
 ghost use Rattle.std.specs.Prelude.{◌≡◌, ◌∷◌, option_to_list, map};
 ghost use Rattle.wc_view_trace_rows.specs.Items.{IsNumberAt};
-ghost use Rattle.wc_view_changes.specs.Shapes.{Puts};
-ghost use Rattle.wc_view_trace_rows.specs.Rows.{literal, output_view, outputs_of, value_held};
+ghost use Rattle.wc_view_trace_rows.specs.Rows.{output_view, outputs_of, value_held};
 
 use wc_machine::Machine;
-use wc_model::{Fault, Kind, Place, StandardBlock, Value};
+use wc_model::{Kind, Place, StandardBlock, Value};
 use wc_store::SlotStore;
-use wc_view_changes::put_value;
 
 /// An output of a standard block: its place among those of an instance, counted from 0, its name in capital letters, as the
 /// standard has it, and its kind.
@@ -21,26 +19,15 @@ pub struct BlockOutput {
 pub fn outputs_of(block: StandardBlock) -> (BlockOutput, Option<BlockOutput>)
     ensures { output_view result.0 ∷ map output_view (option_to_list result.1) ≡ outputs_of block }
 {
-    let bit = |number, name| BlockOutput {
-        number,
-        name,
-        kind: Kind::Bool,
-    };
-    let time = BlockOutput {
-        number: 3,
-        name: "ET",
-        kind: Kind::Time,
-    };
-    let count = BlockOutput {
-        number: 4,
-        name: "CV",
-        kind: Kind::Dint,
-    };
+    let output = |number, name, kind| BlockOutput { number, name, kind };
+    let bit = Kind::Bool;
     match block {
-        StandardBlock::RTrig => (bit(1, "Q"), None),
-        StandardBlock::Sr | StandardBlock::Rs => (bit(2, "Q1"), None),
-        StandardBlock::Ctu => (bit(3, "Q"), Some(count)),
-        StandardBlock::Ton | StandardBlock::Tof | StandardBlock::Tp => (bit(2, "Q"), Some(time)),
+        StandardBlock::RTrig => (output(1, "Q", bit), None),
+        StandardBlock::Sr | StandardBlock::Rs => (output(2, "Q1", bit), None),
+        StandardBlock::Ctu => (output(3, "Q", bit), Some(output(4, "CV", Kind::Dint))),
+        StandardBlock::Ton | StandardBlock::Tof | StandardBlock::Tp => {
+            (output(2, "Q", bit), Some(output(3, "ET", Kind::Time)))
+        }
     }
 }
 
@@ -63,11 +50,4 @@ pub fn value_of(kind: Option<Kind>, number: i32) -> Value
         Some(Kind::Time) => Value::Time(number),
         Some(Kind::Dint) | None => Value::Dint(number),
     }
-}
-
-/// Puts a number as a literal of its kind, or in digits if the kind is not known.
-pub(crate) fn put_literal(text: &mut Vec<u8>, kind: Option<Kind>, number: i32) -> Result<(), Fault>
-    ensures { Puts text.old text.new result (literal kind number) }
-{
-    put_value(text, value_of(kind, number))
 }

@@ -1,6 +1,6 @@
 ghost use Rattle.std.specs.Prelude.{◌≡◌, ◌≤◌, ◌++◌, ◌∷◌, [], IsOkUnless, OnOk, drop, length, take};
 ghost use Rattle.wc_view_trace_rows.specs.Columns.{result_column, with_cell, written_column};
-ghost use Rattle.wc_view_trace_rows.specs.Rows.{has_written, is_argument, is_part, noted_name, number_shown, output_text, output_view, outputs_shown, result_cell, row_of, written_cell, written_text};
+ghost use Rattle.wc_view_trace_rows.specs.Rows.{has_written, is_argument, is_part, output_text, output_view, outputs_shown, result_cell, row_of, written_cell, written_text};
 ghost use Rattle.wc_view_trace_rows.specs.Scans.{AreRows, PutsScan};
 ghost use Rattle.wc_view_changes.specs.Shapes.{Puts};
 
@@ -8,13 +8,14 @@ use crate::columns::{RESULT, put_gap, put_place};
 use crate::item::Item;
 use crate::items::Items;
 use crate::legend::Legend;
-use crate::outputs::{BlockOutput, outputs_of, put_literal};
+use crate::outputs::{BlockOutput, outputs_of, value_of};
 use crate::shown_scan::ShownScan;
 use crate::steps::{put_heading, put_steps};
 use std::alloc::Global;
 use wc_machine::{Machine, SeenLine};
 use wc_model::{Code, Fault, put_bytes};
 use wc_store::SlotStore;
+use wc_view_changes::put_value;
 
 /// The column at which what a row writes starts, counted from 0.
 const WRITTEN: usize = 58;
@@ -39,13 +40,6 @@ fn is_part(line: &Code) -> bool
     }
 }
 
-/// The number of a line that is shown of an item.
-fn number_shown(seen: &SeenLine) -> Option<u32>
-    ensures { result ≡ number_shown seen.now.line seen.now.source }
-{
-    (!is_part(&seen.line)).then_some(seen.source)
-}
-
 /// Puts an output of a standard block, if it has a number.
 fn put_output(text: &mut Vec<u8>, output: &BlockOutput, number: Option<i32>) -> Result<(), Fault>
     ensures { Puts text.old text.new result (output_text (output_view output.now) number) }
@@ -56,7 +50,7 @@ fn put_output(text: &mut Vec<u8>, output: &BlockOutput, number: Option<i32>) -> 
     put_bytes(text, b" ")?;
     put_bytes(text, output.name.as_bytes())?;
     put_bytes(text, b"=")?;
-    put_literal(text, Some(output.kind), number)
+    put_value(text, value_of(Some(output.kind), number))
 }
 
 /// Puts the outputs of the standard block that an item has called, after its last call.
@@ -76,26 +70,18 @@ fn put_last_outputs(text: &mut Vec<u8>, item: &Item) -> Result<(), Fault>
     }
 }
 
-/// Puts the name that is noted of an item.
-fn put_name(text: &mut Vec<u8>, legend: &Legend, item: &Item) -> Result<(), Fault>
-    ensures { Puts text.old text.new result (noted_name legend.now item.now.said.note) }
-{
-    match &item.said.note {
-        Some(note) => put_bytes(text, legend.name(note)),
-        None => Ok(()),
-    }
-}
-
 /// Puts what an item writes: a place and its value, or that a standard block is called, with the
 /// outputs after its last call in the scan.
 fn put_written(text: &mut Vec<u8>, legend: &Legend, item: &Item) -> Result<(), Fault>
     ensures { Puts text.old text.new result
         (written_text legend.now item.now item.now.seen.written) }
 {
-    put_name(text, legend, item)?;
+    if let Some(note) = &item.said.note {
+        put_bytes(text, legend.name(note))?;
+    }
     if let Some(number) = item.seen.written {
         put_bytes(text, b" := ")?;
-        return put_literal(text, item.said.written, number);
+        return put_value(text, value_of(item.said.written, number));
     }
     put_bytes(text, b"()")?;
     put_last_outputs(text, item)
@@ -122,7 +108,7 @@ fn put_result(text: &mut Vec<u8>, start: usize, item: &Item) -> Result<(), Fault
         return Ok(());
     }
     put_gap(text, start, RESULT)?;
-    put_literal(text, item.said.result, number)
+    put_value(text, value_of(item.said.result, number))
 }
 
 /// Puts what an item writes at its column of the row that starts there, if it writes.
@@ -151,8 +137,8 @@ fn put_row(text: &mut Vec<u8>, legend: &Legend, item: &Item) -> Result<(), Fault
 {
     let start = text.len();
     let seen = &item.seen;
-    let line = legend.line(seen.source);
-    put_place(text, number_shown(seen), seen.depth, line)?;
+    let number = (!is_part(&seen.line)).then_some(seen.source);
+    put_place(text, number, seen.depth, legend.line(seen.source))?;
     put_result(text, start, item)?;
     put_if_written(text, start, legend, item)?;
     put_bytes(text, b"\n")

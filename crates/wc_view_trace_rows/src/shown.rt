@@ -26,22 +26,13 @@ fn bytes_of(text: &[u8], columns: usize) -> usize
     text.len()
 }
 
-/// Whether a text is UTF-8.
-fn is_text(bytes: &[u8]) -> bool
-    ensures { result ≡ is_utf8 bytes.now }
-{
-    str::from_utf8(bytes).is_ok()
-}
-
 /// The byte that is shown of a character on which a terminal would act, or of any other byte: a control character is not sent to
 /// a terminal, and of a text that is not UTF-8 no byte is that is not ASCII.
 fn first_shown(length: usize, byte: u8, is_utf8: bool) -> u8
     ensures { result ≡ shown_first is_utf8 length byte }
 {
-    if length > 0 {
-        return b'?';
-    }
     match byte {
+        _ if length > 0 => b'?',
         b'\t' => b' ',
         0..32 | 127 => b'?',
         128.. if !is_utf8 => b'?',
@@ -61,10 +52,9 @@ fn put_single(text: &mut Vec<u8>, before: u8, byte: u8) -> Result<(), Fault>
 
 /// Puts bytes as they are shown, and a single space for several.
 fn put_shown(text: &mut Vec<u8>, bytes: &[u8]) -> Result<(), Fault>
-    ensures puts { OnOk result (text.new.items ≡ text.old.items ++ shown bytes.now) }
-    ensures memory { IsOkUnless result Fault.Memory }
+    ensures { Puts text.old text.new result (shown bytes.now) }
 {
-    let is_utf8 = is_text(bytes);
+    let is_utf8 = str::from_utf8(bytes).is_ok();
     let (mut before, mut hidden) = (b' ', 0_usize);
     for (index, byte) in bytes.iter().enumerate() {
         if hidden > 0 {

@@ -68,16 +68,6 @@ fn is_watched(watched: &[Option<NamedVariable>], index: usize) -> bool
     matches!(watched.get(index), Some(Some(_)))
 }
 
-/// What was loaded of a program, if there is one.
-fn loaded<'l, 't>(program: Option<Program<'l, 't>>) -> Option<&'l Loaded<'t>>
-    ensures { option_map (λ loaded. loaded.now) result ≡ loaded_of program.entry }
-{
-    match program {
-        Some(program) => Some(program.loaded),
-        None => None,
-    }
-}
-
 /// What the names mean in the next program, if there is one.
 fn all_watched_next(
     alloc: Global,
@@ -116,29 +106,6 @@ impl<'n> WatchedNames<'n> {
         }
     }
 
-    /// Looks for the names of a list in the first program and in the next one. `Memory` is the only fault.
-    fn look(
-        alloc: Global,
-        list: &'n [u8],
-        first: &Loaded<'_>,
-        next: Option<&Loaded<'_>>,
-    ) -> Result<WatchedNames<'n>, Fault>
-        ensures looked_up { IfOk result (λ names. AreLookedUp names list.now
-            (text_view first.now.source)
-            (text_of_next (option_map (λ loaded. loaded.now) next.entry))) }
-        ensures memory { IsOkUnless result Fault.Memory }
-    {
-        let names = names_of(alloc, list)?;
-        let watched = all_watched(alloc, first, &names)?;
-        let next = all_watched_next(alloc, next, &names)?;
-        Ok(WatchedNames {
-            names,
-            watched,
-            next,
-            unknown: None,
-        })
-    }
-
     /// Looks for the names of a list, and for the first of them that no program has. `Memory` is the only fault.
     fn look_up(
         &mut self,
@@ -155,7 +122,9 @@ impl<'n> WatchedNames<'n> {
             (text_of_next (option_map (λ loaded. loaded.now) next.entry)))) self.new.unknown) }
         ensures memory { IsOkUnless result Fault.Memory }
     {
-        *self = WatchedNames::look(alloc, list, first, next)?;
+        self.names = names_of(alloc, list)?;
+        self.watched = all_watched(alloc, first, &self.names)?;
+        self.next = all_watched_next(alloc, next, &self.names)?;
         self.unknown = self.find_unknown(list);
         Ok(())
     }
@@ -181,7 +150,7 @@ impl<'n> WatchedNames<'n> {
         let Some(first) = first else {
             return Ok(());
         };
-        self.look_up(alloc, list, first.loaded, loaded(next))?;
+        self.look_up(alloc, list, first.loaded, next.map(|next| next.loaded))?;
         match self.unknown {
             Some(_) => Err(RunFault::Refused {
                 number: 401,
@@ -206,13 +175,11 @@ impl<'n> WatchedNames<'n> {
             || is_some (option_and_then (λ all. option_and_then (λ found. found)
             (slice_get all.items index)) self.now.next)) }
     {
-        if is_watched(&self.watched, index) {
-            return true;
-        }
-        match &self.next {
-            Some(next) => is_watched(next, index),
-            None => false,
-        }
+        is_watched(&self.watched, index)
+            || self
+                .next
+                .as_ref()
+                .is_some_and(|next| is_watched(next, index))
     }
 
     /// The first name that no program has, if there is one.

@@ -5,8 +5,8 @@ use Rattle.wc_model.specs.Language.Names.{name_of}
 use Rattle.wc_built_in.proofs.ReservedWords.{standard_is}
 use Rattle.wc_built_in.proofs.meanings.standard_block.Goals as goal
 
-pub returns-in-Some : goal.returns-in-Some
-returns-in-Some c = c.standard_for.ensures ∙ ap (option_and_then standard_for) (sym c.in-Some.is ∙ c.keyword_named.ensures) ∙ standard_is (name_of c.args.text.now)
+pub returns : goal.returns
+returns c = c.standard_for.ensures ∙ ap (option_and_then standard_for) (sym c.in_ok-keyword_named.was ∙ c.keyword_named.ensures) ∙ standard_is (name_of c.args.text.now)
 
-pub returns-in-None : goal.returns-in-None
-returns-in-None c = ap (option_and_then standard_for) (sym c.in-None.is ∙ c.keyword_named.ensures) ∙ standard_is (name_of c.args.text.now)
+pub returns-in_err-keyword_named : goal.returns-in_err-keyword_named
+returns-in_err-keyword_named c = c.from_residual.ensures ∙ ap (option_and_then standard_for) (sym c.in_err-keyword_named.was ∙ c.keyword_named.ensures) ∙ standard_is (name_of c.args.text.now)

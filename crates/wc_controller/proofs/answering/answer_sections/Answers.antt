@@ -10,7 +10,7 @@ use Rattle.wc_endings.specs.Endings.{WritesUpTo}
 use Rattle.wc_controller.specs.Files.{AnswersLog, AnswersPrinting}
 use Rattle.wc_controller.specs.Jobs.{AllowsSections}
 use Rattle.wc_controller.specs.TakenLogs.{log_alongside}
-use Rattle.wc_endings.specs.declared.input.Input.TheVariants as input
+use Rattle.wc_job.specs.declared.input.Input.TheVariants as input
 use Rattle.wc_job.specs.Views.{sections_view}
 use Rattle.wc_model.specs.Language.Views.{text_view}
 use Rattle.wc_model.specs.Instrument.Plates.{PlateData}

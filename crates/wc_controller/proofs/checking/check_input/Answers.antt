@@ -5,7 +5,7 @@ use Rattle.wc_controller.proofs.checking.check_input.Goals as goal
 use Rattle.wc_controller.specs.Checking.{Checks}
 use Rattle.wc_endings.specs.Endings.{WritesUpTo, raised}
 use Rattle.wc_controller.specs.Files.{AnswersCheck, AnswersCheckFile}
-use Rattle.wc_endings.specs.declared.input.Stopped.{Stopped}
+use Rattle.wc_endings.specs.declared.ending.Stopped.{Stopped}
 use Rattle.wc_run.proofs.HandedOn.{propagated}
 use Rattle.std.specs.Prelude.{IfSome, Some, None}
 

@@ -14,7 +14,7 @@ use Rattle.wc_controller.specs.Blames.{RefusesLog, StopsFor}
 use Rattle.wc_endings.specs.Endings.{WritesUpTo, raised, of_no_cause, of_unread_log}
 use Rattle.wc_controller.specs.Files.{AnswersPrinting, answer_written}
 use Rattle.wc_controller.specs.InputStates.{observed_by}
-use Rattle.wc_endings.specs.declared.input.Input.TheVariants as input
+use Rattle.wc_job.specs.declared.input.Input.TheVariants as input
 use Rattle.wc_model.specs.Language.Views.{text_view}
 use Rattle.wc_model.specs.Run.Log.{log_of}
 use Rattle.wc_model.specs.Say.ProgramReport.{first_logic}

@@ -12,7 +12,7 @@ use Rattle.wc_controller.specs.InputRuns.{RunsUpTo}
 use Rattle.wc_controller.specs.InputStates.{InputStates, inputs_of, observed_by, optional_of, reader_of, writer_of}
 use Rattle.wc_controller.specs.TakenLogs.{AreReadOf, OfLogic, OfPrograms, log_alongside, log_by}
 use Rattle.wc_controller.specs.WrittenRuns.{OfRun, OnEnd, says_of}
-use Rattle.wc_endings.specs.declared.input.Input.TheVariants as input
+use Rattle.wc_job.specs.declared.input.Input.TheVariants as input
 use Rattle.wc_model.specs.Language.Loading.{IsLoaded}
 use Rattle.wc_model.specs.Language.Views.{text_view}
 use Rattle.wc_model.specs.Run.Log.{log_of}

@@ -8,7 +8,7 @@ use Rattle.wc_model.specs.declared.source.Unit.{Unit as CodeUnit}
 use Rattle.wc_cost.specs.Faultless.{AreLoaded, IsFaultless, IsMeasured, LoadsUnits, MeasuresUnit}
 use Rattle.wc_cost.specs.LoadedInside.{bounds_of}
 use Rattle.wc_cost.specs.PathLengths.{AreSmall}
-use Rattle.wc_cost.specs.declared.lowered.LoweredUnit.{LoweredUnit}
+use Rattle.wc_cost.specs.declared.units.LoweredUnit.{LoweredUnit}
 use Rattle.wc_names.proofs.HandedOn.{propagated}
 use Rattle.wc_names.proofs.Lists.{from_index}
 use Rattle.wc_cost.proofs.Measured.{all_loaded, unit_refused}

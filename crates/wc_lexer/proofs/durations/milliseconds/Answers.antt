@@ -5,9 +5,9 @@ use Rattle.wc_lexer.proofs.durations.milliseconds.Goals as goal
 use Rattle.wc_lexer.specs.Parts.{IsParsedSum}
 use Rattle.wc_model.specs.Text.Durations.{are_duration_parts, billionths, duration_parts}
 
-pub returns-in_default : goal.returns-in_default
-returns-in_default c =
-    no_milliseconds c.args.negative (duration_parts c.args.text.now) (subst (IsParsedSum (are_duration_parts (duration_parts c.args.text.now)) (billionths (duration_parts c.args.text.now))) c.in_default.is c.all_billionths.ensures)
+pub returns-in_err-sum : goal.returns-in_err-sum
+returns-in_err-sum c =
+    rw c.from_residual.ensures (no_milliseconds c.args.negative (duration_parts c.args.text.now) (subst (IsParsedSum (are_duration_parts (duration_parts c.args.text.now)) (billionths (duration_parts c.args.text.now))) c.in_err-sum.was c.all_billionths.ensures))
 
 pub returns-then-sum-eq0 : goal.returns-then-sum-eq0
 returns-then-sum-eq0 c = grind (arith, common_steps)

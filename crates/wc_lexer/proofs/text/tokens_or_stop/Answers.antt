@@ -11,7 +11,7 @@ use Rattle.wc_lexer.specs.Views.{shape_view, token_view}
 use Rattle.wc_model.specs.Text.Characters.{is_line_feed}
 
 pub returns-then-text-gt-MOST_BYTES-clause-stopped : goal.returns-then-text-gt-MOST_BYTES-clause-stopped
-returns-then-text-gt-MOST_BYTES-clause-stopped c = NoSlice c.if-text-gt-MOST_BYTES.true
+returns-then-text-gt-MOST_BYTES-clause-stopped c = rw c.stop_without_slice.ensures (NoSlice c.if-text-gt-MOST_BYTES.true)
 
 pub returns-in-Fault-clause-stopped : goal.returns-in-Fault-clause-stopped
 returns-in-Fault-clause-stopped c =
@@ -19,7 +19,7 @@ returns-in-Fault-clause-stopped c =
 
 pub returns-then-is_err-clause-stopped : goal.returns-then-is_err-clause-stopped
 returns-then-is_err-clause-stopped c =
-    rw c.stop_for_memory.ensures (memory_here c.args.text.now c.split_at.result.1.now c.loop-start.start c.in-Lexeme.count (shape_view c.in-Lexeme.shape) (map token_view c.loop-start.tokens.items) (omega arith) c.split_at.ensures.back c.loop-start-test.true (sym (ap sight_of c.in-Lexeme.is) ∙ c.first_element.ensures.represents) c.loop-start.invariant.going)
+    rw c.stop_without_slice-then-is_err.ensures (memory_here c.args.text.now c.split_at.result.1.now c.loop-start.start c.in-Lexeme.count (shape_view c.in-Lexeme.shape) (map token_view c.loop-start.tokens.items) (omega arith) c.split_at.ensures.back c.loop-start-test.true (sym (ap sight_of c.in-Lexeme.is) ∙ c.first_element.ensures.represents) c.loop-start.invariant.going)
 
 pub returns-clause-cut : goal.returns-clause-cut
 returns-clause-cut c = (omega arith, cut_at_end c.args.text.now c.loop-start.start (map token_view c.loop-start.tokens.items) c.loop-start-test.false c.loop-start.invariant.going)

@@ -3,6 +3,7 @@ use Rattle.std.proofs.lemmas.List.{drop_all}
 use Rattle.wc_model.specs.Language.Views.{lines_view}
 use Rattle.wc_lowering.specs.Lowerable.{IsLowerable}
 use Rattle.wc_lowering.specs.Lowering.{IsKeptFlat}
+use Rattle.wc_lowering.proofs.Going.{handed_on}
 use Rattle.wc_lowering.proofs.LabelsLowered.{lowerable_from, nothing_kept}
 use Rattle.wc_names.proofs.Lists.{from_index}
 use Rattle.wc_lowering.proofs.body.flat_body.Goals as goal
@@ -24,7 +25,7 @@ loop-index-preserved c = λ scope is may.
     let cut = from_index items i c.in-Some.last.now c.in-Some.ensures.lookup.3.0 c.in-Some.ensures.lookup.1 in
     let here = subst (λ xs. IsLowerable scope (lines_view xs)) cut (lowerable_from scope i items may) in
     let so_far = subst (λ k. IsKeptFlat scope (lines_view (drop k items)) c.loop-index.labels c.loop-index.flat) (sym next) (c.loop-index.invariant scope is may) in
-    subst (λ xs. IsKeptFlat scope (lines_view xs) c.put_line.new.labels c.put_line.new.flat) (sym cut) (c.in_ok-put_line.ensures.put scope (lines_view (drop (i + 1) items)) is here so_far)
+    subst (λ xs. IsKeptFlat scope (lines_view xs) c.put_line.new.labels c.put_line.new.flat) (sym cut) (handed_on _ _ c.put_line.result c.or_memory.result c.in_ok-or_memory.field-0 c.or_memory.ensures c.in_ok-or_memory.was c.put_line.ensures scope (lines_view (drop (i + 1) items)) is here so_far)
 
 pub returns-clause-lowered : goal.returns-clause-lowered
 returns-clause-lowered c = λ scope is may.

@@ -7,13 +7,13 @@ use Rattle.wc_lowering.proofs.CallsLowered.{call_added}
 use Rattle.wc_lowering.proofs.Going.{on_ok}
 use Rattle.wc_lowering.proofs.calls.put_call.Goals as goal
 
-pub returns-clause-put : goal.returns-clause-put
-returns-clause-put c =
+pub returns : goal.returns
+returns c =
     on_ok c.put-2.result
     (λ put scope rest is callable may few.
     let instance = name_of c.args.instance.now in
-    let arguments = map assignment_view c.args.arguments.now in
-    let count : length arguments ≡ length c.args.arguments.now = length-map c.args.arguments.now assignment_view in
-    call_added scope rest c.args.condition instance arguments c.args.line c.args.flat.now c.put_outputs.new.flat c.put.new.self c.put_inputs.new.flat c.put-2.new.self c.body_line.result c.call_length-skip.result (c.in_ok-put_outputs.ensures.put scope is may) (c.body_line.ensures scope is callable) c.in_ok-put.ensures.put
-    (c.in_ok-put_inputs.ensures.put scope is may) (c.call_length-skip.ensures (subst (λ n. n < 65536) count few) ∙ ap (λ n. 1 + n) (sym count)) put)
-    c.put-2.ensures.put
+    let arguments = map assignment_view c.args.list.now in
+    let count : length arguments ≡ length c.args.list.now = length-map c.args.list.now assignment_view in
+    call_added scope rest c.args.condition instance arguments c.args.line c.args.flat.now c.put_arguments.new.flat c.put.new.self c.put_arguments-2.new.flat c.put-2.new.self c.body_line.result c.call_length-skip.result (c.in_ok-put_arguments.ensures scope is may) (c.body_line.ensures scope is callable) c.in_ok-put.ensures
+    (c.in_ok-put_arguments-2.ensures scope is may) (c.call_length-skip.ensures (subst (λ n. n < 65536) count few) ∙ ap (λ n. 1 + n) (sym count)) put)
+    c.put-2.ensures

@@ -12,11 +12,11 @@ pub loop-at-preserved : goal.loop-at-preserved
 loop-at-preserved g c =
     let rest : take (length c.args.text.now - c.loop-at.at) (drop c.loop-at.at c.args.text.now) ≡ drop c.loop-at.at c.args.text.now = whole_rest c.loop-at.at c.args.text.now in
     record {
-      within = omega (arith, c.in-Ok.ensures.some.1, ap length rest, length-drop c.loop-at.at c.args.text.now, c.loop-at.invariant.within);
+      within = omega (arith, c.in_ok-count.ensures.some.1, ap length rest, length-drop c.loop-at.at c.args.text.now, c.loop-at.invariant.within);
       taken = subst (λ t. Appends (g.W.ByteOut.bytes_taken c.args.writer.now) (g.W.ByteOut.bytes_taken c.write_some.new.writer) t)
-          (sym (take-add c.loop-at.at c.in-Ok.count c.args.text.now))
+          (sym (take-add c.loop-at.at c.in_ok-count.count c.args.text.now))
           (Appends-trans (g.W.ByteOut.bytes_taken c.args.writer.now) (g.W.ByteOut.bytes_taken c.loop-at.writer) (g.W.ByteOut.bytes_taken c.write_some.new.writer)
-          (take c.loop-at.at c.args.text.now) (take c.in-Ok.count (drop c.loop-at.at c.args.text.now)) c.loop-at.invariant.taken
-          (subst (λ t. Appends (g.W.ByteOut.bytes_taken c.loop-at.writer) (g.W.ByteOut.bytes_taken c.write_some.new.writer) (take c.in-Ok.count t)) rest c.in-Ok.ensures.taken));
-      steady = c.in-Ok.ensures.steady ∙ c.loop-at.invariant.steady;
+          (take c.loop-at.at c.args.text.now) (take c.in_ok-count.count (drop c.loop-at.at c.args.text.now)) c.loop-at.invariant.taken
+          (subst (λ t. Appends (g.W.ByteOut.bytes_taken c.loop-at.writer) (g.W.ByteOut.bytes_taken c.write_some.new.writer) (take c.in_ok-count.count t)) rest c.in_ok-count.ensures.taken));
+      steady = c.in_ok-count.ensures.steady ∙ c.loop-at.invariant.steady;
     }

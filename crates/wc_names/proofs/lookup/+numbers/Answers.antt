@@ -8,24 +8,24 @@ use Rattle.wc_names.proofs.Frames.{own_places}
 use Rattle.wc_names.proofs.Positions.{after_is}
 use Rattle.wc_names.proofs.lookup.+numbers.Goals as goal
 
-pub number-returns-in_default : goal.number-returns-in_default
-number-returns-in_default t c = λ before u h e.
-    sym (ap (λ xs. place_from before u (map (λ n. name_of n.now) xs)) (empty_list c.args.names.now c.in_default.ensures.cases) ∙ no_name before (first_place u) (variables_of u))
+pub number-returns-in_err-name : goal.number-returns-in_err-name
+number-returns-in_err-name t c = λ before u h e.
+    c.from_residual.ensures ∙ sym (ap (λ xs. place_from before u (map (λ n. name_of n.now) xs)) (empty_list c.args.names.now c.in_err-name.ensures.cases) ∙ no_name before (first_place u) (variables_of u))
 
 pub number-returns-in_err-row : goal.number-returns-in_err-row
 number-returns-in_err-row t c = λ before u h e.
-    let names = map (λ n. name_of n.now) c.in-Some.rest.now in
-    let name = name_of c.in-Some.name.now.now in
+    let names = map (λ n. name_of n.now) c.in_ok-name.rest.now in
+    let name = name_of c.in_ok-name.name.now.now in
     let there = ap (slice_get c.args.units.now) e ∙ h.there in
-    c.from_residual.ensures ∙ sym (ap (λ ns. place_from before u (map (λ n. name_of n.now) ns)) c.in-Some.ensures.cases.0
+    c.from_residual-in_err-row.ensures ∙ sym (ap (λ ns. place_from before u (map (λ n. name_of n.now) ns)) c.in_ok-name.ensures.cases.0
     ∙ from_nothing c.args.units.now before u h name names (sym (c.row.ensures h.table there (named_rows c.args.units.now before u h)) ∙ c.in_err-row.was))
 
 pub number-returns : goal.number-returns
 number-returns t c = λ before u h e.
-    let name = name_of c.in-Some.name.now.now in
+    let name = name_of c.in_ok-name.name.now.now in
     let there = ap (slice_get c.args.units.now) e ∙ h.there in
     c.number_after.ensures before u h name (sym (c.row.ensures h.table there (named_rows c.args.units.now before u h)) ∙ c.in_ok-row.was)
-    ∙ sym (ap (λ xs. place_from before u (map (λ n. name_of n.now) xs)) c.in-Some.ensures.cases.0)
+    ∙ sym (ap (λ xs. place_from before u (map (λ n. name_of n.now) xs)) c.in_ok-name.ensures.cases.0)
 
 pub number_after-returns-in-Elementary : goal.number_after-returns-in-Elementary
 number_after-returns-in-Elementary t c = λ before u h name found.

@@ -1,37 +1,46 @@
-use Rattle.std.proofs.Common.{◌≡◌, ◌∙◌, Some, refl, sym, ap, arith, to_z, of_z, w64}
-use Rattle.std.proofs.lemmas.Int.{ints}
+use Rattle.std.proofs.Common.{◌≡◌, ◌∙◌, refl, sym, ap}
 use Rattle.std.specs.Prelude.{option_and_then}
 use Rattle.toml.proofs.Views.{table_get}
 use Rattle.toml.specs.Data.{as_integer}
 use Rattle.toml.specs.View.{table_view}
-use Rattle.wc_plate.proofs.Lookups.{not_there, number_found, there}
+use Rattle.wc_model.specs.Instrument.PlateTable as plate
+use Rattle.wc_plate.proofs.Lookups.{if_found, if_given, if_missing, not_there, number_found, there}
+use Rattle.wc_plate.specs.KeyFaults.{BlamesNumber}
+use Rattle.wc_plate.specs.TomlTable.{entries_of}
+use Rattle.wc_plate.specs.declared.broken.BrokenRule.TheVariants.{MissingKey}
 use Rattle.wc_plate.proofs.keys.number_at.Goals as goal
 
-pub returns-in-Some-as_integer-clause-number : goal.returns-in-Some-as_integer-clause-number
-returns-in-Some-as_integer-clause-number c =
+pub returns-clause-number : goal.returns-clause-number
+returns-clause-number c =
     let found = table_get c.get.result c.args.key.now c.args.table.now.entries c.get.ensures.value in
-    let raw : to_z w64 (of_z w64 c.in-Some-as_integer.number) ≡ c.in-Some-as_integer.number = omega (arith, ints) in
-    number_found c.args.key.now (table_view c.args.table.now) ∙ sym (ap (option_and_then as_integer) (rw c.in-Some.is at found))
-    ∙ sym c.as_integer.ensures ∙ c.in-Some-as_integer.is ∙ ap Some (sym raw)
+    let has : plate.number_at (entries_of (table_view c.args.table.now)) c.args.key.now ≡ c.as_integer.result =
+    number_found c.args.key.now (table_view c.args.table.now) ∙ sym (ap (option_and_then as_integer) (rw c.in_ok-value.ensures.ok_part at found))
+    ∙ sym c.as_integer.ensures in
+    if_found _ c.as_integer.result _ c.ok_or-2.result c.ok_or-2.ensures.value (λ number is. has ∙ is)
 
-pub returns-in-None-as_integer-clause-fault : goal.returns-in-None-as_integer-clause-fault
-returns-in-None-as_integer-clause-fault c =
+pub returns-clause-fault : goal.returns-clause-fault
+returns-clause-fault c =
     let found = table_get c.get.result c.args.key.now c.args.table.now.entries c.get.ensures.value in
-    let none = number_found c.args.key.now (table_view c.args.table.now) ∙ sym (ap (option_and_then as_integer) (rw c.in-Some.is at found))
-    ∙ sym c.as_integer.ensures ∙ c.in-None-as_integer.is in
+    let has : plate.number_at (entries_of (table_view c.args.table.now)) c.args.key.now ≡ c.as_integer.result =
+    number_found c.args.key.now (table_view c.args.table.now) ∙ sym (ap (option_and_then as_integer) (rw c.in_ok-value.ensures.ok_part at found))
+    ∙ sym c.as_integer.ensures in
+    if_missing _ c.as_integer.result _ c.ok_or-2.result c.ok_or-2.ensures.value (λ missing.
+    let none = has ∙ missing in
     record {
       none = none;
       fault = λ asked other. record {
         asked = asked;
-        there = there c.args.key.now (table_view c.args.table.now) _ (rw c.in-Some.is at found);
+        there = there c.args.key.now (table_view c.args.table.now) _ (rw c.in_ok-value.ensures.ok_part at found);
         misfit = rw (other, none) refl;
       };
-    }
+    })
 
-pub returns-in-None-clause-fault : goal.returns-in-None-clause-fault
-returns-in-None-clause-fault c =
+pub returns-in_err-value-clause-fault : goal.returns-in_err-value-clause-fault
+returns-in_err-value-clause-fault c =
     let found = table_get c.get.result c.args.key.now c.args.table.now.entries c.get.ensures.value in
-    record {
-      none = number_found c.args.key.now (table_view c.args.table.now) ∙ sym (ap (option_and_then as_integer) (rw c.in-None.is at found));
-      fault = λ asked other. record { asked = asked; missing = not_there c.args.key.now (table_view c.args.table.now) (rw c.in-None.is at found) };
-    }
+    let none = c.in_err-value.ensures.ok_part in
+    let blames : BlamesNumber (entries_of (table_view c.args.table.now)) c.args.key.now (MissingKey c.args.key) = record {
+      none = number_found c.args.key.now (table_view c.args.table.now) ∙ sym (ap (option_and_then as_integer) (rw none at found));
+      fault = λ asked other. record { asked = asked; missing = not_there c.args.key.now (table_view c.args.table.now) (rw none at found) };
+    } in
+    if_given _ c.get.result _ c.in_err-value.field-0.0 c.from_residual.result c.from_residual.ensures c.in_err-value.ensures.value none blames

@@ -1,4 +1,4 @@
-use Rattle.std.proofs.Common.{◌≡◌, ◌∙◌, ℕ, List, map, refl}
+use Rattle.std.proofs.Common.{◌≡◌, ◌∙◌, ℕ, List, map, refl, ap, sym}
 use Rattle.wc_laws_grammar.specs.Moves as moves
 use Rattle.wc_laws_grammar.specs.Words.{literal_of}
 use Rattle.wc_lexer.specs.Views.{shape_view}
@@ -17,7 +17,12 @@ value-other : (units : List ProgramUnit) (unit : ProgramUnit) (section : Section
 value-other units unit section names type_name line LineEnd bytes h = absurd (h refl)
 value-other units unit section names type_name line shape bytes h = refl
 
-pub returns-in_default : goal.returns-in_default
-returns-in_default c = λ units unit section.
-    c.after_literal.ensures units unit section
+pub returns-in_ok-value-in_default : goal.returns-in_ok-value-in_default
+returns-in_ok-value-in_default c = λ units unit section.
+    ap (moves.at_value units unit section (map word_view c.args.names.items) (word_view c.args.type_name) c.args.token.line) (sym c.in_ok-value-in_default.was ∙ c.literal.ensures)
     ∙ value-other units unit section (map word_view c.args.names.items) (word_view c.args.type_name) c.args.token.line c.args.token.shape c.args.token.text.now c.in_default.not-LineEnd
+
+pub returns-in_err-value-in_default : goal.returns-in_err-value-in_default
+returns-in_err-value-in_default c = λ units unit section.
+    rw c.from_residual.ensures (ap (moves.at_value units unit section (map word_view c.args.names.items) (word_view c.args.type_name) c.args.token.line) (sym c.in_err-value-in_default.was ∙ c.literal.ensures)
+    ∙ value-other units unit section (map word_view c.args.names.items) (word_view c.args.type_name) c.args.token.line c.args.token.shape c.args.token.text.now c.in_default.not-LineEnd)

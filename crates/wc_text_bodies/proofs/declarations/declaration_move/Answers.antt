@@ -6,7 +6,7 @@ pub returns-in-Undeclared : goal.returns-in-Undeclared
 returns-in-Undeclared c = rw c.in-Undeclared.is (ok-map c.at_undeclared.result (λ next h units. h units (unit_view c.args.unit.now) c.args.section) c.at_undeclared.ensures)
 
 pub returns-in-AfterNames : goal.returns-in-AfterNames
-returns-in-AfterNames c = λ units. rw c.in-AfterNames.is (c.at_names.ensures units (unit_view c.args.unit.now) c.args.section c.args.token.line)
+returns-in-AfterNames c = λ units. rw c.in-AfterNames.is (c.at_names.ensures units (unit_view c.args.unit.now) c.args.section)
 
 pub returns-in-AfterComma : goal.returns-in-AfterComma
 returns-in-AfterComma c = rw c.in-AfterComma.is (ok-map c.at_next_name.result (λ next h units. h units (unit_view c.args.unit.now) c.args.section) c.at_next_name.ensures)
@@ -15,10 +15,10 @@ pub returns-in-AfterColon : goal.returns-in-AfterColon
 returns-in-AfterColon c = λ units. rw c.in-AfterColon.is (c.at_type.ensures units (unit_view c.args.unit.now) c.args.section)
 
 pub returns-in-AfterType : goal.returns-in-AfterType
-returns-in-AfterType c = rw c.in-AfterType.is (ok-map c.after_type.result (λ next h units. h units c.args.token.line) c.after_type.ensures)
+returns-in-AfterType c = rw c.in-AfterType.is (ok-map c.after_type.result (λ next h units. h units) c.after_type.ensures)
 
 pub returns-in-AfterAssign : goal.returns-in-AfterAssign
 returns-in-AfterAssign c = λ units. rw c.in-AfterAssign.is (c.at_value.ensures units (unit_view c.args.unit.now) c.args.section)
 
 pub returns-in-AfterValue : goal.returns-in-AfterValue
-returns-in-AfterValue c = rw c.in-AfterValue.is (ok-map c.after_value.result (λ next h units. h units c.args.token.line) c.after_value.ensures)
+returns-in-AfterValue c = rw c.in-AfterValue.is (ok-map c.after_value.result (λ next h units. h units) c.after_value.ensures)

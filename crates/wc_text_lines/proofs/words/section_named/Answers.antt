@@ -5,8 +5,8 @@ use Rattle.wc_model.specs.Language.Names.{name_of}
 use Rattle.wc_text_lines.proofs.KeywordMeanings.{section_is}
 use Rattle.wc_text_lines.proofs.words.section_named.Goals as goal
 
-pub returns-in-Some : goal.returns-in-Some
-returns-in-Some c = c.section_for.ensures ∙ ap (option_and_then section_for) (sym c.in-Some.is ∙ c.keyword_named.ensures) ∙ section_is (name_of c.args.text.now)
+pub returns : goal.returns
+returns c = c.section_for.ensures ∙ ap (option_and_then section_for) (sym c.in_ok-keyword_named.was ∙ c.keyword_named.ensures) ∙ section_is (name_of c.args.text.now)
 
-pub returns-in-None : goal.returns-in-None
-returns-in-None c = ap (option_and_then section_for) (sym c.in-None.is ∙ c.keyword_named.ensures) ∙ section_is (name_of c.args.text.now)
+pub returns-in_err-keyword_named : goal.returns-in_err-keyword_named
+returns-in_err-keyword_named c = rw c.from_residual.ensures (ap (option_and_then section_for) (sym c.in_err-keyword_named.was ∙ c.keyword_named.ensures) ∙ section_is (name_of c.args.text.now))

@@ -7,7 +7,7 @@ use Rattle.wc_text_bodies.specs.BodyViews.{position_view}
 use Rattle.wc_text_lines.specs.Words.{operation_view}
 use Rattle.wc_text_short_lines.proofs.body_lines.step_at.Goals as goal
 
-pub returns-in-Some : goal.returns-in-Some
-returns-in-Some c =
+pub returns-in_ok-operation_at-in-Identifier : goal.returns-in_ok-operation_at-in-Identifier
+returns-in_ok-operation_at-in-Identifier c =
     some-map c.step_with.result (λ step makes units. is_line_of (position_view units c.args.body.now) c.args.first (mark_of_token (token_view c.args.second))
-    (operation_view c.in-Some.operation) (step_view step) c.in-Identifier.is (c.in-Some.ensures units) makes) c.step_with.ensures
+    (operation_view c.in_ok-operation_at-in-Identifier.field-0) (step_view step) c.in-Identifier.is (c.in_ok-operation_at-in-Identifier.ensures units) makes) c.step_with.ensures

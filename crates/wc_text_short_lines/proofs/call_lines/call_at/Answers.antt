@@ -5,8 +5,8 @@ use Rattle.wc_text_bodies.specs.BodyViews.{position_view}
 use Rattle.wc_text_lines.specs.Words.{operation_view}
 use Rattle.wc_text_short_lines.proofs.call_lines.call_at.Goals as goal
 
-pub returns-in-Some-Calls : goal.returns-in-Some-Calls
-returns-in-Some-Calls c = λ units.
-    rw (c.word.ensures.spelled, c.new.ensures.items) (begins_call_of (position_view units c.args.body.now) c.args.operator c.args.instance c.args.opening c.args.input c.in-Some-Calls.condition
+pub returns-in-Calls : goal.returns-in-Calls
+returns-in-Calls c = λ units.
+    rw (c.word.ensures.spelled, c.new.ensures.items) (begins_call_of (position_view units c.args.body.now) c.args.operator c.args.instance c.args.opening c.args.input c.in-Calls.condition
     c.in-Identifier-Identifier-Opening-Identifier.is-0 c.in-Identifier-Identifier-Opening-Identifier.is-1 c.in-Identifier-Identifier-Opening-Identifier.is-2
-    c.in-Identifier-Identifier-Opening-Identifier.is-3 (subst (λ operation. Begins (position_view units c.args.body.now) c.args.operator.text.now (operation_view operation)) c.in-Some-Calls.field-0-is (c.in-Some-Calls.ensures units)))
+    c.in-Identifier-Identifier-Opening-Identifier.is-3 (subst (λ operation. Begins (position_view units c.args.body.now) c.args.operator.text.now (operation_view operation)) c.in-Calls.is (c.in_ok-condition-in-Identifier-Identifier-Opening-Identifier.ensures units)))

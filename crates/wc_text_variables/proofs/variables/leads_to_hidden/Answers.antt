@@ -1,6 +1,6 @@
 use Rattle.std.proofs.Common.{◌≡◌, ◌+◌, ◌-◌, ◌<◌, ◌∙◌, ℕ, Bool, Bor, List, Option, Some, None, ap, drop, get_or, length, map, subst, sym}
 use Rattle.std.proofs.lemmas.List.{drop_all}
-use Rattle.std.specs.Prelude.{option_and_then}
+use Rattle.std.specs.Prelude.{option_and_then, option_map}
 use Rattle.wc_cost.proofs.WholeTexts.{last_unit}
 use Rattle.wc_model.specs.Language.Names.{Name, name_of}
 use Rattle.wc_model.specs.Language.Scopes.{Scope, type_of}
@@ -14,6 +14,7 @@ use Rattle.wc_names.specs.RepresentsText.{AreTables}
 use Rattle.wc_names.specs.declared.declared_type.DeclaredType.{DeclaredType}
 use Rattle.wc_names.specs.declared.declared_type.DeclaredType.TheVariants as numbered
 use Rattle.wc_names.specs.declared.kept.Tables.{Tables}
+use Rattle.wc_names.specs.declared.located.Located.{Located}
 use Rattle.wc_text_variables.proofs.Walks.{Walks, WalksOn, from_program, walk_on}
 use Rattle.wc_text_variables.proofs.variables.leads_to_hidden.Goals as goal
 use Rattle.wc_text_variables.specs.Names.{is_hidden}
@@ -30,6 +31,10 @@ led {source} {read} {tables} {given} unit index names name {whole} {found} decla
     let are = subst (λ t. AreTables t text) (sym kept) (subst (λ (s : Source). AreTables given (text_view s)) same occur) in
     subst (WalksOn text (map (λ name. name_of name.now) (drop (index + 1) names)) whole) (sym (says text here.scope are here.is) ∙ typed)
     (walk_on text unit (name_of name.now) (map (λ name. name_of name.now) (drop (index + 1) names)) whole here)
+
+-- the type of a variable that is found
+of_type : {found known : Option Located} → found ≡ known → option_map (λ (v : Located). v.declared) found ≡ option_map (λ (v : Located). v.declared) known
+of_type is = ap (option_map (λ (v : Located). v.declared)) is
 
 pub loop-index-init : goal.loop-index-init
 loop-index-init c =
@@ -50,22 +55,22 @@ returns-in-Standard c =
     c.is_hidden_at.ensures
     ∙ led c.loop-index.unit c.loop-index.index c.args.names.now c.in-Some.name.now (Some (numbered.Standard c.in-Standard.block))
     c.checked.ensures c.tables-tables.ensures.tables c.tables-tables.ensures.occur c.in-Some.ensures.lookup.3.0 c.in-Some.ensures.lookup.1
-    c.loop-index.invariant c.in-Some-declared_type.ensures (ap Some c.in-Standard.is)
+    c.loop-index.invariant c.variable.ensures.declared (of_type c.in-Some-variable.is ∙ ap Some c.in-Standard.is)
 
-pub returns-in_default-declared_type : goal.returns-in_default-declared_type
-returns-in_default-declared_type c =
+pub returns-in_default-variable : goal.returns-in_default-variable
+returns-in_default-variable c =
     led c.loop-index.unit c.loop-index.index c.args.names.now c.in-Some.name.now None
     c.checked.ensures c.tables-tables.ensures.tables c.tables-tables.ensures.occur c.in-Some.ensures.lookup.3.0 c.in-Some.ensures.lookup.1
-    c.loop-index.invariant c.declared_type.ensures c.in_default-declared_type.is
+    c.loop-index.invariant c.variable.ensures.declared (of_type c.in_default-variable.is)
 
 pub returns-in-Elementary : goal.returns-in-Elementary
 returns-in-Elementary c =
     led c.loop-index.unit c.loop-index.index c.args.names.now c.in-Some.name.now (Some (numbered.Elementary c.in-Elementary.field-0))
     c.checked.ensures c.tables-tables.ensures.tables c.tables-tables.ensures.occur c.in-Some.ensures.lookup.3.0 c.in-Some.ensures.lookup.1
-    c.loop-index.invariant c.in-Some-declared_type.ensures (ap Some c.in-Elementary.is)
+    c.loop-index.invariant c.variable.ensures.declared (of_type c.in-Some-variable.is ∙ ap Some c.in-Elementary.is)
 
 pub loop-index-preserved : goal.loop-index-preserved
 loop-index-preserved c =
     led c.loop-index.unit c.loop-index.index c.args.names.now c.in-Some.name.now (Some (numbered.Block c.in-Block.block))
     c.checked.ensures c.tables-tables.ensures.tables c.tables-tables.ensures.occur c.in-Some.ensures.lookup.3.0 c.in-Some.ensures.lookup.1
-    c.loop-index.invariant c.in-Some-declared_type.ensures (ap Some c.in-Block.is)
+    c.loop-index.invariant c.variable.ensures.declared (of_type c.in-Some-variable.is ∙ ap Some c.in-Block.is)

@@ -8,6 +8,6 @@ pub returns : goal.returns
 returns c =
     let words : length c.args.words.now ≡ 4 = grind (arith, common_steps) in (
       on_ok_weaker c.put_word-4.result (four_words _ _ _ _ _ (codes "  %QD0 ") (codes "  %QD1 ") (codes "  %QD2 ") (codes "  %QD3 ") c.args.words.now (pos 0) words
-          c.in_ok-put_word.ensures.word c.in_ok-put_word-2.ensures.word c.in_ok-put_word-3.ensures.word) c.put_word-4.ensures.word,
-      c.put_word-4.ensures.memory,
+          c.in_ok-put_word.ensures.0 c.in_ok-put_word-2.ensures.0 c.in_ok-put_word-3.ensures.0) c.put_word-4.ensures.0,
+      c.put_word-4.ensures.1,
     )

@@ -7,7 +7,7 @@ use Rattle.wc_controller.specs.TakenLogs.{OfPrograms}
 use Rattle.wc_controller.specs.WrittenRuns.{EndsUnwritten}
 use Rattle.wc_endings.specs.Endings.{IsAt, ending_of}
 use Rattle.wc_endings.specs.declared.ending.Ending.{Ending}
-use Rattle.wc_endings.specs.declared.input.Input.TheVariants as input
+use Rattle.wc_job.specs.declared.input.Input.TheVariants as input
 use Rattle.wc_record.specs.Reported.{fields_reported}
 use Rattle.wc_view_picture.proofs.Unrefused.{run_unrefused, unknown_is, unwritten}
 use Rattle.wc_view_picture.proofs.showing.show_files.Goals as goal

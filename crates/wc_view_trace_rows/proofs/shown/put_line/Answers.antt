@@ -10,7 +10,7 @@ returns c =
     let words = between_words_is c.args.line.now c.trim_ascii.result.now c.trim_ascii.ensures.value in (
       on_ok_weaker c.fit.result
           (λ fits. line_put c.args.text.now.items c.put_shown.new.text.items c.fit.new.text.items c.args.line.now c.trim_ascii.result.now c.len-start.result c.args.columns
-          start words c.in_ok-put_shown.ensures.puts fits)
+          start words c.in_ok-put_shown.ensures.0 fits)
           c.fit.ensures.fits,
       c.fit.ensures.memory,
     )

@@ -2,7 +2,7 @@ use Rattle.wc_controller.proofs.Allowing.{on_known}
 use Rattle.wc_controller.proofs.Blaming.{blamed}
 use Rattle.wc_controller.proofs.Givings.{ends}
 use Rattle.wc_controller.specs.Blames.{RefusesProgram}
-use Rattle.wc_endings.specs.declared.input.Input.TheVariants as input
+use Rattle.wc_job.specs.declared.input.Input.TheVariants as input
 use Rattle.wc_view_watch.specs.Previews.{AnswersPreview}
 use Rattle.wc_view_watch.proofs.previewing.preview_files.Goals as goal
 

@@ -8,8 +8,8 @@ use Rattle.wc_controller.specs.Blames.{RefusesText}
 use Rattle.wc_endings.specs.Endings.{WritesUpTo, raised}
 use Rattle.wc_controller.specs.Files.{AnswersFile}
 use Rattle.wc_controller.specs.Loads.{IsRefusedLoad}
-use Rattle.wc_endings.specs.declared.input.Input.TheVariants as input
-use Rattle.wc_endings.specs.declared.input.Stopped.{Stopped}
+use Rattle.wc_job.specs.declared.input.Input.TheVariants as input
+use Rattle.wc_endings.specs.declared.ending.Stopped.{Stopped}
 use Rattle.wc_model.specs.Language.Loading.{IsLoaded}
 use Rattle.wc_model.specs.Language.Tree.{Text}
 use Rattle.wc_model.specs.Language.Views.{text_view}

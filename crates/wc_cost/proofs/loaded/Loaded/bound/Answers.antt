@@ -5,7 +5,7 @@ use Rattle.wc_model.specs.Language.Views.{text_view}
 use Rattle.wc_model.specs.Say.UnitReport.{IsBoundAt}
 use Rattle.wc_cost.proofs.Bounds.{bound_holds}
 use Rattle.wc_cost.specs.LoadedTexts.{LoadedText}
-use Rattle.wc_cost.specs.declared.lowered.LoweredUnit.{LoweredUnit}
+use Rattle.wc_cost.specs.declared.units.LoweredUnit.{LoweredUnit}
 use Rattle.wc_cost.proofs.loaded.Loaded.bound.Goals as goal
 
 -- src/loaded.rt:58:5

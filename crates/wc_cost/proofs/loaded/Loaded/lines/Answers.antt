@@ -6,7 +6,7 @@ use Rattle.wc_text_flat.specs.FlatPaths.{sources_of}
 use Rattle.wc_model.specs.Language.Views.{text_view}
 use Rattle.wc_cost.proofs.WorstLines.{unit_lines}
 use Rattle.wc_cost.specs.LoadedTexts.{LoadedText}
-use Rattle.wc_cost.specs.declared.lowered.LoweredUnit.{LoweredUnit}
+use Rattle.wc_cost.specs.declared.units.LoweredUnit.{LoweredUnit}
 use Rattle.wc_cost.proofs.loaded.Loaded.lines.Goals as goal
 
 pub returns : goal.returns

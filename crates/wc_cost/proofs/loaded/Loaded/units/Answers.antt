@@ -4,7 +4,7 @@ use Rattle.wc_text_flat.proofs.Programs.{codes_length}
 use Rattle.wc_model.specs.Language.Views.{text_view}
 use Rattle.wc_cost.specs.LoadedInside.{codes_of}
 use Rattle.wc_cost.specs.LoadedTexts.{LoadedText}
-use Rattle.wc_cost.specs.declared.lowered.LoweredUnit.{LoweredUnit}
+use Rattle.wc_cost.specs.declared.units.LoweredUnit.{LoweredUnit}
 use Rattle.wc_cost.proofs.loaded.Loaded.units.Goals as goal
 
 -- src/loaded.rt:41:5

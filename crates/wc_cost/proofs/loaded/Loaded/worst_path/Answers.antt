@@ -9,7 +9,7 @@ use Rattle.wc_cost.proofs.WorstLines.{code_short, worst_holds}
 use Rattle.wc_cost.specs.LoadedInside.{bounds_of}
 use Rattle.wc_cost.specs.LoadedTexts.{AreWorstAt, LoadedText}
 use Rattle.wc_cost.specs.PathLengths.{AreSmall, ArePathLengths}
-use Rattle.wc_cost.specs.declared.lowered.LoweredUnit.{LoweredUnit}
+use Rattle.wc_cost.specs.declared.units.LoweredUnit.{LoweredUnit}
 use Rattle.wc_cost.proofs.loaded.Loaded.worst_path.Goals as goal
 
 pub returns-clause-worst : goal.returns-clause-worst

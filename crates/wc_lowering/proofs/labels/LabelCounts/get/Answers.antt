@@ -4,8 +4,8 @@ use Rattle.wc_model.specs.Language.Names.{name_of}
 use Rattle.wc_verify.proofs.LabelRows.{looked_up}
 use Rattle.wc_lowering.proofs.labels.LabelCounts.get.Goals as goal
 
-pub returns-in-Some : goal.returns-in-Some
-returns-in-Some c = c.in-Some.ensures.value ∙ looked_up (record { text = c.args.name }) c.self.inside.entries.entries ∙ ap (λ rows. named_in rows (name_of c.args.name.now)) c.self.view_is
+pub returns : goal.returns
+returns c = c.in_ok-get.ensures.value ∙ looked_up (record { text = c.args.name }) c.self.inside.entries.entries ∙ ap (λ rows. named_in rows (name_of c.args.name.now)) c.self.view_is
 
-pub returns-in-None : goal.returns-in-None
-returns-in-None c = c.in-None.ensures.value ∙ looked_up (record { text = c.args.name }) c.self.inside.entries.entries ∙ ap (λ rows. named_in rows (name_of c.args.name.now)) c.self.view_is
+pub returns-in_err-get : goal.returns-in_err-get
+returns-in_err-get c = c.from_residual.ensures ∙ c.in_err-get.ensures.value ∙ looked_up (record { text = c.args.name }) c.self.inside.entries.entries ∙ ap (λ rows. named_in rows (name_of c.args.name.now)) c.self.view_is

@@ -6,6 +6,7 @@ use Rattle.wc_store.specs.Slots.{AreInRange}
 
 pub invariant_of-result : goal.invariant_of-result
 invariant_of-result c =
-    let zeros : c.in-Ok.numbers.items ≡ replicate (length c.args.kinds.now) (pos 0) = search rules in
-    subst (λ kinds. AreInRange kinds c.in-Ok.numbers.items) (sym c.in-Ok-from_slice.ensures.items)
+    let zeros : c.in_ok-numbers.numbers.items ≡ replicate (length c.args.kinds.now) (pos 0) = search rules in
+    let same : c.in_ok-kinds.kinds.items ≡ c.args.kinds.now = search rules in
+    subst (λ kinds. AreInRange kinds c.in_ok-numbers.numbers.items) (sym same)
     (subst (λ numbers. AreInRange c.args.kinds.now numbers) (sym zeros) (zeros_fit c.args.kinds.now))

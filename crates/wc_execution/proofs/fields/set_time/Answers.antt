@@ -1,0 +1,30 @@
+-- The place is one of a TIME, and no other is written.
+use Rattle.std.proofs.Common.{ap, w32, ◌∙◌}
+use Rattle.std.proofs.lemmas.Int.{to_z-of_z}
+use Rattle.std.specs.Prelude.{slice_set}
+use Rattle.wc_execution.proofs.SlotKinds.{moments_after, place_fits, place_there, wide_fits, wide_is, writes_in_range}
+use Rattle.wc_execution.proofs.fields.set_time.Goals as goal
+use Rattle.wc_model.specs.declared.kind.SlotKind.TheVariants as slots
+
+pub set_at-requires-clause-place : goal.set_at-requires-clause-place
+set_at-requires-clause-place g c = place_there slots.Time (g.S.Store.slot_kinds c.args.store.now) c.args.at c.requires.kind
+
+pub set_at-requires-clause-fits : goal.set_at-requires-clause-fits
+set_at-requires-clause-fits g c = place_fits slots.Time (g.S.Store.slot_kinds c.args.store.now) c.args.at 65536 c.requires.capacity c.requires.kind
+
+pub set_at-requires-clause-range : goal.set_at-requires-clause-range
+set_at-requires-clause-range g c =
+    writes_in_range slots.Time (g.S.Store.slot_kinds c.args.store.now) c.args.at _ c.args.time c.requires.kind
+    (wide_is c.from.result c.args.time (wide_fits c.from.result c.from.type_inv) (c.from.ensures ∙ to_z-of_z w32 c.args.time c.ranges.time)) c.ranges.time
+
+pub returns-clause-number : goal.returns-clause-number
+returns-clause-number g c =
+    c.set_at.ensures.numbers ∙ ap (λ n. slice_set (g.S.Store.numbers c.args.store.now) c.args.at n) (wide_is c.from.result c.args.time (wide_fits c.from.result c.from.type_inv) (c.from.ensures ∙ to_z-of_z w32 c.args.time c.ranges.time))
+
+pub returns-clause-kinds : goal.returns-clause-kinds
+returns-clause-kinds g c = c.set_at.ensures.kinds
+
+pub returns-clause-moments : goal.returns-clause-moments
+returns-clause-moments g c = λ now before.
+    moments_after slots.Time now (g.S.Store.slot_kinds c.args.store.now) _ (g.S.Store.numbers c.args.store.now) _ c.args.at _ c.requires.kind (λ e. cc (e))
+    c.set_at.ensures.kinds c.set_at.ensures.numbers before

@@ -1,7 +1,0 @@
-use Rattle.std.proofs.Common.{[], arith}
-use Rattle.std.proofs.lemmas.Bool.Decides.{nat_tests}
-use Rattle.wc_text_bodies.proofs.Openings.{length-opened}
-use Rattle.wc_text_bodies.proofs.started_faults.depth_fault.Goals as goal
-
-pub returns : goal.returns
-returns c = let e = length-opened [] c.args.openings.now in grind (arith, nat_tests, c.refused_if.ensures)

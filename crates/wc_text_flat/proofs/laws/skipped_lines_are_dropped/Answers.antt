@@ -1,0 +1,5 @@
+use Rattle.wc_text_flat.proofs.Skipping.{skipped_lines_are_dropped}
+use Rattle.wc_text_flat.proofs.laws.skipped_lines_are_dropped.Goals as goal
+
+pub returns : goal.returns
+returns c = skipped_lines_are_dropped

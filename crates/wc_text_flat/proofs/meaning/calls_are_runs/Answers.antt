@@ -1,5 +1,0 @@
-use Rattle.wc_text_flat.proofs.Held.{calls_are_runs}
-use Rattle.wc_text_flat.proofs.meaning.calls_are_runs.Goals as goal
-
-pub returns : goal.returns
-returns c = calls_are_runs

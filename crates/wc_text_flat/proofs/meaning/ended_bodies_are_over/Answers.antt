@@ -1,5 +1,0 @@
-use Rattle.wc_text_flat.proofs.Skipping.{ended_bodies_are_over}
-use Rattle.wc_text_flat.proofs.meaning.ended_bodies_are_over.Goals as goal
-
-pub returns : goal.returns
-returns c = ended_bodies_are_over

@@ -1,5 +1,0 @@
-use Rattle.wc_text_flat.proofs.Texts.{flat_code_means_the_text}
-use Rattle.wc_text_flat.proofs.meaning.flat_code_means_the_text.Goals as goal
-
-pub returns : goal.returns
-returns c = flat_code_means_the_text

@@ -1,5 +1,0 @@
-use Rattle.wc_text_flat.proofs.Outputs.{outputs_are_numbers}
-use Rattle.wc_text_flat.proofs.meaning.outputs_are_numbers.Goals as goal
-
-pub returns : goal.returns
-returns c = outputs_are_numbers

@@ -1,5 +1,0 @@
-use Rattle.wc_text_flat.proofs.TextsSeen.{flat_code_is_seen_as_the_text}
-use Rattle.wc_text_flat.proofs.trace.flat_code_is_seen_as_the_text.Goals as goal
-
-pub returns : goal.returns
-returns c = flat_code_is_seen_as_the_text
