@@ -96,12 +96,11 @@ fn declares(tokens: &[Token<'_>], name: &[u8], index: usize) -> bool
     ensures { result ≡ declares tokens.now name.now index }
 {
     match (tokens.get(index), tokens.get(index + 1)) {
-        (Some(word), Some(token)) => {
-            matches!(
-                keyword_of(word),
-                Some(Keyword::UnitStart(UnitKind::FunctionBlock))
-            ) && is_word(token.text, name)
-        }
+        // The name first, since few tokens have it.
+        (Some(word), Some(token)) if is_word(token.text, name) => matches!(
+            keyword_of(word),
+            Some(Keyword::UnitStart(UnitKind::FunctionBlock))
+        ),
         _ => false,
     }
 }
