@@ -6,6 +6,7 @@ A script of tools imports it by its name. One of .ci is in another folder, and h
     from harness import PROGRAM, call, conclude, need
 
 It needs Python alone. All paths are absolute."""
+import functools
 import re
 import subprocess
 import sys
@@ -53,6 +54,28 @@ LONG_TEXTS = {
 # the seconds after which a call is ended, unless the caller says otherwise: the gate's scripts run side by side, so a call
 # of some seconds may take minutes on few processors
 LIMIT = 900
+
+
+# a line that brings names of a module of definitions or lemmas in, or the module by another name
+USE = re.compile(r"(?m)^ *(?:unfoldable )?(?:pub )?(?:ghost )?use Rattle\.([\w.]+?)(?:\.\{([^}]*)\}| as (\w+));?$")
+
+
+@functools.cache
+def passed_on(module):
+    """The module that defines each name which a module passes on, by the name."""
+    file = next((it for it in (CRATES / f"{module}.antt", CRATES / module / "Lib.antt") if it.is_file()), None)
+    found = re.findall(r"(?m)^pub use Rattle\.([\w.]+)\.\{([^}]*)\}$", file.read_text()) if file else []
+    return {name.strip(): path.replace(".", "/") for path, names in found for name in names.split(",")}
+
+
+def uses_in(source):
+    """What a source imports, by the module that defines it: names, `A as B` for a renamed one, `as B` for the module itself."""
+    found = {}
+    for path, names, alias in USE.findall(source):
+        module = path.replace(".", "/")
+        for name in [f"as {alias}"] if alias else [it.strip() for it in names.split(",")]:
+            found.setdefault(passed_on(module).get(name.split(" as ")[0], module), []).append(name)
+    return found
 
 
 def call(words, limit=LIMIT, **more):

@@ -5,27 +5,25 @@ import hashlib
 import re
 from itertools import takewhile
 
-from harness import CRATES, TOP, crates, script
+from harness import CRATES, TOP, USE, crates, script, uses_in
 
 try_edits = script("tools/try_edits")
 legal_digest = script("tools/legal_digest")
 LEGAL, PATH, CUSTOMER = ("legal part", "data path", "customer's part")
 MODEL = "wc_model/specs"
 # the public functions of these are shown whether a page names them or not
-INTERFACE = ("wc_indicator", "wc_sma", "wc_open_scale", "wc_scale", "narbeddo")
+INTERFACE = ("wc_indicator", "wc_sma", "wc_run", "wc_scale", "narbeddo")
 # definitions of these are shown if a contract or definition that is shown cites them
 OF_CONTRACTS = re.compile(
     r"wc_model/specs/(?:Instrument|Run|Say)/|"
-    r"(?:wc_plate|wc_indicator|wc_sma|wc_record|wc_open_scale|wc_scale|wc_run|wc_identity|wc_machine|wc_cost|wc_controller|narbeddo)/specs/(?!declared|contracts)"
+    r"(?:wc_plate|wc_indicator|wc_sma|wc_record|wc_scale|wc_run|wc_identity|wc_machine|wc_cost|wc_controller|narbeddo)/specs/(?!declared|contracts)"
 )
 # of the language, those that a contract cites itself, or a definition of one of these
 OF_LANGUAGE = re.compile(r"wc_model/specs/(?:Language|Text)/")
-CITES_LANGUAGE = re.compile(r"wc_model/specs/(?:Run|Say)/|(?:wc_controller|wc_open_scale|wc_scale)/specs/")
+CITES_LANGUAGE = re.compile(r"wc_model/specs/(?:Run|Say)/|(?:wc_controller|wc_run|wc_scale)/specs/")
 
 SOURCE = re.compile(r"OIML R 76-1:2006(?:, [0-9.]+(?:(?: and |, )(?:[0-9.]+|table \d+|class III))*)?|IEC 61131-3:2003(?:, [0-9.]+)?|[Tt]he profile's own")
 NAME = re.compile(r"[A-Za-z_][A-Za-z0-9_']*")
-# a line that brings names of a module in, or the module by another name
-USE = re.compile(r"(?m)^ *(?:ghost )?use Rattle\.([\w.]+?)(?:\.\{([^}]*)\}| as (\w+));?$")
 LAW = re.compile(r"((?:^///.*\n)+)(?:^#\[.*\n)*(^pub fn (\w+)(?:<[^>\n]*>)?\((?:[^()]|\([^()]*\))*\)\n(?:^    .*\n)+^\{\})", re.M)
 CALLED = re.compile(r"((?:`[\w:]+`(?:, | and )?)+) of `((?:wc_\w+|narbeddo))`")
 DECLARED = re.compile(r"(\w+)/specs/declared/(.+)/(\w+)")
@@ -78,14 +76,6 @@ def block_of(lines):
     inside = re.findall(r"(?m)^  (?:pub )?([A-Za-z_][\w']*) :", code)
     is_data = re.match(r"(pub )?data ", code)
     return {"names": names, "constructors": inside if is_data else [], "fields": [] if is_data else inside, "comment": words, "source": source_of(words), "code": code}
-
-
-def uses_in(source):
-    """What a source imports, by module: names, `A as B` for a renamed one, `as B` for the module itself."""
-    found = {}
-    for path, names, alias in USE.findall(source):
-        found.setdefault(path.replace(".", "/"), []).extend([f"as {alias}"] if alias else [name.strip() for name in names.split(",")])
-    return found
 
 
 def cited_of(uses, code):

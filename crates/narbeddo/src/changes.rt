@@ -3,10 +3,7 @@ ghost use Rattle.std.specs.Borrow.{full_share};
 ghost use Rattle.std.specs.Ptr.{lies_at};
 ghost use Rattle.wc_scale.specs.contracts.scale.Scale.{the_row};
 ghost use Rattle.std.specs.Prelude.{◌≡◌, []};
-ghost use Rattle.wc_scale.specs.LineCalls.{Change, IsStep, Load};
-ghost use Rattle.wc_scale.specs.Calls.{RefusesOpen, TakesOpen};
-ghost use Rattle.wc_scale.specs.Programs.{RefusesChange, RefusesLoad, TakesChange, TakesLoad};
-ghost use Rattle.wc_scale.specs.Representation.{IsEmptied};
+ghost use Rattle.wc_scale.specs.{Change, IsStep, Load, RefusesOpen, TakesOpen, RefusesChange, RefusesLoad, TakesChange, TakesLoad, IsEmptied};
 
 use wc_scale::{Refusal, Scale};
 

@@ -3,11 +3,7 @@ ghost use Rattle.std.specs.Borrow.{full_share};
 ghost use Rattle.std.specs.Ptr.{lies_at};
 ghost use Rattle.wc_scale.specs.contracts.scale.Scale.{the_row};
 ghost use Rattle.std.specs.Prelude.{◌≡◌};
-ghost use Rattle.wc_scale.specs.Calls.{ShowsNoPlate, ShowsNothing, ReportsEngraved, ReportsReading};
-ghost use Rattle.wc_scale.specs.PlateDigests.{ReportsDigest, ShowsNoDigest};
-ghost use Rattle.wc_scale.specs.Preludes.{HasZerosBesides, HoldsNothing, ReportsPrelude};
-ghost use Rattle.wc_scale.specs.Representation.{IsClosed};
-ghost use Rattle.wc_scale.specs.Values.{RefusesValue, ReportsValue};
+ghost use Rattle.wc_scale.specs.{ShowsNoPlate, ShowsNothing, ReportsEngraved, ReportsReading, ReportsDigest, ShowsNoDigest, HasZerosBesides, HoldsNothing, ReportsPrelude, IsClosed, RefusesValue, ReportsValue};
 
 use wc_scale::{Engraved, PlateDigest, PreludeAnswer, Reading, Scale, VariableRead};
 

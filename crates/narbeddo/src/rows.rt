@@ -2,9 +2,8 @@ ghost use types.Logic.{sem};
 ghost use Rattle.std.specs.Borrow.{full_share};
 ghost use Rattle.std.specs.Ptr.{lies_at};
 ghost use Rattle.std.specs.Prelude.{[]};
-ghost use Rattle.wc_scale.specs.LineCalls.{AnswersWithoutTheCustomer, Inputs, IsStep, Scan};
+ghost use Rattle.wc_scale.specs.{AnswersWithoutTheCustomer, Inputs, IsStep, Scan, RefusesByte, RefusesInputs, RefusesSample, RefusesScan, TakesByte, TakesInputs, TakesSample, TakesScan};
 ghost use Rattle.wc_scale.specs.contracts.scale.Scale.{the_row};
-ghost use Rattle.wc_scale.specs.Calls.{RefusesByte, RefusesInputs, RefusesSample, RefusesScan, TakesByte, TakesInputs, TakesSample, TakesScan};
 
 use wc_scale::{Answer, Scale, Scanned};
 

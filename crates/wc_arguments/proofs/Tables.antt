@@ -5,8 +5,7 @@ use Rattle.clap.specs.Words.{App, app_of, rule_of, with_rule, with_subcommand}
 use Rattle.clap.specs.declared.builder.arg.Arg.{Arg}
 use Rattle.clap.specs.declared.builder.command.Command.{Command}
 use Rattle.clap.specs.declared.builder.command.Command.TheViews.{out-Command}
-use Rattle.wc_arguments.specs.CommandLine.{Takes}
-use Rattle.wc_arguments.specs.Table.{row_rule, with_options, with_words, word_of}
+use Rattle.wc_arguments.specs.{Takes, row_rule, with_options, with_words, word_of}
 use Rattle.wc_arguments.specs.declared.table.OptionRow.{OptionRow}
 use Rattle.wc_arguments.specs.declared.table.WordRow.{WordRow}
 

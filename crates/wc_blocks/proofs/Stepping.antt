@@ -3,8 +3,7 @@ use Rattle.std.proofs.Common.{◌≡◌, ℕ, List, ◌∷◌, sym, subst}
 use Rattle.wc_laws_language.proofs.Counting.{ctu_fits}
 use Rattle.wc_laws_language.proofs.Delaying.{tof_fits}
 use Rattle.wc_laws_language.specs.Laws.{ctu_call, tof_call}
-use Rattle.wc_model.specs.Language.Blocks.{CtuFields, TofFields, ctu_step, tof_step}
-use Rattle.wc_model.specs.Language.Histories.{CtuCall, TimerCall, FitsCtu, FitsTof}
+use Rattle.wc_model.specs.Definitions.{CtuFields, TofFields, ctu_step, tof_step, CtuCall, TimerCall, FitsCtu, FitsTof}
 
 -- CTU
 pub ctu_goes_on : (calls : List CtuCall) (old new : CtuFields) → new ≡ ctu_step old → FitsCtu calls old → FitsCtu (ctu_call old ∷ calls) new

@@ -1,8 +1,7 @@
 ghost use Rattle.std.specs.Prelude.{◌≡◌, List, false, pos, [], ◌∷◌};
 ghost use Rattle.wc_blocks.specs.Views.{ctu_view};
 ghost use Rattle.wc_laws_language.specs.Laws.{ctu_call};
-ghost use Rattle.wc_model.specs.Language.Blocks.{ctu_count, ctu_step};
-ghost use Rattle.wc_model.specs.Language.Histories.{CtuCall, FitsCtu};
+ghost use Rattle.wc_model.specs.Definitions.{ctu_count, ctu_step, CtuCall, FitsCtu};
 
 /// CTU, an up counter (IEC 61131-3:2003, table 36). It counts in DINT, which is the profile's own.
 #[derive(Clone, Copy, Default, PartialEq, Eq)]

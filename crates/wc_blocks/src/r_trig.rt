@@ -1,7 +1,6 @@
 ghost use Rattle.std.specs.Prelude.{◌≡◌, List, Bool, false, [], ◌∷◌};
 ghost use Rattle.wc_blocks.specs.Views.{r_trig_view};
-ghost use Rattle.wc_model.specs.Language.Blocks.{r_trig_step};
-ghost use Rattle.wc_model.specs.Language.Histories.{FitsRTrig};
+ghost use Rattle.wc_model.specs.Definitions.{r_trig_step, FitsRTrig};
 
 /// R_TRIG, a rising edge detector (IEC 61131-3:2003, table 35).
 #[derive(Clone, Copy, Default, PartialEq, Eq)]

@@ -1,8 +1,7 @@
 ghost use Rattle.std.specs.Prelude.{◌≡◌, List, false, [], ◌∷◌};
 ghost use Rattle.wc_blocks.specs.Views.{rs_view};
 ghost use Rattle.wc_laws_language.specs.Laws.{rs_call};
-ghost use Rattle.wc_model.specs.Language.Blocks.{rs_step};
-ghost use Rattle.wc_model.specs.Language.Histories.{FitsRs, RsCall};
+ghost use Rattle.wc_model.specs.Definitions.{rs_step, FitsRs, RsCall};
 
 /// RS, a bistable whose reset is dominant (IEC 61131-3:2003, table 34).
 #[derive(Clone, Copy, Default, PartialEq, Eq)]

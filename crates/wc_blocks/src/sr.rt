@@ -1,8 +1,7 @@
 ghost use Rattle.std.specs.Prelude.{◌≡◌, List, false, [], ◌∷◌};
 ghost use Rattle.wc_blocks.specs.Views.{sr_view};
 ghost use Rattle.wc_laws_language.specs.Laws.{sr_call};
-ghost use Rattle.wc_model.specs.Language.Blocks.{sr_step};
-ghost use Rattle.wc_model.specs.Language.Histories.{FitsSr, SrCall};
+ghost use Rattle.wc_model.specs.Definitions.{sr_step, FitsSr, SrCall};
 
 /// SR, a bistable whose set is dominant (IEC 61131-3:2003, table 34).
 #[derive(Clone, Copy, Default, PartialEq, Eq)]

@@ -1,8 +1,7 @@
 ghost use Rattle.std.specs.Prelude.{◌≡◌, ◌≤◌, List, false, pos, [], ◌∷◌};
 ghost use Rattle.wc_blocks.specs.Views.{tof_view};
 ghost use Rattle.wc_laws_language.specs.Laws.{tof_call};
-ghost use Rattle.wc_model.specs.Language.Blocks.{tof_falling, tof_released, tof_step};
-ghost use Rattle.wc_model.specs.Language.Histories.{FitsTof, TimerCall};
+ghost use Rattle.wc_model.specs.Definitions.{tof_falling, tof_released, tof_step, FitsTof, TimerCall};
 
 use crate::elapsed::{elapsed, preset};
 use wc_model::LAST_MOMENT;

@@ -1,8 +1,7 @@
 ghost use Rattle.std.specs.Prelude.{◌≡◌, ◌≤◌, List, false, pos, [], ◌∷◌};
 ghost use Rattle.wc_blocks.specs.Views.{ton_view};
 ghost use Rattle.wc_laws_language.specs.Laws.{ton_call};
-ghost use Rattle.wc_model.specs.Language.Blocks.{ton_running, ton_step};
-ghost use Rattle.wc_model.specs.Language.Histories.{FitsTon, TimerCall};
+ghost use Rattle.wc_model.specs.Definitions.{ton_running, ton_step, FitsTon, TimerCall};
 
 use crate::elapsed::{elapsed, preset};
 use wc_model::LAST_MOMENT;

@@ -1,8 +1,7 @@
 ghost use Rattle.std.specs.Prelude.{◌≡◌, ◌≤◌, List, false, pos, [], ◌∷◌};
 ghost use Rattle.wc_blocks.specs.Views.{tp_view};
 ghost use Rattle.wc_laws_language.specs.Laws.{tp_call};
-ghost use Rattle.wc_model.specs.Language.Blocks.{tp_started, tp_idle, tp_over, tp_step};
-ghost use Rattle.wc_model.specs.Language.Histories.{FitsTp, TimerCall};
+ghost use Rattle.wc_model.specs.Definitions.{tp_started, tp_idle, tp_over, tp_step, FitsTp, TimerCall};
 
 use crate::elapsed::preset;
 use wc_model::LAST_MOMENT;

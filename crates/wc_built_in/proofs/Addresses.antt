@@ -1,15 +1,8 @@
 -- Which directly represented variable an address names.
-use Rattle.std.proofs.Common.{◌≡◌, ℕ, zero, suc, ◌+◌, ◌-◌, ◌<◌, Bool, true, false, List, [], ◌∷◌, Option, Some, None, cond, map, true≢false, option_map, refl, sym, ap, ◌∙◌, arith}
-use Rattle.std.proofs.lemmas.Bool.{and_parts, eqb-true, false_from_ne_true}
-use Rattle.std.proofs.lemmas.List.Folds.{find-append}
-use Rattle.std.proofs.lemmas.Slice.Eq.{bytes_eq-Decides}
+use Rattle.wc_model.proofs.Common.{◌≡◌, ℕ, zero, suc, ◌+◌, ◌-◌, ◌<◌, Bool, true, false, List, [], ◌∷◌, Option, Some, None, cond, map, true≢false, option_map, refl, sym, ap, ◌∙◌, arith, and_parts, eqb-true, false_from_ne_true, find-append, bytes_eq-Decides, option_or, list_all, list_any, bytes_eq}
 use Rattle.std.specs.Prelude.{find, nat_eq, ◌||◌}
-use Rattle.std.specs.Option.{option_or}
-use Rattle.std.specs.List.{list_all, list_any}
-use Rattle.std.specs.Str.{bytes_eq}
-use Rattle.wc_model.specs.Language.DirectVariables.{direct_variables, numbers_below, spellings, variable_at}
-use Rattle.wc_model.specs.Language.Names.{Name}
-use Rattle.wc_built_in.specs.Direct.{direct_at, only_number}
+use Rattle.wc_model.specs.Definitions.{direct_variables, numbers_below, spellings, variable_at, Name}
+use Rattle.wc_built_in.specs.Fields.{direct_at, only_number}
 use Rattle.wc_built_in.proofs.Below.{each_below}
 
 -- a number that does not pass leaves none found

@@ -1,16 +1,8 @@
 -- What is found in the table of a standard block's fields.
 use Rattle.std.proofs.Common.{◌≡◌, ℕ, ◌+◌, ◌<◌, Bool, true, false, not, ◌&&◌, List, [], ◌∷◌, Option, Some, None, cond, ltb, ltb-true, map, length, option_map, refl, sym, ap, ◌∙◌, arith}
-use Rattle.std.proofs.lemmas.Bool.{ltb-false}
-use Rattle.std.proofs.lemmas.Iterator.Adapters.{position_from-zero}
-use Rattle.std.proofs.lemmas.List.Folds.{find_at}
-use Rattle.std.proofs.lemmas.Option.{slice_get_past}
-use Rattle.std.proofs.lemmas.Slice.Eq.{bytes_eq-Decides}
+use Rattle.wc_model.proofs.Common.{ltb-false, position_from-zero, find_at, slice_get_past, bytes_eq-Decides, decided, list_any, position_from, position_or_len}
 use Rattle.std.specs.Prelude.{◌||◌, find, option_and_then, slice_get}
-use Rattle.std.specs.Cmp.{decided}
-use Rattle.std.specs.List.{list_any, position_from, position_or_len}
-use Rattle.wc_model.specs.Language.Declarations.{member_named, same_name, standard_members}
-use Rattle.wc_model.specs.Language.Names.{Name, name_of}
-use Rattle.wc_model.specs.Language.Store.{Content, standard_fields}
+use Rattle.wc_model.specs.Definitions.{member_named, same_name, standard_members, Name, name_of, Content, standard_fields}
 use Rattle.wc_model.specs.declared.block.StandardBlock.{StandardBlock}
 use Rattle.wc_model.specs.declared.block.StandardBlock.TheVariants.{RTrig}
 use Rattle.wc_built_in.specs.Fields.{Seen, field_content, field_seen, is_named, member_seen, named_field, named_fields, named_member, named_seen}

@@ -3,4 +3,3 @@ pub mod Addresses
 pub mod FieldTables
 pub mod WordTables
 pub mod ReservedWords
-pub mod WordLengths

@@ -1,11 +1,8 @@
 -- The reserved words of the table are those of the definition, and its types are among them.
-use Rattle.std.proofs.Common.{◌≡◌, true, List, refl, ap, ◌∙◌}
+use Rattle.wc_model.proofs.Common.{◌≡◌, true, List, refl, ap, ◌∙◌, list_all}
 use Rattle.std.specs.Prelude.{option_and_then, map}
-use Rattle.std.specs.List.{list_all}
 use Rattle.std.specs.Option.{is_some}
-use Rattle.wc_model.specs.Language.DeclarationRules.{is_among, reserved_words, type_words}
-use Rattle.wc_model.specs.Language.Declarations.{elementary_types, named_in, standard_blocks}
-use Rattle.wc_model.specs.Language.Names.{Name}
+use Rattle.wc_model.specs.Definitions.{is_among, reserved_words, type_words, elementary_types, named_in, standard_blocks, Name}
 use Rattle.wc_built_in.specs.Keywords.{elementary_for, keywords, standard_for, type_for}
 use Rattle.wc_built_in.proofs.WordTables.{AreRead, found_in_part, same_words, some_among, is_allowed_in, words_in}
 

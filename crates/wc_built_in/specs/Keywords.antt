@@ -1,7 +1,6 @@
 -- The reserved words, each with what it represents. (IEC 61131-3:2003, tables 10, 51, 52 and C.2; the order is the profile's own.)
 use Rattle.std.specs.Prelude.{ℕ, ◌==◌, true, false, List, [], ◌∷◌, codes, filter, length, nat_lt, Option, Some, None}
-use Rattle.wc_model.specs.Language.Names.{Name, name_of}
-use Rattle.wc_model.specs.Text.Keywords.{unit_word, end_word, section_word, end_var, truth_word, load_word, store_word, operator_word, not_word, jump_word, call_word, return_word, kind_word, block_word}
+use Rattle.wc_model.specs.Definitions.{Name, name_of, unit_word, end_word, section_word, end_var, truth_word, load_word, store_word, operator_word, not_word, jump_word, call_word, return_word, kind_word, block_word}
 use Rattle.wc_model.specs.declared.block.StandardBlock.{StandardBlock}
 use Rattle.wc_model.specs.declared.block.StandardBlock.TheVariants as blocks
 use Rattle.wc_model.specs.declared.kind.Kind.{Kind}

@@ -1,4 +1,3 @@
 pub mod Fields
-pub mod Direct
 pub mod Keywords
 pub mod WholeNumbers

@@ -1,10 +1,8 @@
-ghost use Rattle.std.specs.Prelude.{◌≡◌, ◌<◌, ◌∷◌, [], length, slice_index, option_map, is_some, IfSome};
+ghost use Rattle.std.specs.Prelude.{◌≡◌, ◌<◌, ◌∷◌, [], length, slice_index, option_map, is_some, IfSome, bytes_eq};
 ghost use Rattle.std.specs.Char.{to_ascii_lowercase};
 ghost use Rattle.std.specs.List.{list_any};
-ghost use Rattle.std.specs.Str.{bytes_eq};
-ghost use Rattle.wc_model.specs.Language.DirectVariables.{numeral, spellings, variable_at};
-ghost use Rattle.wc_model.specs.Language.Names.{name_of};
-ghost use Rattle.wc_built_in.specs.Direct.{direct_at, first_variable, only_number};
+ghost use Rattle.wc_model.specs.Definitions.{numeral, spellings, variable_at, name_of};
+ghost use Rattle.wc_built_in.specs.Fields.{direct_at, first_variable, only_number};
 
 /// Whether a text is `%`, the letter, X or not, the byte, a point and the bit.
 fn is_bit(text: &[u8], letter: u8, byte: u8, bit: u8) -> bool

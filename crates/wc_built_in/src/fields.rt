@@ -1,8 +1,6 @@
 ghost use Rattle.std.specs.Prelude.{◌≡◌, map, option_and_then, option_map};
 ghost use Rattle.std.specs.List.{position_from};
-ghost use Rattle.wc_model.specs.Language.Declarations.{member_named, same_name, standard_members};
-ghost use Rattle.wc_model.specs.Language.Names.{name_of};
-ghost use Rattle.wc_model.specs.Language.Store.{standard_fields};
+ghost use Rattle.wc_model.specs.Definitions.{member_named, same_name, standard_members, name_of, standard_fields};
 ghost use Rattle.wc_built_in.specs.Fields.{field_content, member_seen, named_field, named_fields, named_member, named_seen};
 
 use wc_model::{Section, SlotKind, StandardBlock, is_word};

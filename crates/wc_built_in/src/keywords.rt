@@ -1,6 +1,5 @@
 ghost use Rattle.std.specs.Prelude.{◌≡◌, map};
-ghost use Rattle.wc_model.specs.Language.Declarations.{named_in};
-ghost use Rattle.wc_model.specs.Language.Names.{name_of};
+ghost use Rattle.wc_model.specs.Definitions.{named_in, name_of};
 ghost use Rattle.wc_built_in.specs.Keywords.{keyword_row, keywords, longer_than, of_length};
 
 use crate::keyword::Keyword;

@@ -1,6 +1,5 @@
 ghost use Rattle.std.specs.Prelude.{◌≡◌};
-ghost use Rattle.wc_model.specs.Language.BodyRules.{is_bool};
-ghost use Rattle.wc_model.specs.Language.Kinds.{is_kind, kind_after_operator, same_result};
+ghost use Rattle.wc_model.specs.Definitions.{is_bool, is_kind, kind_after_operator, same_result};
 
 use crate::operators::compares;
 use wc_model::{Kind, Operator};

@@ -1,8 +1,5 @@
-ghost use Rattle.std.specs.Prelude.{◌≡◌};
-ghost use Rattle.std.specs.Option.{is_some};
-ghost use Rattle.wc_model.specs.Language.DeclarationRules.{is_among, reserved_words, type_words};
-ghost use Rattle.wc_model.specs.Language.Declarations.{elementary_types, named_in, standard_blocks};
-ghost use Rattle.wc_model.specs.Language.Names.{name_of};
+ghost use Rattle.std.specs.Prelude.{◌≡◌, is_some};
+ghost use Rattle.wc_model.specs.Definitions.{is_among, reserved_words, type_words, elementary_types, named_in, standard_blocks, name_of};
 ghost use Rattle.wc_built_in.specs.Keywords.{elementary_for, standard_for, type_for};
 
 use crate::keyword::Keyword;

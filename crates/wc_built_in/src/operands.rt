@@ -1,7 +1,6 @@
 ghost use Rattle.std.specs.Prelude.{◌≡◌};
-ghost use Rattle.wc_model.specs.Language.BodyRules.{is_bit_literal, is_divisor};
+ghost use Rattle.wc_model.specs.Definitions.{is_bit_literal, is_divisor, term_view};
 ghost use Rattle.wc_built_in.specs.WholeNumbers.{whole_number};
-ghost use Rattle.wc_model.specs.Language.Views.{term_view};
 
 use wc_model::{Operand, Value};
 

@@ -1,7 +1,5 @@
 ghost use Rattle.std.specs.Prelude.{◌≡◌};
-ghost use Rattle.wc_model.specs.Language.BodyRules.{divides, takes};
-ghost use Rattle.wc_model.specs.Language.Kinds.{compares};
-ghost use Rattle.wc_model.specs.Language.Meaning.{takes_truth};
+ghost use Rattle.wc_model.specs.Definitions.{divides, takes, compares, takes_truth};
 
 use wc_model::{Kind, Operator};
 

@@ -1,19 +1,10 @@
 -- Which answers are allowed, from the program to the whole job and to the files that a command
 -- names.
-use Rattle.std.proofs.Common.{◌≡◌, ℕ, ◌<◌, ◌≤◌, List, length, Ok, Err, refl, ap, sym, subst, inl, inr}
-use Rattle.std.proofs.KnownBytes.{Keeps-refl}
+use Rattle.wc_model.proofs.Common.{◌≡◌, ℕ, ◌<◌, ◌≤◌, List, length, Ok, Err, refl, ap, sym, subst, inl, inr, Keeps-refl}
 use Rattle.std.specs.Prelude.{◌⊎◌, Option, Some, None, IfOk, IfSome, Result}
 use Rattle.wc_controller.proofs.Givings.{only_refused, upto_more}
-use Rattle.wc_endings.specs.Endings.{RefusesPlate, RefusesLength, WritesUpTo}
-use Rattle.wc_controller.specs.Files.{AnswersFile, AnswersPlateFile, AnswersWithPlate, too_long, whole}
-use Rattle.wc_controller.specs.Jobs.{AllowsSections}
-use Rattle.wc_controller.specs.InputStates.{Reader}
-use Rattle.wc_controller.specs.TakenLogs.{IfKnown}
-use Rattle.wc_model.specs.Instrument.PlateTable.{plate_of}
-use Rattle.wc_model.specs.Instrument.Plates.{PlateData}
-use Rattle.wc_model.specs.Run.JobSections.{Sections, longest_job}
-use Rattle.wc_model.specs.Run.Log.{log_of}
-use Rattle.wc_model.specs.Say.Job.{JobAnswer, AnswersPlate, AnswersPrograms, refusing, run_answer}
+use Rattle.wc_controller.specs.{RefusesPlate, RefusesLength, WritesUpTo, AnswersFile, AnswersPlateFile, AnswersWithPlate, too_long, whole, AllowsSections, Reader, IfKnown}
+use Rattle.wc_model.specs.Definitions.{plate_of, PlateData, Sections, longest_job, log_of, JobAnswer, AnswersPlate, AnswersPrograms, refusing, run_answer}
 use Rattle.wc_model.specs.declared.fault.Fault.TheVariants as fault
 use Rattle.wc_plate.specs.TomlTable.{table_read}
 use Rattle.wc_record.specs.Reading.{records_of}

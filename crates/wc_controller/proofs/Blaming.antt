@@ -3,32 +3,19 @@ use Rattle.std.proofs.Common.{◌≡◌, ℕ, ◌≤◌, List, length, Result, O
 use Rattle.std.specs.Prelude.{Option, Some, None, IfErr, IfSome, IsSome, is_some}
 use Rattle.wc_controller.proofs.Allowing.{of_known, on_known}
 use Rattle.wc_controller.specs.Blames.{Blames, IsNextUnloaded, IsUnloaded, RefusesLog, RefusesProgram, RefusesText, StopsFor}
-use Rattle.wc_endings.specs.Endings.{EndsAfter, EndsAfterFault, EndsRefused, ReportsMemory, of_refused_log, of_unread_log}
-use Rattle.wc_controller.specs.Loads.{IsRefusedLoad}
+use Rattle.wc_controller.specs.{EndsAfter, EndsAfterFault, EndsRefused, ReportsMemory, of_refused_log, of_unread_log, IsRefusedLoad, Reader, AreReadOf, IsNextLoadedOf, known_of, log_alongside}
 use Rattle.wc_model.specs.declared.fault.Fault.{Fault}
 use Rattle.wc_model.specs.declared.fault.Fault.TheVariants as fault
-use Rattle.wc_controller.specs.InputStates.{Reader}
-use Rattle.wc_controller.specs.TakenLogs.{AreReadOf, IsNextLoadedOf, known_of, log_alongside}
 use Rattle.wc_cost.specs.LoadedTexts.{LoadedText}
-use Rattle.wc_endings.specs.declared.ending.Ending.{Ending}
-use Rattle.wc_endings.specs.declared.ending.Ending.TheVariants as ended
+use Rattle.wc_controller.specs.declared.ending.Ending.{Ending}
+use Rattle.wc_controller.specs.declared.ending.Ending.TheVariants as ended
 use Rattle.wc_job.specs.declared.input.Input.{Input}
 use Rattle.wc_job.specs.declared.input.Input.TheVariants as input
-use Rattle.wc_endings.specs.declared.ending.Stopped.{Stopped}
-use Rattle.wc_job.specs.Reads.{IsWhole}
-use Rattle.wc_model.specs.Run.JobSections.{longest_job}
-use Rattle.wc_model.specs.Instrument.Plates.{PlateData}
-use Rattle.wc_model.specs.Language.Tree.{Text}
-use Rattle.wc_model.specs.Run.Log.{LogOf, Record, log_of}
-use Rattle.wc_model.specs.Say.LogFor.{log_for}
-use Rattle.wc_model.specs.Say.ProgramReport.{Logic, first_logic}
-use Rattle.wc_record.specs.Reading.{records_of}
-use Rattle.wc_record.specs.Reported.{records_read}
-use Rattle.wc_run.specs.Faults.{from_fault}
-use Rattle.wc_run.specs.Logics.{text_of_next}
-use Rattle.wc_run.specs.Doing.{WritesBy}
-use Rattle.wc_run.specs.Observing.{Plan}
-use Rattle.wc_run.specs.Runs.{ReportsFault}
+use Rattle.wc_controller.specs.declared.ending.Stopped.{Stopped}
+use Rattle.wc_job.specs.Views.{IsWhole}
+use Rattle.wc_model.specs.Definitions.{longest_job, PlateData, Text, LogOf, Record, log_of, log_for, Logic, first_logic}
+use Rattle.wc_record.specs.{records_of, records_read}
+use Rattle.wc_run.specs.{from_fault, WritesBy, text_of_next, Plan, ReportsFault}
 use Rattle.wc_run.specs.declared.fault.RunFault.{RunFault}
 use Rattle.wc_run.specs.declared.fault.RunFault.TheVariants.{Refused, Memory}
 

@@ -1,23 +1,18 @@
 -- A refusal of a job names the part that breaks the rule.
 use Rattle.std.proofs.Common.{◌≡◌, ℕ, List, Result, Ok, Err, refl, sym, subst}
 use Rattle.std.specs.Prelude.{Option, Some, None, is_some}
-use Rattle.wc_controller.specs.Blames.{BlamesPart, IsNextUnloaded, IsUnloaded, RefusesLog, RefusesPart, StopsAsPart, StopsForPart}
-use Rattle.wc_endings.specs.Endings.{EndsAfter, EndsAfterFault, EndsRefused, fault_in_memory}
-use Rattle.wc_controller.specs.TakenLogs.{log_alongside}
-use Rattle.wc_endings.specs.declared.ending.Ending.{Ending}
-use Rattle.wc_endings.specs.declared.ending.Ending.TheVariants as ended
+use Rattle.wc_controller.specs.{BlamesPart, IsNextUnloaded, IsUnloaded, RefusesLog, RefusesPart, StopsAsPart, StopsForPart, EndsAfter, EndsAfterFault, EndsRefused, fault_in_memory, log_alongside}
+use Rattle.wc_controller.specs.declared.ending.Ending.{Ending}
+use Rattle.wc_controller.specs.declared.ending.Ending.TheVariants as ended
 use Rattle.wc_job.specs.declared.input.Input.{Input}
 use Rattle.wc_job.specs.declared.input.Input.TheVariants as input
-use Rattle.wc_endings.specs.declared.ending.Stopped.{Stopped}
-use Rattle.wc_model.specs.Instrument.PlateTable.{plate_of}
-use Rattle.wc_model.specs.Language.Loading.{IsRefused}
-use Rattle.wc_model.specs.Run.JobSections.{Sections}
-use Rattle.wc_model.specs.Run.Log.{Record}
+use Rattle.wc_controller.specs.declared.ending.Stopped.{Stopped}
+use Rattle.wc_model.specs.Definitions.{plate_of, IsRefused, Sections, Record}
 use Rattle.wc_model.specs.declared.fault.Fault.{Fault}
 use Rattle.wc_model.specs.declared.fault.Fault.TheVariants as fault
 use Rattle.wc_plate.specs.TomlTable.{table_read}
 use Rattle.wc_plate.specs.Verdict.{AgreesWith}
-use Rattle.wc_run.specs.Faults.{from_fault}
+use Rattle.wc_run.specs.Doing.{from_fault}
 use Rattle.wc_run.specs.declared.fault.RunFault.{RunFault}
 use Rattle.wc_run.specs.declared.fault.RunFault.TheVariants.{Refused, Memory}
 

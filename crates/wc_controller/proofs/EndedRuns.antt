@@ -4,17 +4,12 @@ use Rattle.std.specs.Prelude.{Option, Result}
 use Rattle.wc_controller.proofs.Blaming.{after_refusal}
 use Rattle.wc_controller.proofs.Givings.{ends}
 use Rattle.wc_controller.proofs.ShownEndings.{answers_more, faulty_untold, inputs_shown, refused_shown}
-use Rattle.wc_endings.specs.Endings.{EndsAs, EndsAfter, EndsAfterFault, ReportsFailures, ReportsMemory, ReportsReadEndings, WritesUpTo, ending_of, fault_ending, raised, status_of}
-use Rattle.wc_controller.specs.Files.{Observed}
-use Rattle.wc_controller.specs.InputRuns.{ReadsInOrder, RunsAs, RunsUpTo}
-use Rattle.wc_controller.specs.InputStates.{InputStates, Reader, Writer}
-use Rattle.wc_controller.specs.Shown.{IsEndedBy}
-use Rattle.wc_controller.specs.TakenLogs.{log_taken}
-use Rattle.wc_endings.specs.declared.ending.Ending.{Ending}
-use Rattle.wc_endings.specs.declared.ending.Ending.TheVariants as ended
+use Rattle.wc_controller.specs.{EndsAs, EndsAfter, EndsAfterFault, ReportsFailures, ReportsMemory, ReportsReadEndings, WritesUpTo, ending_of, fault_ending, raised, status_of, IsEndedBy, Observed, ReadsInOrder, RunsAs, RunsUpTo, InputStates, Reader, Writer, log_taken}
+use Rattle.wc_controller.specs.declared.ending.Ending.{Ending}
+use Rattle.wc_controller.specs.declared.ending.Ending.TheVariants as ended
 use Rattle.wc_job.specs.declared.input.Input.{Input}
 use Rattle.wc_job.specs.declared.input.Input.TheVariants as input
-use Rattle.wc_endings.specs.declared.ending.Stopped.{Stopped}
+use Rattle.wc_controller.specs.declared.ending.Stopped.{Stopped}
 use Rattle.wc_model.specs.Run.Log.{Record}
 use Rattle.wc_run.specs.declared.fault.RunFault.{RunFault}
 use Rattle.wc_run.specs.declared.fault.RunFault.TheVariants.{Refused, Read, Write, Memory}

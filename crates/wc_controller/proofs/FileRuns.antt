@@ -3,19 +3,9 @@ use Rattle.std.proofs.Common.{◌≡◌, ℕ, ◌≤◌, List, length, Ok}
 use Rattle.std.specs.Prelude.{Option, Some, None, IfSome, IsSome}
 use Rattle.wc_controller.proofs.Allowing.{file_not_read, file_read, known_each, known_more, of_known, on_each, on_known, plate_not_read, plate_read, too_long_file}
 use Rattle.wc_controller.proofs.Givings.{unloaded, upto_more}
-use Rattle.wc_controller.specs.Blames.{IsUnloaded}
-use Rattle.wc_endings.specs.Endings.{RefusesLength, RefusesPlate, WritesUpTo}
-use Rattle.wc_controller.specs.Files.{AnswersFile, AnswersNextFile, AnswersPrinting, AnswersRun, AnswersText, Observed}
-use Rattle.wc_controller.specs.InputStates.{Reader}
-use Rattle.wc_controller.specs.TakenLogs.{AreReadOf, IfKnown, known_of}
-use Rattle.wc_job.specs.Reads.{IsWhole}
-use Rattle.wc_model.specs.Instrument.PlateTable.{plate_of}
-use Rattle.wc_model.specs.Instrument.Plates.{PlateData}
-use Rattle.wc_model.specs.Language.Loading.{IsLoaded}
-use Rattle.wc_model.specs.Language.Tree.{Text}
-use Rattle.wc_model.specs.Run.JobSections.{longest_job}
-use Rattle.wc_model.specs.Run.Log.{log_of}
-use Rattle.wc_model.specs.Say.Job.{AnswersNext, AnswersProgram, loads_program}
+use Rattle.wc_controller.specs.{IsUnloaded, RefusesLength, RefusesPlate, WritesUpTo, AnswersFile, AnswersNextFile, AnswersPrinting, AnswersRun, AnswersText, Observed, Reader, AreReadOf, IfKnown, known_of}
+use Rattle.wc_job.specs.Views.{IsWhole}
+use Rattle.wc_model.specs.Definitions.{plate_of, PlateData, IsLoaded, Text, longest_job, log_of, AnswersNext, AnswersProgram, loads_program}
 use Rattle.wc_plate.specs.TomlTable.{table_read}
 use Rattle.wc_record.specs.Reading.{records_of}
 use Rattle.wc_run.specs.declared.fault.RunFault.{RunFault}

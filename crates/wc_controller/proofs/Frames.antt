@@ -1,20 +1,13 @@
 -- Answers are frames.
 use Rattle.std.proofs.Common.{nat_lt, lit<, ◌≡◌, ℕ, zero, suc, ◌+◌, ◌-◌, ◌/◌, ◌%◌, ◌^◌, ◌==◌, ◌<◌, Bool, true, false, not, if◌then◌else◌, List, [], ◌∷◌, ◌++◌, length, refl, ap, sym, subst, ◌∙◌, arith, append_assoc, append-nil, length-append}
-use Rattle.std.proofs.lemmas.Bool.{ne_eqb}
-use Rattle.std.proofs.lemmas.List.Elements.{filter-append}
+use Rattle.wc_model.proofs.Common.{ne_eqb, filter-append, is_negative, concat}
 use Rattle.std.specs.Fmt.{digits, digits_onto, digit_glyph}
-use Rattle.std.specs.Int.{is_negative}
-use Rattle.std.specs.List.{concat}
 use Rattle.std.specs.Prelude.{codes, decimal, filter, ℤ, unsigned_abs, Option, Some, None, Contains, replicate}
 use Rattle.wc_laws_instrument.proofs.Requests.{requests_join}
 use Rattle.wc_controller.specs.Frames.{AnswersInFrames, AreFrames, HasNoEnd, IsFrame, completed_requests, returns_in}
 use Rattle.wc_laws_instrument.specs.Preludes.{past_after}
 use Rattle.wc_model.specs.Instrument.Answers.{last_digits, fraction_text, minus_of, value_text, weight_text, Mode, Shown, Tare, Asked, Plain, ZeroRefused, TareRefused, scale_status, status_byte, mode_byte, motion_byte, weight_asked, answer, answer_to, answers_to, Command, AskWeight, Zero, TakeTare, AskTare, Clear, Unknown, command_of, after_command, asked_zero, asked_tare}
-use Rattle.wc_model.specs.Instrument.Indication.{has_sample, is_over, is_under, is_stable, is_centre_of_zero, is_tare_active}
-use Rattle.wc_model.specs.Instrument.Plates.{PlateData, IsPlate, grams, kilograms, tonnes}
-use Rattle.wc_model.specs.Instrument.Requests.{carriage_return, requests, requests_in}
-use Rattle.wc_model.specs.Instrument.WeighingHistories.{SetZero, SetTare, ClearTare, History}
-use Rattle.wc_model.specs.Run.Rows.{RowData, Counts, Bytes, Inputs, Scan, Change, LogRow, Past, answer_of_row, answer_with, answers_after, history_of, line_bytes}
+use Rattle.wc_model.specs.Definitions.{has_sample, is_over, is_under, is_stable, is_centre_of_zero, is_tare_active, PlateData, IsPlate, grams, kilograms, tonnes, carriage_return, requests, requests_in, SetZero, SetTare, ClearTare, History, RowData, Counts, Bytes, Inputs, Scan, Change, LogRow, Past, answer_of_row, answer_with, answers_after, history_of, line_bytes}
 
 -- each byte is above CR
 abbrev AreAbove : List ℕ → Type 0

@@ -1,39 +1,20 @@
 -- How far an answer was written, step by step of a command.
-use Rattle.std.proofs.Common.{◌≡◌, ℕ, List, [], ◌++◌, Result, Ok, Err, refl, ap, sym, ◌∙◌, subst, append-nil, inl, inr}
-use Rattle.std.proofs.KnownBytes.{Appends-nil, Appends-trans, Appends-kept, Keeps-refl, Keeps-trans}
+use Rattle.wc_model.proofs.Common.{◌≡◌, ℕ, List, [], ◌++◌, Result, Ok, Err, refl, ap, sym, ◌∙◌, subst, append-nil, inl, inr, Appends-nil, Appends-trans, Appends-kept, Keeps-refl, Keeps-trans, Appends, Keeps}
 use Rattle.std.specs.Prelude.{Bool, true, false, Option, Some, None, if◌then◌else◌}
-use Rattle.std.specs.Io.KnownBytes.{Appends, Keeps}
-use Rattle.wc_controller.specs.Blames.{IsNextUnloaded, IsUnloaded}
-use Rattle.wc_controller.specs.Checking.{Checks}
-use Rattle.wc_endings.specs.Endings.{IsAt, IsReadFaultAt, EndsAs, EndsAfter, EndsAfterFault, EndsRefused, WritesPrefix, WritesUpTo, answered, failed, fault_in_memory, fault_raised, raised, status_of}
-use Rattle.wc_controller.specs.Files.{AnswersCheck, AnswersLog, AnswersPrinting, IsAnswer, Observed, answer_written, refuses_text, reports_units}
-use Rattle.wc_controller.specs.Jobs as jobs
-use Rattle.wc_controller.specs.Jobs.{Gives}
-use Rattle.wc_controller.specs.Loads.{IsRefusedLoad}
-use Rattle.wc_controller.specs.TakenLogs.{IsNextLoadedOf}
+use Rattle.wc_controller.specs.{IsNextUnloaded, IsUnloaded, Checks, IsAt, IsReadFaultAt, EndsAs, EndsAfter, EndsAfterFault, EndsRefused, WritesPrefix, WritesUpTo, answered, failed, fault_in_memory, fault_raised, raised, status_of, AnswersCheck, AnswersLog, AnswersPrinting, IsAnswer, Observed, answer_written, refuses_text, reports_units, Gives, IsRefusedLoad, IsNextLoadedOf}
+use Rattle.wc_controller.specs.Files as jobs
 use Rattle.wc_cost.specs.LoadedTexts.{LoadedText}
-use Rattle.wc_model.specs.Language.Views.{text_view}
-use Rattle.wc_endings.specs.declared.ending.Ending.{Ending}
-use Rattle.wc_endings.specs.declared.ending.Ending.TheVariants as ended
+use Rattle.wc_model.specs.Definitions.{text_view, PlateData, LogOf, LogRefusal, Text, AnswersNext, AnswersProgram, JobAnswer, after_report, loads_program, refused_text, refuses_program, refusing, run_answer, log_for, Logic, first_logic}
+use Rattle.wc_controller.specs.declared.ending.Ending.{Ending}
+use Rattle.wc_controller.specs.declared.ending.Ending.TheVariants as ended
 use Rattle.wc_job.specs.declared.input.Input.{Input}
-use Rattle.wc_endings.specs.declared.ending.Stopped.{Stopped}
-use Rattle.wc_model.specs.Instrument.Plates.{PlateData}
-use Rattle.wc_model.specs.Run.Log.{LogOf, LogRefusal}
-use Rattle.wc_model.specs.Language.Tree.{Text}
-use Rattle.wc_model.specs.Say.Job.{AnswersNext, AnswersProgram, JobAnswer, after_report, loads_program, refused_text, refuses_program, refusing, run_answer}
-use Rattle.wc_model.specs.Say.LogFor.{log_for}
-use Rattle.wc_model.specs.Say.ProgramReport.{Logic, first_logic}
+use Rattle.wc_controller.specs.declared.ending.Stopped.{Stopped}
 use Rattle.wc_model.specs.declared.fault.Fault.{Fault}
 use Rattle.wc_model.specs.declared.fault.Fault.TheVariants as fault
 use Rattle.wc_run.proofs.Prefixes.{prefix_after, prefix_of_more}
 use Rattle.wc_run.proofs.Lines.{whole_written}
 use Rattle.wc_run.proofs.Texts.{lines_first}
-use Rattle.wc_run.specs.Faults.{from_fault}
-use Rattle.wc_run.specs.Reports.{report_plan}
-use Rattle.wc_run.specs.Logics.{text_of_next}
-use Rattle.wc_run.specs.Doing.{WritesBy}
-use Rattle.wc_run.specs.Observing.{Plan, RefusesToBegin, Written, said, text_coming, text_in_all}
-use Rattle.wc_run.specs.Runs.{AppendsFirst, AppendsPrefix}
+use Rattle.wc_run.specs.{from_fault, WritesBy, report_plan, text_of_next, Plan, RefusesToBegin, Written, said, text_coming, text_in_all, AppendsFirst, AppendsPrefix}
 use Rattle.wc_run.specs.declared.fault.RunFault.{RunFault}
 use Rattle.wc_run.specs.declared.fault.RunFault.TheVariants.{Refused, Read, Write, Memory}
 

@@ -4,22 +4,10 @@ use Rattle.std.specs.Prelude.{Option, Some, None, Result, if◌then◌else◌}
 use Rattle.wc_controller.proofs.Allowing.{known_more, on_known}
 use Rattle.wc_controller.proofs.Givings.{ends_more}
 use Rattle.wc_controller.proofs.LoadedTexts.{headline_holds}
-use Rattle.wc_controller.specs.Files.{AnswersFile, AnswersNextFile, AnswersPlateFile, AnswersPrinting, AnswersRun, AnswersText, Observed, answer_written, too_long, whole}
-use Rattle.wc_controller.specs.HeadlineRuns.{AnswersByTheHeadline, IsNextOf, OfRunsByTheHeadline, RunsByTheHeadline, RunsWithTheHeadline, is_refused, is_run, refuses, runs}
-use Rattle.wc_controller.specs.InputRuns.{OfAnswers}
-use Rattle.wc_controller.specs.InputStates.{InputStates, Reader}
-use Rattle.wc_controller.specs.Jobs.{Allows}
-use Rattle.wc_endings.specs.Endings.{EndsAs}
-use Rattle.wc_endings.specs.declared.ending.Ending.{Ending}
+use Rattle.wc_controller.specs.{AnswersFile, AnswersNextFile, AnswersPlateFile, AnswersPrinting, AnswersRun, AnswersText, Observed, answer_written, too_long, whole, Allows, AnswersByTheHeadline, IsNextOf, OfRunsByTheHeadline, RunsByTheHeadline, RunsWithTheHeadline, is_refused, is_run, refuses, runs, OfAnswers, InputStates, Reader, EndsAs}
+use Rattle.wc_controller.specs.declared.ending.Ending.{Ending}
 use Rattle.wc_laws_instrument.proofs.Changes.{rows_are_run}
-use Rattle.wc_model.specs.Instrument.PlateTable.{plate_of}
-use Rattle.wc_model.specs.Instrument.Plates.{PlateData}
-use Rattle.wc_model.specs.Language.Loading.{IsLoaded}
-use Rattle.wc_model.specs.Language.Tree.{Text}
-use Rattle.wc_model.specs.Run.JobSections.{Sections, sections_of}
-use Rattle.wc_model.specs.Run.Log.{LogOf, log_of}
-use Rattle.wc_model.specs.Say.Job.{AnswersNext, AnswersPlate, AnswersPrograms, AnswersSections, JobAnswer, loads_program, refuses_program, refusing, run_answer}
-use Rattle.wc_model.specs.Say.ProgramReport.{Logic, first_logic}
+use Rattle.wc_model.specs.Definitions.{plate_of, PlateData, IsLoaded, Text, Sections, sections_of, LogOf, log_of, AnswersNext, AnswersPlate, AnswersPrograms, AnswersSections, JobAnswer, loads_program, refuses_program, refusing, run_answer, Logic, first_logic}
 use Rattle.wc_plate.specs.TomlTable.{table_read}
 use Rattle.wc_record.specs.Reading.{records_of}
 

@@ -4,14 +4,13 @@ pub mod LoadedTexts
 pub mod HeadlineRuns
 pub mod Frames
 pub mod ShortAnswers
-pub mod OneChecked
+pub mod Settled
 pub mod Refusals
 pub mod Givings
 pub mod Allowing
 pub mod FileRuns
 pub mod Blaming
 pub mod BlamingParts
-pub mod Settled
 pub mod StoppedInputs
 pub mod RunSteps
 pub mod ShownEndings
@@ -19,3 +18,4 @@ pub mod EndedRuns
 pub mod RefusedNames
 pub mod WrittenRuns
 pub mod Unbegun
+pub mod UnitReports

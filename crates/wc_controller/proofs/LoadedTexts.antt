@@ -5,16 +5,9 @@ use Rattle.wc_controller.proofs.ScanEndings.{ends_within, has_bound, shows_outco
 use Rattle.wc_controller.specs.Headline.{IsTheHeadline, outcome_of, store_after}
 use Rattle.wc_laws_instrument.proofs.Independence.{is_free_of_programs}
 use Rattle.wc_laws_instrument.specs.Changes.{HasNoChange, IsNoChange}
-use Rattle.wc_model.specs.Run.ProcessImage.{image_after}
-use Rattle.wc_model.specs.Say.ProgramReport.{Logic, first_logic, logic_following, programs}
-use Rattle.wc_model.specs.Say.Report.{state_with}
-use Rattle.wc_model.specs.Language.Scans.{initial_of, scan_of, with_image}
-use Rattle.wc_model.specs.Instrument.Plates.{PlateData}
-use Rattle.wc_model.specs.Language.Loading.{IsLoaded, IsNextLoaded}
-use Rattle.wc_model.specs.Language.Tree.{Text}
-use Rattle.wc_model.specs.Run.Rows.{RowData, Counts, Bytes, Inputs, Scan, Change, Past}
+use Rattle.wc_model.specs.Definitions.{image_after, Logic, first_logic, logic_following, programs, state_with, initial_of, scan_of, with_image, PlateData, IsLoaded, IsNextLoaded, Text, RowData, Counts, Bytes, Inputs, Scan, Change, Past}
 use Rattle.wc_model.specs.declared.value.Value.{Value}
-use Rattle.wc_laws_language.specs.Sound.{EndsWell}
+use Rattle.wc_laws_language.specs.SoundnessLaws.{EndsWell}
 use Rattle.wc_laws_language.proofs.Runs.{first_sound, sound_after, sound_scan}
 
 -- the next scan ends well, whatever rows have come

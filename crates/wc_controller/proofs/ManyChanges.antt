@@ -1,27 +1,16 @@
 -- As many changes of the program as one likes: each scan ends well.
 use Rattle.std.proofs.Common.{ℕ, List, [], ◌∷◌, Option, refl, reverse}
 use Rattle.wc_controller.proofs.ScanEndings.{ends_within}
-use Rattle.wc_controller.specs.Headline.{KeepsInTurn, ShowsInTurn}
-use Rattle.wc_controller.specs.Turns.{AreLoaded, Turns, change_in, first_turn, in_turn, turns_after, with_store}
+use Rattle.wc_controller.specs.Headline.{KeepsInTurn, ShowsInTurn, AreLoaded, Turns, change_in, first_turn, in_turn, turns_after, with_store}
 use Rattle.wc_laws_instrument.proofs.Independence.{is_free_of_programs}
-use Rattle.wc_model.specs.Instrument.Plates.{PlateData}
-use Rattle.wc_model.specs.Language.Loading.{IsLoaded}
-use Rattle.wc_model.specs.Language.Meaning.{Outcome, Done, Stuck}
-use Rattle.wc_model.specs.Language.Scans.{initial_of, scan_of, with_image}
-use Rattle.wc_model.specs.Language.Store.{Store}
-use Rattle.wc_model.specs.Language.Tree.{Text}
-use Rattle.wc_model.specs.Run.ProcessImage.{image_after}
-use Rattle.wc_model.specs.Run.Rows.{RowData, Counts, Bytes, Inputs, Scan, Change, Past}
-use Rattle.wc_model.specs.Say.ProgramReport.{result_of}
-use Rattle.wc_model.specs.Say.Report.{state_with}
+use Rattle.wc_model.specs.Definitions.{PlateData, IsLoaded, Outcome, Done, Stuck, initial_of, scan_of, with_image, Store, Text, image_after, RowData, Counts, Bytes, Inputs, Scan, Change, Past, result_of, state_with}
 use Rattle.wc_model.specs.declared.image.Image.{Image}
 use Rattle.wc_model.specs.declared.value.Value.{Value}
 use Rattle.wc_laws_language.proofs.Carrying.{carried_holds}
 use Rattle.wc_laws_language.proofs.Places.{SameSlots-refl}
 use Rattle.wc_laws_language.proofs.Runs.{left_by}
 use Rattle.wc_laws_language.proofs.Spelled.{loaded_text_is_never_stuck}
-use Rattle.wc_laws_language.specs.Sound.{EndsWell}
-use Rattle.wc_laws_language.specs.Typing.{SameSlots}
+use Rattle.wc_laws_language.specs.{EndsWell, SameSlots}
 
 -- the text that runs is loaded, its store holds the kinds of what it declares, and the texts that follow are loaded
 record AreSound (turns : Turns) : Type 0 where

@@ -1,25 +1,15 @@
 -- Why a text is not loaded, pass by pass.
-use Rattle.std.proofs.Common.{◌≡◌, ℕ, List, None, Result, Ok, Err, sym, subst, inl, inr}
-use Rattle.wc_controller.specs.Loads.{IsRefusedLoad}
-use Rattle.wc_model.specs.Language.Faults.{body_fault, declaration_fault}
-use Rattle.wc_model.specs.Language.Validation.{Validates}
-use Rattle.std.proofs.KnownBytes.{Keeps-refl}
+use Rattle.wc_model.proofs.Common.{◌≡◌, ℕ, List, None, Result, Ok, Err, sym, subst, inl, inr, Keeps-refl}
+use Rattle.wc_controller.specs.{IsRefusedLoad, Checks, HasTheHeadline, IsTheHeadline}
+use Rattle.wc_model.specs.Definitions.{body_fault, declaration_fault, Validates, PlateData, text_view, IsLoaded, IsRefused, Text, IsRead}
 use Rattle.std.specs.Prelude.{Bool, IfErr, IfOk, Option}
-use Rattle.wc_controller.specs.Checking.{Checks}
-use Rattle.wc_controller.specs.Headline.{HasTheHeadline, IsTheHeadline}
-use Rattle.wc_cost.specs.Costs.{IsCosted}
-use Rattle.wc_cost.specs.LoadedTexts.{LoadedText}
-use Rattle.wc_model.specs.Instrument.Plates.{PlateData}
-use Rattle.wc_model.specs.Language.Views.{text_view}
+use Rattle.wc_cost.specs.LoadedTexts.{IsCosted, LoadedText}
 use Rattle.wc_model.specs.declared.source.Source.{Source}
 use Rattle.wc_model.specs.Language.Loading as loading
-use Rattle.wc_model.specs.Language.Loading.{IsLoaded, IsRefused}
-use Rattle.wc_model.specs.Language.Tree.{Text}
-use Rattle.wc_model.specs.Text.Reading.{IsRead}
 use Rattle.wc_model.specs.declared.fault.Fault.{Fault}
 use Rattle.wc_model.specs.declared.fault.Fault.TheVariants.{Memory, Refused}
-use Rattle.wc_run.specs.Faults.{from_fault}
-use Rattle.wc_reader.specs.ReadTexts.{IsFirstOf, IsRefusedAs}
+use Rattle.wc_run.specs.Doing.{from_fault}
+use Rattle.wc_reader.specs.Reported.{IsFirstOf, IsRefusedAs}
 
 -- a text that is not read
 first_of : (bytes : List ℕ) (number place : ℕ) → IsFirstOf bytes number place → IsRefused bytes number place

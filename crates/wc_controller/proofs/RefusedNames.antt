@@ -1,21 +1,14 @@
 -- What an observer that refused to begin holds of the programs with which it did.
-use Rattle.std.proofs.Common.{◌≡◌, ℕ, List, Bool, false, true, Option, Some, None, Result, Ok, Err, sym, subst, ◌∙◌}
-use Rattle.std.specs.Prelude.{IfSome}
-use Rattle.wc_endings.specs.Endings.{EndsAfter, EndsAfterFault, IsAt, StopsAt, begin_fault_input}
-use Rattle.wc_controller.specs.InputStates.{Reader}
-use Rattle.wc_controller.specs.TakenLogs.{AreReadOf, IfKnown, IsNextLoadedOf, OfLogic, OfPrograms}
-use Rattle.wc_endings.specs.declared.ending.Ending.{Ending}
-use Rattle.wc_endings.specs.declared.ending.Ending.TheVariants as ended
+use Rattle.wc_model.proofs.Common.{◌≡◌, ℕ, List, Bool, false, true, Option, Some, None, Result, Ok, Err, sym, subst, ◌∙◌, IfSome}
+use Rattle.wc_controller.specs.{EndsAfter, EndsAfterFault, IsAt, StopsAt, begin_fault_input, Reader, AreReadOf, IfKnown, IsNextLoadedOf, OfLogic, OfPrograms}
+use Rattle.wc_controller.specs.declared.ending.Ending.{Ending}
+use Rattle.wc_controller.specs.declared.ending.Ending.TheVariants as ended
 use Rattle.wc_job.specs.declared.input.Input.{Input}
 use Rattle.wc_job.specs.declared.input.Input.TheVariants as input
-use Rattle.wc_endings.specs.declared.ending.Stopped.{Stopped}
+use Rattle.wc_controller.specs.declared.ending.Stopped.{Stopped}
 use Rattle.wc_cost.specs.LoadedTexts.{LoadedText}
-use Rattle.wc_model.specs.Language.Loading.{IsLoaded}
-use Rattle.wc_model.specs.Language.Tree.{Text}
-use Rattle.wc_model.specs.Language.Views.{text_view}
-use Rattle.wc_model.specs.Say.ProgramReport.{Logic, first_logic}
-use Rattle.wc_run.specs.Logics.{text_of_next}
-use Rattle.wc_run.specs.Observing.{RefusesToBegin}
+use Rattle.wc_model.specs.Definitions.{IsLoaded, Text, text_view, Logic, first_logic}
+use Rattle.wc_run.specs.{text_of_next, RefusesToBegin}
 use Rattle.wc_run.specs.declared.fault.RunFault.{RunFault}
 use Rattle.wc_run.specs.declared.fault.RunFault.TheVariants.{Refused, Read, Write, Memory}
 

@@ -5,26 +5,14 @@ use Rattle.wc_controller.proofs.Allowing.{on_each, on_known, plate_not_read, pla
 use Rattle.wc_controller.proofs.Blaming.{next_read, one_input, same_next}
 use Rattle.wc_controller.proofs.FileRuns as files
 use Rattle.wc_controller.proofs.StoppedInputs.{blamed_by, length_refused, memory_by, named_by, no_read_fault, none_taken, read_by, read_on_by, reported_by, untold_by}
-use Rattle.wc_controller.specs.Blames.{IsNextUnloaded, IsUnloaded, RefusesLog, RefusesProgram, StopsFor}
-use Rattle.wc_endings.specs.Endings.{HasNotFailedAt, IsReadFaultAt, RefusesLength, RefusesPlate, StopsAt, TakesInput, ReportsMemory, ReportsReadEndings, ReportsReadFaults, ReportsWriteFaults, WritesUpTo, fault_ending, raised, of_unread_log, status_of}
-use Rattle.wc_controller.specs.Files.{AnswersPrinting, IsLineAnswer, Observed}
-use Rattle.wc_controller.specs.InputRuns.{OfAnswers, OfAnswersTo, RunsUpTo, TakesInputs, ReportsReaders}
-use Rattle.wc_controller.specs.InputStates.{InputStates, Reader, Writer, inputs_of}
-use Rattle.wc_controller.specs.TakenLogs.{AreReadOf, IsLater, failures_of, known_of, log_alone, log_alongside, log_taken}
-use Rattle.wc_endings.specs.declared.ending.Ending.TheVariants as ended
+use Rattle.wc_controller.specs.{IsNextUnloaded, IsUnloaded, RefusesLog, RefusesProgram, StopsFor, HasNotFailedAt, IsReadFaultAt, RefusesLength, RefusesPlate, StopsAt, TakesInput, ReportsMemory, ReportsReadEndings, ReportsReadFaults, ReportsWriteFaults, WritesUpTo, fault_ending, raised, of_unread_log, status_of, AnswersPrinting, IsLineAnswer, Observed, OfAnswers, OfAnswersTo, RunsUpTo, TakesInputs, ReportsReaders, InputStates, Reader, Writer, inputs_of, AreReadOf, IsLater, failures_of, known_of, log_alone, log_alongside, log_taken}
+use Rattle.wc_controller.specs.declared.ending.Ending.TheVariants as ended
 use Rattle.wc_job.specs.declared.input.Input.{Input}
 use Rattle.wc_job.specs.declared.input.Input.TheVariants as input
-use Rattle.wc_endings.specs.declared.ending.Stopped.{Stopped}
-use Rattle.wc_model.specs.Instrument.PlateTable.{plate_of}
-use Rattle.wc_model.specs.Instrument.Plates.{PlateData}
-use Rattle.wc_model.specs.Language.Loading.{IsLoaded}
-use Rattle.wc_model.specs.Language.Tree.{Text}
-use Rattle.wc_model.specs.Run.JobSections.{longest_job}
-use Rattle.wc_model.specs.Run.Log.{Record, log_of}
-use Rattle.wc_model.specs.Say.Job.{AnswersNext}
+use Rattle.wc_controller.specs.declared.ending.Stopped.{Stopped}
+use Rattle.wc_model.specs.Definitions.{plate_of, PlateData, IsLoaded, Text, longest_job, Record, log_of, AnswersNext}
 use Rattle.wc_plate.specs.TomlTable.{table_read}
-use Rattle.wc_record.specs.Left.{HasCause}
-use Rattle.wc_record.specs.Reading.{records_of}
+use Rattle.wc_record.specs.{HasCause, records_of}
 use Rattle.wc_run.specs.Runs.{ReportsWrite}
 use Rattle.wc_run.specs.declared.fault.RunFault.{RunFault}
 use Rattle.wc_run.specs.declared.fault.RunFault.TheVariants.{Refused, Read, Write, Memory}

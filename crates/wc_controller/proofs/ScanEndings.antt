@@ -4,15 +4,9 @@ use Rattle.wc_controller.specs.Headline.{EndsWithin, ShowsOutcome}
 use Rattle.wc_laws_language.proofs.Longest.{best_path, best_path_is_worst}
 use Rattle.wc_laws_language.proofs.TracesArePaths.{TraceIs, program_trace_is_path}
 use Rattle.wc_laws_language.proofs.UnitBounds.{path_of, longest_there}
-use Rattle.wc_model.specs.Language.Meaning.{Outcome, Done, Stuck, program_means}
-use Rattle.wc_model.specs.Language.Paths.{IsBoundOfLast, IsLongest, IsPath}
-use Rattle.wc_model.specs.Say.ProgramReport.{Logic, result_of, with_logic}
-use Rattle.wc_model.specs.Language.Scans.{first_of_reversed}
-use Rattle.wc_model.specs.Language.Scopes.{Scope}
-use Rattle.wc_model.specs.Language.Store.{Store}
-use Rattle.wc_model.specs.Language.Tree.{ProgramUnit}
+use Rattle.wc_model.specs.Definitions.{Outcome, Done, Stuck, program_means, IsBoundOfLast, IsLongest, IsPath, Logic, result_of, with_logic, first_of_reversed, Scope, Store, ProgramUnit}
 use Rattle.wc_model.specs.declared.value.Value.{Value}
-use Rattle.wc_laws_language.specs.Sound.{EndsWell}
+use Rattle.wc_laws_language.specs.SoundnessLaws.{EndsWell}
 
 -- by how the scan ends
 by_outcome : (scope : Scope) (bound : ℕ) (first : Store) → IsLongest scope bound → (outcome : Outcome) → TraceIs (IsPath scope) outcome

@@ -1,24 +1,14 @@
 -- No answer to a row is longer than its bytes allow.
 use Rattle.std.proofs.Common.{◌≡◌, ℕ, suc, ◌+◌, ◌*◌, ◌==◌, ◌≤◌, Bool, true, false, if◌then◌else◌, List, [], ◌∷◌, ◌++◌, drop, length, Option, Some, None, refl, ap, sym, subst, ◌∙◌, arith, append-nil, length-append}
-use Rattle.std.proofs.lemmas.Bool.{eqb-true}
-use Rattle.std.proofs.lemmas.Fmt.{length-decimal-le}
-use Rattle.std.proofs.lemmas.List.{drop_all}
-use Rattle.std.specs.List.{AllByRecursion}
-use Rattle.std.specs.Option.{option_to_list}
+use Rattle.wc_model.proofs.Common.{eqb-true, length-decimal-le, drop_all, AllByRecursion, option_to_list}
 use Rattle.std.specs.Prelude.{codes, decimal, option_map}
-use Rattle.wc_controller.specs.ShortAnswers.{AnswersAreShort, longest_answer, longest_line}
+use Rattle.wc_controller.specs.Frames.{AnswersAreShort, longest_answer, longest_line}
 use Rattle.wc_laws_instrument.proofs.Answers.{length_answer}
 use Rattle.wc_laws_instrument.proofs.LogRows.{rows_are_in_order}
 use Rattle.wc_laws_instrument.proofs.Requests.{is_cut_anywhere}
 use Rattle.wc_laws_instrument.specs.Logs.{AreInOrder, IsDataInRange}
 use Rattle.wc_model.specs.Instrument.Answers.{AskTare, AskWeight, Clear, Command, Plain, Shown, TakeTare, Tare, Unknown, Zero, after_command, answer_to, answers_to, asked_tare, asked_zero, command_of}
-use Rattle.wc_model.specs.Instrument.Plates.{IsPlate, PlateData}
-use Rattle.wc_model.specs.Instrument.Requests.{carriage_return, completed_by, is_text, line_feed, open_request, opened_by, requests, requests_in}
-use Rattle.wc_model.specs.Instrument.WeighingHistories.{ClearTare, History, SetTare, SetZero}
-use Rattle.wc_model.specs.Run.Hex.{hex_of_bytes}
-use Rattle.wc_model.specs.Run.Log.{greatest_moment, log_of}
-use Rattle.wc_model.specs.Run.Rows.{Bytes, Change, Counts, Inputs, LogRow, Past, RowData, Scan, answer_with, answers_after, history_of, line_bytes}
-use Rattle.wc_model.specs.Say.Report.{answer_line, line_text}
+use Rattle.wc_model.specs.Definitions.{IsPlate, PlateData, carriage_return, completed_by, is_text, line_feed, open_request, opened_by, requests, requests_in, ClearTare, History, SetTare, SetZero, hex_of_bytes, greatest_moment, log_of, Bytes, Change, Counts, Inputs, LogRow, Past, RowData, Scan, answer_with, answers_after, history_of, line_bytes, answer_line, line_text}
 
 -- no answer has more than twenty bytes
 answer_short : (p : PlateData) (command : Command) (history : History) → IsPlate p → length (answer_to p command history) ≤ 20

@@ -3,17 +3,12 @@ use Rattle.std.proofs.Common.{◌≡◌, List, ℕ, inl, inr, refl, subst, sym, 
 use Rattle.std.specs.Prelude.{Option, Some, None}
 use Rattle.wc_controller.proofs.Allowing.{known_more, on_known}
 use Rattle.wc_controller.proofs.StoppedInputs.{no_read_fault}
-use Rattle.wc_endings.specs.Endings.{EndsRefused}
-use Rattle.wc_controller.specs.Files.{AnswersLine, AnswersRun, Observed}
-use Rattle.wc_controller.specs.InputRuns.{OfAnswersTo, ReadsInOrder}
-use Rattle.wc_controller.specs.InputStates.{InputStates, Reader}
-use Rattle.wc_controller.specs.Shown.{IsEndedBy, IsFaulty}
-use Rattle.wc_endings.specs.declared.ending.Ending.{Ending}
-use Rattle.wc_endings.specs.declared.ending.Ending.TheVariants as ended
+use Rattle.wc_controller.specs.{EndsRefused, IsEndedBy, IsFaulty, AnswersLine, AnswersRun, Observed, OfAnswersTo, ReadsInOrder, InputStates, Reader}
+use Rattle.wc_controller.specs.declared.ending.Ending.{Ending}
+use Rattle.wc_controller.specs.declared.ending.Ending.TheVariants as ended
 use Rattle.wc_job.specs.declared.input.Input.{Input}
 use Rattle.wc_job.specs.declared.input.Input.TheVariants as input
-use Rattle.wc_model.specs.Run.Log.{Record}
-use Rattle.wc_model.specs.Say.Job.{JobAnswer}
+use Rattle.wc_model.specs.Definitions.{Record, JobAnswer}
 
 -- what follows of what is said of the answers is said of them too
 pub answers_more : (o : Observed) (plate : Reader) (program next : Option Reader) (log : Reader) (P Q : (JobAnswer → Type 0) → Type 0)

@@ -1,14 +1,13 @@
 -- What an ending says of the input at which a run stopped.
-use Rattle.std.proofs.Common.{◌≡◌, ℕ, List, [], refl, ap, subst, sym, arith, inl}
-use Rattle.std.proofs.KnownBytes.{Consumes-nil}
+use Rattle.wc_model.proofs.Common.{◌≡◌, ℕ, List, [], refl, ap, subst, sym, arith, inl, Consumes-nil}
 use Rattle.std.specs.Prelude.{Option, Some, None, IfSome, Err}
 use Rattle.wc_controller.proofs.Blaming.{IsOne, one_input}
 use Rattle.wc_controller.specs.Blames.{Blames, RefusesProgram}
-use Rattle.wc_endings.specs.Endings.{HasNotFailedIn, IsAt, RefusesLength, TakesInput, ReportsReadEndings, ReportsReadFaults, fault_ending, status_of}
-use Rattle.wc_endings.specs.declared.ending.Ending.TheVariants as ended
-use Rattle.wc_endings.specs.declared.ending.Ending.{Ending}
+use Rattle.wc_controller.specs.Endings.{HasNotFailedIn, IsAt, RefusesLength, TakesInput, ReportsReadEndings, ReportsReadFaults, fault_ending, status_of}
+use Rattle.wc_controller.specs.declared.ending.Ending.TheVariants as ended
+use Rattle.wc_controller.specs.declared.ending.Ending.{Ending}
 use Rattle.wc_job.specs.declared.input.Input.{Input}
-use Rattle.wc_endings.specs.declared.ending.Stopped.{Stopped}
+use Rattle.wc_controller.specs.declared.ending.Stopped.{Stopped}
 use Rattle.wc_run.specs.Runs.{HasNotFailed}
 use Rattle.wc_run.specs.declared.fault.RunFault.{RunFault}
 use Rattle.wc_run.specs.declared.fault.RunFault.TheVariants.{Refused, Read, Write, Memory}

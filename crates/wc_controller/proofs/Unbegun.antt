@@ -1,15 +1,12 @@
 -- What is so of a run whose observer does not begin: it refuses, or memory is wanted.
-use Rattle.std.proofs.Common.{◌≡◌, ℕ, List, Bool, Option, Err, refl, arith}
-use Rattle.std.specs.Prelude.{IfSome}
+use Rattle.wc_model.proofs.Common.{◌≡◌, ℕ, List, Bool, Option, Err, refl, arith, IfSome}
 use Rattle.wc_controller.proofs.Allowing.{on_each}
 use Rattle.wc_controller.proofs.Blaming.{IsOne, one_input}
-use Rattle.wc_controller.specs.Blames.{RefusesLog}
-use Rattle.wc_endings.specs.Endings.{begin_fault_input}
+use Rattle.wc_controller.specs.{RefusesLog, begin_fault_input}
 use Rattle.wc_job.specs.declared.input.Input.{Input}
 use Rattle.wc_job.specs.declared.input.Input.TheVariants as input
 use Rattle.wc_model.specs.Run.Log.{LogOf, Record}
-use Rattle.wc_run.specs.Observing.{RefusesToBegin}
-use Rattle.wc_run.specs.Runs.{HasNotFailed, ReportsWrite}
+use Rattle.wc_run.specs.{RefusesToBegin, HasNotFailed, ReportsWrite}
 use Rattle.wc_run.specs.declared.fault.RunFault.{RunFault}
 use Rattle.wc_run.specs.declared.fault.RunFault.TheVariants.{Refused, Read, Write, Memory}
 

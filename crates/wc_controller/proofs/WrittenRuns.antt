@@ -1,31 +1,17 @@
 -- What is said of the bytes that were written of a run, from its log to its inputs.
-use Rattle.std.proofs.Common.{◌≡◌, ℕ, ◌≤◌, Bool, List, length, Option, Some, None, Result, Ok, Err, sym, subst, ◌∙◌}
-use Rattle.std.specs.Io.KnownBytes.{Appends, Keeps}
+use Rattle.wc_model.proofs.Common.{◌≡◌, ℕ, ◌≤◌, Bool, List, length, Option, Some, None, Result, Ok, Err, sym, subst, ◌∙◌, Appends, Keeps}
 use Rattle.std.specs.Prelude.{◌≢◌, IfErr, IfSome}
 use Rattle.wc_controller.proofs.Allowing.{of_known, on_known}
-use Rattle.wc_endings.specs.Endings.{EndsAfter, EndsAfterFault, EndsRefused, IsAt, begin_fault_input, ending_of, fault_ending, fault_raised, raised}
-use Rattle.wc_controller.specs.InputStates.{InputStates, Reader}
-use Rattle.wc_controller.specs.TakenLogs.{AreReadOf, IfKnown, IsNextLoadedOf, OfLogic, log_by}
-use Rattle.wc_controller.specs.WrittenRuns.{EndsSaying, EndsUnwritten, IsUnwritten, OfRun, OfStart, OnEnd, OnRefusal, says_of}
-use Rattle.wc_endings.specs.declared.ending.Ending.{Ending}
-use Rattle.wc_endings.specs.declared.ending.Ending.TheVariants as ended
+use Rattle.wc_controller.specs.{EndsAfter, EndsAfterFault, EndsRefused, IsAt, begin_fault_input, ending_of, fault_ending, fault_raised, raised, InputStates, Reader, AreReadOf, IfKnown, IsNextLoadedOf, OfLogic, log_by, EndsSaying, EndsUnwritten, IsUnwritten, OfRun, OfStart, OnEnd, OnRefusal, says_of}
+use Rattle.wc_controller.specs.declared.ending.Ending.{Ending}
+use Rattle.wc_controller.specs.declared.ending.Ending.TheVariants as ended
 use Rattle.wc_job.specs.declared.input.Input.{Input}
 use Rattle.wc_job.specs.declared.input.Input.TheVariants as input
-use Rattle.wc_endings.specs.declared.ending.Stopped.{Stopped}
+use Rattle.wc_controller.specs.declared.ending.Stopped.{Stopped}
 use Rattle.wc_cost.specs.LoadedTexts.{LoadedText}
-use Rattle.wc_model.specs.Instrument.PlateTable.{plate_of}
-use Rattle.wc_model.specs.Instrument.Plates.{PlateData}
-use Rattle.wc_model.specs.Language.Loading.{IsLoaded}
-use Rattle.wc_model.specs.Language.Tree.{Text}
-use Rattle.wc_model.specs.Language.Views.{text_view}
-use Rattle.wc_model.specs.Run.JobSections.{longest_job}
-use Rattle.wc_model.specs.Run.Log.{LogOf}
-use Rattle.wc_model.specs.Say.Job.{refused_text}
-use Rattle.wc_model.specs.Say.ProgramReport.{Logic, first_logic}
+use Rattle.wc_model.specs.Definitions.{plate_of, PlateData, IsLoaded, Text, text_view, longest_job, LogOf, refused_text, Logic, first_logic}
 use Rattle.wc_plate.specs.TomlTable.{table_read}
-use Rattle.wc_run.specs.Doing.{Ended, EndsWhole}
-use Rattle.wc_run.specs.Logics.{text_of_next}
-use Rattle.wc_run.specs.Observing.{RefusesToBegin, Start}
+use Rattle.wc_run.specs.{Ended, EndsWhole, text_of_next, RefusesToBegin, Start}
 use Rattle.wc_run.specs.declared.fault.RunFault.{RunFault}
 use Rattle.wc_run.specs.declared.fault.RunFault.TheVariants.{Refused, Read, Write, Memory}
 

@@ -1,15 +1,12 @@
 -- What a refusal says of the input that it names. (The profile's own.)
 use Rattle.std.specs.Prelude.{◌≡◌, ⊤, ℕ, ◌<◌, ◌≤◌, ◌⊎◌, List, length, Option, Some, None, IfSome, is_some, Result, Ok, Err}
 use Rattle.wc_controller.specs.TakenLogs.{log_alongside}
-use Rattle.wc_endings.specs.declared.ending.Ending.{Ending}
-use Rattle.wc_endings.specs.declared.ending.Ending.TheVariants as ended
+use Rattle.wc_controller.specs.declared.ending.Ending.{Ending}
+use Rattle.wc_controller.specs.declared.ending.Ending.TheVariants as ended
 use Rattle.wc_job.specs.declared.input.Input.{Input}
 use Rattle.wc_job.specs.declared.input.Input.TheVariants as input
-use Rattle.wc_endings.specs.declared.ending.Stopped.{Stopped}
-use Rattle.wc_model.specs.Instrument.PlateTable.{plate_of}
-use Rattle.wc_model.specs.Language.Loading.{IsRefused}
-use Rattle.wc_model.specs.Run.JobSections.{Sections, longest_job}
-use Rattle.wc_model.specs.Run.Log.{LogOf, Record}
+use Rattle.wc_controller.specs.declared.ending.Stopped.{Stopped}
+use Rattle.wc_model.specs.Definitions.{plate_of, IsRefused, Sections, longest_job, LogOf, Record}
 use Rattle.wc_plate.specs.TomlTable.{table_read}
 use Rattle.wc_record.specs.Reported.{record_at, records_read}
 use Rattle.wc_run.specs.declared.fault.RunFault.{RunFault}

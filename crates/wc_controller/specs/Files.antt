@@ -1,20 +1,34 @@
--- What a command answers for the files that it names: its output and its exit status. A plate or a
+-- What a command answers for the files that it names, or for a job: its output and its exit status. A plate or a
 -- program is read whole and checked before the next file is read. (The profile's own.)
-use Rattle.std.specs.Prelude.{◌≡◌, ℕ, ◌<◌, ◌≤◌, Bool, true, List, length, Option, Some, None, Result, Ok, Err, if◌then◌else◌}
-use Rattle.wc_model.specs.Instrument.PlateTable.{plate_of}
-use Rattle.wc_model.specs.Instrument.Plates.{PlateData}
-use Rattle.wc_model.specs.Language.Loading.{IsLoaded, IsRefused}
-use Rattle.wc_model.specs.Language.Tree.{Text}
-use Rattle.wc_model.specs.Run.JobSections.{longest_job}
-use Rattle.wc_model.specs.Run.Log.{LogOf, log_of}
-use Rattle.wc_model.specs.Say.Job.{AnswersProgram, JobAnswer, after_report, refusing, run_answer}
-use Rattle.wc_model.specs.Say.LogFor.{log_for}
-use Rattle.wc_model.specs.Say.ProgramReport.{Logic, first_logic}
-use Rattle.wc_model.specs.Say.UnitReport.{IsUnitReport}
+use Rattle.std.specs.Prelude.{◌≡◌, ℕ, ◌⊎◌, List, Option, ◌<◌, ◌≤◌, Bool, true, length, Some, None, Result, Ok, Err, if◌then◌else◌}
+use Rattle.std.specs.Io.KnownBytes.{Appends, Keeps}
+use Rattle.wc_model.specs.Definitions.{JobAnswer, AnswersJob, AnswersPlate, AnswersProgram, after_report, refusing, run_answer, Sections, longest_job, plate_of, PlateData, IsLoaded, IsRefused, Text, LogOf, log_of, log_for, Logic, first_logic, IsUnitReport}
 use Rattle.wc_plate.specs.TomlTable.{table_read}
 use Rattle.wc_record.specs.Reading.{records_of}
-use Rattle.wc_run.specs.Observing.{Written}
-use Rattle.wc_run.specs.Runs.{report_written}
+use Rattle.wc_run.specs.{AppendsPrefix, report_written, Written}
+
+-- an answer to a job: that of the definitions, over what `toml` and `csv` read
+abbrev pub Allows : List ℕ → JobAnswer → Type 0
+Allows bytes answer = AnswersJob table_read records_of bytes answer
+
+-- likewise for the sections of a job
+abbrev pub AllowsSections : Sections → JobAnswer → Type 0
+AllowsSections sections answer = AnswersPlate records_of sections (plate_of (table_read sections.plate)) answer
+
+-- a status that says that something failed: a device, or the memory
+abbrev pub IsFailure : ℕ → Type 0
+IsFailure status = (status ≡ 3) ⊎ (status ≡ 4)
+
+-- a status that a job may have
+abbrev pub IsStatus : ℕ → Type 0
+IsStatus status = (status ≡ 0) ⊎ (status ≡ 1) ⊎ (status ≡ 3) ⊎ (status ≡ 4)
+
+-- An answer that is allowed was written whole, and the status is its own; or something failed, and
+-- a prefix of such an answer was written, or nothing.
+pub data Gives (allowed : JobAnswer → Type 0) (status : ℕ) (old new : Option (List ℕ)) : Type 0 where
+  answered : (answer : JobAnswer) → allowed answer → status ≡ answer.status → Appends old new answer.output → Gives allowed status old new
+  cut_short : (answer : JobAnswer) → allowed answer → IsFailure status → AppendsPrefix old new answer.output → Gives allowed status old new
+  silent : IsFailure status → Keeps old new → Gives allowed status old new
 
 -- a file that is longer than a job may be is refused; of any other the rest says what is answered
 pub data AnswersFile (bytes : List ℕ) (rest : JobAnswer → Type 0) (answer : JobAnswer) : Type 0 where

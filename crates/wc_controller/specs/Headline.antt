@@ -1,21 +1,45 @@
--- The headline, stated of the definitions: the meaning of the text, its bound, and the report.
--- (The profile's own.)
-use Rattle.std.specs.Prelude.{◌≡◌, ◌≤◌, ℕ, List, length, reverse, Option, None}
+-- The headline, stated of the definitions: the meaning of the text, its bound, and the report, also of programs that follow one
+-- another with a scale. (The profile's own.)
+use Rattle.std.specs.Prelude.{⊤, ℕ, List, [], ◌∷◌, ◌≡◌, ◌≤◌, length, reverse, Option, None}
+use Rattle.wc_model.specs.Definitions.{PlateData, carried, IsLoaded, IsNextLoaded, Store, Text, Past, LogRow, scans_of, Logic, first_logic, logic_following, programs, Program, ScanResult, state_after, IsFreeOfPrograms, Outcome, Done, Stuck, IsProgramBound, image_after, AreRun}
+use Rattle.wc_model.specs.Language.Scans.{initial_of, outputs_of, scan_of}
 use Rattle.wc_laws_instrument.specs.Changes.{HasNoChange}
-use Rattle.wc_model.specs.Instrument.Independence.{IsFreeOfPrograms}
-use Rattle.wc_model.specs.Language.Loading.{IsLoaded, IsNextLoaded}
-use Rattle.wc_model.specs.Language.Meaning.{Outcome, Done, Stuck}
-use Rattle.wc_model.specs.Language.Paths.{IsProgramBound}
-use Rattle.wc_model.specs.Instrument.Plates.{PlateData}
-use Rattle.wc_model.specs.Run.ProcessImage.{image_after}
-use Rattle.wc_model.specs.Say.LogFor.{AreRun}
-use Rattle.wc_model.specs.Say.ProgramReport.{Logic, first_logic, logic_following, programs}
-use Rattle.wc_model.specs.Run.Rows.{LogRow, Past}
-use Rattle.wc_model.specs.Language.Scans.{outputs_of, scan_of}
-use Rattle.wc_model.specs.Language.Store.{Store}
-use Rattle.wc_model.specs.Say.Report.{ScanResult}
-use Rattle.wc_model.specs.Language.Tree.{Text}
-use Rattle.wc_controller.specs.Turns.{AreLoaded, Turns, first_turn, in_turn, turns_after}
+
+-- the text that runs, the store from which its next scan goes on, and the texts that follow
+pub record Turns : Type 0 where
+  pub text : Text
+  pub store : Store
+  pub nexts : List Text
+
+-- a text before its first scan, and those that follow it
+abbrev pub first_turn : Text → List Text → Turns
+first_turn text nexts = record { text = text; store = initial_of text; nexts = nexts }
+
+-- what a scan shows, and the text with the store that the scan leaves
+abbrev pub with_store : Turns → ScanResult Store → ScanResult Turns
+with_store turns result =
+    record { steps = result.steps; outputs = result.outputs; after = record { text = turns.text; store = result.after; nexts = turns.nexts } }
+
+-- a change takes the first text that follows, which goes on from what is carried over; if none follows nothing changes
+abbrev pub change_in : Text → Store → List Text → Turns
+change_in text store [] = record { text = text; store = store; nexts = [] }
+change_in text store (new ∷ nexts) = record { text = new; store = carried text store new; nexts = nexts }
+
+-- the programs in turn, with a scale
+abbrev pub in_turn : Program Turns
+in_turn = record {
+  scan = λ turns image ms. with_store turns (scans_of turns.text turns.store image ms);
+  change = λ turns. change_in turns.text turns.store turns.nexts;
+}
+
+-- what runs after whatever rows have come, newest first
+abbrev pub turns_after : PlateData → Turns → Past → Turns
+turns_after plate turns past = state_after plate in_turn turns past
+
+-- each text is loaded from some bytes
+abbrev pub AreLoaded : List Text → Type 0
+AreLoaded [] = ⊤
+AreLoaded (text ∷ texts) = ((bytes : List ℕ) × IsLoaded bytes text) × AreLoaded texts
 
 -- the outcome is done, in at most n items
 abbrev pub EndsWithin : ℕ → Outcome → Type 0

@@ -1,20 +1,10 @@
 -- The headline of a run: for known bytes the text that is loaded, its headline, and that what is
 -- written is what belongs to the rows of the log. (The profile's own.)
 use Rattle.std.specs.Prelude.{◌≡◌, ⊤, ℕ, List, Option, Some, None, IfSome, Ok}
-use Rattle.wc_controller.specs.Files.{AnswersRun, Observed, answer_written}
+use Rattle.wc_controller.specs.Files.{AnswersRun, Observed, answer_written, Allows}
 use Rattle.wc_controller.specs.Headline.{HasTheHeadline}
-use Rattle.wc_controller.specs.InputStates.{InputStates, Reader}
-use Rattle.wc_controller.specs.Jobs.{Allows}
-use Rattle.wc_controller.specs.TakenLogs.{IfKnown}
-use Rattle.wc_model.specs.Instrument.PlateTable.{plate_of}
-use Rattle.wc_model.specs.Instrument.Plates.{PlateData}
-use Rattle.wc_model.specs.Language.Loading.{IsLoaded}
-use Rattle.wc_model.specs.Language.Tree.{Text}
-use Rattle.wc_model.specs.Run.JobSections.{Sections, sections_of}
-use Rattle.wc_model.specs.Run.Log.{LogOf, log_of}
-use Rattle.wc_model.specs.Say.Job.{JobAnswer, refusing, run_answer}
-use Rattle.wc_model.specs.Say.LogFor.{AreRun, log_for}
-use Rattle.wc_model.specs.Say.ProgramReport.{Logic, first_logic}
+use Rattle.wc_controller.specs.TakenLogs.{InputStates, Reader, IfKnown}
+use Rattle.wc_model.specs.Definitions.{plate_of, PlateData, IsLoaded, Text, Sections, sections_of, LogOf, log_of, JobAnswer, refusing, run_answer, AreRun, log_for, Logic, first_logic}
 use Rattle.wc_plate.specs.TomlTable.{table_read}
 use Rattle.wc_record.specs.Reading.{records_of}
 

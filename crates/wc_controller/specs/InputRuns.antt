@@ -1,19 +1,16 @@
 -- What a run does with its inputs, and how it ends. (The profile's own.)
 use Rattle.std.specs.Prelude.{◌≡◌, ℕ, Option, Some, None, IfSome, IsSome, Result, true, false, is_some}
 use Rattle.wc_controller.specs.Blames.{Blames, RefusesLog, RefusesProgram}
-use Rattle.wc_endings.specs.Endings.{EndsAs, HasNotFailedIn, IsAt, RefusesPlate, TakesInput, ReportsFailures, ReportsMemory, ReportsReadEndings, ReportsWriteFaults, WritesUpTo, ending_of, raised}
+use Rattle.wc_controller.specs.Endings.{EndsAs, HasNotFailedIn, IsAt, RefusesPlate, TakesInput, ReportsFailures, ReportsMemory, ReportsReadEndings, ReportsWriteFaults, WritesUpTo, ending_of, raised}
 use Rattle.wc_controller.specs.Files.{AnswersLine, AnswersRun, Observed}
-use Rattle.wc_controller.specs.InputStates.{InputStates, Reader, Writer}
-use Rattle.wc_controller.specs.TakenLogs.{IfKnown, failures_of, known_of, log_taken}
-use Rattle.wc_endings.specs.declared.ending.Ending.{Ending}
-use Rattle.wc_endings.specs.declared.ending.Ending.TheVariants as ended
+use Rattle.wc_controller.specs.TakenLogs.{InputStates, Reader, Writer, IfKnown, failures_of, known_of, log_taken}
+use Rattle.wc_controller.specs.declared.ending.Ending.{Ending}
+use Rattle.wc_controller.specs.declared.ending.Ending.TheVariants as ended
 use Rattle.wc_job.specs.declared.input.Input.TheVariants as input
-use Rattle.wc_endings.specs.declared.ending.Stopped.{Stopped}
-use Rattle.wc_model.specs.Run.Log.{Record}
-use Rattle.wc_model.specs.Say.Job.{JobAnswer}
+use Rattle.wc_controller.specs.declared.ending.Stopped.{Stopped}
+use Rattle.wc_model.specs.Definitions.{Record, JobAnswer}
 use Rattle.wc_record.specs.Left.{HasCause}
-use Rattle.wc_run.specs.Observing.{text_in_all}
-use Rattle.wc_run.specs.Reports.{silent_plan}
+use Rattle.wc_run.specs.{text_in_all, silent_plan}
 
 -- this holds of the answers that are allowed for these inputs, with a program or with none, if the bytes of all that are read
 -- are known

@@ -1,7 +1,6 @@
 -- Why a text is not loaded. (The profile's own.)
 use Rattle.std.specs.Prelude.{◌≡◌, ℕ, List}
-use Rattle.wc_model.specs.Language.Loading.{IsLoaded, IsRefused}
-use Rattle.wc_model.specs.Language.Tree.{Text}
+use Rattle.wc_model.specs.Definitions.{IsLoaded, IsRefused, Text}
 use Rattle.wc_model.specs.declared.fault.Fault.{Fault}
 use Rattle.wc_model.specs.declared.fault.Fault.TheVariants.{Memory, Refused}
 

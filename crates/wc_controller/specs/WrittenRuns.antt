@@ -1,23 +1,15 @@
 -- What an observer says of the bytes that were written of a run that came to its log's end, or to a refused row. (The profile's own.)
 use Rattle.std.specs.Prelude.{◌≡◌, ◌≢◌, ⊤, ℕ, List, Option, Some, None, IfSome, Result, Ok, Err, option_map}
 use Rattle.std.specs.Io.KnownBytes.{Appends, Keeps}
-use Rattle.wc_controller.specs.InputStates.{InputStates, Reader}
-use Rattle.wc_controller.specs.TakenLogs.{IfKnown, OfLogic, log_by}
+use Rattle.wc_controller.specs.TakenLogs.{InputStates, Reader, IfKnown, OfLogic, log_by}
 use Rattle.wc_controller.specs.declared.loaded.RunPrograms.{RunPrograms}
-use Rattle.wc_endings.specs.declared.ending.Ending.{Ending}
-use Rattle.wc_endings.specs.declared.ending.Ending.TheVariants as ended
+use Rattle.wc_controller.specs.declared.ending.Ending.{Ending}
+use Rattle.wc_controller.specs.declared.ending.Ending.TheVariants as ended
 use Rattle.wc_job.specs.declared.input.Input.TheVariants as input
-use Rattle.wc_endings.specs.declared.ending.Stopped.{Stopped}
-use Rattle.wc_model.specs.Instrument.PlateTable.{plate_of}
-use Rattle.wc_model.specs.Instrument.Plates.{PlateData}
-use Rattle.wc_model.specs.Language.Loading.{IsLoaded}
-use Rattle.wc_model.specs.Language.Tree.{Text}
-use Rattle.wc_model.specs.Run.Log.{LogOf}
-use Rattle.wc_model.specs.Say.Job.{refused_text}
-use Rattle.wc_model.specs.Say.ProgramReport.{Logic}
+use Rattle.wc_controller.specs.declared.ending.Stopped.{Stopped}
+use Rattle.wc_model.specs.Definitions.{plate_of, PlateData, IsLoaded, Text, LogOf, refused_text, Logic}
 use Rattle.wc_plate.specs.TomlTable.{table_read}
-use Rattle.wc_run.specs.Doing.{Ended}
-use Rattle.wc_run.specs.Observing.{Start, loaded_of, logic_of}
+use Rattle.wc_run.specs.{Ended, Start, loaded_of, logic_of}
 use Rattle.wc_run.specs.declared.fault.RunFault.{RunFault}
 use Rattle.wc_run.specs.declared.fault.RunFault.TheVariants.{Refused}
 use Rattle.wc_run.specs.declared.program.Program.{Program}

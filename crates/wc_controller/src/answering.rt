@@ -1,21 +1,19 @@
 ghost use Rattle.std.specs.Prelude.{◌≡◌, ◌⊎◌, ℕ, List, Some, IfSome, Ok};
 ghost use Rattle.wc_controller.specs.Blames.{BlamesPart, StopsForPart};
-ghost use Rattle.wc_endings.specs.Endings.{EndsAs, IsReadFaultAt, TakesInput, ReportsFailures, ReportsReadEndings, ReportsReadFaults, ReportsWriteFaults, WritesUpTo, fault_in_memory, raised};
+ghost use Rattle.wc_controller.specs.Endings.{EndsAs, IsReadFaultAt, TakesInput, ReportsFailures, ReportsReadEndings, ReportsReadFaults, ReportsWriteFaults, WritesUpTo, fault_in_memory, raised};
 ghost use Rattle.wc_controller.specs.Frames.{AnswersInFrames};
 ghost use Rattle.wc_controller.specs.HeadlineRuns.{AnswersByTheHeadline};
-ghost use Rattle.wc_controller.specs.Jobs.{Allows, AllowsSections, Gives, IsStatus};
+ghost use Rattle.wc_controller.specs.Files.{Allows, AllowsSections, Gives, IsStatus};
 ghost use Rattle.wc_job.specs.Views.{sections_view};
 ghost use Rattle.wc_laws_loading.specs.Laws.{HasOne};
-ghost use Rattle.wc_model.specs.Instrument.Plates.{IsPlate, PlateData};
-ghost use Rattle.wc_model.specs.Run.JobSections.{sections_of};
-ghost use Rattle.wc_model.specs.Run.Writing.{HasFailedSince};
+ghost use Rattle.wc_model.specs.Definitions.{IsPlate, PlateData, sections_of, HasFailedSince};
 ghost use Rattle.wc_record.specs.Reported.{fields_reported};
 
+use crate::ending::{Ending, Stopped, end};
 use crate::loaded::{RunPrograms, load_input, run_loaded};
 use crate::reading::read_input;
 use std::alloc::Global;
-use wc_endings::{Ending, Input, Stopped, end};
-use wc_job::{Sections, sections};
+use wc_job::{Input, Sections, sections};
 use wc_model::{ByteIn, ByteOut, Device};
 use wc_plate::plate;
 use wc_record::RefusedRow;

@@ -1,20 +1,20 @@
 ghost use Rattle.std.specs.Prelude.{◌≡◌, IfErr, IfSome, IfOk};
 ghost use Rattle.wc_controller.specs.Checking.{Checks, ChecksAlone};
-ghost use Rattle.wc_endings.specs.Endings.{EndsAs, IsAt, TakesInput, ReportsFailures, ReportsReadEndings, ReportsReadFaults, ReportsWriteFaults, WritesUpTo, raised};
+ghost use Rattle.wc_controller.specs.Endings.{EndsAs, IsAt, TakesInput, ReportsFailures, ReportsReadEndings, ReportsReadFaults, ReportsWriteFaults, WritesUpTo, raised};
 ghost use Rattle.wc_controller.specs.Files.{AnswersCheckFile};
 ghost use Rattle.wc_run.specs.Runs.{ReportsWrites};
 ghost use Rattle.wc_controller.specs.Loads.{IsNeverRefused, IsRefusedLoad, IsTheOnlyRefusal};
-ghost use Rattle.wc_model.specs.Language.Views.{text_view};
+ghost use Rattle.wc_model.specs.Definitions.{text_view, PlateData, IsLoaded};
 ghost use Rattle.wc_controller.specs.Headline.{HasTheHeadline, IsTheHeadline};
-ghost use Rattle.wc_model.specs.Instrument.Plates.{PlateData};
-ghost use Rattle.wc_laws_loading.specs.Sizes.{IsSmall};
-ghost use Rattle.wc_model.specs.Language.Loading.{IsLoaded};
+ghost use Rattle.wc_laws_loading.specs.Laws.{IsSmall};
 
+use crate::ending::{Ending, Stopped, end};
 use crate::reading::read_input;
+use crate::unit_lines::write_units;
 use std::alloc::Global;
 use wc_cost::{Loaded, cost};
 use wc_declare::tables;
-use wc_endings::{Ending, Input, Stopped, end, write_units};
+use wc_job::Input;
 use wc_model::{ByteIn, ByteOut, Fault};
 use wc_reader::read;
 use wc_run::RunFault;

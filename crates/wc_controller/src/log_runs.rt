@@ -1,9 +1,6 @@
 ghost use Rattle.std.specs.Prelude.{◌≡◌, ◌≤◌, Option, Some, None, IfSome, IsErrOf};
-ghost use Rattle.wc_model.specs.Run.Log.{log_of};
-ghost use Rattle.wc_model.specs.Say.LogFor.{log_for};
-ghost use Rattle.wc_model.specs.Say.ProgramReport.{Logic};
-ghost use Rattle.wc_record.specs.Left.{HasCause};
-ghost use Rattle.wc_record.specs.Reading.{records_of};
+ghost use Rattle.wc_model.specs.Definitions.{log_of, log_for, Logic};
+ghost use Rattle.wc_record.specs.{HasCause, records_of};
 ghost use Rattle.wc_run.specs.Logics.{IsAt};
 ghost use Rattle.wc_run.specs.Runs.{HasNotFailed, LeavesLine, Reports, ReportsWrites};
 

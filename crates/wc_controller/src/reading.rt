@@ -1,13 +1,12 @@
 ghost use Rattle.std.specs.Prelude.{◌≡◌, ℕ, IfErr, IfOk, IfSome, IsSome, option_map};
-ghost use Rattle.wc_endings.specs.Endings.{ReadsPlate, RefusesLength, TakesInput, ReportsReadFaults, ReportsWriteFaults, raised};
-ghost use Rattle.wc_endings.specs.Endings as endings;
-ghost use Rattle.wc_controller.specs.InputStates.{optional_of};
-ghost use Rattle.wc_controller.specs.TakenLogs.{AreReadOf, failures_of, known_of};
-ghost use Rattle.wc_job.specs.Reads.{IsWhole};
+ghost use Rattle.wc_controller.specs.Endings.{ReadsPlate, RefusesLength, TakesInput, ReportsReadFaults, ReportsWriteFaults, raised};
+ghost use Rattle.wc_controller.specs.Endings as endings;
+ghost use Rattle.wc_controller.specs.TakenLogs.{optional_of, AreReadOf, failures_of, known_of};
+ghost use Rattle.wc_job.specs.Views.{IsWhole};
 
+use crate::ending::Stopped;
 use std::alloc::Global;
-use wc_endings::{Input, Stopped};
-use wc_job::{ReadFault, read_whole};
+use wc_job::{Input, ReadFault, read_whole};
 use wc_model::ByteIn;
 use wc_plate::{Plate, plate};
 use wc_run::RunFault;

@@ -1,22 +1,21 @@
 ghost use Rattle.std.specs.Prelude.{◌≡◌, ◌≤◌, false};
-ghost use Rattle.wc_endings.specs.Endings.{EndsAs, IsAt, StopsAt};
+ghost use Rattle.wc_controller.specs.Endings.{EndsAs, IsAt, StopsAt};
 ghost use Rattle.wc_controller.specs.Files.{report_observed};
-ghost use Rattle.wc_controller.specs.Frames.{AnswersInFrames};
+ghost use Rattle.wc_controller.specs.Frames.{AnswersInFrames, AnswersAreShort};
 ghost use Rattle.wc_controller.specs.HeadlineRuns.{OfRunsByTheHeadline};
 ghost use Rattle.wc_controller.specs.InputRuns.{RunsAs, RunsUpTo};
-ghost use Rattle.wc_controller.specs.InputStates.{observed_by, writer_of};
-ghost use Rattle.wc_controller.specs.ShortAnswers.{AnswersAreShort};
-ghost use Rattle.wc_controller.specs.TakenLogs.{OfPrograms};
+ghost use Rattle.wc_controller.specs.TakenLogs.{observed_by, writer_of, OfPrograms};
 ghost use Rattle.wc_controller.specs.WrittenRuns.{EndsSaying, IsUnwritten, OfRun, OnEnd, says_of};
 ghost use Rattle.wc_model.specs.Instrument.Plates.{IsPlate, PlateData};
 ghost use Rattle.wc_record.specs.Reported.{fields_reported};
 ghost use Rattle.wc_run.specs.Observing.{said_by};
 
+use crate::ending::{Ending, Stopped, end};
 use crate::loaded::{RunPrograms, load_input, run_alone, run_loaded};
 use crate::reading::{borrowed, read_optional, read_plate};
 use std::alloc::Global;
 use std::marker::Model;
-use wc_endings::{Ending, Input, Stopped, end};
+use wc_job::Input;
 use wc_model::{ByteIn, ByteOut};
 use wc_record::RefusedRow;
 use wc_run::{LastScans, Observer, Report};
@@ -39,7 +38,7 @@ pub struct RunInputs<P: ByteIn, T: ByteIn, N: ByteIn, L: ByteIn> {
 }
 
 impl<P: ByteIn, T: ByteIn, N: ByteIn, L: ByteIn> Model for RunInputs<P, T, N, L> {
-    ghost use Rattle.wc_controller.specs.InputStates.{InputStates, inputs_of, optional_of, reader_of};
+    ghost use Rattle.wc_controller.specs.TakenLogs.{InputStates, inputs_of, optional_of, reader_of};
 
     ghost Value = { InputStates };
 

@@ -1,14 +1,8 @@
 -- A place keeps the value of a place of its own kind.
-use Rattle.std.proofs.Common.{◌≡◌, ℕ, Bool, true, false, Option, Some, None, option_map, refl, sym, ap, ◌∙◌}
-use Rattle.std.specs.Prelude.{IfSome, if◌then◌else◌, option_and_then, slice_get}
+use Rattle.wc_model.proofs.Common.{◌≡◌, ℕ, Bool, true, false, Option, Some, None, option_map, refl, sym, ap, ◌∙◌, IfSome, if◌then◌else◌, option_and_then, slice_get}
 use Rattle.wc_text_flat.proofs.Images.{first_numbers_are_contents}
-use Rattle.wc_model.specs.Language.Carried.{keeps}
-use Rattle.wc_model.specs.Language.CarriedPlaces.{carried_number, frame_of_text, number_if_kept}
-use Rattle.wc_model.specs.Language.Frames.{place_number, slot_kind_of, slot_kinds}
-use Rattle.wc_model.specs.Language.Scans.{initial_of}
+use Rattle.wc_model.specs.Definitions.{keeps, carried_number, frame_of_text, number_if_kept, place_number, slot_kind_of, slot_kinds, initial_of, Text, IsProgramLast}
 use Rattle.wc_model.specs.Language.Store.{Location, Content, Plain}
-use Rattle.wc_model.specs.Language.Tree.{Text}
-use Rattle.wc_model.specs.Text.Grammar.{IsProgramLast}
 use Rattle.wc_model.specs.declared.place.Place.{Place}
 use Rattle.wc_model.specs.declared.value.Value.TheVariants.{Bool as Truth}
 use Rattle.wc_laws_language.proofs.Carrying.{first_holds, kept_leads, one_fits}

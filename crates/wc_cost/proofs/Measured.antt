@@ -1,27 +1,18 @@
 -- Units that are lowered and measured one after the other.
-use Rattle.std.proofs.Common.{◌≡◌, ℕ, zero, suc, ◌+◌, ◌≤◌, List, [], ◌∷◌, ◌++◌, length, Option, Some, None, Err, append_assoc, refl, sym, ap, subst, ◌∙◌, arith, length-append, inl, inr}
+use Rattle.wc_model.proofs.Common.{◌≡◌, ℕ, zero, suc, ◌+◌, ◌≤◌, List, [], ◌∷◌, ◌++◌, length, Option, Some, None, Err, append_assoc, refl, sym, ap, subst, ◌∙◌, arith, length-append, inl, inr, slice_index}
 use Rattle.std.proofs.lemmas.List.{append-nil, length-map, map-append}
-use Rattle.std.specs.Prelude.{slice_index}
 use Rattle.wc_names.specs.RepresentsText.{onto}
 use Rattle.wc_text_flat.proofs.FlatPaths.{BlocksMeasured, MeasuredAs}
 use Rattle.wc_text_flat.proofs.UnitPaths.{AreBoundsAfter, blocks_step, measured_is_worst, measured_path, unit_measured}
-use Rattle.wc_text_flat.specs.FlatPaths.{sources_of, worst_of}
-use Rattle.wc_text_flat.specs.Lowered.{AreLoweredAfter, IsLowered}
-use Rattle.wc_text_flat.specs.Laws.{AreBoundsBelow}
+use Rattle.wc_text_flat.specs.{sources_of, worst_of, AreLoweredAfter, IsLowered, AreBoundsBelow}
 use Rattle.wc_laws_language.proofs.Longest.{Found, best_block, best_path}
-use Rattle.wc_model.specs.Language.Checks.{Refusal, positions_after}
-use Rattle.wc_model.specs.Language.Faults.{FirstTooLong, IsShortEnough, MOST_STEPS}
-use Rattle.wc_model.specs.Language.Scopes.{Scope}
-use Rattle.wc_model.specs.Language.Traces.{Item, own_lines}
-use Rattle.wc_model.specs.Language.Tree.{ProgramUnit}
+use Rattle.wc_model.specs.Definitions.{Refusal, positions_after, FirstTooLong, IsShortEnough, MOST_STEPS, Scope, Item, own_lines, ProgramUnit}
 use Rattle.wc_model.specs.declared.code.Code.{Code}
 use Rattle.wc_model.specs.declared.fault.Fault.{Fault}
 use Rattle.wc_model.specs.declared.fault.Fault.TheVariants.{Refused, Memory}
 use Rattle.wc_laws_language.proofs.Places.{Some-same}
-use Rattle.wc_laws_language.specs.Sound.{NestsSimply}
-use Rattle.wc_cost.specs.Faultless.{AreLoaded, IsMeasured, IsOverrun, LoadsUnits, MeasuresUnit}
-use Rattle.wc_cost.specs.LoadedInside.{AreLines, bounds_of, codes_of}
-use Rattle.wc_cost.specs.PathLengths.{AreSmall}
+use Rattle.wc_laws_language.specs.SoundnessLaws.{NestsSimply}
+use Rattle.wc_cost.specs.{AreLoaded, IsMeasured, IsOverrun, LoadsUnits, MeasuresUnit, AreLines, bounds_of, codes_of, AreSmall}
 use Rattle.wc_cost.specs.declared.units.LoweredUnit.{LoweredUnit}
 
 -- a unit that is lowered, with the length of its longest path

@@ -1,31 +1,17 @@
 -- The units of a text that breaks no rule.
-use Rattle.std.proofs.Common.{◌≡◌, ℕ, zero, suc, ◌+◌, ◌<◌, ◌≤◌, List, [], ◌∷◌, map, length, Some, sym, ap, subst, ◌∙◌, arith}
-use Rattle.std.proofs.lemmas.List.{length-map}
-use Rattle.std.specs.List.{flat_map}
-use Rattle.std.specs.Prelude.{slice_get}
-use Rattle.wc_names.specs.Numbered.{IsUnit}
-use Rattle.wc_names.specs.RepresentsText.{onto}
+use Rattle.wc_model.proofs.Common.{◌≡◌, ℕ, zero, suc, ◌+◌, ◌<◌, ◌≤◌, List, [], ◌∷◌, map, length, Some, sym, ap, subst, ◌∙◌, arith, slice_get, length-map, flat_map}
+use Rattle.wc_names.specs.{IsUnit, onto}
 use Rattle.wc_text_flat.proofs.Shortness.{in_sequence, lines_short, tokens_fit}
 use Rattle.wc_text_flat.specs.Lowered.{flat_length}
-use Rattle.wc_model.specs.Language.BodyRules.{body_rules, text_body_checks}
+use Rattle.wc_model.specs.Definitions.{body_rules, text_body_checks, body_name_checks, text_declaration_checks, unit_checks, unit_declaration_checks, scope_of_position, Scope, ProgramUnit, Text, InBody, line_ends, unit_of, each, ◌then◌, Mark, mark_of_token}
 use Rattle.wc_model.specs.Language.Checks.{Check, Position, positions_after}
-use Rattle.wc_model.specs.Language.DeclarationRules.{body_name_checks, text_declaration_checks, unit_checks, unit_declaration_checks}
-use Rattle.wc_model.specs.Language.Frames.{scope_of_position}
-use Rattle.wc_model.specs.Language.Scopes.{Scope}
-use Rattle.wc_model.specs.Language.Tree.{ProgramUnit, Text}
-use Rattle.wc_model.specs.Text.Grammar.{InBody, line_ends, unit_of}
-use Rattle.wc_model.specs.Text.Languages.{each, ◌then◌}
-use Rattle.wc_model.specs.Text.Marks.{Mark}
-use Rattle.wc_model.specs.Text.Reading.{mark_of_token}
 use Rattle.wc_laws_language.proofs.Places.{Some-same}
 use Rattle.wc_laws_language.proofs.Spelled.{spelled_text_nests}
 use Rattle.wc_laws_language.proofs.Steps.{clean_first, clean_second}
 use Rattle.wc_laws_language.proofs.Texts.{none_broken}
-use Rattle.wc_laws_language.specs.SoundnessLaws.{UnitsNestSimply}
-use Rattle.wc_laws_language.specs.Sound.{Clean, NestsSimply}
-use Rattle.wc_lowering.proofs.LowerableLines.{lines_lowerable}
-use Rattle.wc_cost.specs.Faultless.{IsFaultless, IsSpelled}
-use Rattle.wc_lowering.specs.Lowerable.{IsLowerable}
+use Rattle.wc_laws_language.specs.SoundnessLaws.{UnitsNestSimply, Clean, NestsSimply}
+use Rattle.wc_cost.proofs.LowerableLines.{lines_lowerable}
+use Rattle.wc_cost.specs.{IsFaultless, IsSpelled, IsLowerable}
 use Rattle.wc_verify.specs.CheckedTexts.{WasRead}
 
 -- the rules of a unit by its number

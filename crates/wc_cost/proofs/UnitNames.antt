@@ -1,17 +1,8 @@
 -- The units of a text that is read by their numbers; their names are ASCII, as they are spelled.
-use Rattle.std.proofs.Common.{◌≡◌, ◌<◌, ℕ, zero, suc, List, [], ◌∷◌, map, length, Some, option_map, ap, subst, sym, ◌∙◌, arith}
-use Rattle.std.proofs.lemmas.List.{length-map}
-use Rattle.std.proofs.lemmas.Option.{slice_get-map}
-use Rattle.std.specs.Prelude.{slice_get}
-use Rattle.std.specs.Str.{IsAscii}
+use Rattle.wc_model.proofs.Common.{◌≡◌, ◌<◌, ℕ, zero, suc, List, [], ◌∷◌, map, length, Some, option_map, ap, subst, sym, ◌∙◌, arith, slice_get, length-map, slice_get-map, IsAscii}
 use Rattle.wc_text_flat.proofs.Programs.{codes_length}
 use Rattle.wc_text_flat.specs.Lowered.{AreLowered}
-use Rattle.wc_model.specs.Language.Tree.{ProgramUnit, Text}
-use Rattle.wc_model.specs.Language.Views.{text_view, unit_view}
-use Rattle.wc_model.specs.Text.Grammar.{IsNameOf, line_ends, unit_of}
-use Rattle.wc_model.specs.Text.Languages.{Sequence, each, one, ◌then◌}
-use Rattle.wc_model.specs.Text.Marks.{Mark}
-use Rattle.wc_model.specs.Text.Reading.{IsRead, mark_of_token}
+use Rattle.wc_model.specs.Definitions.{ProgramUnit, Text, text_view, unit_view, IsNameOf, line_ends, unit_of, Sequence, each, one, ◌then◌, Mark, IsRead, mark_of_token}
 use Rattle.wc_model.specs.declared.code.Code.{Code}
 use Rattle.wc_model.specs.declared.source.Source.{Source}
 use Rattle.wc_model.specs.declared.source.Unit.{Unit as CodeUnit}

@@ -1,31 +1,18 @@
 -- What the cost of a whole text gives.
-use Rattle.std.proofs.Common.{◌≡◌, ℕ, ◌-◌, false, List, [], ◌∷◌, ◌++◌, map, length, Option, Some, None, Result, Err, Vec, Global, refl, sym, ap, subst, ◌∙◌, arith}
+use Rattle.wc_model.proofs.Common.{◌≡◌, ℕ, ◌-◌, false, List, [], ◌∷◌, ◌++◌, map, length, Option, Some, None, Result, Err, Vec, Global, refl, sym, ap, subst, ◌∙◌, arith, if◌then◌else◌, option_and_then, reverse, slice_get}
 use Rattle.std.proofs.lemmas.List.{append-nil, length-map, length-reverse, reverse-reverse}
-use Rattle.std.specs.Prelude.{if◌then◌else◌, option_and_then, reverse, slice_get}
-use Rattle.wc_names.specs.Numbered.{IsUnit}
-use Rattle.wc_names.specs.RepresentsText.{AreTables, onto}
+use Rattle.wc_names.specs.{IsUnit, AreTables, onto}
 use Rattle.wc_names.specs.declared.kept.Tables.{Tables}
 use Rattle.wc_text_flat.proofs.Programs.{codes_length}
 use Rattle.wc_text_flat.proofs.Texts.{newest}
-use Rattle.wc_text_flat.specs.Contents.{frame_of_reversed, frame_of_text}
-use Rattle.wc_text_flat.specs.Lowered.{AreLowered}
-use Rattle.wc_model.specs.Language.Carried.{lead_from, path_lead, same_lead, direct_lead}
-use Rattle.wc_model.specs.Language.CarriedPlaces.{carried_number, carried_within, number_if_kept, number_if_kept_within}
-use Rattle.wc_model.specs.Language.Declarations.{is_block}
-use Rattle.wc_model.specs.Language.Frames.{frame_of, place_number}
-use Rattle.wc_model.specs.Language.Scopes.{Scope}
-use Rattle.wc_model.specs.Language.Store.{Location, Direct, Path, Content, program_frame, unit_places}
-use Rattle.wc_model.specs.Language.Tree.{ProgramUnit, Text}
-use Rattle.wc_model.specs.Language.Views.{text_view}
-use Rattle.wc_model.specs.Text.Grammar.{IsProgramLast}
+use Rattle.wc_text_flat.specs.{frame_of_reversed, frame_of_text, AreLowered}
+use Rattle.wc_model.specs.Definitions.{lead_from, path_lead, same_lead, direct_lead, carried_number, carried_within, number_if_kept, number_if_kept_within, is_block, frame_of, place_number, Scope, Location, Direct, Path, Content, program_frame, unit_places, ProgramUnit, Text, text_view, IsProgramLast}
 use Rattle.wc_model.specs.declared.fault.Fault.{Fault}
 use Rattle.wc_model.specs.declared.fault.Fault.TheVariants.{Refused, Memory}
 use Rattle.wc_model.specs.declared.source.Source.{Source}
 use Rattle.wc_laws_language.proofs.Texts.{turned}
 use Rattle.wc_cost.proofs.TextUnits.{unit_at}
-use Rattle.wc_cost.specs.Costs.{IsCosted}
-use Rattle.wc_cost.specs.Faultless.{IsFaultless, LoadsUnits}
-use Rattle.wc_cost.specs.LoadedInside.{codes_of}
+use Rattle.wc_cost.specs.{IsCosted, codes_of, IsFaultless, LoadsUnits}
 use Rattle.wc_cost.specs.declared.units.LoweredUnit.{LoweredUnit}
 
 -- what is said of a text is said of the same one

@@ -1,7 +1,5 @@
 -- The worst paths through flat code, computed from the last line to the first.
-use Rattle.std.proofs.Common.{◌≡◌, ℕ, zero, suc, ◌+◌, ◌*◌, ◌<◌, ◌≤◌, Bool, true, false, List, [], ◌∷◌, ◌++◌, length, drop, get_or, set, append_assoc, refl, sym, ap, subst, ◌∙◌, arith}
-use Rattle.std.proofs.lemmas.List.{drop-set, get_or-drop, length-map, length-drop}
-use Rattle.std.specs.Prelude.{if◌then◌else◌, nat_lt, slice_index}
+use Rattle.wc_model.proofs.Common.{◌≡◌, ℕ, zero, suc, ◌+◌, ◌*◌, ◌<◌, ◌≤◌, Bool, true, false, List, [], ◌∷◌, ◌++◌, length, drop, get_or, set, append_assoc, refl, sym, ap, subst, ◌∙◌, arith, if◌then◌else◌, nat_lt, slice_index, drop-set, get_or-drop, length-map, length-drop}
 use Rattle.wc_text_flat.specs.FlatPaths.{Worst, from_line, line_worst, no_more, one_more, preceded, turned, worse, worst_from, worst_of}
 use Rattle.wc_model.specs.Language.Faults.{MOST_STEPS}
 use Rattle.wc_model.specs.declared.code.Code.{Code}

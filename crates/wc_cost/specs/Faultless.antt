@@ -1,16 +1,8 @@
 -- A text that the passes before this one accept, and what this one says of it. (No rule of the language.)
 use Rattle.std.specs.Prelude.{◌≡◌, ℕ, ◌<◌, ◌≤◌, List, length, None, Some, Result, Ok, Err}
 use Rattle.std.proofs.Common.{Vec, Global}
-use Rattle.wc_text_flat.specs.FlatPaths.{sources_of, worst_of}
-use Rattle.wc_text_flat.specs.Lowered.{AreLowered, IsLowered}
-use Rattle.wc_text_flat.specs.Laws.{AreBoundsBelow}
-use Rattle.wc_model.specs.Language.Faults.{MOST_STEPS, IsCostFault, body_fault, declaration_fault}
-use Rattle.wc_model.specs.Language.Scopes.{Scope}
-use Rattle.wc_model.specs.Language.Tree.{Text}
-use Rattle.wc_model.specs.Text.Grammar.{Spells}
-use Rattle.wc_model.specs.Text.Limits.{IsWithinLimits}
-use Rattle.wc_model.specs.Text.Marks.{Mark}
-use Rattle.wc_model.specs.Text.Tokens.{most_bytes}
+use Rattle.wc_text_flat.specs.{sources_of, worst_of, AreLowered, IsLowered, AreBoundsBelow}
+use Rattle.wc_model.specs.Definitions.{MOST_STEPS, IsCostFault, body_fault, declaration_fault, Scope, Text, Spells, IsWithinLimits, Mark, most_bytes}
 use Rattle.wc_model.specs.declared.code.Code.{Code}
 use Rattle.wc_model.specs.declared.fault.Fault.{Fault}
 use Rattle.wc_model.specs.declared.fault.Fault.TheVariants.{Refused, Memory}

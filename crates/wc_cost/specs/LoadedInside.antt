@@ -3,9 +3,7 @@ use Rattle.std.specs.Prelude.{◌≡◌, ◌≤◌, ℕ, List, [], ◌∷◌, ma
 use Rattle.wc_text_flat.specs.Contents.{frame_of_text}
 use Rattle.wc_text_flat.specs.FlatPaths.{sources_of}
 use Rattle.wc_text_flat.specs.Laws.{AreBoundsBelow}
-use Rattle.wc_model.specs.Language.Frames.{first_numbers, slot_kinds}
-use Rattle.wc_model.specs.Language.Tree.{Text}
-use Rattle.wc_model.specs.Language.Views.{text_view}
+use Rattle.wc_model.specs.Definitions.{first_numbers, slot_kinds, Text, text_view}
 use Rattle.wc_model.specs.declared.code.Code.{Code}
 use Rattle.wc_laws_language.specs.FirstNumbers.{AreFirst}
 use Rattle.wc_cost.specs.LoadedTexts.{LoadedText, IsLoadedSound}

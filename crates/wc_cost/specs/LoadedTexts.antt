@@ -1,15 +1,12 @@
--- A text that every pass accepts, with its flat code. (No rule of the language.)
-use Rattle.std.specs.Prelude.{◌≡◌, ℕ, ◌-◌, List, length, None, Some, IfSome, slice_get}
+-- A text that every pass accepts, with its flat code, and what comes of its cost. (No rule of the language.)
+use Rattle.std.specs.Prelude.{◌≡◌, ℕ, ◌-◌, List, length, None, Some, IfSome, slice_get, Result, Ok, Err}
 use Rattle.wc_text_flat.specs.Lowered.{AreLowered}
-use Rattle.wc_model.specs.Language.Faults.{body_fault}
-use Rattle.wc_model.specs.Language.Frames.{scopes_of}
-use Rattle.wc_model.specs.Language.Scopes.{Scope}
-use Rattle.wc_model.specs.Language.Tree.{Text}
-use Rattle.wc_model.specs.Language.Views.{text_view}
-use Rattle.wc_model.specs.Language.WorstPaths.{AreWorstLines}
+use Rattle.wc_model.specs.Definitions.{body_fault, IsCostFault, scopes_of, Scope, Text, text_view, AreWorstLines}
 use Rattle.wc_model.specs.declared.code.Code.{Code}
 use Rattle.wc_model.specs.declared.source.Source.{Source}
 use Rattle.wc_verify.specs.CheckedTexts.{WasRead}
+use Rattle.wc_model.specs.declared.fault.Fault.{Fault}
+use Rattle.wc_model.specs.declared.fault.Fault.TheVariants.{Refused, Memory}
 
 -- the text, and the flat codes of its units in text order
 pub record LoadedText : Type 0 where
@@ -29,3 +26,9 @@ AreWorstAt text unit lines = IfSome (slice_get (scopes_of text) unit) (λ scope.
 -- a text's program is the last of its units
 abbrev pub IsProgramOf : Text → Scope → Type 0
 IsProgramOf text scope = slice_get (scopes_of text) (length text - 1) ≡ Some scope
+
+-- it is loaded, and no unit is too long; or the first that is too long is named
+abbrev pub IsCosted : Text → Source → Result LoadedText Fault → Type 0
+IsCosted text source (Ok loaded) = (loaded.source ≡ source) × IsCostFault text None
+IsCosted text source (Err (Refused number place)) = IsCostFault text (Some (record { number = number; line = place }))
+IsCosted text source (Err Memory) = Unit {0}

@@ -1,12 +1,7 @@
 ghost use Rattle.std.specs.Prelude.{◌≡◌, ◌<◌, ◌≤◌, Some, IfOk, IfSome, IsOkUnless, length, map, option_map, slice_get};
-ghost use Rattle.wc_model.specs.Language.CarriedPlaces.{carried_number};
-ghost use Rattle.wc_model.specs.Language.Frames.{first_numbers, number_of_path, slot_kinds};
-ghost use Rattle.wc_model.specs.Language.Scopes.{Scope};
-ghost use Rattle.wc_model.specs.Language.Views.{text_view};
-ghost use Rattle.wc_model.specs.Say.UnitReport.{IsBoundAt};
+ghost use Rattle.wc_model.specs.Definitions.{carried_number, first_numbers, number_of_path, slot_kinds, Scope, text_view, IsBoundAt};
 ghost use Rattle.wc_laws_language.specs.FirstNumbers.{AreFirst};
-ghost use Rattle.wc_text_flat.specs.Contents.{frame_of_text};
-ghost use Rattle.wc_text_flat.specs.FlatPaths.{sources_of};
+ghost use Rattle.wc_text_flat.specs.{frame_of_text, sources_of};
 ghost use Rattle.wc_cost.specs.LoadedTexts.{AreWorstAt, IsLoadedSound, IsProgramOf};
 
 use crate::path_lengths::{path_lengths, worst_lines};
@@ -30,8 +25,8 @@ impl<'a> Model for Loaded<'a> {
     ghost use Rattle.std.specs.Coded.{codes};
     ghost use Rattle.std.specs.Prelude.{[]};
     ghost use Rattle.wc_model.specs.contracts.tree.Line as line;
-    ghost use Rattle.wc_cost.specs.LoadedTexts.{LoadedText};
     ghost use Rattle.wc_cost.specs.LoadedInside.{loaded_view, AreFieldsSound};
+    ghost use Rattle.wc_cost.specs.LoadedTexts.{LoadedText};
     ghost use mir.Syntax;
 
     ghost Value = { LoadedText };

@@ -1,20 +1,18 @@
 ghost use Rattle.std.specs.Prelude.{◌≡◌, ℕ, ◌≤◌, List, IfErr, IfOk, IsOkUnless, length};
 ghost use Rattle.wc_names.specs.RepresentsText.{AreTables};
-ghost use Rattle.wc_text_flat.specs.FlatPaths.{sources_of, worst_of};
-ghost use Rattle.wc_text_flat.specs.Lowered.{IsLowered, flat_length};
-ghost use Rattle.wc_model.specs.Language.Scopes.{Scope};
-ghost use Rattle.wc_model.specs.Language.Views.{text_view, unit_view};
-ghost use Rattle.wc_cost.specs.Costs.{IsCosted};
-ghost use Rattle.wc_cost.specs.Faultless.{IsFaultless, LoadsUnits, Measures, MeasuresUnit};
-ghost use Rattle.wc_lowering.specs.Lowerable.{IsLowerable};
+ghost use Rattle.wc_text_flat.specs.{sources_of, worst_of, IsLowered, flat_length};
+ghost use Rattle.wc_model.specs.Definitions.{Scope, text_view, unit_view};
+ghost use Rattle.wc_cost.specs.LoadedTexts.{IsCosted};
 ghost use Rattle.wc_cost.specs.LoadedInside.{bounds_of};
+ghost use Rattle.wc_cost.specs.Faultless.{IsFaultless, LoadsUnits, Measures, MeasuresUnit};
+ghost use Rattle.wc_cost.specs.Lowerable.{IsLowerable};
 ghost use Rattle.wc_cost.specs.PathLengths.{AreSmall};
 ghost use Rattle.wc_verify.specs.Seeing.{IsScope};
 
+use crate::body::flat_body;
 use crate::loaded::Loaded;
 use crate::path_lengths::path_lengths;
 use std::alloc::Global;
-use wc_lowering::flat_body;
 use wc_model::{Code, Fault, MOST_STEPS, Source, Unit};
 use wc_names::Tables;
 use wc_verify::Checked;

@@ -1,8 +1,7 @@
-pub mod Replays
+pub mod CutAgain
 pub mod Plans
 pub mod RowsSoFar
 pub mod Observed
-pub mod CutAgain
 pub mod ReadBack
 pub mod ReadLogs
 pub mod PreludeRanges

@@ -2,15 +2,10 @@
 use Rattle.std.proofs.Common.{ℕ, zero, suc, ◌+◌, ◌≤◌, List, [], ◌∷◌, ◌++◌, drop, length, map, refl, take, arith}
 use Rattle.wc_cut.proofs.PreludeRanges.{ArePastRows, AreRanged, prelude_ranged}
 use Rattle.wc_cut.proofs.ReadLogs.{read_again}
-use Rattle.wc_cut.specs.CutAgain.{rows_of_cut}
-use Rattle.wc_cut.specs.Cuts.{time_of}
-use Rattle.wc_cut.specs.ReadLogs.{IsLogAgain, numbered}
-use Rattle.wc_cut.specs.Replays.{row_at_time}
+use Rattle.wc_cut.specs.{rows_of_cut, row_at_time, IsLogAgain, numbered, time_of}
 use Rattle.wc_laws_instrument.specs.Logs.{AreInOrder, IsDataInRange}
 use Rattle.wc_laws_instrument.specs.Preludes.{past_after, prelude_of, scale_state}
-use Rattle.wc_model.specs.Instrument.Plates.{PlateData, IsPlate}
-use Rattle.wc_model.specs.Run.Log.{greatest_moment, most_rows}
-use Rattle.wc_model.specs.Run.Rows.{LogRow, Past, RowData}
+use Rattle.wc_model.specs.Definitions.{PlateData, IsPlate, greatest_moment, most_rows, LogRow, Past, RowData}
 
 -- rows that are in order and in their ranges, whatever their numbers
 abbrev AreTimed : ℕ → List LogRow → Type 0

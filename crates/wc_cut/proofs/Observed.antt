@@ -1,23 +1,13 @@
 -- What an observer that cuts a log has seen, row by row.
-use Rattle.std.proofs.Common.{◌≡◌, ℕ, ◌+◌, ◌-◌, ◌<◌, ◌≤◌, Bool, true, false, List, [], ◌∷◌, ◌++◌, append-nil, append_assoc, drop, length, length-append, refl, ap, sym, ◌∙◌, arith}
-use Rattle.std.proofs.lemmas.Bool.{le-leb, lt-leb}
-use Rattle.std.proofs.lemmas.List.{drop_all, drop-append-le, length-map, take_all, take-append-le}
+use Rattle.wc_model.proofs.Common.{◌≡◌, ℕ, ◌+◌, ◌-◌, ◌<◌, ◌≤◌, Bool, true, false, List, [], ◌∷◌, ◌++◌, append-nil, append_assoc, drop, length, length-append, refl, ap, sym, ◌∙◌, arith, le-leb, lt-leb, drop_all, drop-append-le, length-map, take_all, take-append-le}
 use Rattle.std.specs.Prelude.{Err, Ok, OnOk, Option, Result, Some, None, is_some, if◌then◌else◌}
 use Rattle.wc_cut.proofs.Plans.{written_after, written_at, written_before}
-use Rattle.wc_cut.specs.CutAgain.{opening_rows, rows_of_cut}
-use Rattle.wc_cut.specs.Cuts.{end_written, opening_text, row_written, time_of}
-use Rattle.wc_cut.specs.KeptRows.{HasSeenBy, IsBefore, kept_rows, capacity_left}
-use Rattle.wc_cut.specs.Replays.{prelude_rows, row_at_time}
-use Rattle.wc_cut.specs.RowTexts.{heading_text, lines_of, row_text}
+use Rattle.wc_cut.specs.{opening_rows, rows_of_cut, prelude_rows, row_at_time, end_written, opening_text, row_written, time_of, HasSeenBy, IsBefore, kept_rows, capacity_left, heading_text, lines_of, row_text}
 use Rattle.wc_cut.specs.declared.cutter.Cutter.{Cutter}
 use Rattle.wc_laws_instrument.specs.Preludes.{past_after, prelude_of, scale_state}
-use Rattle.wc_model.specs.Instrument.Plates.{PlateData}
-use Rattle.wc_model.specs.Run.Log.{LogRefusal, most_rows}
-use Rattle.wc_model.specs.Run.Rows.{LogRow, Past}
-use Rattle.wc_model.specs.Say.ProgramReport.{Logic}
-use Rattle.wc_open_scale.specs.States.{state_view}
-use Rattle.wc_open_scale.specs.declared.preludes.Prelude.{Prelude}
-use Rattle.wc_run.specs.Observing.{onto, refusal_of}
+use Rattle.wc_model.specs.Definitions.{PlateData, LogRefusal, most_rows, LogRow, Past, Logic}
+use Rattle.wc_run.specs.{state_view, onto, refusal_of}
+use Rattle.wc_run.specs.declared.preludes.Prelude.{Prelude}
 
 -- what is kept of the rows so far
 is_kept : (prelude : Prelude) (plate : PlateData) (past : Past) → prelude.window ≡ plate.window → state_view prelude ≡ scale_state plate past →

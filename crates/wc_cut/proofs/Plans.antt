@@ -1,16 +1,10 @@
 -- What is written row by row is the log that is cut.
-use Rattle.std.proofs.Common.{◌≡◌, ℕ, zero, suc, ◌+◌, ◌<◌, ◌≤◌, inl, inr, Bool, true, false, List, [], ◌∷◌, ◌++◌, length, drop, take, refl, ap, sym, ◌∙◌, arith, append_assoc, append-nil}
-use Rattle.std.proofs.lemmas.Bool.{cases_lt, le-leb, lt-leb}
-use Rattle.std.proofs.lemmas.List.{drop_all, length-drop, take_all}
+use Rattle.wc_model.proofs.Common.{◌≡◌, ℕ, zero, suc, ◌+◌, ◌<◌, ◌≤◌, inl, inr, Bool, true, false, List, [], ◌∷◌, ◌++◌, length, drop, take, refl, ap, sym, ◌∙◌, arith, append_assoc, append-nil, cases_lt, le-leb, lt-leb, drop_all, length-drop, take_all}
 use Rattle.std.specs.Prelude.{Option, Some, None, nat_lt, if◌then◌else◌}
 use Rattle.wc_controller.specs.Files.{Observed}
-use Rattle.wc_cut.specs.Cuts.{cut_log, cut_observed, cut_plan, cut_written, opening_text, row_written}
-use Rattle.wc_cut.specs.RowTexts.{row_text, rows_text}
+use Rattle.wc_cut.specs.{cut_log, cut_observed, cut_plan, cut_written, opening_text, row_written, row_text, rows_text}
 use Rattle.wc_laws_instrument.specs.Preludes.{past_after}
-use Rattle.wc_model.specs.Instrument.Plates.{PlateData}
-use Rattle.wc_model.specs.Run.Log.{LogRefusal}
-use Rattle.wc_model.specs.Run.Rows.{LogRow, Past}
-use Rattle.wc_model.specs.Say.ProgramReport.{Logic}
+use Rattle.wc_model.specs.Definitions.{PlateData, LogRefusal, LogRow, Past, Logic}
 use Rattle.wc_run.specs.Observing.{Written, text_coming, text_in_all}
 
 -- the three cases of a row

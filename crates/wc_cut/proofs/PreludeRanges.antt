@@ -1,21 +1,12 @@
 -- What the rows of a prelude bring is in its range, if what the rows before the cut brought is.
 use Rattle.std.proofs.Common.{◌≡◌, ℕ, zero, suc, ◌+◌, ◌-◌, ◌<◌, ◌≤◌, ◌^◌, ◌==◌, ◌&&◌, Bool, true, false, if◌then◌else◌, List, [], ◌∷◌, ◌++◌, length, drop, map, refl, ap, sym, subst, ◌∙◌, arith, lit<}
-use Rattle.std.proofs.lemmas.Int.{ints}
-use Rattle.std.specs.Int.Digits.{AllBelowBase}
-use Rattle.std.specs.List.{last_or, list_all}
-use Rattle.std.specs.Option.{option_or}
-use Rattle.std.specs.Ordering.{int_eq}
+use Rattle.wc_model.proofs.Common.{ints, AllBelowBase, last_or, list_all, option_or, int_eq}
 use Rattle.std.specs.Prelude.{codes, ℤ, ◌≤ℤ◌, ◌+ℤ◌, ◌-ℤ◌, IsSome, Option, Some, None, is_some, option_map, replicate, unwrap_or}
 use Rattle.wc_laws_instrument.proofs.Indication.{tare_ended, tare_new, tare_same, tare_same_at_zero, zero_new, zero_same}
 use Rattle.wc_laws_instrument.specs.Logs.{IsDataInRange}
 use Rattle.wc_laws_instrument.specs.Preludes.{input_rows, load_rows, moved_zero, prelude_of, request_rows, scale_state, tare_load, text_kept}
-use Rattle.wc_model.specs.Instrument.Answers.{AskTare, AskWeight, Clear, Command, TakeTare, Unknown, Zero, after_command, after_requests, command_of}
-use Rattle.wc_model.specs.Instrument.Indication.{active_tare, from_zero, present_counts, tare_refusal, window_of, zero_point, zero_refusal}
-use Rattle.wc_model.specs.Instrument.Plates.{PlateData, IsPlate, greatest_sample, least_sample}
-use Rattle.wc_model.specs.Instrument.Requests.{carriage_return, is_text, line_feed, open_at, open_request, requests_in}
-use Rattle.wc_model.specs.Instrument.WeighingHistories.{ClearTare, History, Sample, SetTare, SetZero, last_sample, samples}
+use Rattle.wc_model.specs.Definitions.{AskTare, AskWeight, Clear, Command, TakeTare, Unknown, Zero, after_command, after_requests, command_of, active_tare, from_zero, present_counts, tare_refusal, window_of, zero_point, zero_refusal, PlateData, IsPlate, greatest_sample, least_sample, carriage_return, is_text, line_feed, open_at, open_request, requests_in, ClearTare, History, Sample, SetTare, SetZero, last_sample, samples, RowData, Counts, Bytes, Inputs, Scan, Change, Past, history_of, history_with, line_bytes, line_bytes_in}
 use Rattle.wc_model.specs.Run.ProcessImage.{inputs_of, inputs_with}
-use Rattle.wc_model.specs.Run.Rows.{RowData, Counts, Bytes, Inputs, Scan, Change, Past, history_of, history_with, line_bytes, line_bytes_in}
 
 -- a sample in its range
 abbrev pub IsSample : ℤ → Type 0

@@ -6,19 +6,12 @@ use Rattle.csv.specs.Reading.{default_config, records, records_from, records_nex
 use Rattle.csv.specs.Writing as written
 use Rattle.csv.specs.Writing.{default_writer, fields_text, is_blank, needs_byte}
 use Rattle.csv.specs.declared.parser.State.TheVariants as st
-use Rattle.std.proofs.lemmas.Bool.{ne_eqb}
-use Rattle.std.specs.Char.{digit_char}
+use Rattle.wc_model.proofs.Common.{ne_eqb, digit_char, list_any}
 use Rattle.std.specs.Fmt.{digits, digits_onto, digit_glyph, signed_decimal}
-use Rattle.std.specs.List.{list_any}
 use Rattle.std.specs.Prelude.{Some, codes, decimal, ℤ, pos, negsuc}
-use Rattle.wc_cut.proofs.Replays.{goes_on_from_the_cut}
-use Rattle.wc_cut.specs.CutAgain.{rows_of_cut}
-use Rattle.wc_cut.specs.ReadBack.{IsReadBack, data_fields, row_fields}
-use Rattle.wc_cut.specs.RowTexts.{data_text, heading_text, line_of, row_text, rows_text}
-use Rattle.wc_model.specs.Instrument.Plates.{PlateData}
-use Rattle.wc_model.specs.Run.Hex.{hex_of_bytes, hex_of_word}
-use Rattle.wc_model.specs.Run.Log.{first_row}
-use Rattle.wc_model.specs.Run.Rows.{RowData, Counts, Bytes, Inputs, Scan, Change, LogRow}
+use Rattle.wc_cut.proofs.CutAgain.{goes_on_from_the_cut}
+use Rattle.wc_cut.specs.{rows_of_cut, IsReadBack, data_fields, row_fields, data_text, heading_text, line_of, row_text, rows_text}
+use Rattle.wc_model.specs.Definitions.{PlateData, hex_of_bytes, hex_of_word, first_row, RowData, Counts, Bytes, Inputs, Scan, Change, LogRow}
 use Rattle.wc_record.specs.Reading.{records_of}
 
 -- each byte is above a comma

@@ -1,27 +1,11 @@
 -- The records of rows that are in order are read as these rows.
 use Rattle.std.proofs.Common.{◌≡◌, ℕ, suc, ◌+◌, ◌-◌, ◌*◌, ◌/◌, ◌%◌, ◌^◌, ◌==◌, ◌<◌, ◌≤◌, true, false, ◌&&◌, if◌then◌else◌, List, [], ◌∷◌, length, map, refl, ap, sym, ◌∙◌, arith}
-use Rattle.std.proofs.lemmas.Bool.{le-leb, lt-leb, ne_eqb}
-use Rattle.std.proofs.lemmas.Fmt.{decimal_is_IsNumeral, length-decimal-le}
-use Rattle.std.proofs.lemmas.Int.{ints}
-use Rattle.std.proofs.lemmas.Int.Digits.{digits_value_is}
-use Rattle.std.proofs.lemmas.Str.{digit_value-digit_char, digit_value_digit}
-use Rattle.std.proofs.lemmas.Str.Parse.{digit_from_value}
-use Rattle.std.specs.Char.{digit_char, digit_value, is_ascii_digit}
-use Rattle.std.specs.Fmt.{signed_decimal}
-use Rattle.std.specs.Int.Digits.{AllBelowBase, number_from_digits}
-use Rattle.std.specs.List.{list_all}
+use Rattle.wc_model.proofs.Common.{le-leb, lt-leb, ne_eqb, decimal_is_IsNumeral, length-decimal-le, ints, digits_value_is, digit_value-digit_char, digit_value_digit, digit_from_value, digit_char, digit_value, is_ascii_digit, signed_decimal, AllBelowBase, number_from_digits, list_all, AllDigits}
 use Rattle.std.specs.Prelude.{codes, decimal, int_le, nat_le, nat_lt, ℤ, ◌≤ℤ◌, neg_ℤ, pos, negsuc, option_map, Option, Some, None, Ok, Err}
-use Rattle.std.specs.Str.Parse.{AllDigits}
 use Rattle.wc_cut.proofs.ReadBack.{is_read_back}
-use Rattle.wc_cut.specs.CutAgain.{rows_of_cut}
-use Rattle.wc_cut.specs.Cuts.{cut_log}
-use Rattle.wc_cut.specs.ReadBack.{data_fields, row_fields}
-use Rattle.wc_cut.specs.ReadLogs.{numbered}
+use Rattle.wc_cut.specs.{rows_of_cut, data_fields, row_fields, numbered, cut_log}
 use Rattle.wc_laws_instrument.specs.Logs.{AreInOrder, IsDataInRange}
-use Rattle.wc_model.specs.Instrument.Plates.{PlateData, greatest_sample, least_sample}
-use Rattle.wc_model.specs.Run.Hex.{byte_of_digits, bytes_of_hex, hex_of_bytes, hex_of_word, with_byte}
-use Rattle.wc_model.specs.Run.Log.{Record, brings_or, counts_of, first_row, greatest_moment, inputs_word_of, is_in_order, last_moment, line_chunk_of, log_after, log_of, log_with, moment_of, most_rows, number_within, row_at, row_data_of, row_from, row_of, row_of_fields, where_passes, whole_of}
-use Rattle.wc_model.specs.Run.Rows.{RowData, Counts, Bytes, Inputs, Scan, Change, LogRow}
+use Rattle.wc_model.specs.Definitions.{PlateData, greatest_sample, least_sample, byte_of_digits, bytes_of_hex, hex_of_bytes, hex_of_word, with_byte, Record, brings_or, counts_of, first_row, greatest_moment, inputs_word_of, is_in_order, last_moment, line_chunk_of, log_after, log_of, log_with, moment_of, most_rows, number_within, row_at, row_data_of, row_from, row_of, row_of_fields, where_passes, whole_of, RowData, Counts, Bytes, Inputs, Scan, Change, LogRow}
 use Rattle.wc_record.specs.Reading.{records_of}
 
 -- the digits of a number

@@ -1,9 +1,7 @@
 -- One row more of those that are written one by one.
-use Rattle.std.proofs.Common.{◌≡◌, ℕ, ◌+◌, ◌<◌, List, [], ◌∷◌, ◌++◌, length, take, map, get_or, ap, sym, ◌∙◌, append_assoc, append-nil}
-use Rattle.std.proofs.lemmas.Grind.{flat_map-append}
-use Rattle.std.proofs.lemmas.List.{map_more, replicate_more}
+use Rattle.wc_model.proofs.Common.{◌≡◌, ℕ, ◌+◌, ◌<◌, List, [], ◌∷◌, ◌++◌, length, take, map, get_or, ap, sym, ◌∙◌, append_assoc, append-nil, flat_map-append, map_more, replicate_more}
 use Rattle.std.specs.Prelude.{ℤ, replicate}
-use Rattle.wc_cut.specs.RowTexts.{line_of, lines_of}
+use Rattle.wc_cut.specs.Cuts.{line_of, lines_of}
 use Rattle.wc_model.specs.Run.Rows.{RowData, Counts}
 
 -- after rows

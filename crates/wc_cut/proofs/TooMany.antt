@@ -2,22 +2,14 @@
 use Rattle.std.proofs.Common.{◌≡◌, ℕ, ◌<◌, ◌≤◌, List, length, arith, subst, sym}
 use Rattle.std.specs.Prelude.{Option, Some, None, Result, Ok, Err}
 use Rattle.wc_controller.proofs.Allowing.{known_more, on_known}
-use Rattle.wc_controller.specs.InputStates.{InputStates, Reader}
-use Rattle.wc_controller.specs.TakenLogs.{OfLogic, log_by}
-use Rattle.wc_controller.specs.WrittenRuns.{EndsSaying, OfRun, OfStart}
-use Rattle.wc_cut.specs.CutAgain.{rows_of_cut}
-use Rattle.wc_cut.specs.KeptRows.{HasCounted}
-use Rattle.wc_cut.specs.TooMany.{IsReported, ReportsTooMany, ending_reported}
+use Rattle.wc_controller.specs.{InputStates, Reader, OfLogic, log_by, EndsSaying, OfRun, OfStart}
+use Rattle.wc_cut.specs.{rows_of_cut, HasCounted, IsReported, ReportsTooMany, ending_reported}
 use Rattle.wc_cut.specs.declared.cutter.Cutter.{Cutter}
 use Rattle.wc_cut.specs.declared.cutting.TooManyRows.{TooManyRows}
-use Rattle.wc_endings.specs.declared.ending.Ending.{Ending}
-use Rattle.wc_endings.specs.declared.ending.Ending.TheVariants as ended
-use Rattle.wc_model.specs.Instrument.Plates.{PlateData}
-use Rattle.wc_model.specs.Language.Tree.{Text}
-use Rattle.wc_model.specs.Run.Log.{LogOf, most_rows}
-use Rattle.wc_model.specs.Say.ProgramReport.{Logic}
-use Rattle.wc_run.specs.Doing.{Ended}
-use Rattle.wc_run.specs.Observing.{Start}
+use Rattle.wc_controller.specs.declared.ending.Ending.{Ending}
+use Rattle.wc_controller.specs.declared.ending.Ending.TheVariants as ended
+use Rattle.wc_model.specs.Definitions.{PlateData, Text, LogOf, most_rows, Logic}
+use Rattle.wc_run.specs.{Ended, Start}
 
 -- what follows of each logic follows of the one that runs
 logic_more : (first : Text) (known : Option (List ℕ)) (P Q : Option Logic → Type 0) → ((logic : Option Logic) → P logic → Q logic) →

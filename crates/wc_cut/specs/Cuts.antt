@@ -1,13 +1,38 @@
--- What is written of a log that is cut: a log that goes on from there. (The profile's own.)
-use Rattle.std.specs.Prelude.{ℕ, true, List, [], ◌∷◌, ◌++◌, length, drop, take, nat_lt, nat_le, Option, Some, None, if◌then◌else◌}
+-- The text of a log's rows, each as short as it can be: no leading zeros, hexadecimal digits in small letters, a line feed at the
+-- end; what is written of a log that is cut: a log that goes on from there. (The profile's own.)
+use Rattle.std.specs.Fmt.{signed_decimal}
+use Rattle.std.specs.Prelude.{ℕ, List, [], ◌∷◌, ◌++◌, codes, decimal, flat_map, true, length, drop, take, nat_lt, nat_le, Option, Some, None, if◌then◌else◌}
+use Rattle.wc_model.specs.Definitions.{hex_of_bytes, hex_of_word, RowData, Counts, Bytes, Inputs, Scan, Change, LogRow, PlateData, LogRefusal, Past, Logic}
 use Rattle.wc_controller.specs.Files.{Observed}
-use Rattle.wc_cut.specs.RowTexts.{heading_text, lines_of, row_text, rows_text}
 use Rattle.wc_laws_instrument.specs.Preludes.{past_after, prelude_of, scale_state}
-use Rattle.wc_model.specs.Instrument.Plates.{PlateData}
-use Rattle.wc_model.specs.Run.Log.{LogRefusal}
-use Rattle.wc_model.specs.Run.Rows.{LogRow, Past}
-use Rattle.wc_model.specs.Say.ProgramReport.{Logic}
 use Rattle.wc_run.specs.Observing.{Plan, Written}
+
+-- the kind and the data, each after a comma
+abbrev pub data_text : RowData → List ℕ
+data_text (Counts counts) = codes ",C," ++ signed_decimal counts
+data_text (Bytes bytes) = codes ",L," ++ hex_of_bytes bytes
+data_text (Inputs inputs) = codes ",I," ++ hex_of_word inputs
+data_text Scan = codes ",S,"
+data_text Change = codes ",P,"
+
+-- a row of this time that brings this
+abbrev pub line_of : ℕ → RowData → List ℕ
+line_of ms brings = decimal ms ++ data_text brings ++ (10 ∷ [])
+
+-- rows of one time
+abbrev pub lines_of : ℕ → List RowData → List ℕ
+lines_of ms rows = flat_map (line_of ms) rows
+
+-- a row, and rows
+abbrev pub row_text : LogRow → List ℕ
+row_text row = line_of row.ms row.brings
+
+abbrev pub rows_text : List LogRow → List ℕ
+rows_text rows = flat_map row_text rows
+
+-- the first row of a log
+abbrev pub heading_text : List ℕ
+heading_text = codes "ms,kind,data" ++ (10 ∷ [])
 
 -- the time of the last row so far, 0 before any
 abbrev pub time_of : Past → ℕ

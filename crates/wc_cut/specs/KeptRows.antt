@@ -4,12 +4,9 @@ use Rattle.wc_cut.specs.CutAgain.{rows_of_cut}
 use Rattle.wc_cut.specs.Cuts.{time_of}
 use Rattle.wc_cut.specs.declared.cutter.Cutter.{Cutter}
 use Rattle.wc_laws_instrument.specs.Preludes.{prelude_of, scale_state}
-use Rattle.wc_model.specs.Instrument.Plates.{PlateData}
-use Rattle.wc_model.specs.Run.Log.{LogRefusal, most_rows}
-use Rattle.wc_model.specs.Run.Rows.{LogRow, Past, RowData}
-use Rattle.wc_open_scale.specs.States.{state_view}
-use Rattle.wc_open_scale.specs.declared.preludes.Prelude.{Prelude}
-use Rattle.wc_run.specs.Observing.{onto}
+use Rattle.wc_model.specs.Definitions.{PlateData, LogRefusal, most_rows, LogRow, Past, RowData}
+use Rattle.wc_run.specs.{state_view, onto}
+use Rattle.wc_run.specs.declared.preludes.Prelude.{Prelude}
 
 -- what the rows of what is kept bring, and nothing before any row
 abbrev pub kept_rows : Option Prelude → List RowData

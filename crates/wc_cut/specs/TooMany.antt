@@ -1,11 +1,10 @@
 -- Whether the log that is written by a cut has more rows than a log may have. (The profile's own.)
 use Rattle.std.specs.Prelude.{◌≡◌, ⊤, ℕ, ◌<◌, ◌≤◌, List, length, Option, None, Result, Ok, Err}
-use Rattle.wc_controller.specs.InputStates.{InputStates}
-use Rattle.wc_controller.specs.WrittenRuns.{OfRun}
+use Rattle.wc_controller.specs.{InputStates, OfRun}
 use Rattle.wc_cut.specs.CutAgain.{rows_of_cut}
 use Rattle.wc_cut.specs.declared.cutting.TooManyRows.{TooManyRows}
-use Rattle.wc_endings.specs.declared.ending.Ending.{Ending}
-use Rattle.wc_endings.specs.declared.ending.Ending.TheVariants as ended
+use Rattle.wc_controller.specs.declared.ending.Ending.{Ending}
+use Rattle.wc_controller.specs.declared.ending.Ending.TheVariants as ended
 use Rattle.wc_model.specs.Run.Log.{most_rows}
 
 -- how it ended: if there are too many rows, all was done

@@ -1,16 +1,14 @@
 ghost use Rattle.std.specs.Prelude.{◌≡◌, ◌++◌, ◌-◌, IsOkUnless, List, OnOk, Option, length, ℕ};
-ghost use Rattle.wc_cut.specs.Cuts.{cut_plan};
+ghost use Rattle.wc_cut.specs.Cuts.{cut_plan, heading_text, lines_of};
 ghost use Rattle.wc_cut.specs.KeptRows.{IsNew, kept_rows};
-ghost use Rattle.wc_cut.specs.RowTexts.{heading_text, lines_of};
 ghost use Rattle.wc_laws_instrument.specs.Preludes.{load_rows, prelude_of};
 ghost use Rattle.wc_model.specs.Run.Log.{most_rows};
-ghost use Rattle.wc_open_scale.specs.States.{state_view};
+ghost use Rattle.wc_run.specs.OpenScales.{state_view};
 
 use crate::rows::{put_prelude, put_row};
 use std::alloc::Global;
 use wc_model::{ByteOut, MOST_ROWS, put_bytes};
-use wc_open_scale::Prelude;
-use wc_run::{Observer, Program, RowSeen, RunFault, Scale, write_text};
+use wc_run::{Observer, Prelude, Program, RowSeen, RunFault, Scale, write_text};
 use wc_store::SlotStore;
 
 /// What is left of a capacity after the rows of a load and of the request that is made at it, if there is such a load.

@@ -1,14 +1,9 @@
-ghost use Rattle.wc_controller.specs.InputRuns.{RunsAs};
-ghost use Rattle.wc_controller.specs.InputStates.{writer_of};
+ghost use Rattle.wc_controller.specs.{RunsAs, writer_of};
 ghost use Rattle.std.specs.Prelude.{ℕ, ◌<◌, List};
-ghost use Rattle.wc_cut.specs.CutAgain.{IsCutAgain};
+ghost use Rattle.wc_cut.specs.CutAgain.{IsCutAgain, GoesOnFromTheCut, IsReadBack, IsLogAgain};
 ghost use Rattle.wc_cut.specs.Cuts.{cut_observed};
-ghost use Rattle.wc_cut.specs.ReadBack.{IsReadBack};
-ghost use Rattle.wc_cut.specs.ReadLogs.{IsLogAgain};
-ghost use Rattle.wc_cut.specs.Replays.{GoesOnFromTheCut};
 ghost use Rattle.wc_cut.specs.TooMany.{IsReported, ReportsTooMany, ending_reported};
-ghost use Rattle.wc_model.specs.Instrument.Plates.{IsPlate, PlateData};
-ghost use Rattle.wc_model.specs.Run.Rows.{LogRow};
+ghost use Rattle.wc_model.specs.Definitions.{IsPlate, PlateData, LogRow};
 ghost use Rattle.wc_record.specs.Reported.{fields_reported};
 
 use crate::cutter::Cutter;

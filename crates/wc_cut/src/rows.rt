@@ -1,16 +1,15 @@
 ghost use Rattle.std.specs.Prelude.{◌≡◌, ◌++◌, ◌/◌, ◌%◌, ◌∷◌, [], IsOkUnless, OnOk, map, option_map, replicate};
-ghost use Rattle.wc_cut.specs.RowTexts.{data_text, line_of, lines_of};
+ghost use Rattle.wc_cut.specs.Cuts.{data_text, line_of, lines_of};
 ghost use Rattle.wc_laws_instrument.specs.Preludes.{input_rows, load_rows, prelude_of, request_rows};
 ghost use Rattle.wc_model.specs.Run.Rows.{Counts};
-ghost use Rattle.wc_open_scale.specs.States.{state_view};
+ghost use Rattle.wc_run.specs.OpenScales.{state_view};
 ghost use Rattle.wc_record.specs.Views.{head_data_view};
 
 use arrayvec::ArrayVec;
 use wc_model::put_bytes;
-use wc_open_scale::Prelude;
 use wc_record::HeadKind;
 use wc_report::{put_hex, put_number, put_signed};
-use wc_run::RunFault;
+use wc_run::{Prelude, RunFault};
 
 /// The two bytes of a word, the high one first.
 fn word_bytes(word: u16) -> [u8; 2]

@@ -1,17 +1,12 @@
 -- What a unit's table holds of the declarations so far.
-use Rattle.std.proofs.Common.{◌≡◌, ℕ, ◌+◌, ◌*◌, ◌≤◌, Bool, true, false, List, [], ◌∷◌, ◌++◌, map, length, append_assoc, refl, sym, ap, subst, ◌∙◌, arith, lit≤}
+use Rattle.wc_model.proofs.Common.{◌≡◌, ℕ, ◌+◌, ◌*◌, ◌≤◌, Bool, true, false, List, [], ◌∷◌, ◌++◌, map, length, append_assoc, refl, sym, ap, subst, ◌∙◌, arith, lit≤, list_any-append, flat_map}
 use Rattle.std.proofs.lemmas.List.{append-nil, map-append}
-use Rattle.std.proofs.lemmas.List.Folds.{list_any-append}
 use Rattle.std.specs.Prelude.{◌||◌}
-use Rattle.std.specs.List.{flat_map}
 use Rattle.wc_model.specs.Language.Checks.{Check, Position, first_broken, positions_after}
 use Rattle.wc_model.specs.Language.DeclarationRules.{Taken, and_more, declaration_checks, is_among, name_of_word, names_declared, places_of_type, taken_at_first, taken_by}
-use Rattle.wc_model.specs.Language.Declarations.{Variable, declared_by, is_block, same_name, variables_of}
-use Rattle.wc_model.specs.Language.Names.{Name}
-use Rattle.wc_model.specs.Language.Tree.{Declaration, ProgramUnit, Text, Word}
-use Rattle.wc_declare.specs.Rows.{HasTaken, HoldsRows, IsEmptyOf, SameNames}
-use Rattle.wc_names.specs.RepresentsText.{AreDifferent, AreRows, IsTableOf, first_place}
-use Rattle.wc_names.specs.Numbered.{plain_of_field}
+use Rattle.wc_model.specs.Definitions.{Variable, declared_by, is_block, same_name, variables_of, Name, Declaration, ProgramUnit, Text, Word}
+use Rattle.wc_declare.specs.SoFar.{HasTaken, HoldsRows, IsEmptyOf, SameNames}
+use Rattle.wc_names.specs.{AreDifferent, AreRows, IsTableOf, first_place, plain_of_field}
 use Rattle.wc_names.specs.declared.unit_table.UnitTable.{UnitTable}
 use Rattle.wc_declare.proofs.RowsSoFar.{as_variable}
 

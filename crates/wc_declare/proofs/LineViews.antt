@@ -1,10 +1,7 @@
 -- What the rules on labels and addresses ask of the code's lines.
 use Rattle.std.proofs.Common.{◌≡◌, ℕ, Bool, List, ◌++◌, Option, Some, None, option_map, map, append_assoc, refl, ap, ◌∙◌, rules, Vec, Global, Bor}
-use Rattle.wc_model.specs.Language.Checks.{Check, first_broken}
-use Rattle.wc_model.specs.Language.DeclarationRules.{body_name_checks, label_checks, operand_checks, step_checks}
-use Rattle.wc_model.specs.Language.Names.{name_of}
+use Rattle.wc_model.specs.Definitions.{Check, first_broken, body_name_checks, label_checks, operand_checks, step_checks, name_of, assignment_view, joined, line_view, lines_view, instruction_view, label_view, line_step_view, term_view, word_view}
 use Rattle.wc_model.specs.Language.Tree.{Word, Load, Store, Apply, Negate, Jump, Call, Return, Lines, Plain, Nested, ProgramUnit, Step, Term}
-use Rattle.wc_model.specs.Language.Views.{assignment_view, joined, line_view, lines_view, instruction_view, label_view, line_step_view, term_view, word_view}
 use Rattle.wc_model.specs.declared.operand.Operand.{Operand}
 use Rattle.wc_model.specs.declared.operand.Word.{Word as Spelled}
 use Rattle.wc_model.specs.declared.operator.Condition.{Condition}

@@ -1,16 +1,10 @@
 -- Names that are declared so far.
-use Rattle.std.proofs.Common.{◌≡◌, Bool, true, false, List, [], ◌∷◌, ◌++◌, map, append_assoc, refl, sym, ap, subst, ◌∙◌}
-use Rattle.std.proofs.lemmas.List.Folds.{list_any-append}
+use Rattle.wc_model.proofs.Common.{◌≡◌, Bool, true, false, List, [], ◌∷◌, ◌++◌, map, append_assoc, refl, sym, ap, subst, ◌∙◌, list_any-append, flat_map}
 use Rattle.std.specs.Prelude.{◌||◌}
-use Rattle.std.specs.List.{flat_map}
 use Rattle.wc_model.specs.Language.Checks.{Check, Position, first_broken, positions_after}
-use Rattle.wc_model.specs.Language.DeclarationRules.{is_among, is_new, name_of_word, not_reserved}
-use Rattle.wc_model.specs.Language.Declarations.{same_name}
-use Rattle.wc_model.specs.Language.Names.{Name}
-use Rattle.wc_model.specs.Language.Tree.{Word}
-use Rattle.wc_names.specs.Keys.{same_name_laws}
-use Rattle.wc_declare.specs.Rows.{SameNames}
-use Rattle.wc_names.specs.RepresentsText.{AreDifferent}
+use Rattle.wc_model.specs.Definitions.{is_among, is_new, name_of_word, not_reserved, same_name, Name, Word}
+use Rattle.wc_names.specs.{same_name_laws, AreDifferent}
+use Rattle.wc_declare.specs.SoFar.{SameNames}
 
 pub or_last : (a b : Bool) → (a || (b || false)) ≡ (b || a)
 or_last true true = refl

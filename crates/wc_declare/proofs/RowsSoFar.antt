@@ -3,11 +3,9 @@ use Rattle.std.proofs.Common.{◌≡◌, ℕ, true, ◌+◌, ◌*◌, ◌≤◌,
 use Rattle.std.proofs.lemmas.List.{append-nil}
 use Rattle.wc_model.specs.Language.Checks.{Check, Position, asks, first_broken, positions_after}
 use Rattle.wc_model.specs.Language.DeclarationRules.{Taken, and_more, has_capacity, places_of_type}
-use Rattle.wc_model.specs.Language.Declarations.{Variable, VariableType, type_named}
-use Rattle.wc_model.specs.Language.Tree.{Declaration, ProgramUnit, Word}
-use Rattle.wc_names.specs.Numbered.{plain_of_field, is_allowed_in}
-use Rattle.wc_declare.specs.Rows.{HasTaken, HoldsRows, plain_as}
-use Rattle.wc_names.specs.RepresentsText.{AreRows, IsRow, end_of, plain_at, plain_from, type_at}
+use Rattle.wc_model.specs.Definitions.{Variable, VariableType, type_named, Declaration, ProgramUnit, Word}
+use Rattle.wc_names.specs.{plain_of_field, is_allowed_in, AreRows, IsRow, end_of, plain_at, plain_from, type_at}
+use Rattle.wc_declare.specs.SoFar.{HasTaken, HoldsRows, plain_as}
 use Rattle.wc_names.specs.declared.declared_type.DeclaredType.{DeclaredType}
 use Rattle.wc_names.specs.declared.unit_table.UnitTable.{UnitTable}
 use Rattle.wc_names.specs.declared.variable.Variable.{Variable as Row}

@@ -1,19 +1,14 @@
 -- What the rules on a declaration's type and value ask, by the type's number.
 use Rattle.std.proofs.Common.{◌≡◌, Bool, true, false, List, [], ◌∷◌, ◌++◌, length, Option, Some, None, is_some, option_map, refl, sym, ap, ◌∙◌}
 use Rattle.std.specs.Prelude.{option_and_then, if◌then◌else◌, ◌||◌}
-use Rattle.wc_model.specs.Language.Checks.{Check, asks, first_broken}
-use Rattle.wc_model.specs.Language.DeclarationRules.{initial_checks, is_usable_type, may_occur, suits_type}
-use Rattle.wc_model.specs.Language.Declarations.{VariableType, Elementary, Standard, Block, block_named, block_type, elementary_types, named_in, standard_blocks, standard_type, type_named}
-use Rattle.wc_model.specs.Language.Names.{Name}
-use Rattle.wc_model.specs.Language.Tree.{Declaration, ProgramUnit}
+use Rattle.wc_model.specs.Definitions.{Check, asks, first_broken, initial_checks, is_usable_type, may_occur, suits_type, VariableType, Elementary, Standard, Block, block_named, block_type, elementary_types, named_in, standard_blocks, standard_type, type_named, Name, Declaration, ProgramUnit}
 use Rattle.wc_model.specs.declared.block.StandardBlock.{StandardBlock}
 use Rattle.wc_model.specs.declared.kind.Kind.{Kind}
 use Rattle.wc_model.specs.declared.source.Initial.{Initial}
 use Rattle.wc_model.specs.declared.source.Section.{Section}
 use Rattle.wc_model.specs.declared.value.Value.{Value}
-use Rattle.wc_names.specs.Numbered.{numbered_type, is_allowed_in}
-use Rattle.wc_declare.specs.Rows.{suits_numbered}
-use Rattle.wc_names.specs.RepresentsText.{type_at}
+use Rattle.wc_names.specs.{numbered_type, is_allowed_in, type_at}
+use Rattle.wc_declare.specs.SoFar.{suits_numbered}
 use Rattle.wc_names.specs.declared.declared_type.DeclaredType.{DeclaredType}
 use Rattle.wc_names.specs.declared.declared_type.DeclaredType.TheVariants as numbered
 use Rattle.wc_names.proofs.Places.{TypeCase, of_elementary, of_standard, of_block, type_case}

@@ -1,19 +1,11 @@
 -- The units that are checked so far.
-use Rattle.std.proofs.Common.{◌≡◌, ℕ, ◌+◌, Bool, true, false, not, List, [], ◌∷◌, ◌++◌, Option, Some, None, cond, length, refl, sym, ap, subst, ◌∙◌, arith, length-append}
-use Rattle.std.proofs.lemmas.List.Folds.{list_any-append}
+use Rattle.wc_model.proofs.Common.{◌≡◌, ℕ, ◌+◌, Bool, true, false, not, List, [], ◌∷◌, ◌++◌, Option, Some, None, cond, length, refl, sym, ap, subst, ◌∙◌, arith, length-append, list_any-append, flat_map, position_from, bytes_eq-Decides}
 use Rattle.std.specs.Prelude.{◌||◌, ◌&&◌, if◌then◌else◌}
-use Rattle.std.specs.List.{flat_map, position_from}
-use Rattle.wc_model.specs.Language.Checks.{first_broken, positions_after}
-use Rattle.wc_model.specs.Language.DeclarationRules.{is_among, names_block_of, text_declaration_checks, unit_checks}
-use Rattle.wc_model.specs.Language.Declarations.{same_name}
-use Rattle.wc_model.specs.Language.Names.{Name}
-use Rattle.wc_model.specs.Language.Tree.{ProgramUnit, Text}
-use Rattle.wc_names.specs.Keys.{same_name_laws}
-use Rattle.wc_names.specs.RepresentsText.{IsTableOf, number_named, onto}
+use Rattle.wc_model.specs.Definitions.{first_broken, positions_after, is_among, names_block_of, text_declaration_checks, unit_checks, same_name, Name, ProgramUnit, Text}
+use Rattle.wc_names.specs.{same_name_laws, IsTableOf, number_named, onto}
 use Rattle.wc_declare.specs.SoFar.{AreUnitsOf}
 use Rattle.wc_names.specs.declared.unit_table.UnitTable.{UnitTable}
 use Rattle.wc_declare.specs.declared.types.Units.{Units}
-use Rattle.std.proofs.lemmas.Slice.Eq.{bytes_eq-Decides}
 use Rattle.wc_declare.proofs.NamesSoFar.{neither, or_last}
 use Rattle.wc_names.proofs.Positions.{or_else}
 

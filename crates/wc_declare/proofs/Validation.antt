@@ -1,14 +1,9 @@
 -- What is found first, part by part.
-use Rattle.std.proofs.Common.{◌≡◌, ℕ, Bool, true, false, List, ◌∷◌, ◌++◌, Option, Some, Result, Ok, Err, append_assoc, refl, subst, ap, ◌∙◌}
-use Rattle.std.specs.Prelude.{OnOk}
-use Rattle.std.specs.Result.{IsErr, IsErrAnd}
-use Rattle.wc_model.specs.Language.Checks.{Check, Refusal, asks, first_broken}
+use Rattle.wc_model.proofs.Common.{◌≡◌, ℕ, Bool, true, false, List, ◌∷◌, ◌++◌, Option, Some, Result, Ok, Err, append_assoc, refl, subst, ap, ◌∙◌, OnOk, IsErr, IsErrAnd}
+use Rattle.wc_model.specs.Definitions.{Check, Refusal, asks, first_broken, Name, Declaration, ProgramUnit, Text, Validates}
 use Rattle.wc_model.specs.Language.DeclarationRules.{Taken, declaration_checks, initial_checks, names_are_new, places_of_type, capacity_checks, type_checks}
-use Rattle.wc_model.specs.Language.Names.{Name}
-use Rattle.wc_model.specs.Language.Tree.{Declaration, ProgramUnit, Text}
 use Rattle.wc_model.specs.declared.fault.Fault.{Fault}
 use Rattle.wc_model.specs.declared.fault.Fault.TheVariants.{Refused, Memory}
-use Rattle.wc_model.specs.Language.Validation.{Validates}
 use Rattle.wc_names.proofs.HandedOn.{propagated}
 
 -- the same is found

@@ -1,2 +1,1 @@
-pub mod Rows
 pub mod SoFar

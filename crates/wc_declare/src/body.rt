@@ -1,11 +1,5 @@
-ghost use Rattle.std.specs.Prelude.{◌≡◌, ◌++◌, List, map, option_map};
-ghost use Rattle.std.specs.List.{flat_map};
-ghost use Rattle.wc_model.specs.Language.Checks.{Check, first_broken};
-ghost use Rattle.wc_model.specs.Language.DeclarationRules.{body_name_checks, label_checks, operand_checks, term_checks};
-ghost use Rattle.wc_model.specs.Language.Declarations.{is_block};
-ghost use Rattle.wc_model.specs.Language.Tree.{Lines, ProgramUnit};
-ghost use Rattle.wc_model.specs.Language.Views.{assignment_view, line_view, lines_view, term_view, word_view};
-ghost use Rattle.wc_model.specs.Language.Validation.{Validates};
+ghost use Rattle.std.specs.Prelude.{◌≡◌, ◌++◌, List, map, option_map, flat_map};
+ghost use Rattle.wc_model.specs.Definitions.{Check, first_broken, body_name_checks, label_checks, operand_checks, term_checks, is_block, Lines, ProgramUnit, assignment_view, line_view, lines_view, term_view, word_view, Validates};
 ghost use Rattle.wc_declare.specs.SoFar.{TakesNoMemory};
 
 use wc_built_in::{is_reserved, variable_at};

@@ -1,10 +1,8 @@
 ghost use Rattle.std.specs.Prelude.{◌≡◌, ◌+◌, ◌≤◌, [], ◌∷◌, ◌++◌, List, None, OnOk, IfErr, IfSome, IsOkUnless, true, is_some, nat_le, ◌&&◌, map};
-ghost use Rattle.wc_model.specs.Language.Checks.{Check, asks, first_broken};
+ghost use Rattle.wc_model.specs.Definitions.{Check, asks, first_broken, Validates};
 ghost use Rattle.wc_model.specs.Language.DeclarationRules.{Taken, and_more, has_capacity};
-ghost use Rattle.wc_model.specs.Language.Validation.{Validates};
-ghost use Rattle.wc_names.specs.Numbered.{plain_of_field};
-ghost use Rattle.wc_names.specs.Spelled.{is_elementary, spelled, spelled_in_table, spelled_where};
-ghost use Rattle.wc_declare.specs.Rows.{HasTaken, plain_of};
+ghost use Rattle.wc_names.specs.{plain_of_field, is_elementary, spelled, spelled_in_table, spelled_where};
+ghost use Rattle.wc_declare.specs.SoFar.{HasTaken, plain_of};
 
 use crate::body::refusal;
 use wc_model::{Fault, MOST_PLACES, MOST_VARIABLES, Place, Word};

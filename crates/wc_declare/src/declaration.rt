@@ -1,16 +1,8 @@
 ghost use Rattle.std.specs.Prelude.{◌≡◌, ℕ, ◌≤◌, [], ◌∷◌, ◌++◌, List, Some, option_map, OnOk, IfOk, IfErr, map, length, true, false};
-ghost use Rattle.wc_model.specs.Language.Checks.{Check, first_broken};
+ghost use Rattle.wc_model.specs.Definitions.{Check, first_broken, Variable as Declared, declared_by, Name, name_of, ProgramUnit, Text, declaration_view, name_view, unit_view, word_view, Validates};
 ghost use Rattle.wc_model.specs.Language.DeclarationRules.{Taken, and_more, declaration_checks, initial_checks, is_among, is_closed_before, is_new, name_of_word, names_are_new, not_reserved, places_of_type, reserved_words, capacity_checks, suits_kind, type_checks, unit_declaration_checks};
-ghost use Rattle.wc_model.specs.Language.Declarations.{Variable as Declared, declared_by};
-ghost use Rattle.wc_model.specs.Language.Names.{Name, name_of};
-ghost use Rattle.wc_model.specs.Language.Tree.{ProgramUnit, Text};
-ghost use Rattle.wc_model.specs.Language.Views.{declaration_view, name_view, unit_view, word_view};
-ghost use Rattle.wc_model.specs.Language.Validation.{Validates};
-ghost use Rattle.wc_names.specs.Numbered.{is_allowed_in};
-ghost use Rattle.wc_names.specs.Spelled.{is_elementary, is_plain, spelled_in, spelled_in_table, spelled_of_unit, spelled_where};
-ghost use Rattle.wc_declare.specs.Rows.{HasTaken, HoldsRows, IsEmptyOf, SameNames, suits_numbered};
-ghost use Rattle.wc_names.specs.RepresentsText.{AreDifferent, IsTableOf, type_at};
-ghost use Rattle.wc_declare.specs.SoFar.{AreUnitsOf, TakesNoMemory};
+ghost use Rattle.wc_names.specs.{is_allowed_in, is_elementary, is_plain, spelled_in, spelled_in_table, spelled_of_unit, spelled_where, AreDifferent, IsTableOf, type_at};
+ghost use Rattle.wc_declare.specs.SoFar.{HasTaken, HoldsRows, IsEmptyOf, SameNames, suits_numbered, AreUnitsOf, TakesNoMemory};
 
 use crate::body::refusal;
 use crate::capacity::add_variable;

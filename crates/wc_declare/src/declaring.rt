@@ -1,12 +1,6 @@
 ghost use Rattle.std.specs.Prelude.{◌≡◌, ◌&&◌, ◌||◌, ◌++◌, [], None, OnOk, IfOk, IsOkUnless, map};
-ghost use Rattle.wc_model.specs.Language.DeclarationRules.{is_among, names_block_of};
-ghost use Rattle.wc_model.specs.Language.Declarations.{is_block, same_name};
-ghost use Rattle.wc_model.specs.Language.Faults.{declaration_fault};
-ghost use Rattle.wc_model.specs.Language.Names.{Name};
-ghost use Rattle.wc_model.specs.Language.Views.{name_view, text_view, unit_view};
-ghost use Rattle.wc_model.specs.Language.Validation.{Validates};
-ghost use Rattle.wc_names.specs.Spelled.{AreSpelledAs, spelled_in_table, spelled_of_unit};
-ghost use Rattle.wc_names.specs.RepresentsText.{AreTables, AreUnits, onto};
+ghost use Rattle.wc_model.specs.Definitions.{is_among, names_block_of, is_block, same_name, declaration_fault, Name, name_view, text_view, unit_view, Validates};
+ghost use Rattle.wc_names.specs.{AreSpelledAs, spelled_in_table, spelled_of_unit, AreTables, AreUnits, onto};
 ghost use Rattle.wc_declare.specs.SoFar.{AreUnitsOf};
 
 use crate::types::Units;

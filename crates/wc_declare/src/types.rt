@@ -1,11 +1,6 @@
 ghost use Rattle.std.specs.Prelude.{◌≡◌, List, Some, IfSome, is_some, option_map, length};
-ghost use Rattle.wc_model.specs.Language.DeclarationRules.{places_of_type};
-ghost use Rattle.wc_model.specs.Language.Declarations.{block_named, elementary_types, named_in};
-ghost use Rattle.wc_model.specs.Language.Names.{Name, name_of};
-ghost use Rattle.wc_model.specs.Language.Store.{standard_fields};
-ghost use Rattle.wc_model.specs.Language.Tree.{ProgramUnit, Text};
-ghost use Rattle.wc_names.specs.Spelled.{is_elementary};
-ghost use Rattle.wc_names.specs.RepresentsText.{type_at};
+ghost use Rattle.wc_model.specs.Definitions.{places_of_type, block_named, elementary_types, named_in, Name, name_of, standard_fields, ProgramUnit, Text};
+ghost use Rattle.wc_names.specs.{is_elementary, type_at};
 ghost use Rattle.wc_declare.specs.SoFar.{AreUnitsOf};
 
 use wc_built_in::{elementary_type, standard_block, standard_fields};

@@ -1,15 +1,7 @@
 ghost use Rattle.std.specs.Prelude.{◌≡◌, [], ◌∷◌, ◌++◌, List, OnOk, IfOk, IsOkUnless, false};
-ghost use Rattle.wc_model.specs.Language.Checks.{Check, first_broken};
-ghost use Rattle.wc_model.specs.Language.DeclarationRules.{is_among, is_new, not_reserved, unit_checks};
-ghost use Rattle.wc_model.specs.Language.Declarations.{is_block};
-ghost use Rattle.wc_model.specs.Language.Names.{Name};
-ghost use Rattle.wc_model.specs.Language.Tree.{ProgramUnit, Text};
-ghost use Rattle.wc_model.specs.Language.Views.{name_view, unit_view, word_view};
-ghost use Rattle.wc_model.specs.Language.Validation.{Validates};
-ghost use Rattle.wc_declare.specs.Rows.{SameNames};
-ghost use Rattle.wc_names.specs.Spelled.{spelled_in_table, spelled_of_unit};
-ghost use Rattle.wc_names.specs.RepresentsText.{IsTableOf};
-ghost use Rattle.wc_declare.specs.SoFar.{AreUnitsOf, TakesNoMemory};
+ghost use Rattle.wc_model.specs.Definitions.{Check, first_broken, is_among, is_new, not_reserved, unit_checks, is_block, Name, ProgramUnit, Text, name_view, unit_view, word_view, Validates};
+ghost use Rattle.wc_declare.specs.SoFar.{SameNames, AreUnitsOf, TakesNoMemory};
+ghost use Rattle.wc_names.specs.{spelled_in_table, spelled_of_unit, IsTableOf};
 
 use crate::body::{refusal, validate_body};
 use crate::declaration::validate_declarations;

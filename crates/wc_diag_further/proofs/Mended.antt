@@ -1,8 +1,7 @@
 -- Bytes taken out of parts of a text are taken out of the text, and those taken out twice are taken out once.
 use Rattle.std.proofs.Common.{◌≡◌, ◌==◌, ◌∙◌, ℕ, Bool, true, false, List, [], ◌∷◌, ◌++◌, Result, Ok, Err, append_assoc, drop, length, map, take, if◌then◌else◌, refl}
-use Rattle.std.proofs.lemmas.List.{take_at}
-use Rattle.std.specs.Prelude.{OnOk, is_ok}
-use Rattle.wc_diag_further.specs.Mended.{IsByteMended, IsMended, IsMendedAs, IsMendedPlate, blank_of, kept, taken}
+use Rattle.wc_model.proofs.Common.{OnOk, is_ok, take_at}
+use Rattle.wc_diag_further.specs.Further.{IsByteMended, IsMended, IsMendedAs, IsMendedPlate, blank_of, kept, taken}
 
 -- a text of which nothing is taken out
 pub mended_not : (text : List ℕ) → IsMended text text

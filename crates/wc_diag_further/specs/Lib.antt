@@ -1,2 +1,1 @@
-pub mod Mended
 pub mod Further

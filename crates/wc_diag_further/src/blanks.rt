@@ -1,5 +1,5 @@
 ghost use Rattle.std.specs.Prelude.{◌≡◌, map};
-ghost use Rattle.wc_diag_further.specs.Mended.{IsMended, blank_of};
+ghost use Rattle.wc_diag_further.specs.Further.{IsMended, blank_of};
 
 use crate::marks::{Mark, Marks};
 

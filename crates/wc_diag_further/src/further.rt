@@ -1,6 +1,5 @@
 ghost use Rattle.std.specs.Prelude.{◌≡◌, IfOk, IfSome, OnOk, nat_lt};
-ghost use Rattle.wc_diag_further.specs.Further.{IsFoundOf, IsMendedFrom};
-ghost use Rattle.wc_diag_further.specs.Mended.{IsFound};
+ghost use Rattle.wc_diag_further.specs.Further.{IsFoundOf, IsMendedFrom, IsFound};
 
 use crate::blanks::{Blank, blank_each, mark_each};
 use crate::extents::{Faulty, taken_out};

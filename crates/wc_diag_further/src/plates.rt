@@ -1,5 +1,5 @@
 ghost use Rattle.std.specs.Prelude.{OnOk};
-ghost use Rattle.wc_diag_further.specs.Mended.{IsMendedAs};
+ghost use Rattle.wc_diag_further.specs.Further.{IsMendedAs};
 
 use crate::blanks::Blank;
 use crate::marks::Mark;

@@ -1,12 +1,10 @@
 -- The lines above the sections of a job, counted.
 use Rattle.std.proofs.Common.{◌≡◌, ◌≤◌, ◌+◌, ◌==◌, ◌||◌, ℕ, true, false, List, [], ◌∷◌, ◌++◌, length, codes, Bor, Option, Some, None, IfNone, IfSome, is_some, option_map, Result, Ok, Err, if◌then◌else◌, refl, sym, ap, ◌∙◌, arith, length-append, subst}
-use Rattle.std.proofs.lemmas.Bool.{ltb-false}
-use Rattle.std.proofs.lemmas.List.Sums.{count_by-le-length, sum_by-append}
-use Rattle.std.proofs.lemmas.Slice.Eq.{bytes_eq-Decides}
+use Rattle.wc_model.proofs.Common.{ltb-false, count_by-le-length, sum_by-append, bytes_eq-Decides}
 use Rattle.std.specs.Prelude.{nat_lt, cond, bytes_eq}
 use Rattle.wc_job.specs.declared.input.Input.TheVariants.{Plate, Program, Next, Log}
-use Rattle.wc_laws_instrument.specs.Jobs.{IsMadeOf, IsNextPart}
-use Rattle.wc_diag_messages.specs.Above.{bytes_before, line_ends, next_line}
+use Rattle.wc_laws_instrument.specs.Logs.{IsMadeOf, IsNextPart}
+use Rattle.wc_diag_messages.specs.Locations.{bytes_before, line_ends, next_line}
 use Rattle.wc_model.specs.Run.JobSections.{Sections, is_heading, longest_job, sections_in, sections_of, sections_or_refusal, whole_lines}
 
 -- the line ends of two slices

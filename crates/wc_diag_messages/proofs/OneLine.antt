@@ -1,19 +1,13 @@
 -- What is written on one line has no control of ASCII in it.
 use Rattle.std.proofs.Common.{◌≡◌, ◌==◌, ◌&&◌, ◌||◌, not, ◌<◌, ◌≤◌, ◌/◌, ◌%◌, ◌+◌, ◌-◌, nat_lt, nat_le, lit<, ℕ, zero, suc, Bool, true, false, if◌then◌else◌, List, [], ◌∷◌, ◌++◌, Option, codes, decimal, refl, sym, subst, arith}
-use Rattle.std.proofs.lemmas.Bool.{and_parts, leb-true, ltb-false}
-use Rattle.std.specs.Char.{digit_char}
-use Rattle.std.specs.List.{flat_map}
-use Rattle.std.specs.Str.{is_utf8}
+use Rattle.wc_model.proofs.Common.{and_parts, leb-true, ltb-false, digit_char, flat_map, is_utf8}
 use Rattle.std.specs.Fmt.{digits, digits_onto, digit_glyph}
 use Rattle.wc_diag_spans.specs.declared.diagnostic.Span.{Span}
 use Rattle.wc_job.specs.declared.input.Input.{Input}
 use Rattle.wc_job.specs.declared.input.Input.TheVariants.{Log}
 use Rattle.wc_diag_spans.specs.declared.refusal.Refusal.{Refusal}
-use Rattle.wc_diag_messages.specs.Explanations.{IsKnown, IsPrintable, QuotesAndSays, left_out_text, numbered, quoted_text}
-use Rattle.wc_diag_messages.specs.Formats.{helped_text, position_text, short_text}
-use Rattle.wc_diag_messages.specs.Locations.{column_text, counted_text, first_column, line_text, place_text, row_text, section_text}
+use Rattle.wc_diag_messages.specs.{IsKnown, IsPrintable, QuotesAndSays, left_out_text, numbered, quoted_text, helped_text, position_text, short_text, column_text, counted_text, first_column, line_text, place_text, row_text, section_text, KnowsWarning, named_text}
 use Rattle.wc_diag_texts.specs.Plain.{HasNoControls, IsShown, acts, escaped_byte, escaped_text, hex_digit, is_calm, is_control, passes, shown_text, with_spaces, words_after}
-use Rattle.wc_diag_messages.specs.Warned.{KnowsWarning, named_text}
 use Rattle.wc_diag_messages.specs.declared.parts.Parts.{Parts}
 use Rattle.wc_diag_messages.specs.declared.parts.Severity.{Severity}
 use Rattle.wc_diag_warnings.specs.declared.warning.Warning.{Warning}

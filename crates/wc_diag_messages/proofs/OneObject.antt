@@ -1,14 +1,12 @@
 -- An object is printed on one line.
 use Rattle.std.proofs.Common.{◌≡◌, ◌==◌, ◌&&◌, ◌||◌, ◌<◌, ◌≤◌, ◌/◌, ◌%◌, nat_lt, lit<, ℕ, Bool, true, false, cond, if◌then◌else◌, List, [], ◌∷◌, ◌++◌, codes, refl, sym, subst, arith, ◌⊎◌, inl, inr}
-use Rattle.std.proofs.lemmas.Bool.{eqb-true, ltb-false, or_cases}
-use Rattle.std.specs.Char.{digit_char}
+use Rattle.wc_model.proofs.Common.{eqb-true, ltb-false, or_cases, digit_char}
 use Rattle.json.specs.Print.{begins, ends, escape, escape_byte, escape_letter, print, print_from, quoted, separator, token_text}
 use Rattle.json.specs.Token as json_token
 use Rattle.json.specs.Token.{Token}
 use Rattle.wc_diag_messages.proofs.OneLine.{decimal_above, digit_above, joined}
-use Rattle.wc_diag_messages.specs.Formats.{number_if_any, number_member, object_tokens, position_members, severity_members, text_if_any, text_member, word_members}
+use Rattle.wc_diag_messages.specs.{number_if_any, number_member, object_tokens, position_members, severity_members, text_if_any, text_member, word_members, left_out_tokens}
 use Rattle.wc_diag_texts.specs.Plain.{HasNoControls}
-use Rattle.wc_diag_messages.specs.Warned.{left_out_tokens}
 use Rattle.wc_diag_messages.specs.declared.parts.Parts.{Parts}
 use Rattle.wc_diag_messages.specs.declared.parts.Severity.{Severity}
 use Rattle.wc_diag_messages.specs.declared.parts.Severity.TheVariants.{Error, Warning}

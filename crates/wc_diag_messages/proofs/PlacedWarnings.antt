@@ -1,8 +1,6 @@
 -- A warning that is placed at its token: what follows for its line and its mark.
 use Rattle.std.proofs.Common.{◌≡◌, ◌∙◌, ◌≤◌, ◌&&◌, ℕ, Bool, true, false, List, [], ◌∷◌, Option, Some, None, IfSome, drop, length, take, unwrap_or, refl, sym, subst, ap, arith}
-use Rattle.std.proofs.Math.Nat.{min-le_right}
-use Rattle.std.proofs.lemmas.Bool.{and_parts, leb-true}
-use Rattle.std.proofs.lemmas.Slice.Eq.{bytes_eq-Decides}
+use Rattle.wc_model.proofs.Common.{min-le_right, and_parts, leb-true, bytes_eq-Decides}
 use Rattle.std.specs.Bool.{nat_le}
 use Rattle.std.specs.List.{find}
 use Rattle.std.specs.Prelude.{cond}

@@ -1,8 +1,7 @@
 -- What is reported, in each of its formats. The short format is that of compilers, which editors read; the object is
 -- JSON (RFC 8259), its members the profile's own.
-use Rattle.std.specs.Prelude.{◌≡◌, ℕ, ◌+◌, ◌==◌, min, true, List, [], ◌∷◌, ◌++◌, Option, Some, None, codes, decimal, length, if◌then◌else◌}
+use Rattle.std.specs.Prelude.{◌≡◌, ℕ, ◌+◌, ◌==◌, min, true, List, [], ◌∷◌, ◌++◌, Option, Some, None, codes, decimal, length, if◌then◌else◌, IsUtf8}
 use Rattle.std.specs.List.{list_all}
-use Rattle.std.specs.Str.{IsUtf8}
 use Rattle.json.specs.Lex as json
 use Rattle.json.specs.Print.{print}
 use Rattle.json.specs.Token as json_token

@@ -1,10 +1,8 @@
 -- The page of a refusal: its lines, its number, and the answer with that number, are pinned; of the
 -- words that they are those of one entry of the catalogue, each in its line (the profile's own).
-use Rattle.std.specs.Prelude.{◌≡◌, ℕ, List, [], ◌∷◌, ◌++◌, codes, if◌then◌else◌}
-use Rattle.std.specs.List.{flat_map}
+use Rattle.std.specs.Prelude.{◌≡◌, ℕ, List, [], ◌∷◌, ◌++◌, codes, if◌then◌else◌, flat_map}
 use Rattle.wc_diag_messages.specs.Locations.{number_text}
-use Rattle.wc_diag_texts.specs.Plain.{shown_text}
-use Rattle.wc_diag_texts.specs.Numbers.{is_from}
+use Rattle.wc_diag_texts.specs.{shown_text, is_from}
 use Rattle.wc_diag_texts.specs.declared.catalogue.Entry.{Entry}
 
 -- a line: what it says, and its words

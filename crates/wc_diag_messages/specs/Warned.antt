@@ -1,12 +1,9 @@
 -- What is said of a warning, in each format: its number, the file, the line, the column, the name and the
 -- snippet are pinned; the words between them are not (the profile's own).
-use Rattle.std.specs.Prelude.{◌≡◌, ◌≤◌, ◌&&◌, ◌-◌, ℕ, Bool, true, List, [], ◌∷◌, ◌++◌, Option, None, IfSome, codes, drop, find, length, min, option_map, take, unwrap_or}
-use Rattle.std.specs.Bool.{nat_le}
+use Rattle.std.specs.Prelude.{◌≡◌, ◌≤◌, ◌&&◌, ◌-◌, ℕ, Bool, true, List, [], ◌∷◌, ◌++◌, Option, None, IfSome, codes, drop, find, length, min, option_map, take, unwrap_or, nat_le, bytes_eq}
 use Rattle.std.specs.Option.{option_map_or}
-use Rattle.std.specs.Str.{bytes_eq}
 use Rattle.json.specs.Token as json_token
-use Rattle.wc_diag_spans.specs.Finds.{IsWithin}
-use Rattle.wc_diag_spans.specs.Lines.{column_at, line_of_number}
+use Rattle.wc_diag_spans.specs.{IsWithin, column_at, line_of_number}
 use Rattle.wc_diag_spans.specs.declared.diagnostic.Diagnostic.{Diagnostic}
 use Rattle.wc_diag_spans.specs.declared.diagnostic.Span.{Span}
 use Rattle.wc_diag_messages.specs.Formats.{IsObjectOf, Prints, number_member, severity_members, text_member, words_before_count}

@@ -1,5 +1,5 @@
 ghost use Rattle.std.specs.Prelude.{◌≡◌, ◌≤◌, ◌+◌, IfNone, IfSome, option_map};
-ghost use Rattle.wc_diag_messages.specs.Above.{IsBelow, line_ends, text_of};
+ghost use Rattle.wc_diag_messages.specs.Locations.{IsBelow, line_ends, text_of};
 ghost use Rattle.wc_model.specs.Run.JobSections.{sections_of};
 
 use wc_job::{Input, sections};

@@ -1,5 +1,4 @@
-ghost use Rattle.std.specs.Prelude.{◌≡◌, ◌++◌, [], IfOk, OnOk};
-ghost use Rattle.std.specs.String.{string_bytes};
+ghost use Rattle.std.specs.Prelude.{◌≡◌, ◌++◌, [], IfOk, OnOk, string_bytes};
 ghost use Rattle.wc_diag_messages.specs.Formats.{BeginsObject, IsEnded, IsNameOf, IsObjectOf, column_after, number_if_any, number_member, object_tokens, position_members, severity_members, text_if_any, text_member, word_members};
 ghost use Rattle.wc_diag_spans.specs.Finds.{IsWithin};
 

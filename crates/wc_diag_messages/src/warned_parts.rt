@@ -1,5 +1,4 @@
-ghost use Rattle.std.specs.Prelude.{◌≡◌, ◌++◌, IfOk};
-ghost use Rattle.std.specs.Option.{option_copied};
+ghost use Rattle.std.specs.Prelude.{◌≡◌, ◌++◌, IfOk, option_copied};
 ghost use Rattle.wc_diag_messages.specs.Warned.{IsPlaced, KnowsWarning, has_there, is_called, is_warned, marked, named_text, shown_line, start_on, warned_token};
 ghost use Rattle.wc_diag_texts.specs.Plain.{shown_text};
 

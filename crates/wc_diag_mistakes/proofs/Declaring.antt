@@ -1,8 +1,6 @@
 -- The one token that begins the declaration of a block.
 use Rattle.std.proofs.Common.{◌≡◌, ◌<◌, ◌≤◌, ◌+◌, ◌&&◌, ltb, ℕ, Bool, true, false, if◌then◌else◌, List, get_or, length, Option, Some, None, refl, sym, ap, ◌∙◌, arith}
-use Rattle.std.proofs.lemmas.Bool.{ltb-false, ltb-true}
-use Rattle.std.specs.Prelude.{is_some, slice_get, IfNone, IfSome}
-use Rattle.std.proofs.lemmas.Option.{slice_get-get_or, slice_get_past}
+use Rattle.wc_model.proofs.Common.{is_some, slice_get, IfNone, IfSome, ltb-false, ltb-true, slice_get-get_or, slice_get_past}
 use Rattle.std.specs.Option.{option_map, option_map_or}
 use Rattle.wc_lexer.specs.declared.shape.Token.{Token}
 use Rattle.wc_diag_mistakes.specs.Unreached.{IsDeclaredOnce, begins_block, declares, is_named}

@@ -1,8 +1,6 @@
 -- Whether some tokens leave, from the first on; the last that leaves or may pass decides.
 use Rattle.std.proofs.Common.{◌≡◌, ◌<◌, ◌+◌, ◌&&◌, ◌||◌, not, ℕ, Bool, true, false, drop, take, IsTrue, ◌↔◌, List, [], ◌∷◌, ◌++◌, get_or, length, refl, sym, ap, ◌∙◌}
-use Rattle.std.proofs.lemmas.Bool.{and_parts}
-use Rattle.std.proofs.lemmas.List.{drop_more, take-append-drop}
-use Rattle.std.specs.List.{list_any}
+use Rattle.wc_model.proofs.Common.{and_parts, drop_more, take-append-drop, list_any}
 use Rattle.wc_lexer.specs.declared.shape.Token.{Token}
 use Rattle.wc_diag_mistakes.specs.Unreached.{IsLeft, leaves, may_pass}
 

@@ -1,9 +1,5 @@
 -- Which one of a call's list breaks a rule first.
-use Rattle.std.proofs.Common.{◌≡◌, ℕ, suc, ◌+◌, ◌<◌, ◌≤◌, Bool, true, false, not, List, [], ◌∷◌, map, ◌++◌, Option, Some, None, Err, append-nil, add-one, refl, sym, ap, subst, ◌∙◌, arith, ◌⊎◌, inl, inr}
-use Rattle.std.specs.List.{list_any}
-use Rattle.std.specs.Prelude.{if◌then◌else◌, is_some, slice_get}
-use Rattle.std.proofs.lemmas.Bool.{cases_order}
-use Rattle.std.proofs.lemmas.List.Sums.{prefix_len-le-length}
+use Rattle.wc_model.proofs.Common.{◌≡◌, ℕ, suc, ◌+◌, ◌<◌, ◌≤◌, Bool, true, false, not, List, [], ◌∷◌, map, ◌++◌, Option, Some, None, Err, append-nil, add-one, refl, sym, ap, subst, ◌∙◌, arith, ◌⊎◌, inl, inr, if◌then◌else◌, is_some, slice_get, list_any, cases_order, prefix_len-le-length}
 use Rattle.wc_diag_places.proofs.Positions.{earlier_there, first_before, item_far, item_there, previous_of}
 use Rattle.wc_diag_places.specs.Arguments.{IsArgument, IsArgumentAt, IsFirstBrokenOf, KeepsNames, RuleIs, argument_count, argument_from, broken_at, means_name}
 use Rattle.wc_diag_places.specs.OperandTokens.{begins_item, is_shape, list_end, tokens_at}
@@ -12,13 +8,8 @@ use Rattle.wc_diag_places.specs.declared.arguments.Broken.{Broken}
 use Rattle.wc_diag_places.specs.declared.arguments.Item.{Item}
 use Rattle.wc_lexer.specs.declared.shape.Shape.TheVariants.{Closing}
 use Rattle.wc_lexer.specs.declared.shape.Token.{Token}
-use Rattle.wc_model.specs.Language.BodyRules.{actual_checks, argument_checks, formal_named, is_readable, is_writable, suits_input, suits_output}
+use Rattle.wc_model.specs.Definitions.{actual_checks, argument_checks, formal_named, is_readable, is_writable, suits_input, suits_output, Member, VariableType, members_of, same_name, Name, name_of, Scope, entity_of, Assignment, Term, Validates}
 use Rattle.wc_model.specs.Language.Checks.{Position, Refusal, asks, first_broken, positions_of}
-use Rattle.wc_model.specs.Language.Declarations.{Member, VariableType, members_of, same_name}
-use Rattle.wc_model.specs.Language.Names.{Name, name_of}
-use Rattle.wc_model.specs.Language.Scopes.{Scope, entity_of}
-use Rattle.wc_model.specs.Language.Tree.{Assignment, Term}
-use Rattle.wc_model.specs.Language.Validation.{Validates}
 use Rattle.wc_model.specs.declared.fault.Fault.{Fault}
 use Rattle.wc_model.specs.declared.fault.Fault.TheVariants.{Refused}
 use Rattle.wc_model.specs.declared.operator.Direction.{Direction}
@@ -26,9 +17,7 @@ use Rattle.wc_model.specs.declared.operator.Direction.TheVariants.{Into, OutOf}
 use Rattle.wc_names.specs.Numbered.{numbered_type}
 use Rattle.wc_names.specs.declared.declared_type.DeclaredType.{DeclaredType}
 use Rattle.wc_names.specs.declared.kept.Tables.{Tables}
-use Rattle.wc_verify.specs.Calls.{HoldsNames}
-use Rattle.wc_verify.specs.Found.{first_at}
-use Rattle.wc_verify.specs.Seeing.{IsScope}
+use Rattle.wc_verify.specs.Seeing.{HoldsNames, first_at, IsScope}
 
 -- the number of a refusal, if there is one
 abbrev number_of : Option Refusal → ℕ

@@ -1,12 +1,10 @@
 -- A text that is read by places, before the costs.
-use Rattle.std.proofs.Common.{◌≡◌, ℕ, List, [], None, Err, map, arith, inl, inr, refl, subst, sym}
-use Rattle.std.proofs.lemmas.List.{length-map}
+use Rattle.wc_model.proofs.Common.{◌≡◌, ℕ, List, [], None, Err, map, arith, inl, inr, refl, subst, sym, length-map}
 use Rattle.wc_cost.specs.Faultless.{IsFaultless, Measures}
 use Rattle.wc_text_flat.proofs.Shortness.{tokens_fit}
 use Rattle.wc_lexer.specs.Views.{token_view}
 use Rattle.wc_lexer.specs.declared.shape.Token.{Token}
-use Rattle.wc_model.specs.Language.Faults.{body_fault, declaration_fault}
-use Rattle.wc_model.specs.Language.Tree.{Text}
+use Rattle.wc_model.specs.Definitions.{body_fault, declaration_fault, Text}
 use Rattle.wc_model.specs.declared.fault.Fault.{Fault}
 use Rattle.wc_model.specs.declared.fault.Fault.TheVariants.{Memory, Refused}
 use Rattle.wc_diag_places.specs.OperandTokens.{on_line, tokens_from}

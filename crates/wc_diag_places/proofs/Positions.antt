@@ -1,7 +1,6 @@
 -- The positions of a list by their numbers, and where the items of a call's list are.
-use Rattle.std.proofs.Common.{◌≡◌, ℕ, zero, suc, ◌+◌, ◌<◌, ◌≤◌, min, Bool, true, false, List, [], ◌∷◌, length, Option, Some, None, refl, sym, ap, arith}
+use Rattle.wc_model.proofs.Common.{◌≡◌, ℕ, zero, suc, ◌+◌, ◌<◌, ◌≤◌, min, Bool, true, false, List, [], ◌∷◌, length, Option, Some, None, refl, sym, ap, arith, slice_get_within}
 use Rattle.std.specs.Prelude.{if◌then◌else◌, option_map, slice_get}
-use Rattle.std.proofs.lemmas.Option.{slice_get_within}
 use Rattle.wc_diag_places.specs.OperandTokens.{is_point}
 use Rattle.wc_diag_places.specs.Lists.{item_at, mark_after, value_end}
 use Rattle.wc_lexer.specs.declared.shape.Token.{Token}

@@ -5,18 +5,12 @@ use Rattle.wc_diag_places.specs.Lists.{AreListed, IsListedAs, item_at, text_at}
 use Rattle.wc_diag_places.specs.declared.arguments.Broken.{Broken}
 use Rattle.wc_diag_places.specs.declared.arguments.Item.{Item}
 use Rattle.wc_lexer.specs.declared.shape.Token.{Token}
-use Rattle.wc_model.specs.Language.BodyRules.{argument_checks, is_instance}
+use Rattle.wc_model.specs.Definitions.{argument_checks, is_instance, Member, VariableType, members_of, Name, name_of, Scope, type_of, Assignment}
 use Rattle.wc_model.specs.Language.Checks.{Position, Refusal, first_broken, positions_of}
-use Rattle.wc_model.specs.Language.Declarations.{Member, VariableType, members_of}
-use Rattle.wc_model.specs.Language.Names.{Name, name_of}
-use Rattle.wc_model.specs.Language.Scopes.{Scope, type_of}
-use Rattle.wc_model.specs.Language.Tree.{Assignment}
 use Rattle.wc_names.specs.Numbered.{numbered_type}
 use Rattle.wc_names.specs.declared.declared_type.DeclaredType.{DeclaredType}
 use Rattle.wc_names.specs.declared.kept.Tables.{Tables}
-use Rattle.wc_verify.specs.Calls.{HoldsNames}
-use Rattle.wc_verify.specs.Found.{first_at}
-use Rattle.wc_verify.specs.Seeing.{IsScope}
+use Rattle.wc_verify.specs.Seeing.{HoldsNames, first_at, IsScope}
 
 -- the first rule that one of a list breaks, with those before it
 abbrev pub broken_at : Scope → ℕ → List Member → Position Assignment → Option Refusal

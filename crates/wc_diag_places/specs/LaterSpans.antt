@@ -2,11 +2,7 @@
 use Rattle.std.specs.Prelude.{◌≡◌, ◌-◌, ℕ, nat_lt, true, List, Some, None, slice_get, ◌⊎◌}
 use Rattle.std.specs.List.{position_or_len}
 use Rattle.wc_lexer.specs.declared.shape.Token.{Token}
-use Rattle.wc_model.specs.Language.Checks.{Refusal}
-use Rattle.wc_model.specs.Language.Faults.{IsCostFault, body_fault, declaration_fault}
-use Rattle.wc_model.specs.Language.Scopes.{Scope}
-use Rattle.wc_model.specs.Language.Tree.{ProgramUnit, Text}
-use Rattle.wc_model.specs.Language.Views.{text_view}
+use Rattle.wc_model.specs.Definitions.{Refusal, IsCostFault, body_fault, declaration_fault, Scope, ProgramUnit, Text, text_view}
 use Rattle.wc_model.specs.declared.fault.Fault.{Fault}
 use Rattle.wc_model.specs.declared.fault.Fault.TheVariants.{Memory, Refused}
 use Rattle.wc_names.specs.Numbered.{IsUnit}

@@ -8,12 +8,11 @@ use Rattle.wc_diag_places.specs.declared.arguments.Item.{Item}
 use Rattle.wc_lexer.specs.declared.shape.Shape.{Shape}
 use Rattle.wc_lexer.specs.declared.shape.Shape.TheVariants.{Arrow, LineEnd}
 use Rattle.wc_lexer.specs.declared.shape.Token.{Token}
-use Rattle.wc_model.specs.Language.Names.{name_of}
-use Rattle.wc_model.specs.Language.Tree.{Assignment, Field, Term}
+use Rattle.wc_model.specs.Definitions.{name_of, Assignment, Field, Term}
 use Rattle.wc_model.specs.declared.operator.Direction.{Direction}
 use Rattle.wc_model.specs.declared.operator.Direction.TheVariants.{Into, OutOf}
 use Rattle.wc_text_lines.specs.Words.{symbol_view}
-use Rattle.wc_text_short_lines.specs.Several.{operand_of}
+use Rattle.wc_text_bodies.specs.Several.{operand_of}
 
 -- a token that ends no line
 abbrev pub is_mark_shape : Shape → Bool

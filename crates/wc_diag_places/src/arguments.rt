@@ -1,6 +1,5 @@
-ghost use Rattle.std.specs.Prelude.{◌≡◌, ◌≤◌, ◌+◌, IfOk, None, length, min};
+ghost use Rattle.std.specs.Prelude.{◌≡◌, ◌≤◌, ◌+◌, IfOk, None, length, min, option_copied};
 ghost use Rattle.std.specs.List.{position_or_len};
-ghost use Rattle.std.specs.Option.{option_copied};
 ghost use Rattle.wc_diag_places.specs.Arguments.{FindsBroken, KeepsNames, RuleIs};
 ghost use Rattle.wc_diag_places.specs.Lists.{direction_of, is_mark_shape, item_after, mark_after, text_at, value_end};
 

@@ -9,8 +9,8 @@ use wc_diag_texts::Case;
 use wc_lexer::{Shape, Token};
 use wc_model::{Kind, Operand, Storing};
 use wc_names::{DeclaredType, Entity, Tables};
+use wc_text_bodies::operand_of;
 use wc_text_lines::{Operating, Operation, operation_of};
-use wc_text_short_lines::operand_of;
 
 /// The operand that some tokens are: one alone, or a name with a field.
 pub(crate) fn operand_in<'a>(operand_tokens: &[Token<'a>]) -> Option<Operand<'a>>

@@ -1,6 +1,5 @@
-ghost use Rattle.std.specs.Prelude.{◌≡◌, ◌==◌, ◌+◌, ◌≤◌, length};
+ghost use Rattle.std.specs.Prelude.{◌≡◌, ◌==◌, ◌+◌, ◌≤◌, length, option_copied};
 ghost use Rattle.std.specs.List.{position_or_len};
-ghost use Rattle.std.specs.Option.{option_copied};
 ghost use Rattle.wc_diag_places.specs.OperandTokens.{is_listed, is_point, is_shape, length_of_operand, line_at, list_end, operand_of, operator_of, opens, start_of_operand, tokens_at, tokens_from};
 
 use wc_diag_stops::Slice;

@@ -1,7 +1,6 @@
 ghost use Rattle.std.specs.Prelude.{◌≤◌, IfOk, length, map};
 ghost use Rattle.wc_lexer.specs.Views.{token_view};
-ghost use Rattle.wc_model.specs.Language.Views.{text_view};
-ghost use Rattle.wc_model.specs.Text.Tokens.{IsCut, most_bytes};
+ghost use Rattle.wc_model.specs.Definitions.{text_view, IsCut, most_bytes};
 ghost use Rattle.wc_diag_stops.specs.ReadingSpans.{AreReadByPlaces};
 
 use std::alloc::Global;

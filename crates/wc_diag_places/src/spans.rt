@@ -1,9 +1,8 @@
 ghost use Rattle.std.specs.Prelude.{◌≡◌, true, None, IfOk, IfNone, IfSome};
-ghost use Rattle.wc_model.specs.Language.Faults.{declaration_fault};
+ghost use Rattle.wc_model.specs.Definitions.{declaration_fault, Scope};
 ghost use Rattle.wc_names.specs.RepresentsText.{AreTables};
 ghost use Rattle.wc_diag_places.specs.Arguments.{IsArgument};
 ghost use Rattle.wc_diag_places.specs.LaterSpans.{IsAccepted, IsBodyFault, IsTokenFault, OfRead, OfRefusal, PointsTo, RefusesLater};
-ghost use Rattle.wc_model.specs.Language.Scopes.{Scope};
 ghost use Rattle.wc_verify.specs.Seeing.{IsScope};
 ghost use Rattle.wc_diag_places.specs.OperandTokens.{IsOperatorOrOperand, IsOperandOf, is_listed, on_line, operator_of, operand_by_number};
 

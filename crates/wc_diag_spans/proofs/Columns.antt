@@ -1,8 +1,5 @@
 -- Columns, counted back from a place to the LF before it.
-use Rattle.std.proofs.Common.{◌≡◌, ◌+◌, ◌-◌, ◌==◌, ℕ, Bool, not, List, length, min, take, sym, ap, ◌∙◌, zero-add, arith}
-use Rattle.std.proofs.Math.Seq.{take-length}
-use Rattle.std.proofs.lemmas.List.{take_min}
-use Rattle.std.specs.List.{suffix_len}
+use Rattle.wc_model.proofs.Common.{◌≡◌, ◌+◌, ◌-◌, ◌==◌, ℕ, Bool, not, List, length, min, take, sym, ap, ◌∙◌, zero-add, arith, take-length, take_min, suffix_len}
 
 -- no LF
 abbrev pub is_other : ℕ → Bool

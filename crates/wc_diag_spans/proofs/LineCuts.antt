@@ -1,12 +1,6 @@
 -- A text cut in lines, one after another.
 use Rattle.std.proofs.Common.{◌≡◌, ◌≤◌, ◌<◌, ◌+◌, ◌-◌, ◌==◌, ltb, ℕ, zero, suc, Bool, true, false, cond, not, min, List, [], ◌∷◌, length, count_by, drop, take, get_or, zero-add, add-zero, Some, None, if◌then◌else◌, refl, sym, ap, ◌∙◌, arith}
-use Rattle.std.proofs.Math.Seq.{drop-nil, take-length}
-use Rattle.std.proofs.lemmas.Bool.{false_from_ne_true, ltb-false, ltb-true, ne_eqb}
-use Rattle.std.proofs.lemmas.List.{drop-drop}
-use Rattle.std.proofs.lemmas.List.Splits.{slice_split_first}
-use Rattle.std.proofs.lemmas.List.Sums.{position_or_len_is, sum_by-cons}
-use Rattle.std.proofs.lemmas.Option.{slice_get-map}
-use Rattle.std.specs.List.{after_first, before_first, onto_first, position_or_len}
+use Rattle.wc_model.proofs.Common.{drop-nil, take-length, false_from_ne_true, ltb-false, ltb-true, ne_eqb, drop-drop, slice_split_first, position_or_len_is, sum_by-cons, slice_get-map, after_first, before_first, onto_first, position_or_len}
 use Rattle.std.specs.Prelude.{option_map, slice_get}
 use Rattle.memchr.specs.Find.{IsFirstByte, is_byte}
 use Rattle.wc_diag_spans.specs.Lines.{AreLinesAbove, HasBelow, IsOneLine, cut_lines, line_of_number, lines_of, without_return}

@@ -1,7 +1,6 @@
 -- The offending slice on a line.
 use Rattle.std.proofs.Common.{◌≡◌, ◌<◌, ◌≤◌, refl, ℕ, List, Option, Some, None, IfSome, length, sym, subst}
-use Rattle.wc_diag_spans.specs.OffendingTokens.{HasLaterSpan, HasStop, IsKept, IsLaterOperand, IsOffendingBy, IsStop, IsStoppedBy, MeansSlice, MeansStop}
-use Rattle.wc_diag_spans.specs.Showing.{line_of_part, read_as}
+use Rattle.wc_diag_spans.specs.{HasLaterSpan, HasStop, IsKept, IsLaterOperand, IsOffendingBy, IsStop, IsStoppedBy, MeansSlice, MeansStop, line_of_part, read_as}
 use Rattle.wc_job.specs.declared.input.Input.{Input}
 use Rattle.wc_job.specs.declared.input.Input.TheVariants.{Program, Next}
 use Rattle.wc_diag_spans.specs.declared.diagnostic.Diagnostic.{Diagnostic}

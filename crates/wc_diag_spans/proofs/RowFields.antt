@@ -3,9 +3,7 @@ use Rattle.std.proofs.Common.{◌≡◌, ◌∙◌, ◌+◌, ℕ, zero, suc, Lis
 use Rattle.std.proofs.lemmas.List.{append_assoc, append-nil, take_min}
 use Rattle.std.specs.Prelude.{flat_map, unwrap_or}
 use Rattle.csv.specs.Records.{field_at}
-use Rattle.wc_diag_spans.specs.Finds.{IsCutTo}
-use Rattle.wc_diag_spans.specs.OffendingTokens.{IsKept}
-use Rattle.wc_diag_spans.specs.Rows.{MeansField, after_comma, cut_field, glued, joined, shown_field, shown_row}
+use Rattle.wc_diag_spans.specs.{IsCutTo, IsKept, MeansField, after_comma, cut_field, glued, joined, shown_field, shown_row}
 use Rattle.wc_diag_spans.specs.declared.diagnostic.Diagnostic.{Diagnostic}
 use Rattle.wc_diag_spans.specs.declared.diagnostic.Span.{Span}
 use Rattle.wc_model.specs.Run.Log.{Record}

@@ -2,7 +2,7 @@
 use Rattle.std.specs.Prelude.{◌≡◌, ◌≤◌, ℕ, List, [], None, IfSome, length, min}
 use Rattle.wc_diag_spans.specs.OffendingTokens.{IsOffendingBy, IsStoppedBy}
 use Rattle.wc_diag_spans.specs.Rows.{MeansField, shown_row}
-use Rattle.wc_diag_spans.specs.Showing.{ShowsLine, known_line, line_of_part}
+use Rattle.wc_diag_spans.specs.Lines.{ShowsLine, known_line, line_of_part}
 use Rattle.wc_diag_spans.specs.declared.diagnostic.Diagnostic.{Diagnostic}
 use Rattle.wc_diag_spans.specs.declared.diagnostic.Span.{Span}
 use Rattle.wc_diag_spans.specs.declared.refusal.Evidence.{Evidence}

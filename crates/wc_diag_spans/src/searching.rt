@@ -2,7 +2,7 @@ ghost use Rattle.std.specs.Prelude.{◌≡◌, ◌≤◌, ◌<◌, IfOk, IfSome,
 ghost use Rattle.wc_diag_spans.specs.Finds.{Finds, FindsIn, FindsName, FindsRow, IsWithin};
 ghost use Rattle.wc_diag_spans.specs.OffendingTokens.{HasLaterSpan, HasStop, IsKept};
 ghost use Rattle.wc_record.specs.Reported.{fields_reported};
-ghost use Rattle.wc_diag_spans.specs.Showing.{ShowsLine, known_line, line_of_part, read_as};
+ghost use Rattle.wc_diag_spans.specs.Lines.{ShowsLine, known_line, line_of_part, read_as};
 
 use crate::diagnostic::Diagnostic;
 use crate::lines::line_at;

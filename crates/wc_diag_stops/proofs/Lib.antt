@@ -1,4 +1,2 @@
-pub mod Exchanges
-mod ListedTokens
-pub mod StopSteps
 pub mod Stopped
+mod ListedTokens

@@ -1,18 +1,8 @@
 -- What the sentence about an unexpected token lists, state by state.
 use Rattle.std.proofs.Common.{◌≡◌, ◌⊎◌, inl, inr, ℕ, Bool, true, false, List, [], ◌∷◌, Option, Some, None, is_some, refl, length, option_map, subst}
 use Rattle.std.specs.Prelude.{◌||◌, if◌then◌else◌, nat_le, not}
-use Rattle.wc_laws_grammar.specs.LineMoves.{OfStep, OfOpening, OfArgument, AtFirst, AtNext, AtAssign, AtValue, AtEnd, LineState, Start, Worded, Labelled, Operated, Jumped, Called, Instanced, Listing, Bracketed, Named, Pointed, Stepped, BracketedWith, Ended, at_operator, at_start_in, after_operator, simple_operator}
-use Rattle.wc_laws_grammar.specs.Moves.{InDeclaration, Undeclared, AfterNames, AfterComma, AfterColon, AfterType, AfterAssign, AfterValue, State, Outside, Unnamed, Declaring, AtLine, OnLine, Closed, Raised, at_value, after_closing, after_unit, started_line, begins_transfer, closing_move, declaration_move, has_content, has_program, is_full, fault_at_closing, fault_at_line, fault_at_unit, fault_if, first_fault, section_of_word, section_or_line, start_move, word_move, move}
-use Rattle.wc_laws_grammar.specs.Words.{Loads, Stores, Applies, Operation, found, is_transfer, literal_of, operation_of, unit_kinds}
-use Rattle.wc_model.specs.Language.Declarations.{same_name}
-use Rattle.wc_model.specs.Language.Names.{name_of}
-use Rattle.wc_model.specs.Language.Tree.{ProgramUnit, Word}
-use Rattle.wc_model.specs.Text.Grammar.{Setting, InBody, InParentheses}
-use Rattle.wc_model.specs.Text.Keywords.{end_word}
-use Rattle.wc_model.specs.Text.Limits.{most_units}
-use Rattle.wc_model.specs.Text.Marks.{Symbol, Identifier, Ampersand, AmpersandN, ClosingBracket, LineEnd}
-use Rattle.wc_model.specs.Text.Positions.{Opening, Position, setting_in}
-use Rattle.wc_model.specs.Text.ReadingFaults.{EmptyParentheses, NotAllowedInParentheses, NotOneProgramLast, TooMany}
+use Rattle.wc_laws_grammar.specs.{OfStep, OfOpening, OfArgument, AtFirst, AtNext, AtAssign, AtValue, AtEnd, LineState, Start, Worded, Labelled, Operated, Jumped, Called, Instanced, Listing, Bracketed, Named, Pointed, Stepped, BracketedWith, Ended, at_operator, at_start_in, after_operator, simple_operator, InDeclaration, Undeclared, AfterNames, AfterComma, AfterColon, AfterType, AfterAssign, AfterValue, State, Outside, Unnamed, Declaring, AtLine, OnLine, Closed, Raised, at_value, after_closing, after_unit, started_line, begins_transfer, closing_move, declaration_move, has_content, has_program, is_full, fault_at_closing, fault_at_line, fault_at_unit, fault_if, first_fault, section_of_word, section_or_line, start_move, word_move, move, Loads, Stores, Applies, Operation, found, is_transfer, literal_of, operation_of, unit_kinds}
+use Rattle.wc_model.specs.Definitions.{same_name, name_of, ProgramUnit, Word, Setting, InBody, InParentheses, end_word, most_units, Symbol, Identifier, Ampersand, AmpersandN, ClosingBracket, LineEnd, Opening, Position, setting_in, EmptyParentheses, NotAllowedInParentheses, NotOneProgramLast, TooMany}
 use Rattle.wc_model.specs.declared.source.Section.{Section}
 use Rattle.wc_model.specs.declared.source.UnitKind.{UnitKind}
 use Rattle.wc_model.specs.declared.value.Value.{Value}

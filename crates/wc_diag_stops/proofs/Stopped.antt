@@ -1,33 +1,54 @@
--- Where the reading of a text stops.
-use Rattle.std.proofs.Common.{◌≡◌, ◌==◌, ℕ, ◌≤◌, ◌<◌, true, false, List, length, map, refl, ap, subst, sym, ◌∙◌, arith, inl, inr, Result, Ok, Err, IfOk}
-use Rattle.std.proofs.lemmas.List.{length-map}
-use Rattle.std.specs.Prelude.{if◌then◌else◌}
+-- Where the reading of a text stops: tokens with their places for their lines, and what is found where the walk over some tokens stops.
+use Rattle.std.proofs.Common.{◌≡◌, List, [], ◌∷◌, map, refl, ap, ℕ, Ok, ◌==◌, ◌≤◌, ◌<◌, true, false, length, subst, sym, ◌∙◌, arith, inl, inr, Result, Err, IfOk}
+use Rattle.wc_model.proofs.Common.{if◌then◌else◌, length-map}
+use Rattle.wc_lexer.specs.declared.shape.Token.{Token}
+use Rattle.wc_text_lines.specs.Words.{marks_of}
+use Rattle.wc_diag_stops.specs.ReadingSpans.{place_mark, place_marks, AreReadByPlaces, AreThoseRead, IsReadByPlaces, StopsReading}
+use Rattle.wc_diag_stops.specs.Stopping.{exchanged, ReadsText, ReportsRaised, IsAllowedAs, IsRaisedWith, IsOffendingAt, IsStopAt}
+use Rattle.wc_laws_grammar.specs.Moves.{State, at_end, at_first, reading}
+use Rattle.wc_model.specs.Definitions.{Text, Mark, mark_of_token, IsFirstReadingFault, IsCut, most_bytes, text_view}
+use Rattle.wc_model.specs.declared.fault.Fault.{Fault}
+use Rattle.wc_model.specs.declared.fault.Fault.TheVariants.{Memory, Refused}
+use Rattle.wc_reader.specs.Reported.{StopsWith, ReportsFault, ReportsReading}
+use Rattle.wc_text_bodies.specs.Views.{Stopping, walk}
+use Rattle.wc_diag_stops.specs.Allowed.{allowed, allowed_with}
+use Rattle.wc_diag_texts.specs.declared.expected.Expected.{Expected}
 use Rattle.wc_laws_grammar.proofs.Readings.{read_is_spelled, refused_is_first}
-use Rattle.wc_laws_grammar.specs.Moves.{at_first, reading}
 use Rattle.wc_laws_grammar.proofs.TokenLaws.{cut_has_no_fault}
 use Rattle.wc_lexer.proofs.Spans.{span_is_first}
 use Rattle.wc_lexer.specs.Spans.{StopsAt}
 use Rattle.wc_lexer.specs.Views.{token_view}
-use Rattle.wc_lexer.specs.declared.shape.Token.{Token}
-use Rattle.wc_text_lines.specs.Words.{marks_of}
-use Rattle.wc_model.specs.Language.Tree.{Text}
-use Rattle.wc_model.specs.Text.Reading.{mark_of_token}
-use Rattle.wc_model.specs.Text.ReadingFaults.{IsFirstReadingFault}
-use Rattle.wc_model.specs.Text.Tokens.{IsCut, most_bytes}
-use Rattle.wc_model.specs.Language.Views.{text_view}
 use Rattle.wc_model.specs.declared.source.Source.{Source}
-use Rattle.wc_model.specs.declared.fault.Fault.{Fault}
-use Rattle.wc_model.specs.declared.fault.Fault.TheVariants.{Memory, Refused}
 use Rattle.wc_reader.proofs.ReadTexts.{needs_memory}
-use Rattle.wc_reader.specs.Reported.{ReportsReading}
-use Rattle.wc_text_short_lines.proofs.WalkSteps.{walk_reports}
-use Rattle.wc_text_short_lines.specs.Walks.{walk}
-use Rattle.wc_diag_stops.specs.Allowed.{allowed_with}
-use Rattle.wc_diag_stops.specs.ReadingSpans.{AreReadByPlaces, AreThoseRead, IsReadByPlaces, StopsReading, place_mark, place_marks}
-use Rattle.wc_diag_stops.specs.Stopping.{IsAllowedAs, IsRaisedWith, IsOffendingAt, IsStopAt, ReadsText, ReportsRaised}
-use Rattle.wc_diag_texts.specs.declared.expected.Expected.{Expected}
+use Rattle.wc_text_bodies.proofs.WalkSteps.{walk_reports}
 use Rattle.wc_diag_texts.specs.declared.expected.Expected.TheVariants.{Nothing as nothing}
 use Rattle.wc_diag_stops.specs.declared.span.RefusalSpan.{RefusalSpan}
+
+-- the grammar sees places in them
+pub exchanged_marks : (tokens : List Token) → marks_of (map exchanged tokens) ≡ place_marks tokens
+exchanged_marks [] = refl
+exchanged_marks (token ∷ tokens) = ap (λ marks. place_mark token ∷ marks) (exchanged_marks tokens)
+
+-- a second time takes it back
+pub exchanged_twice : (tokens : List Token) → map exchanged (map exchanged tokens) ≡ tokens
+exchanged_twice [] = refl
+exchanged_twice (token ∷ tokens) = ap (λ others. token ∷ others) (exchanged_twice tokens)
+
+-- what stops the walk at a token, and what could be there
+pub raised_there : (whole : Stopping) (state : State) (marks : List Mark) (last : ℕ) (fault : Fault) (expected : Expected) → whole ≡ walk state marks last → StopsWith state marks fault
+    → expected ≡ allowed state → ReportsRaised whole fault expected
+raised_there whole state marks last Memory expected e h a = tt
+raised_there whole state marks last (Refused number place) expected e h a =
+    rw (e, h.stops last) (record { raised = h.raised; reported_is = refl; number_is = h.number_is; place_is = h.place_is; expected_is = a })
+
+-- what is found at the tokens' end
+pub raised_at_end : (state : State) (last : ℕ) (fault : Fault) (expected : Expected) → ReportsFault (at_end state last) fault → expected ≡ allowed state → ReportsRaised (walk state [] last) fault expected
+raised_at_end state last Memory expected t a = tt
+raised_at_end state last (Refused number place) expected t a = record { raised = t.raised; reported_is = t.outcome_is; number_is = t.number_is; place_is = t.place_is; expected_is = a }
+
+-- a text that is read to its end
+pub read_at_end : (whole : Stopping) (state : State) (last : ℕ) (text : Text) → whole ≡ walk state [] last → at_end state last ≡ Ok text → ReadsText whole
+read_at_end whole state last text e is = rw e (record { text = text; reported_is = is })
 
 -- some tokens are as many with their places for their lines
 placed_some : (spanned_source tokens : List Token) → marks_of spanned_source ≡ place_marks tokens → 0 < length spanned_source → 0 < length tokens

@@ -1,8 +1,6 @@
 -- Which tokens the sentence about an unexpected token lists, and that this list is exact. (The profile's own.)
 use Rattle.std.specs.Prelude.{◌≡◌, ⊤, ◌⊎◌, ◌||◌, ℕ, Bool, true, false, Some, None, is_some}
-use Rattle.wc_laws_grammar.specs.LineMoves.{Start, Ended}
-use Rattle.wc_laws_grammar.specs.Moves.{State, OnLine, fault_at, move, is_identifier}
-use Rattle.wc_laws_grammar.specs.Words.{found, literal_of, operation_of, unit_kinds}
+use Rattle.wc_laws_grammar.specs.{Start, Ended, State, OnLine, fault_at, move, is_identifier, found, literal_of, operation_of, unit_kinds}
 use Rattle.wc_model.specs.Language.Names.{name_of}
 use Rattle.wc_model.specs.Text.Marks.{Symbol, Identifier, Whole, Duration, Truth, Direct, OpeningBracket, ClosingBracket, Comma, Colon, Semicolon, Point, Assign, Arrow, LineEnd}
 use Rattle.wc_diag_stops.specs.Allowed.{allowed}

@@ -3,22 +3,13 @@ use Rattle.std.specs.Prelude.{◌≡◌, ◌==◌, ◌||◌, ℕ, Bool, codes, �
 use Rattle.std.specs.List.{prefix_len}
 use Rattle.std.specs.Option.{option_map_or}
 use Rattle.wc_laws_grammar.specs.Moves.{at_first}
-use Rattle.wc_lexer.specs.Refusals.{NeedsMemory}
-use Rattle.wc_lexer.specs.Spans.{IsTokenSpan}
+use Rattle.wc_lexer.specs.Spans.{NeedsMemory, IsTokenSpan}
 use Rattle.wc_lexer.specs.Views.{shape_view, token_view}
 use Rattle.wc_lexer.specs.declared.shape.Token.{Token}
-use Rattle.wc_model.specs.Language.Declarations.{same_name}
-use Rattle.wc_model.specs.Language.Names.{name_of}
-use Rattle.wc_model.specs.Text.Grammar.{Spells}
-use Rattle.wc_model.specs.Text.Limits.{IsWithinLimits}
-use Rattle.wc_model.specs.Text.Marks.{Mark}
-use Rattle.wc_model.specs.Text.Reading.{last_line, symbol_of}
-use Rattle.wc_model.specs.Text.ReadingFaults.{IsFirstReadingFault, ReadingFault, number_of}
-use Rattle.wc_model.specs.Text.Tokens.{IsCut, most_bytes}
-use Rattle.wc_model.specs.Language.Tree.{Text}
+use Rattle.wc_model.specs.Definitions.{same_name, name_of, Spells, IsWithinLimits, Mark, last_line, symbol_of, IsFirstReadingFault, ReadingFault, number_of, IsCut, most_bytes, Text}
 use Rattle.wc_model.specs.declared.fault.Fault.{Fault}
 use Rattle.wc_model.specs.declared.fault.Fault.TheVariants.{Memory, Refused}
-use Rattle.wc_text_short_lines.specs.Walks.{walk}
+use Rattle.wc_text_bodies.specs.Views.{walk}
 use Rattle.wc_diag_stops.specs.Allowed.{allowed, allowed_with}
 use Rattle.wc_diag_texts.specs.declared.expected.Expected.{Expected}
 use Rattle.wc_diag_texts.specs.declared.expected.Expected.TheVariants.{CommaOrColon, LabelColon}

@@ -2,12 +2,10 @@
 use Rattle.std.specs.Prelude.{◌≡◌, ℕ, List, length, Ok, Err}
 use Rattle.wc_laws_grammar.specs.Moves.{Raised}
 use Rattle.wc_lexer.specs.declared.shape.Token.{Token}
-use Rattle.wc_model.specs.Language.Tree.{Text}
-use Rattle.wc_model.specs.Text.Reading.{last_line}
-use Rattle.wc_model.specs.Text.ReadingFaults.{number_of}
+use Rattle.wc_model.specs.Definitions.{Text, last_line, number_of}
 use Rattle.wc_model.specs.declared.fault.Fault.{Fault}
 use Rattle.wc_model.specs.declared.fault.Fault.TheVariants.{Memory, Refused}
-use Rattle.wc_text_short_lines.specs.Walks.{Stopping}
+use Rattle.wc_text_bodies.specs.Views.{Stopping}
 use Rattle.wc_diag_stops.specs.Allowed.{allowed, allowed_with}
 use Rattle.wc_diag_stops.specs.ReadingSpans.{length_of, line_of, offending_at, start_of, token_at}
 use Rattle.wc_diag_texts.specs.declared.expected.Expected.{Expected}

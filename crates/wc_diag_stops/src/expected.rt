@@ -1,11 +1,10 @@
 ghost use Rattle.std.specs.Prelude.{◌≡◌, List};
-ghost use Rattle.wc_text_bodies.specs.BodyViews.{position_view};
+ghost use Rattle.wc_text_bodies.specs.Views.{position_view, declaring_view};
 ghost use Rattle.wc_laws_grammar.specs.LineMoves as lines;
 ghost use Rattle.wc_text_lines.specs.LineViews.{in_line_view, item_view, line_state_view};
 ghost use Rattle.wc_model.specs.Language.Tree.{ProgramUnit};
 ghost use Rattle.wc_diag_stops.specs.Allowed.{allowed, allowed_at_line, allowed_in_declaration, allowed_in_list, allowed_on_line};
 ghost use Rattle.wc_diag_stops.specs.Listed.{ListsAll, ListsNoOther};
-ghost use Rattle.wc_text_bodies.specs.SectionViews.{declaring_view};
 ghost use Rattle.wc_reader.specs.TextViews.{line_place_view, reading_view};
 
 use wc_diag_texts::Expected;

@@ -1,13 +1,11 @@
-ghost use Rattle.std.specs.Prelude.{◌≡◌, ◌==◌, ◌≤◌, ◌<◌, IfNone, IfOk, IfSome, find, length, map, nat_lt};
+ghost use Rattle.std.specs.Prelude.{◌≡◌, ◌==◌, ◌≤◌, ◌<◌, IfNone, IfOk, IfSome, find, length, map, nat_lt, option_copied};
 ghost use Rattle.std.specs.List.{prefix_len};
-ghost use Rattle.std.specs.Option.{option_copied};
 ghost use Rattle.wc_lexer.specs.Spans.{StopsAt};
 ghost use Rattle.wc_lexer.specs.Views.{token_view};
 ghost use Rattle.wc_text_lines.specs.Words.{marks_of};
-ghost use Rattle.wc_model.specs.Text.Reading.{last_line};
-ghost use Rattle.wc_model.specs.Text.Tokens.{IsCut, most_bytes};
+ghost use Rattle.wc_model.specs.Definitions.{last_line, IsCut, most_bytes};
 ghost use Rattle.wc_reader.specs.TextViews.{IsStateCounted, reading_view};
-ghost use Rattle.wc_text_short_lines.specs.Walks.{walk};
+ghost use Rattle.wc_text_bodies.specs.Views.{walk};
 ghost use Rattle.wc_diag_stops.specs.Allowed.{allowed_with};
 ghost use Rattle.wc_diag_stops.specs.ReadingSpans.{AreBefore, AreThoseRead, AreUpTo, IsReadByPlaces, StopsReading, is_left_out, length_of, line_of, offending_at, start_of, token_at, token_before, word_or_token};
 ghost use Rattle.wc_diag_stops.specs.Stopping.{IsAllowedAs, IsStopAt, ReadsText, ReportsRaised};

@@ -1,9 +1,6 @@
 -- The bytes that begin a character on which a terminal would act: each of them belongs to it.
-use Rattle.std.proofs.Common.{◌≡◌, ℕ, ◌-◌, ◌<◌, ◌≤◌, Bool, true, false, refl, arith}
-use Rattle.std.proofs.Math.Bool.{and-false}
-use Rattle.std.proofs.lemmas.Bool.Decides.{nat_tests}
-use Rattle.wc_diag_texts.specs.Acting.{acting_by, continues, four_act, length_of, three_act, two_act}
-use Rattle.wc_diag_texts.specs.Numbers.{is_from}
+use Rattle.wc_model.proofs.Common.{◌≡◌, ℕ, ◌-◌, ◌<◌, ◌≤◌, Bool, true, false, refl, arith, and-false, nat_tests}
+use Rattle.wc_diag_texts.specs.{acting_by, continues, four_act, length_of, three_act, two_act, is_from}
 
 -- no test holds, if none of several bytes is of a character
 not_two : (two three four : Bool) → length_of two three four ≡ 0 → two ≡ false

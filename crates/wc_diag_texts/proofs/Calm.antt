@@ -1,12 +1,8 @@
 -- If no character of two texts acts on a terminal, none does of both together.
 use Rattle.std.proofs.Common.{◌≡◌, ◌<◌, ◌≤◌, ◌&&◌, ◌||◌, not, nat_lt, Bool, true, List, [], ◌∷◌, ℕ, ◌++◌, get_or, refl, ap, arith}
-use Rattle.std.proofs.lemmas.Bool.{and_parts}
-use Rattle.std.proofs.lemmas.Bool.Decides.{nat_tests}
-use Rattle.std.proofs.lemmas.Str.{IsCharBoundary-start, IsUtf8-from_is_utf8}
-use Rattle.std.specs.Str.{is_utf8}
-use Rattle.wc_diag_texts.specs.Plain.{acts, acts_nowhere, is_calm, is_control, passes}
+use Rattle.wc_model.proofs.Common.{and_parts, nat_tests, IsCharBoundary-start, IsUtf8-from_is_utf8, is_utf8}
+use Rattle.wc_diag_texts.specs.Plain.{acts, acts_nowhere, is_calm, is_control, passes, acting_length}
 use Rattle.wc_diag_texts.proofs.ActingBytes.{begin_not, no_fourth, no_second, no_third}
-use Rattle.wc_diag_texts.specs.Acting.{acting_length}
 
 -- no character ends with a byte with which another begins, so more text after a character makes it no other
 before_more : (byte : ℕ) (bytes more : List ℕ) → (128 ≤ get_or more 0 0 → 192 ≤ get_or more 0 0) → acting_length (byte ∷ bytes) ≡ 0 → acting_length (byte ∷ (bytes ++ more)) ≡ 0

@@ -1,12 +1,7 @@
 -- Bytes as they are shown on one line.
 use Rattle.std.proofs.Common.{◌≡◌, ◌∙◌, ◌==◌, ◌&&◌, ◌||◌, ◌<◌, not, Bool, true, false, List, [], ◌∷◌, ℕ, ◌++◌, if◌then◌else◌, refl, sym, ap, arith, Result, Ok, Err, OnOk}
-use Rattle.std.proofs.lemmas.Bool.{and_parts}
-use Rattle.std.proofs.lemmas.Bool.Decides.{nat_tests}
+use Rattle.wc_model.proofs.Common.{and_parts, nat_tests, IsUtf8-append, IsUtf8-from_ascii, IsUtf8-from_is_utf8, is_utf8-from_IsUtf8, IsAscii-cons, IsAscii-nil, list_all, is_utf8}
 use Rattle.std.proofs.lemmas.List.{append-nil, flat_map_more}
-use Rattle.std.proofs.lemmas.Str.{IsUtf8-append, IsUtf8-from_ascii, IsUtf8-from_is_utf8, is_utf8-from_IsUtf8}
-use Rattle.std.proofs.lemmas.Str.Ascii.{IsAscii-cons, IsAscii-nil}
-use Rattle.std.specs.List.{list_all}
-use Rattle.std.specs.Str.{is_utf8}
 use Rattle.wc_diag_texts.specs.Plain.{IsShown, acts, escaped_text, is_calm, is_control, is_plain, passes, shown_text, spaced, with_spaces}
 
 -- more of them after these

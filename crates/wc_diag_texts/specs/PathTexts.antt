@@ -1,6 +1,5 @@
 -- What is said of the paths to a label at which no result is defined, and what to write there. (The profile's own.)
-use Rattle.std.specs.Prelude.{ℕ, List, ◌++◌, codes}
-use Rattle.std.specs.Fmt.{decimal}
+use Rattle.std.specs.Prelude.{ℕ, List, ◌++◌, codes, decimal}
 use Rattle.wc_diag_texts.specs.declared.paths.Paths.{Paths}
 use Rattle.wc_diag_texts.specs.declared.paths.Paths.TheVariants.{Two, Empty, Unsure, None}
 

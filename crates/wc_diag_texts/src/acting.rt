@@ -1,5 +1,5 @@
 ghost use Rattle.std.specs.Prelude.{◌≡◌, ◌≤◌, ◌+◌, ◌*◌, ◌-◌, slice_index};
-ghost use Rattle.wc_diag_texts.specs.Acting.{acting_length, four_act, is_acting, three_act, two_act};
+ghost use Rattle.wc_diag_texts.specs.Plain.{acting_length, four_act, is_acting, three_act, two_act};
 
 /// Whether a terminal or an editor acts on the character of that number above ASCII, or it is not seen: a control character, an
 /// end of a line, and each with Unicode's property Default_Ignorable_Code_Point, as those that turn the direction of writing.

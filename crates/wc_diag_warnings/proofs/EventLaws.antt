@@ -1,14 +1,8 @@
 -- An event is warned of exactly if what the warning says is so. (No rule of the language.)
-use Rattle.std.proofs.Common.{◌≡◌, ℕ, Bool, true, false, not, ◌&&◌, ◌||◌, List, [], ◌∷◌, ◌++◌, inl, inr, Some, refl, ap, sym, ◌∙◌, append_assoc, arith}
-use Rattle.std.specs.List.{list_any}
+use Rattle.wc_model.proofs.Common.{◌≡◌, ℕ, Bool, true, false, not, ◌&&◌, ◌||◌, List, [], ◌∷◌, ◌++◌, inl, inr, Some, refl, ap, sym, ◌∙◌, append_assoc, arith, list_any, and_parts, and_right, both_ways, false_from_ne_true, not-true, or_cases, or_from, or_parts, or_right}
 use Rattle.wc_model.specs.Language.DirectVariables.{DirectVariable}
-use Rattle.std.proofs.lemmas.Bool.{and_parts, and_right, both_ways, false_from_ne_true, not-true, or_cases, or_from, or_parts, or_right}
 use Rattle.wc_diag_warnings.proofs.WayLaws.{edges_there}
-use Rattle.wc_diag_warnings.specs.Addresses.{doing_asks, doing_stores, reads_valid, reads_weight, stores}
-use Rattle.wc_diag_warnings.specs.Events.{Doing, Begins, Happening}
-use Rattle.wc_diag_warnings.specs.Laws.{IsNoted, not_reached, stored_again, unasked, EachEventWarningIsSo}
-use Rattle.wc_diag_warnings.specs.Warnings.{begins_stretch, doing_begins, is_above_reached, is_stored_again, is_unasked, number_at}
-use Rattle.wc_diag_warnings.specs.Edges.{is_on, is_reached}
+use Rattle.wc_diag_warnings.specs.{doing_asks, doing_stores, reads_valid, reads_weight, stores, Doing, Begins, Happening, IsNoted, not_reached, stored_again, unasked, EachEventWarningIsSo, begins_stretch, doing_begins, is_above_reached, is_stored_again, is_unasked, number_at, is_on, is_reached}
 
 -- what begins an instruction does nothing else, and what reads stores nothing
 begins_is : (doing : Doing) → doing_begins doing ≡ true → doing ≡ Begins

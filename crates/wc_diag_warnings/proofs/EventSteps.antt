@@ -1,14 +1,8 @@
 -- One event more of a body. (No rule of the language.)
 use Rattle.std.proofs.Common.{◌≡◌, ℕ, ◌+◌, ◌<◌, Bool, not, ◌&&◌, ◌||◌, List, [], ◌∷◌, ◌++◌, Option, append_assoc, length, get_or, reverse, take, refl, ap, ◌∙◌, arith}
-use Rattle.std.proofs.lemmas.List.{map_push, reverse-append, take_more}
-use Rattle.std.specs.Prelude.{if◌then◌else◌}
-use Rattle.std.specs.List.{flat_map, list_any}
+use Rattle.wc_model.proofs.Common.{if◌then◌else◌, map_push, reverse-append, take_more, flat_map, list_any}
 use Rattle.wc_model.specs.Language.Checks.{positions_after}
-use Rattle.wc_diag_warnings.specs.Addresses.{reads_valid, reads_weight}
-use Rattle.wc_diag_warnings.specs.Events.{Happening}
-use Rattle.wc_diag_warnings.specs.Warnings.{Caution, address_of, begins_stretch, caution, doing_begins, event_cautions, event_number, is_above_reached, is_stored_again, is_unasked}
-use Rattle.wc_diag_warnings.specs.Edges.{is_reached}
-use Rattle.wc_diag_warnings.specs.Seen.{event_view, events_view}
+use Rattle.wc_diag_warnings.specs.{reads_valid, reads_weight, Happening, Caution, address_of, begins_stretch, caution, doing_begins, event_cautions, event_number, is_above_reached, is_stored_again, is_unasked, is_reached, event_view, events_view}
 use Rattle.wc_diag_warnings.specs.declared.events.Event.{Event}
 
 -- the events before the next, newest first

@@ -1,17 +1,12 @@
 -- One event more of a body. (No rule of the language.)
 use Rattle.std.proofs.Common.{◌≡◌, ℕ, Bool, false, ◌&&◌, ◌||◌, not, List, ◌∷◌, Option, None, Some, unwrap_or, Bor, refl, ap, ◌∙◌, arith}
-use Rattle.std.proofs.lemmas.Slice.Eq.{bytes_eq-Decides}
-use Rattle.std.specs.Option.{option_map_or}
+use Rattle.wc_model.proofs.Common.{bytes_eq-Decides, option_map_or}
 use Rattle.indexmap.specs.IndexMap.{IndexMap, Updates, get}
-use Rattle.wc_model.specs.Language.Declarations.{same_name}
-use Rattle.wc_model.specs.Language.Names.{Name}
+use Rattle.wc_model.specs.Definitions.{same_name, Name}
 use Rattle.wc_model.specs.declared.operator.Condition.{Condition}
 use Rattle.wc_names.specs.Keys.{name_of_key, same_key}
 use Rattle.wc_names.specs.declared.key.Key.{Key}
-use Rattle.wc_diag_warnings.specs.Edges.{doing_jumps, doing_leaves, is_on}
-use Rattle.wc_diag_warnings.specs.Events.{Happening}
-use Rattle.wc_diag_warnings.specs.Paths.{Source, AreFrom, IsFollowed, is_from, leads, marks, starts}
-use Rattle.wc_diag_warnings.specs.Seen.{deed_view}
+use Rattle.wc_diag_warnings.specs.{doing_jumps, doing_leaves, is_on, Source, AreFrom, IsFollowed, is_from, leads, marks, starts, Happening, deed_view}
 use Rattle.wc_diag_warnings.specs.declared.edges.Ahead.{Ahead}
 use Rattle.wc_diag_warnings.specs.declared.events.Deed.{Deed}
 use Rattle.wc_diag_warnings.specs.declared.events.Deed.TheVariants.{Jump}

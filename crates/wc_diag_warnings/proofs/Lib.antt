@@ -1,9 +1,7 @@
 pub mod Again
 pub mod DeclaredLaws
-pub mod DeclaredViews
+pub mod NameSets
 pub mod EventLaws
 pub mod EventSteps
 pub mod Following
-pub mod NameSets
-pub mod Sources
 pub mod WayLaws

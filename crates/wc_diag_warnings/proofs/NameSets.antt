@@ -1,14 +1,21 @@
--- Names that one more is added to. (No rule of the language.)
-use Rattle.std.proofs.Common.{◌≡◌, Bool, true, false, not, ◌||◌, List, [], ◌∷◌, ◌++◌, refl, sym, ap, ◌∙◌}
-use Rattle.std.proofs.Math.Bool.{or-false}
-use Rattle.std.proofs.lemmas.Bool.{not-false}
-use Rattle.std.proofs.lemmas.List.Folds.{list_any-append}
-use Rattle.std.proofs.lemmas.Map.Steps.{list_any_congr}
-use Rattle.std.specs.Prelude.{if◌then◌else◌}
-use Rattle.wc_model.specs.Language.DeclarationRules.{is_among}
-use Rattle.wc_model.specs.Language.Declarations.{same_name}
-use Rattle.wc_model.specs.Language.Names.{Name}
+-- The variables of a declaration of the code, and names that one more is added to. (No rule of the language.)
+use Rattle.wc_model.proofs.Common.{◌≡◌, List, [], ◌∷◌, map, refl, ap, Bool, true, false, not, ◌||◌, ◌++◌, sym, ◌∙◌, if◌then◌else◌, or-false, not-false, list_any-append, list_any_congr}
+use Rattle.wc_model.specs.Definitions.{Variable, declared_by, same_name, Word, name_of, Name, declaration_view, word_view, is_among}
+use Rattle.wc_model.specs.declared.operand.Word.{Word as Spelled}
+use Rattle.wc_model.specs.declared.source.Decl.{Decl}
+use Rattle.wc_diag_warnings.specs.Seen.{variable_view}
 use Rattle.wc_names.specs.Keys.{same_name_laws}
+
+-- a name of a declaration as a variable
+abbrev as_variable : Decl → Word → Variable
+as_variable d w = record { name = w.name; line = w.line; section = d.section; type_name = name_of d.type_name.text.now; initial = d.initial }
+
+views : (d : Decl) (words : List Spelled) → map (as_variable d) (map word_view words) ≡ map (variable_view d) words
+views d [] = refl
+views d (word ∷ words) = ap (λ vs. variable_view d word ∷ vs) (views d words)
+
+pub declared_views : (d : Decl) → declared_by (declaration_view d) ≡ map (variable_view d) d.names.items
+declared_views d = views d d.names.items
 
 -- among names with one more at their end
 among_more : (names : List Name) (name other : Name) → is_among (names ++ name ∷ []) other ≡ (is_among names other || same_name name other)

@@ -1,11 +1,7 @@
 -- What is computed of the paths to an event is so. (No rule of the language.)
-use Rattle.std.proofs.Common.{◌≡◌, Bool, true, not, ◌&&◌, ◌||◌, List, [], ◌∷◌, ◌++◌, inl, inr, refl, ap, sym, ◌∙◌, append_assoc}
-use Rattle.std.proofs.lemmas.Bool.{and_parts, not-true, or_cases, or_right}
-use Rattle.std.specs.List.{list_any}
+use Rattle.wc_model.proofs.Common.{◌≡◌, Bool, true, not, ◌&&◌, ◌||◌, List, [], ◌∷◌, ◌++◌, inl, inr, refl, ap, sym, ◌∙◌, append_assoc, and_parts, not-true, or_cases, or_right, list_any}
 use Rattle.wc_model.specs.Language.Names.{Name}
-use Rattle.wc_diag_warnings.specs.Events.{Doing, Labels, Happening}
-use Rattle.wc_diag_warnings.specs.Laws.{IsWay, at_start, from_mark, onward, by_jump, EdgesAreThere}
-use Rattle.wc_diag_warnings.specs.Edges.{Passed, comes_by_jump, comes_down, doing_jumps, doing_leaves, is_on, passed}
+use Rattle.wc_diag_warnings.specs.{Doing, Labels, Happening, IsWay, at_start, from_mark, onward, by_jump, EdgesAreThere, Passed, comes_by_jump, comes_down, doing_jumps, doing_leaves, is_on, passed}
 
 module _ (starts : Bool) (marks : Happening → Bool) where
   -- each of these events that is on has a path to it

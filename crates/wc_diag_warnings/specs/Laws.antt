@@ -1,17 +1,15 @@
 -- When a warning comes, in the words of the subject. (The profile's own.)
 use Rattle.std.specs.Prelude.{◌≡◌, ℕ, Bool, true, false, List, [], ◌∷◌, ◌++◌, ◌↔◌, Some, None, codes}
 use Rattle.std.specs.List.{list_any}
-use Rattle.wc_model.specs.Language.Declarations.{Variable, elementary_types, named_in, standard_blocks}
-use Rattle.wc_model.specs.Language.Names.{Name}
+use Rattle.wc_model.specs.Definitions.{Variable, elementary_types, named_in, standard_blocks, Name}
 use Rattle.wc_model.specs.declared.kind.Kind.{Kind}
 use Rattle.wc_model.specs.declared.source.Section.TheVariants.{Input, Output, Own}
 use Rattle.wc_model.specs.declared.source.UnitKind.{UnitKind}
 use Rattle.wc_model.specs.declared.source.UnitKind.TheVariants.{FunctionBlock, Program}
-use Rattle.wc_diag_warnings.specs.Addresses.{reads_valid, reads_weight, stores}
+use Rattle.wc_diag_warnings.specs.Uses.{reads_valid, reads_weight, stores, is_called, is_given, is_read, is_written}
 use Rattle.wc_diag_warnings.specs.Events.{Begins, Labels, Happening}
-use Rattle.wc_diag_warnings.specs.Uses.{is_called, is_given, is_read, is_written}
 use Rattle.wc_diag_warnings.specs.Warnings.{declared_number, is_above_reached, is_timer, number_at}
-use Rattle.wc_diag_warnings.specs.Edges.{doing_jumps, doing_leaves, is_on}
+use Rattle.wc_diag_warnings.specs.Paths.{doing_jumps, doing_leaves, is_on}
 
 -- A run comes to an event after those before it, newest first. It begins at the body's start or at a marked
 -- event; it goes on to the next event, unless that before always leaves; and from a jump to a label ahead.

@@ -1,14 +1,10 @@
 -- What the code's values represent. (No rule of the language.)
 use Rattle.std.specs.Prelude.{◌≡◌, ℕ, Bool, List, [], ◌∷◌, ◌++◌, map, Option, None, codes}
 use Rattle.std.specs.Option.{option_map, option_map_or}
-use Rattle.wc_model.specs.Language.Declarations.{Variable}
+use Rattle.wc_model.specs.Definitions.{Variable, BodyLine, PlainLine, NestedLine, is_among, Name, name_of, assignment_view, lines_view, term_view}
 use Rattle.wc_model.specs.declared.operand.Word.{Word as Spelled}
 use Rattle.wc_model.specs.declared.source.Decl.{Decl}
-use Rattle.wc_model.specs.Language.Kinds.{BodyLine, PlainLine, NestedLine}
-use Rattle.wc_model.specs.Language.DeclarationRules.{is_among}
-use Rattle.wc_model.specs.Language.Names.{Name, name_of}
 use Rattle.wc_model.specs.Language.Tree.{Load, Store, Apply, Negate, Jump, Call, Return}
-use Rattle.wc_model.specs.Language.Views.{assignment_view, lines_view, term_view}
 use Rattle.wc_model.specs.declared.tree.Instr.{Instr, out-Instr}
 use Rattle.wc_model.specs.declared.tree.Instr.TheOpen.{Instr-F}
 use Rattle.wc_model.specs.declared.tree.Line.{Line}

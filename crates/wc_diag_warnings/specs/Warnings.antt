@@ -6,19 +6,16 @@
 use Rattle.std.specs.Prelude.{ℕ, Bool, true, false, not, ◌&&◌, ◌||◌, List, [], ◌∷◌, ◌++◌, Option, Some, None, is_some, if◌then◌else◌}
 use Rattle.std.specs.List.{flat_map, list_any}
 use Rattle.wc_model.specs.Language.Checks.{Position, positions_of}
-use Rattle.wc_model.specs.Language.Declarations.{Variable, elementary_types, named_in, standard_blocks, variables_of}
-use Rattle.wc_model.specs.Language.Names.{Name}
-use Rattle.wc_model.specs.Language.Tree.{Address, ProgramUnit, Text}
+use Rattle.wc_model.specs.Definitions.{Variable, elementary_types, named_in, standard_blocks, variables_of, Name, Address, ProgramUnit, Text}
 use Rattle.wc_model.specs.declared.block.StandardBlock.{StandardBlock}
 use Rattle.wc_model.specs.declared.block.StandardBlock.TheVariants.{Ton, Tof, Tp}
 use Rattle.wc_model.specs.declared.source.Section.{Section}
 use Rattle.wc_model.specs.declared.source.Section.TheVariants.{Input, Output, Own}
 use Rattle.wc_model.specs.declared.source.UnitKind.{UnitKind}
 use Rattle.wc_model.specs.declared.source.UnitKind.TheVariants.{FunctionBlock, Program}
-use Rattle.wc_diag_warnings.specs.Addresses.{outputs, reads_valid, reads_weight, stores}
+use Rattle.wc_diag_warnings.specs.Uses.{outputs, reads_valid, reads_weight, stores, Used, used_in}
 use Rattle.wc_diag_warnings.specs.Events.{Doing, Begins, Reads, Stores, Happening, events_of}
-use Rattle.wc_diag_warnings.specs.Uses.{Used, used_in}
-use Rattle.wc_diag_warnings.specs.Edges.{is_on, is_reached}
+use Rattle.wc_diag_warnings.specs.Paths.{is_on, is_reached}
 
 -- a warning: its number, its line, and the name of which it is; no name for lines that no run reaches
 pub record Caution : Type 0 where

@@ -1,10 +1,9 @@
 ghost use Rattle.std.specs.Prelude.{◌≡◌, ◌<◌, ℕ, Bool, false, IfSome, nat_eq, option_map};
 ghost use Rattle.std.specs.List.{list_any};
 ghost use Rattle.std.specs.Option.{option_map_or};
-ghost use Rattle.wc_built_in.specs.Direct.{direct_at};
-ghost use Rattle.wc_model.specs.Language.DirectVariables.{DirectVariable};
-ghost use Rattle.wc_model.specs.Language.Views.{term_view};
-ghost use Rattle.wc_diag_warnings.specs.Addresses.{is_direct, is_such, reads_valid, reads_weight, stores};
+ghost use Rattle.wc_built_in.specs.Fields.{direct_at};
+ghost use Rattle.wc_model.specs.Definitions.{DirectVariable, term_view};
+ghost use Rattle.wc_diag_warnings.specs.Uses.{is_direct, is_such, reads_valid, reads_weight, stores};
 ghost use Rattle.wc_diag_warnings.specs.Seen.{event_view};
 
 use crate::events::{Deed, Event};

@@ -1,7 +1,5 @@
 ghost use Rattle.std.specs.Prelude.{◌≡◌, OnOk};
-ghost use Rattle.wc_model.specs.Language.Declarations.{declared_by, variables_of};
-ghost use Rattle.wc_model.specs.Language.Names.{name_of};
-ghost use Rattle.wc_model.specs.Language.Views.{declaration_view, unit_view};
+ghost use Rattle.wc_model.specs.Definitions.{declared_by, variables_of, name_of, declaration_view, unit_view};
 ghost use Rattle.wc_diag_warnings.specs.Seen.{uses_view, variable_view, Warns};
 ghost use Rattle.wc_diag_warnings.specs.Warnings.{caution, declared_cautions, instance_number, is_timer, number_by, use_number, variable_number};
 

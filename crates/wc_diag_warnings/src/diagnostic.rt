@@ -1,6 +1,5 @@
 ghost use Rattle.std.specs.Prelude.{◌≡◌, IfOk, OnOk, IsOkUnless};
-ghost use Rattle.wc_model.specs.Language.Declarations.{variables_of};
-ghost use Rattle.wc_model.specs.Language.Views.{text_view, unit_view};
+ghost use Rattle.wc_model.specs.Definitions.{variables_of, text_view, unit_view};
 ghost use Rattle.wc_diag_warnings.specs.Seen.{events_view, warnings_view, Warns};
 ghost use Rattle.wc_diag_warnings.specs.Uses.{used_in};
 ghost use Rattle.wc_diag_warnings.specs.Warnings.{declared_cautions, unit_cautions, warnings};

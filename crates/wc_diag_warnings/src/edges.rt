@@ -1,11 +1,9 @@
 ghost use Rattle.std.specs.Prelude.{◌≡◌, ◌<◌, ◌&&◌, ◌||◌, false, not, [], ◌∷◌, List, OnOk};
-ghost use Rattle.wc_model.specs.Language.Declarations.{same_name};
-ghost use Rattle.wc_model.specs.Language.Names.{name_of};
+ghost use Rattle.wc_model.specs.Definitions.{same_name, name_of};
 ghost use Rattle.wc_names.specs.Keys.{name_of_key};
 ghost use Rattle.wc_names.specs.declared.key.Key.{Key as Keyed};
-ghost use Rattle.wc_diag_warnings.specs.Edges.{doing_leaves};
+ghost use Rattle.wc_diag_warnings.specs.Paths.{doing_leaves, Source, Store, AreFrom, IsFollowed, is_from, is_store, leads, marks};
 ghost use Rattle.wc_diag_warnings.specs.Events.{Happening};
-ghost use Rattle.wc_diag_warnings.specs.Paths.{Source, Store, AreFrom, IsFollowed, is_from, is_store, leads, marks};
 ghost use Rattle.wc_diag_warnings.specs.Seen.{event_view};
 
 use crate::addresses::stored;

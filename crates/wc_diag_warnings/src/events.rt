@@ -1,7 +1,5 @@
 ghost use Rattle.std.specs.Prelude.{◌≡◌, ℕ, [], ◌∷◌, ◌++◌, IfOk, OnOk, map, option_map};
-ghost use Rattle.wc_model.specs.Language.Names.{name_of};
-ghost use Rattle.wc_model.specs.Language.Tree.{Lines};
-ghost use Rattle.wc_model.specs.Language.Views.{assignment_view, line_view, lines_view, term_view, word_view};
+ghost use Rattle.wc_model.specs.Definitions.{name_of, Lines, assignment_view, line_view, lines_view, term_view, word_view};
 ghost use Rattle.wc_diag_warnings.specs.Events.{Begins, argument_events, at, call_events, events_of, label_events, line_events, opening_events, storing_event};
 ghost use Rattle.wc_diag_warnings.specs.Seen.{deed_events, deed_view, events_view, instr_view, Adds};
 

@@ -1,9 +1,6 @@
 ghost use Rattle.std.specs.Prelude.{◌≡◌, ◌&&◌, ◌||◌, [], OnOk, codes, option_map};
 ghost use Rattle.std.specs.List.{list_any};
-ghost use Rattle.wc_model.specs.Language.DeclarationRules.{is_among};
-ghost use Rattle.wc_model.specs.Language.Declarations.{same_name};
-ghost use Rattle.wc_model.specs.Language.Names.{Name, name_of};
-ghost use Rattle.wc_model.specs.Language.Views.{term_view};
+ghost use Rattle.wc_model.specs.Definitions.{is_among, same_name, Name, name_of, term_view};
 ghost use Rattle.wc_diag_warnings.specs.Seen.{does, event_view, events_view, uses_view};
 ghost use Rattle.wc_diag_warnings.specs.Uses.{is_this, is_variable, used_in};
 

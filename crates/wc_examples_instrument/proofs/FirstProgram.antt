@@ -4,19 +4,11 @@ use Rattle.std.specs.Fmt.{digits}
 use Rattle.std.specs.Prelude.{Option, codes, ◌++◌}
 use Rattle.wc_examples_instrument.specs.Worked.{plate_text, plate_of_15_kg}
 use Rattle.wc_examples_instrument.specs.FirstJob.{program_bytes, program_tokens, log_bytes, log_records, table, job_bytes}
-use Rattle.wc_examples_language.specs.BoolPrograms.{copies_an_input, first_unit}
+use Rattle.wc_examples_language.specs.Programs.{copies_an_input, first_unit}
 use Rattle.wc_laws_language.proofs.Longest.{computed_is_worst, longest_of_worst}
 use Rattle.wc_laws_grammar.proofs.FoundTokens.{found_cut}
 use Rattle.wc_laws_grammar.proofs.Spelling.{spelling}
-use Rattle.wc_model.specs.Language.Faults.{IsCostFault}
-use Rattle.wc_model.specs.Say.Job.{JobAnswer, AnswersPlate, AnswersJob, AnswersPrograms, loads_program, run_answer}
-use Rattle.wc_model.specs.Run.JobSections.{Sections}
-use Rattle.wc_model.specs.Language.Loading.{IsLoaded}
-use Rattle.wc_model.specs.Run.Log.{Record, log_of}
-use Rattle.wc_model.specs.Instrument.PlateTable.{Table, plate_of}
-use Rattle.wc_model.specs.Language.Paths.{IsLongest}
-use Rattle.wc_model.specs.Text.Reading.{IsRead}
-use Rattle.wc_model.specs.Language.Scopes.{Scope}
+use Rattle.wc_model.specs.Definitions.{IsCostFault, JobAnswer, AnswersPlate, AnswersJob, AnswersPrograms, loads_program, run_answer, Sections, IsLoaded, Record, log_of, Table, plate_of, IsLongest, IsRead, Scope}
 
 pub first_is_read : IsRead program_bytes copies_an_input
 first_is_read = record {

@@ -1,9 +1,7 @@
 -- A program, and one that takes its place between two scans.
 use Rattle.std.specs.Prelude.{List, [], ◌∷◌, pos, codes, Some}
 use Rattle.wc_examples_language.specs.Writing.{word, declares}
-use Rattle.wc_model.specs.Language.Names.{Name}
-use Rattle.wc_model.specs.Language.Store.{Location, Path}
-use Rattle.wc_model.specs.Language.Tree.{Text, End, Declaration}
+use Rattle.wc_model.specs.Definitions.{Name, Location, Path, Text, End, Declaration}
 use Rattle.wc_model.specs.declared.source.Section.TheVariants.{Own}
 use Rattle.wc_model.specs.declared.source.UnitKind.TheVariants.{Program}
 use Rattle.wc_model.specs.declared.value.Value.TheVariants.{Dint}

@@ -1,10 +1,8 @@
 -- The first job: a plate, the program that copies an input to an output, and a log of two rows.
 use Rattle.std.specs.Prelude.{ℕ, List, [], ◌∷◌, ◌++◌, pos, codes}
 use Rattle.wc_examples_instrument.specs.Worked.{lines_text, plate_text, plate_table}
-use Rattle.wc_model.specs.Run.Log.{Record}
-use Rattle.wc_model.specs.Instrument.PlateTable.{Table}
+use Rattle.wc_model.specs.Definitions.{Record, Table, Token}
 use Rattle.wc_model.specs.Text.Shapes.{Shape, Identifier, Address, LineEnd}
-use Rattle.wc_model.specs.Text.Tokens.{Token}
 
 -- the program's section
 abbrev pub program_bytes : List ℕ

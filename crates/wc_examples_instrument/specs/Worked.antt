@@ -1,12 +1,8 @@
 -- What the worked examples share: two plates, and short words for rows.
 use Rattle.std.specs.Prelude.{ℕ, suc, ◌+◌, ◌%◌, List, [], ◌∷◌, ◌++◌, replicate, codes, ℤ, pos, Some, Result, Ok, Err}
 use Rattle.std.specs.List.{concat}
-use Rattle.wc_model.specs.Instrument.WeighingHistories.{Sample, History}
-use Rattle.wc_model.specs.Run.Log.{LogOf, first_row, log_of}
-use Rattle.wc_model.specs.Instrument.Plates.{PlateData, grams, kilograms}
+use Rattle.wc_model.specs.Definitions.{Sample, History, LogOf, first_row, log_of, PlateData, grams, kilograms, Program, RowData, Counts, Bytes, Scan, LogRow, answers}
 use Rattle.wc_model.specs.Instrument.PlateTable.{Table, Text, Whole, plate_of}
-use Rattle.wc_model.specs.Say.Report.{Program}
-use Rattle.wc_model.specs.Run.Rows.{RowData, Counts, Bytes, Scan, LogRow, answers}
 
 -- 15 kg in steps of 5 g: 3000 intervals of 200 counts, from 10000 on
 abbrev pub plate_of_15_kg : PlateData

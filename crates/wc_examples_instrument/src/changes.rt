@@ -1,8 +1,6 @@
 ghost use Rattle.std.specs.Prelude.{◌≡◌, codes, true, false};
 ghost use Rattle.wc_examples_instrument.specs.Changes.{old_text, new_text, other_kinds, plain, field};
-ghost use Rattle.wc_model.specs.Language.Carried.{keeps};
-ghost use Rattle.wc_model.specs.Language.DirectVariables.{OutputWord};
-ghost use Rattle.wc_model.specs.Language.Store.{Direct};
+ghost use Rattle.wc_model.specs.Definitions.{keeps, OutputWord, Direct};
 
 /// A variable of the same name and kind keeps its value, and so does each field of a timer of the same name; a new variable
 /// is as it is declared.

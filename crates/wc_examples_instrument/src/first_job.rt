@@ -1,11 +1,8 @@
 ghost use Rattle.std.specs.Prelude.{◌≡◌, ℕ, ◌++◌, [], ◌∷◌, List, Option, Some, codes};
 ghost use Rattle.wc_examples_instrument.specs.Worked.{plate_text};
 ghost use Rattle.wc_examples_instrument.specs.FirstJob.{program_bytes, log_bytes, log_records, table, job_bytes};
-ghost use Rattle.wc_examples_language.specs.BoolPrograms.{copies_an_input};
-ghost use Rattle.wc_model.specs.Say.Job.{AnswersJob};
-ghost use Rattle.wc_model.specs.Language.Loading.{IsLoaded};
-ghost use Rattle.wc_model.specs.Run.Log.{Record};
-ghost use Rattle.wc_model.specs.Instrument.PlateTable.{Table};
+ghost use Rattle.wc_examples_language.specs.Programs.{copies_an_input};
+ghost use Rattle.wc_model.specs.Definitions.{AnswersJob, IsLoaded, Record, Table};
 
 /// The first program is loaded: its bytes spell it, and no pass refuses it.
 pub fn first_program_is_loaded()

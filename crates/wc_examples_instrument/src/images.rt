@@ -1,8 +1,7 @@
 //! What a scan sees (rows are written newest first).
 
 ghost use Rattle.std.specs.Prelude.{◌≡◌, ◌+◌, pos, [], ◌∷◌, codes};
-ghost use Rattle.wc_model.specs.Run.ProcessImage.{image_after};
-ghost use Rattle.wc_model.specs.Run.Rows.{Counts, Inputs};
+ghost use Rattle.wc_model.specs.Definitions.{image_after, Counts, Inputs};
 ghost use Rattle.wc_examples_instrument.specs.Worked.{plate_of_15_kg, four_rows, rows_from, asks};
 
 /// Nothing at first; 5 kg, stable and valid; the same under a tare; over, in motion and not valid, so that no weight is seen.

@@ -1,8 +1,7 @@
 //! Logs that are read, and logs that are refused, with the number and the row. The first row is counted.
 
 ghost use Rattle.std.specs.Prelude.{◌≡◌, negsuc, [], ◌∷◌, codes, replicate};
-ghost use Rattle.wc_model.specs.Run.Log.{log_of, with_row, refused_at};
-ghost use Rattle.wc_model.specs.Run.Rows.{Counts, Bytes, Inputs, Change};
+ghost use Rattle.wc_model.specs.Definitions.{log_of, with_row, refused_at, Counts, Bytes, Inputs, Change};
 ghost use Rattle.wc_examples_instrument.specs.Worked.{log_with_rows, three_fields, scan_row};
 
 /// An empty log has no first row; neither has one that begins otherwise.

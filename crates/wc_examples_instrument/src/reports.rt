@@ -1,8 +1,7 @@
 //! What runs write.
 
 ghost use Rattle.std.specs.Prelude.{◌≡◌, ◌++◌, pos, negsuc, [], ◌∷◌, codes};
-ghost use Rattle.wc_model.specs.Say.Report.{ScanLine, AnswerLine, line_text, line_report, report, report_last};
-ghost use Rattle.wc_model.specs.Run.Rows.{Bytes, Change, Inputs, Scan};
+ghost use Rattle.wc_model.specs.Definitions.{ScanLine, AnswerLine, line_text, line_report, report, report_last, Bytes, Change, Inputs, Scan};
 ghost use Rattle.wc_examples_instrument.specs.Worked.{plate_of_15_kg, four_rows, rows_from, scan_row, lines_text, log_with_rows, three_fields, copies_first_input, counts_scans};
 
 /// A scan's line: moment, steps, four digits of bits, four words.

@@ -1,8 +1,7 @@
 //! Which texts a stream asks for, and how a request that is cut is answered.
 
 ghost use Rattle.std.specs.Prelude.{◌≡◌, ◌++◌, pos, [], ◌∷◌, codes};
-ghost use Rattle.wc_model.specs.Instrument.Requests.{requests, requests_in};
-ghost use Rattle.wc_model.specs.Run.Rows.{Counts, Bytes, Scan};
+ghost use Rattle.wc_model.specs.Definitions.{requests, requests_in, Counts, Bytes, Scan};
 ghost use Rattle.wc_examples_instrument.specs.Worked.{plate_of_15_kg, four_rows, replies, framed};
 
 /// ESC aborts a request; an empty text is one; an LF starts over.

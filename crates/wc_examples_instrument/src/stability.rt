@@ -1,8 +1,7 @@
 //! When the scale is stable: the spread of the last four samples is at most half an interval, 100 counts.
 
 ghost use Rattle.std.specs.Prelude.{pos, IsTrue, IsFalse, [], ◌∷◌, replicate};
-ghost use Rattle.wc_model.specs.Instrument.WeighingHistories.{Sample};
-ghost use Rattle.wc_model.specs.Instrument.Indication.{is_stable};
+ghost use Rattle.wc_model.specs.Definitions.{Sample, is_stable};
 ghost use Rattle.wc_examples_instrument.specs.Worked.{plate_of_15_kg};
 
 /// 10101, 10000, 10000, 10000: a spread of 101 counts is motion (histories are written newest first).

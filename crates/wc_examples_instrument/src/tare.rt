@@ -1,8 +1,7 @@
 //! Tare commands, and what they leave.
 
 ghost use Rattle.std.specs.Prelude.{◌≡◌, ◌++◌, pos, [], ◌∷◌, codes, drop};
-ghost use Rattle.wc_model.specs.Instrument.WeighingHistories.{SetTare};
-ghost use Rattle.wc_model.specs.Instrument.Indication.{gross, net, tare_value};
+ghost use Rattle.wc_model.specs.Definitions.{SetTare, gross, net, tare_value};
 ghost use Rattle.wc_examples_instrument.specs.Worked.{plate_of_15_kg, four_of, four_rows, asks, replies, framed};
 
 /// At zero a tare command is refused; at Max it is accepted, and `M` gives 15.000 kg.

@@ -1,8 +1,7 @@
 //! Zero commands: accepted up to 2 % of the span around the calibrated zero, 12000 counts.
 
 ghost use Rattle.std.specs.Prelude.{◌≡◌, pos, [], ◌∷◌, ◌++◌, codes};
-ghost use Rattle.wc_model.specs.Instrument.WeighingHistories.{SetZero};
-ghost use Rattle.wc_model.specs.Instrument.Indication.{zero_point, zero_refusal, Motion, Range};
+ghost use Rattle.wc_model.specs.Definitions.{SetZero, zero_point, zero_refusal, Motion, Range};
 ghost use Rattle.wc_examples_instrument.specs.Worked.{plate_of_15_kg, four_of, four_rows, asks, replies, framed};
 
 /// At 22000 counts a zero command is accepted.

@@ -1,13 +1,10 @@
 -- N function blocks.
 use Rattle.std.proofs.Common.{◌≡◌, ◌≤◌, ℕ, zero, suc, List, [], ◌∷◌, refl, inl, arith}
 use Rattle.std.specs.Prelude.{codes, length}
-use Rattle.wc_model.specs.Language.Tree.{ProgramUnit}
-use Rattle.wc_model.specs.Text.Grammar.{units}
-use Rattle.wc_model.specs.Text.ReadingFaults.{IsRaised, TooMany}
+use Rattle.wc_model.specs.Definitions.{ProgramUnit, units, IsRaised, TooMany}
 use Rattle.wc_model.specs.declared.source.UnitKind.TheVariants.{Program}
 use Rattle.wc_laws_grammar.proofs.Languages.{next, pass, regroup}
-use Rattle.wc_examples_language.specs.Texts.{ident, block_b}
-use Rattle.wc_examples_language.specs.Faulty.{blocks}
+use Rattle.wc_examples_language.specs.{ident, block_b, blocks}
 
 -- the trees of n blocks
 abbrev block_list : ℕ → List ProgramUnit

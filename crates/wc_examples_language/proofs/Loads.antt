@@ -1,14 +1,9 @@
 -- A program of n lines `LD TRUE`.
 use Rattle.std.proofs.Common.{◌≡◌, ◌≤◌, ℕ, zero, suc, [], ◌∷◌, refl, sym, inl, inr, append-nil, arith}
 use Rattle.std.specs.Prelude.{codes, None}
-use Rattle.wc_model.specs.Language.Tree.{End}
-use Rattle.wc_model.specs.Text.Limits.{line_count, depth, IsWithinLimits}
-use Rattle.wc_model.specs.Text.Grammar.{InBody, lines}
-use Rattle.wc_model.specs.Text.Positions.{Position, at_line, at_instruction}
-use Rattle.wc_model.specs.Text.ReadingFaults.{IsRaised, TooMany}
+use Rattle.wc_model.specs.Definitions.{End, line_count, depth, IsWithinLimits, InBody, lines, Position, at_line, at_instruction, IsRaised, TooMany}
 use Rattle.wc_laws_grammar.proofs.Languages.{next, pass, more, regroup}
-use Rattle.wc_examples_language.specs.Texts.{ident, end_of, program_of}
-use Rattle.wc_examples_language.specs.Faulty.{load_true, loads, load_lines, program_of_loads}
+use Rattle.wc_examples_language.specs.{ident, end_of, program_of, load_true, loads, load_lines, program_of_loads}
 
 -- the tokens spell the lines
 spelled_lines : (line n : ℕ) → lines InBody (load_lines line n) (loads line n)

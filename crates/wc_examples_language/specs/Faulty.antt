@@ -1,8 +1,6 @@
 -- Texts that are refused: the tokens before the fault and those that are left, and where the former stop.
 use Rattle.std.specs.Prelude.{ℕ, zero, suc, true, false, List, [], ◌∷◌, ◌++◌, map, flat_map, codes, Some, None}
-use Rattle.wc_model.specs.Language.Tree.{Constant, Step, Load, Lines, End, Plain}
-use Rattle.wc_model.specs.Text.Marks.{Mark, OpeningBracket}
-use Rattle.wc_model.specs.Text.Positions.{Opening, Position}
+use Rattle.wc_model.specs.Definitions.{Constant, Step, Load, Lines, End, Plain, Mark, OpeningBracket, Opening, Position}
 use Rattle.wc_model.specs.declared.operator.Operator.TheVariants.{And}
 use Rattle.wc_model.specs.declared.value.Value.TheVariants.{Bool as BoolValue}
 use Rattle.wc_examples_language.specs.Texts.{mark, ident, end_of, program_p, program_of, block_tokens}

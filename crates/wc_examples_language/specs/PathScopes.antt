@@ -1,7 +1,7 @@
 -- The units whose paths are looked at.
 use Rattle.std.specs.Prelude.{[], ◌∷◌}
-use Rattle.wc_examples_language.specs.CountingBlock.{counting_block, two_counters_program}
-use Rattle.wc_examples_language.specs.Jumps.{two_paths_program}
+use Rattle.wc_examples_language.specs.Refused.{counting_block, two_counters_program}
+use Rattle.wc_examples_language.specs.Programs.{two_paths_program}
 use Rattle.wc_examples_language.specs.Timers.{on_delay_program}
 use Rattle.wc_model.specs.Language.Scopes.{Scope}
 

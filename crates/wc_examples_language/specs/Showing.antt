@@ -1,9 +1,6 @@
 -- What the scans of a text show, one after another, each from the store that the one before left.
 use Rattle.std.specs.Prelude.{ℕ, List, [], ◌∷◌, ℤ, pos}
-use Rattle.wc_model.specs.Language.Meaning.{Outcome, Done, Stuck}
-use Rattle.wc_model.specs.Language.Scans.{scan_of, initial_of, output_bits, output_words, steps_of}
-use Rattle.wc_model.specs.Language.Store.{Store}
-use Rattle.wc_model.specs.Language.Tree.{Text}
+use Rattle.wc_model.specs.Definitions.{Outcome, Done, Stuck, scan_of, initial_of, output_bits, output_words, steps_of, Store, Text}
 use Rattle.wc_model.specs.declared.image.Image.{Image}
 
 -- a scan at a moment, with the digital inputs that it sees

@@ -1,7 +1,6 @@
 -- Short ways to write the texts and tokens of examples.
 use Rattle.std.specs.Prelude.{ℕ, List, ◌∷◌, ◌++◌}
-use Rattle.wc_model.specs.Text.Shapes.{Shape}
-use Rattle.wc_model.specs.Text.Tokens.{Token}
+use Rattle.wc_model.specs.Definitions.{Shape, Token}
 
 -- a token by its parts
 abbrev pub token : Shape → List ℕ → (start line : ℕ) → Token

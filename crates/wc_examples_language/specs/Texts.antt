@@ -2,9 +2,7 @@
 use Rattle.std.specs.Prelude.{ℕ, true, false, List, [], ◌∷◌, ◌++◌, codes, Some, None, pos}
 use Rattle.wc_model.specs.Language.Tree.{Word, Constant, Address, Variable, Field, Assignment, Load, Store, Apply, Jump, Call, Lines, End, Alone, Plain, Nested, ProgramUnit}
 use Rattle.wc_model.specs.Text.Marks.{Mark, Symbol, Identifier, Whole, Duration, Direct, Ampersand, AmpersandN, OpeningBracket, ClosingBracket, Comma, Colon, Semicolon, Point, Assign, Arrow, LineEnd}
-use Rattle.wc_model.specs.Text.Languages.{Language, ◌then◌, empty}
-use Rattle.wc_model.specs.Text.Keywords.{end_word}
-use Rattle.wc_model.specs.Text.Grammar.{Group, InBody, lines, identifier, line_ends}
+use Rattle.wc_model.specs.Definitions.{Language, ◌then◌, empty, end_word, Group, InBody, lines, identifier, line_ends}
 use Rattle.wc_model.specs.declared.operator.Condition.TheVariants.{Always, IfTrue}
 use Rattle.wc_model.specs.declared.operator.Direction.TheVariants.{Into, OutOf}
 use Rattle.wc_model.specs.declared.operator.Operator.TheVariants.{And, Andn, Or}

@@ -1,9 +1,6 @@
-ghost use Rattle.std.specs.Prelude.{◌≡◌, [], ◌∷◌, map, filter, true, false};
-ghost use Rattle.std.specs.List.{flat_map};
-ghost use Rattle.wc_examples_language.specs.Bistables.{each_block, all_rs, rs_call};
-ghost use Rattle.wc_model.specs.Language.Blocks.{RsFields, rs_step};
-ghost use Rattle.wc_model.specs.Language.Carried.{same_block};
-ghost use Rattle.wc_model.specs.Language.Histories.{FitsRs};
+ghost use Rattle.std.specs.Prelude.{◌≡◌, [], ◌∷◌, map, filter, true, false, flat_map};
+ghost use Rattle.wc_examples_language.specs.Programs.{each_block, all_rs, rs_call};
+ghost use Rattle.wc_model.specs.Definitions.{RsFields, rs_step, same_block, FitsRs};
 
 /// RS by its step, over S, R1 and Q1 in the order of the binary numbers: reset is dominant.
 pub fn rs_has_its_table()

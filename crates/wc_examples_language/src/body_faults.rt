@@ -1,10 +1,8 @@
 ghost use Rattle.std.specs.Prelude.{◌≡◌, [], ◌∷◌, None, Some, pos, false};
-ghost use Rattle.wc_examples_language.specs.CountingBlock.{two_counters};
-ghost use Rattle.wc_examples_language.specs.Refused.{refused, doing, with_timer, with_number, with_counter, two_kinds_at_a_label};
+ghost use Rattle.wc_examples_language.specs.Refused.{two_counters, refused, doing, with_timer, with_number, with_counter, two_kinds_at_a_label};
 ghost use Rattle.wc_examples_language.specs.Timers.{on_delay};
 ghost use Rattle.wc_examples_language.specs.Writing.{at, var, dot, num, yes', ld, st, op, jump, call, arg, out, labelled};
-ghost use Rattle.wc_model.specs.Language.Faults.{body_fault};
-ghost use Rattle.wc_model.specs.Language.Tree.{End, Load, Nested};
+ghost use Rattle.wc_model.specs.Definitions.{body_fault, End, Load, Nested};
 ghost use Rattle.wc_model.specs.declared.operator.Condition.TheVariants.{Always};
 ghost use Rattle.wc_model.specs.declared.operator.Operator.TheVariants.{And, Div, Eq};
 

@@ -1,12 +1,8 @@
-ghost use Rattle.std.specs.Prelude.{◌≡◌, [], ◌∷◌, map, codes, None};
-ghost use Rattle.wc_examples_language.specs.CountingBlock.{counting_block, two_counters};
-ghost use Rattle.wc_examples_language.specs.Refused.{refused, declaring, doing, starts_at_two};
+ghost use Rattle.std.specs.Prelude.{◌≡◌, [], ◌∷◌, map, codes, None, false};
+ghost use Rattle.wc_examples_language.specs.Refused.{counting_block, two_counters, refused, declaring, doing, starts_at_two};
 ghost use Rattle.wc_examples_language.specs.Writing.{at, ld, declares, labelled, yes'};
-ghost use Rattle.wc_model.specs.Language.DeclarationRules.{reserved_words, type_words};
-ghost use Rattle.wc_model.specs.Language.Faults.{declaration_fault};
-ghost use Rattle.wc_model.specs.Language.Tree.{End, Load};
+ghost use Rattle.wc_model.specs.Definitions.{reserved_words, type_words, declaration_fault, End, Load};
 ghost use Rattle.wc_model.specs.declared.source.Section.TheVariants.{Own, Input};
-ghost use Rattle.std.specs.Prelude.{false};
 
 /// Names: a variable declared twice in either letter case, a reserved word, a reserved label.
 pub fn names_are_refused()

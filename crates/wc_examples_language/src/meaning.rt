@@ -1,10 +1,6 @@
 ghost use Rattle.std.specs.Prelude.{◌≡◌, [], ◌∷◌, pos, negsuc};
-ghost use Rattle.wc_examples_language.specs.BoolPrograms.{copies_an_input, does_nothing, keeps_a_conjunction};
-ghost use Rattle.wc_examples_language.specs.CountingBlock.{two_counters};
-ghost use Rattle.wc_examples_language.specs.Counters.{counts_to_two};
-ghost use Rattle.wc_examples_language.specs.Jumps.{may_jump, always_jumps};
-ghost use Rattle.wc_examples_language.specs.NumberPrograms.{divides_minus_seven, passes_the_greatest, passes_the_longest_time};
-ghost use Rattle.wc_examples_language.specs.Parentheses.{long_format, short_format};
+ghost use Rattle.wc_examples_language.specs.Programs.{copies_an_input, does_nothing, keeps_a_conjunction, counts_to_two, may_jump, always_jumps, divides_minus_seven, passes_the_greatest, passes_the_longest_time, long_format, short_format};
+ghost use Rattle.wc_examples_language.specs.Refused.{two_counters};
 ghost use Rattle.wc_examples_language.specs.Showing.{shown_by, scan, shows};
 ghost use Rattle.wc_examples_language.specs.Timers.{on_delay};
 

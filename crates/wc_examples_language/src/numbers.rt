@@ -1,6 +1,5 @@
 ghost use Rattle.std.specs.Prelude.{◌≡◌, ◌^◌, pos, negsuc, Ok};
-ghost use Rattle.wc_model.specs.Language.Operators.{apply};
-ghost use Rattle.wc_model.specs.Language.Values.{wrap};
+ghost use Rattle.wc_model.specs.Definitions.{apply, wrap};
 ghost use Rattle.wc_model.specs.declared.operator.Operator.TheVariants.{Div, Mod};
 ghost use Rattle.wc_model.specs.declared.value.Value.TheVariants.{Dint};
 

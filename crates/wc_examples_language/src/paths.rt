@@ -1,7 +1,6 @@
 ghost use Rattle.std.specs.Prelude.{[], ◌∷◌};
 ghost use Rattle.wc_examples_language.specs.PathScopes.{timer_scope, paths_scope, block_scope, counters_scope};
-ghost use Rattle.wc_model.specs.Language.Paths.{IsLongest};
-ghost use Rattle.wc_model.specs.Language.WorstPaths.{AreWorstLines};
+ghost use Rattle.wc_model.specs.Definitions.{IsLongest, AreWorstLines};
 
 /// The timer program takes at most ten steps: the jump is passed by.
 pub fn timer_path()

@@ -1,11 +1,7 @@
 ghost use Rattle.std.specs.Prelude.{◌≡◌, [], ◌∷◌, pos, true, false, Some, reverse};
-ghost use Rattle.wc_examples_language.specs.Pulses.{all_hold, field, lowered_calls, negative_calls, outputs, phases, pulse_calls};
-ghost use Rattle.wc_examples_language.specs.Pulses.{pulses, pulses_moved, pulses_no_more, raised_calls, times};
+ghost use Rattle.wc_examples_language.specs.Timers.{all_hold, field, lowered_calls, negative_calls, outputs, phases, pulse_calls, pulses, pulses_moved, pulses_no_more, raised_calls, times};
 ghost use Rattle.wc_examples_language.specs.Showing.{shown_by, scan, shows};
-ghost use Rattle.wc_model.specs.Language.Blocks.{TpFields};
-ghost use Rattle.wc_model.specs.Language.Carried.{carried};
-ghost use Rattle.wc_model.specs.Language.Histories.{FitsTp};
-ghost use Rattle.wc_model.specs.Language.Store.{Moment, Phase};
+ghost use Rattle.wc_model.specs.Definitions.{TpFields, carried, FitsTp, Moment, Phase};
 
 /// TP by its step: a pulse of the preset time, whatever IN does in it, and no other before IN is FALSE.
 pub fn pulse_steps()

@@ -1,10 +1,7 @@
 ghost use Rattle.std.specs.Prelude.{ℕ, ◌≤◌, ◌∷◌, [], ◌++◌, codes};
 ghost use Rattle.wc_examples_language.specs.Texts.{mark, ident, end_of};
 ghost use Rattle.wc_examples_language.specs.Faulty.{loaded, opened, opened_short, one_program, eight_opened, jmpnc_before, jmpnc_left, bare_load_before, blocks, program_of_loads};
-ghost use Rattle.wc_model.specs.Language.Tree.{Step};
-ghost use Rattle.wc_model.specs.Text.Grammar.{IsPrefix, IsOperatorOf};
-ghost use Rattle.wc_model.specs.Text.Marks.{OpeningBracket, ClosingBracket, Colon};
-ghost use Rattle.wc_model.specs.Text.ReadingFaults.{IsRaised, IsFirstReadingFault, UnexpectedToken, UnitNotClosed, NotOneProgramLast, EmptyParentheses, NotAllowedInParentheses, ParenthesisNotPaired, TooDeep, TooMany};
+ghost use Rattle.wc_model.specs.Definitions.{Step, IsPrefix, IsOperatorOf, OpeningBracket, ClosingBracket, Colon, IsRaised, IsFirstReadingFault, UnexpectedToken, UnitNotClosed, NotOneProgramLast, EmptyParentheses, NotAllowedInParentheses, ParenthesisNotPaired, TooDeep, TooMany};
 
 /// `LD TRUE / )`: no parenthesis is open at the `)`, which is on line 3.
 pub fn a_bracket_with_none_open()

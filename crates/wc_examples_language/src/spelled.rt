@@ -1,10 +1,6 @@
 ghost use Rattle.std.specs.Prelude.{List, ◌∷◌, [], ◌++◌, ◌⊎◌, codes};
 ghost use Rattle.wc_examples_language.specs.Texts.{ident, copy_tokens, copy_lines, jump_tokens, jump_lines, declaration_tokens, declaring_program, call_tokens, call_lines, ampersand_tokens, ampersand_lines, program_of, program_text, bare_call_lines, bare_call_tokens, block_b, block_tokens};
-ghost use Rattle.wc_model.specs.Text.Grammar.{InBody, Spells, identifier, lines};
-ghost use Rattle.wc_model.specs.Text.Keywords.{end_word};
-ghost use Rattle.wc_model.specs.Text.Languages.{◌then◌};
-ghost use Rattle.wc_model.specs.Text.Marks.{IsSymbol, LineEnd, Mark};
-ghost use Rattle.wc_model.specs.Language.Tree.{End};
+ghost use Rattle.wc_model.specs.Definitions.{InBody, Spells, identifier, lines, end_word, ◌then◌, IsSymbol, LineEnd, Mark, End};
 ghost use Rattle.wc_model.specs.declared.source.UnitKind.{UnitKind};
 
 /// The text `PROGRAM P / LD %IX0.0 / ST %QX0.0 / END_PROGRAM`.

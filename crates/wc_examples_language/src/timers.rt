@@ -1,7 +1,6 @@
 ghost use Rattle.std.specs.Prelude.{◌≡◌, [], ◌∷◌, map, pos, true, false};
 ghost use Rattle.wc_examples_language.specs.Timers.{new_tof, tof_run, five_calls, five_reported};
-ghost use Rattle.wc_model.specs.Language.Blocks.{TofFields};
-ghost use Rattle.wc_model.specs.Language.Histories.{FitsTof};
+ghost use Rattle.wc_model.specs.Definitions.{TofFields, FitsTof};
 
 /// TOF by its step: TRUE until the preset time has passed since IN fell.
 pub fn off_delay_steps()

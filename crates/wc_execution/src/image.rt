@@ -1,11 +1,9 @@
 ghost use Rattle.std.specs.Prelude.{◌≡◌, ◌+◌, ◌<◌, ◌≤◌, ℕ, ℤ, List, ◌++◌, map, drop, pos, length, slice_index_or};
 ghost use Rattle.wc_text_flat.specs.Contents.{with_image_numbers};
 ghost use Rattle.wc_execution.specs.Lines.{AreAll, AreBefore};
-ghost use Rattle.wc_model.specs.Language.DirectVariables.{numbers_below};
-ghost use Rattle.wc_model.specs.Language.Frames.{bit_number};
-ghost use Rattle.wc_model.specs.Language.Scans.{is_bit_set};
+ghost use Rattle.wc_model.specs.Definitions.{numbers_below, bit_number, is_bit_set};
 ghost use Rattle.wc_model.specs.declared.kind.SlotKind.TheVariants as slots;
-ghost use Rattle.wc_store.specs.Slots.{with_four};
+ghost use Rattle.wc_store.specs.Inside.{with_four};
 
 use crate::fields::{set_count, set_truth};
 use wc_model::Image;

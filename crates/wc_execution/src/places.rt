@@ -1,8 +1,6 @@
 ghost use Rattle.std.specs.Prelude.{◌≡◌, ◌≤◌, ℕ, Some, IsSome, false, length, true, []};
-ghost use Rattle.wc_text_flat.specs.NumberOperators.{flipped};
-ghost use Rattle.wc_execution.specs.Lines.{held, loaded, negated_if, passed, stored, written, AreBefore, here_at, no_calls, state_of};
-ghost use Rattle.wc_execution.specs.Writing.{IsStorable, IsWritable};
-ghost use Rattle.wc_text_flat.specs.FlatSeen.{number_stored, number_written};
+ghost use Rattle.wc_text_flat.specs.{flipped, number_stored, number_written};
+ghost use Rattle.wc_execution.specs.Lines.{held, loaded, negated_if, passed, stored, written, AreBefore, here_at, no_calls, state_of, IsStorable, IsWritable};
 ghost use Rattle.wc_model.specs.declared.operator.Storing.TheVariants as stores;
 
 use crate::operators::truth;

@@ -1,6 +1,5 @@
 ghost use Rattle.wc_blocks.specs.Views.{ctu_view, r_trig_view, rs_view, sr_view};
-ghost use Rattle.wc_model.specs.Language.BlockCalls.{ctu_contents, r_trig_contents, rs_contents, sr_contents};
-ghost use Rattle.wc_model.specs.Language.Blocks.{ctu_step, r_trig_step, rs_step, sr_step};
+ghost use Rattle.wc_model.specs.Definitions.{ctu_contents, r_trig_contents, rs_contents, sr_contents, ctu_step, r_trig_step, rs_step, sr_step};
 ghost use Rattle.wc_model.specs.declared.block.StandardBlock.TheVariants as blocks;
 
 use crate::fields::{count_at, set_count, set_truth, truth_at};

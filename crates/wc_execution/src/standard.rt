@@ -1,7 +1,6 @@
 ghost use Rattle.std.specs.Prelude.{◌≡◌, ◌+◌, ◌≤◌, ℕ, List, Some, drop, length, IsSome, ⊤};
 ghost use Rattle.wc_execution.specs.Lines.{AreBefore, AreSlots, slots_of};
-ghost use Rattle.wc_model.specs.Language.Names.{Name};
-ghost use Rattle.wc_model.specs.Language.Store.{Content};
+ghost use Rattle.wc_model.specs.Definitions.{Name, Content};
 ghost use Rattle.wc_model.specs.declared.block.StandardBlock.{StandardBlock};
 ghost use Rattle.wc_text_flat.specs.NumberBlocks.{block_called, field_numbers, with_numbers};
 

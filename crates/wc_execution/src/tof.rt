@@ -1,7 +1,6 @@
 ghost use Rattle.std.specs.Prelude.{◌≤◌};
 ghost use Rattle.wc_blocks.specs.Views.{tof_view};
-ghost use Rattle.wc_model.specs.Language.BlockCalls.{tof_contents};
-ghost use Rattle.wc_model.specs.Language.Blocks.{tof_step};
+ghost use Rattle.wc_model.specs.Definitions.{tof_contents, tof_step};
 ghost use Rattle.wc_model.specs.declared.block.StandardBlock.TheVariants as blocks;
 
 use crate::fields::{

@@ -1,7 +1,6 @@
 ghost use Rattle.std.specs.Prelude.{◌≤◌};
 ghost use Rattle.wc_blocks.specs.Views.{ton_view};
-ghost use Rattle.wc_model.specs.Language.BlockCalls.{ton_contents};
-ghost use Rattle.wc_model.specs.Language.Blocks.{ton_step};
+ghost use Rattle.wc_model.specs.Definitions.{ton_contents, ton_step};
 ghost use Rattle.wc_model.specs.declared.block.StandardBlock.TheVariants as blocks;
 
 use crate::fields::{moment_at, set_moment, set_time, set_truth, time_at, truth_at};

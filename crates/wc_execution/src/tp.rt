@@ -1,7 +1,6 @@
 ghost use Rattle.std.specs.Prelude.{◌≤◌};
 ghost use Rattle.wc_blocks.specs.Views.{tp_view};
-ghost use Rattle.wc_model.specs.Language.BlockCalls.{tp_contents};
-ghost use Rattle.wc_model.specs.Language.Blocks.{tp_step};
+ghost use Rattle.wc_model.specs.Definitions.{tp_contents, tp_step};
 ghost use Rattle.wc_model.specs.declared.block.StandardBlock.TheVariants as blocks;
 
 use crate::fields::{

@@ -1,8 +1,11 @@
--- What identifies the product (the profile's own).
-
+-- What identifies the product, in buffers of a fixed size (the profile's own).
+use Rattle.std.specs.Prelude.{◌≡◌, ◌++◌, ◌-◌, List, length, replicate, ℕ}
 use Rattle.wc_identity.specs.declared.constants.TheConstants.{DATA_PATH, LEGAL_PART, TOOLCHAIN, VERSION}
 use Rattle.wc_identity.specs.declared.identity.Identity.{Identity}
-use Rattle.wc_identity.specs.Texts.{IsText}
+
+-- the bytes of a text, and zeros after it up to the size
+abbrev pub IsText : List ℕ → ℕ → List ℕ → Type 0
+IsText text size bytes = bytes ≡ text ++ replicate (size - length text) 0
 
 -- the constants of this version, each in its buffer
 abbrev pub IsThisVersion : Identity → Type 0

@@ -1,2 +1,1 @@
 pub mod Constants
-pub mod Texts

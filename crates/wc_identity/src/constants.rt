@@ -6,8 +6,8 @@ macro_rules! with_constants {
         $macro!(
             "0.1.0",
             "rattle-kit-13 logic dac8208d650f15bf",
-            "f0f1a093c207711dd01067e4b7d01c9e2af928f885285f612cd6e4d085024c62",
-            "227721550f9d599fb43d7f1665411ee734434676b38571a3bc9f7fb2008d4f14"
+            "f566cf1da978ab5689762c34c8de4a0f2782cebe7086c2b09b0647e530e3198e",
+            "f1337b323bc26233f0a8fd7b5f4ff7c8f1b02ef70477fc5f5db57d07d9238d46"
         )
     };
 }

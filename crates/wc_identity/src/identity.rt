@@ -1,6 +1,5 @@
 ghost use Rattle.std.specs.Prelude.{◌<◌, length};
-ghost use Rattle.wc_identity.specs.Constants.{IsThisVersion};
-ghost use Rattle.wc_identity.specs.Texts.{IsText};
+ghost use Rattle.wc_identity.specs.Constants.{IsThisVersion, IsText};
 
 use crate::constants::{DATA_PATH, LEGAL_PART, TOOLCHAIN, VERSION};
 

@@ -1,10 +1,7 @@
 -- What a command leaves: the history with the command is represented if what the definition says of it was kept.
-use Rattle.std.proofs.Common.{◌≡◌, ◌∷◌, refl, ap, subst}
+use Rattle.wc_model.proofs.Common.{◌≡◌, ◌∷◌, refl, ap, subst, option_map_or}
 use Rattle.std.specs.Prelude.{ℤ, not, Option, Some, None, is_some, if◌then◌else◌}
-use Rattle.std.specs.Option.{option_map_or}
-use Rattle.wc_model.specs.Instrument.Plates.{PlateData}
-use Rattle.wc_model.specs.Instrument.Indication.{CommandRefusal, acts_on_tare, from_zero, is_accepted_zero, present_counts, tare_left_by, tare_refusal, zero_refusal}
-use Rattle.wc_model.specs.Instrument.WeighingHistories.{Event, History, SetTare, SetZero, last_that}
+use Rattle.wc_model.specs.Definitions.{PlateData, CommandRefusal, acts_on_tare, from_zero, is_accepted_zero, present_counts, tare_left_by, tare_refusal, zero_refusal, Event, History, SetTare, SetZero, last_that}
 use Rattle.wc_indicator.specs.Kept.{IndicatorState, RepresentsHistory}
 
 -- the zero point after a zero command, by why it is refused

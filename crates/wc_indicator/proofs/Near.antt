@@ -1,8 +1,5 @@
 -- Rounding in whole numbers, by the magnitude and the sign.
-use Rattle.std.proofs.Common.{◌≡◌, ℕ, zero, suc, ◌+◌, ◌*◌, ◌<◌, ◌≤◌, inl, inr, refl, ap, sym, ◌∙◌, arith}
-use Rattle.std.proofs.Math.Nat.{mul-le-mul_right, mul-le-mul_left, div-eq_of_lt}
-use Rattle.std.proofs.lemmas.Bool.{cases_lt}
-use Rattle.std.proofs.lemmas.Int.{ints}
+use Rattle.wc_model.proofs.Common.{◌≡◌, ℕ, zero, suc, ◌+◌, ◌*◌, ◌<◌, ◌≤◌, inl, inr, refl, ap, sym, ◌∙◌, arith, mul-le-mul_right, mul-le-mul_left, div-eq_of_lt, cases_lt, ints}
 use Rattle.std.specs.Prelude.{ℤ, pos, negsuc, neg_ℤ, ◌<ℤ◌, ◌*ℤ◌, unsigned_abs}
 use Rattle.wc_model.specs.Instrument.Rounding.{nearest, nearest_above_zero}
 use Rattle.wc_laws_instrument.proofs.Rounding.{quotient_bounds}

@@ -1,10 +1,6 @@
 -- Counts and units in the code's numbers: no product and no difference leaves them.
-use Rattle.std.proofs.Common.{◌≡◌, ℕ, zero, suc, ◌*◌, ◌^◌, ◌<◌, ◌≤◌, Bool, true, false, cond, ◌||◌, ◌==◌, List, [], ◌∷◌, length, refl, arith, to_z, of_z, w32, w64, FitsSigned}
-use Rattle.std.proofs.Math.Nat.{mul-le-mul_right}
-use Rattle.std.proofs.lemmas.Bool.{and_parts, leb-true}
-use Rattle.std.proofs.lemmas.Int.{ints, unsigned_abs-mul}
+use Rattle.wc_model.proofs.Common.{◌≡◌, ℕ, zero, suc, ◌*◌, ◌^◌, ◌<◌, ◌≤◌, Bool, true, false, cond, ◌||◌, ◌==◌, List, [], ◌∷◌, length, refl, arith, to_z, of_z, w32, w64, FitsSigned, mul-le-mul_right, and_parts, leb-true, ints, unsigned_abs-mul, list_all}
 use Rattle.std.specs.Prelude.{ℤ, pos, ◌-ℤ◌, ◌*ℤ◌, unsigned_abs, nat_le, slice_index_or, Option, Some, None, IfSome, unwrap_or}
-use Rattle.std.specs.List.{list_all}
 use Rattle.wc_model.specs.Instrument.Plates.{PlateData, IsPlate}
 use Rattle.wc_indicator.specs.Kept.{IsCount, IsDifference}
 

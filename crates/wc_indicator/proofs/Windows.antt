@@ -3,8 +3,7 @@ use Rattle.std.proofs.Common.{◌≡◌, ◌+◌, ◌-◌, ◌≤◌, List, [], 
 use Rattle.std.proofs.lemmas.List.{length-append, length-drop}
 use Rattle.std.specs.Prelude.{ℤ, Some, None, Result, Ok, Err, IsOk, OnOk, ◌↔◌}
 use Rattle.wc_laws_instrument.proofs.LastItems.{last_of, one_more}
-use Rattle.wc_model.specs.Instrument.Plates.{PlateData, IsPlate}
-use Rattle.wc_model.specs.Instrument.WeighingHistories.{History, Sample, samples, last_items}
+use Rattle.wc_model.specs.Definitions.{PlateData, IsPlate, History, Sample, samples, last_items}
 use Rattle.wc_indicator.specs.Kept.{IndicatorState, RepresentsHistory}
 
 -- an indicator that takes one more sample

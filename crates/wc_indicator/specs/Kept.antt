@@ -1,9 +1,7 @@
--- What an indicator keeps, and the plate and the history that it represents. What is kept is this crate's own choice; the
--- values that it gives are those of the profile on OIML R 76-1:2006.
+-- What an indicator keeps in its fields, and the plate and the history that it represents. What is kept is this crate's own.
 use Rattle.std.specs.Prelude.{◌≡◌, ◌≤◌, ◌^◌, List, ℤ, Option, IfSome, unsigned_abs}
-use Rattle.wc_model.specs.Instrument.Plates.{PlateData, IsPlate}
-use Rattle.wc_model.specs.Instrument.WeighingHistories.{History, last_sample}
-use Rattle.wc_model.specs.Instrument.Indication.{window_of, zero_point, active_tare}
+use Rattle.wc_model.specs.Definitions.{PlateData, IsPlate, History, last_sample, window_of, zero_point, active_tare}
+use Rattle.wc_indicator.specs.declared.indicator.Indicator.TheInside.{Inside}
 
 -- its plate, its last samples, the last of all, the zero point, and the tare in counts while one is active
 pub record IndicatorState : Type 0 where
@@ -39,3 +37,12 @@ pub record IsKeptInRange (kept : IndicatorState) : Type 0 where
   pub last : IfSome kept.last IsCount
   pub zero : IsCount kept.zero
   pub tare : IfSome kept.tare IsDifference
+
+-- what is kept
+abbrev pub kept_view : Inside → IndicatorState
+kept_view a = record { plate = a.plate; latest = a.latest.items; last = a.last; zero = a.zero; tare = a.tare }
+
+-- the ring holds as many samples as the plate's window, and what is kept is in its ranges
+pub record IsIndicatorSound (a : Inside) : Type 0 where
+  pub window : a.latest.capacity ≡ a.plate.window
+  pub ranges : IsKeptInRange (kept_view a)

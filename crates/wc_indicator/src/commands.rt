@@ -1,6 +1,5 @@
 ghost use Rattle.std.specs.Prelude.{◌≡◌, ◌∷◌, IfErr};
-ghost use Rattle.wc_model.specs.Instrument.Plates.{PlateData};
-ghost use Rattle.wc_model.specs.Instrument.WeighingHistories.{SetZero, SetTare, ClearTare, History};
+ghost use Rattle.wc_model.specs.Definitions.{PlateData, SetZero, SetTare, ClearTare, History};
 ghost use Rattle.wc_model.specs.Instrument.Indication as indication;
 ghost use Rattle.wc_indicator.specs.Kept.{RepresentsHistory, Reports};
 ghost use Rattle.wc_indicator.specs.Refusals.{reported_by, refusal_view};

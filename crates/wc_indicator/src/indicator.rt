@@ -1,6 +1,5 @@
 ghost use Rattle.std.specs.Prelude.{◌≡◌, ◌≤ℤ◌, ◌∷◌, [], IfOk, IsOkUnless, unsigned_abs, ◌≤◌, ◌^◌};
-ghost use Rattle.wc_model.specs.Instrument.Plates.{least_sample, greatest_sample, PlateData};
-ghost use Rattle.wc_model.specs.Instrument.WeighingHistories.{Sample, History};
+ghost use Rattle.wc_model.specs.Definitions.{least_sample, greatest_sample, PlateData, Sample, History};
 ghost use Rattle.wc_model.specs.Instrument.Indication as indication;
 ghost use Rattle.wc_indicator.specs.Kept.{RepresentsHistory, Reports, IsCount, IsDifference};
 
@@ -23,11 +22,9 @@ pub struct Indicator {
 }
 
 impl Model for Indicator {
-    ghost use Rattle.wc_indicator.specs.Kept.{IndicatorState};
+    ghost use Rattle.wc_indicator.specs.Kept.{IndicatorState, kept_view, IsIndicatorSound};
 
     ghost Value = { IndicatorState };
-
-    ghost use Rattle.wc_indicator.specs.Fields.{kept_view, IsIndicatorSound};
 
     ghost view = { kept_view };
 

@@ -1,8 +1,6 @@
 -- A fault of one read more ends the reading.
-use Rattle.std.proofs.Common.{ℕ, ◌+◌, ◌≤◌, List, ◌++◌, length, Option, Err, arith, length-append}
-use Rattle.std.proofs.KnownBytes.{Consumes-kept, Consumes-trans}
-use Rattle.std.specs.Io.KnownBytes.{Consumes}
-use Rattle.wc_job.specs.Reads.{Adds, IsOverTheLimit, TakesAtMost}
+use Rattle.wc_model.proofs.Common.{ℕ, ◌+◌, ◌≤◌, List, ◌++◌, length, Option, Err, arith, length-append, Consumes-kept, Consumes-trans, Consumes}
+use Rattle.wc_job.specs.Views.{Adds, IsOverTheLimit, TakesAtMost}
 use Rattle.wc_job.specs.declared.reading.ReadFault.{ReadFault}
 use Rattle.wc_job.specs.declared.reading.ReadFault.TheVariants.{TooLong, Read, Memory}
 use Rattle.wc_model.specs.Run.JobSections.{longest_job}

@@ -1,7 +1,6 @@
 -- A text's lines from its first one on.
 use Rattle.std.proofs.Common.{◌≡◌, ◌==◌, ℕ, suc, ◌+◌, min, true, false, cond, not, List, [], ◌∷◌, length, drop, take, if◌then◌else◌, refl, sym, ap, ◌∙◌, arith, length-take, subst}
-use Rattle.std.proofs.lemmas.Bool.{eqb-true}
-use Rattle.std.specs.List.{position_or_len}
+use Rattle.wc_model.proofs.Common.{eqb-true, position_or_len}
 use Rattle.wc_job.specs.Views.{BeginsWithLine, line_length}
 use Rattle.wc_model.specs.Run.JobSections.{onto_first_line, whole_lines}
 

@@ -1,7 +1,6 @@
 ghost use Rattle.std.specs.Prelude.{◌≡◌, ◌+◌, ◌≤◌, IfErr, IfOk, length};
-ghost use Rattle.wc_job.specs.Reads.{Adds, IsOverTheLimit, IsWhole, ReadsInto, TakesAtMost, failures_after};
-ghost use Rattle.wc_model.specs.Run.Devices.{failures_after_read};
-ghost use Rattle.wc_model.specs.Run.JobSections.{longest_job};
+ghost use Rattle.wc_job.specs.Views.{Adds, IsOverTheLimit, IsWhole, ReadsInto, TakesAtMost, failures_after};
+ghost use Rattle.wc_model.specs.Definitions.{failures_after_read, longest_job};
 
 use std::alloc::Global;
 use std::io;

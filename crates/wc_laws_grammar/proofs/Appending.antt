@@ -1,14 +1,9 @@
 -- Tokens that are appended to others: lines after lines, a line after a position, and the end of a parenthesis.
 use Rattle.std.proofs.Common.{◌≡◌, ℕ, List, [], ◌∷◌, ◌++◌, Option, ap, subst, append_assoc, append-nil, ◌∙◌, sym}
-use Rattle.wc_laws_grammar.specs.LineMoves.{LineShape, LabelAlone, Instructs, Opens}
+use Rattle.wc_laws_grammar.specs.{LineShape, LabelAlone, Instructs, Opens, after_line, after_closing, lines_and}
 use Rattle.wc_laws_grammar.proofs.LineRests.{line_of}
-use Rattle.wc_laws_grammar.specs.Moves.{after_line, after_closing, lines_and}
 use Rattle.wc_laws_grammar.proofs.Languages.{joined, pass, ungroup, after}
-use Rattle.wc_model.specs.Text.Grammar.{Setting, InParentheses, HasContent, IsOn, label_in, line_ends, lines, opening, symbol}
-use Rattle.wc_model.specs.Text.Languages.{◌then◌, one}
-use Rattle.wc_model.specs.Text.Marks.{Mark, ClosingBracket, LineEnd, IsSymbol}
-use Rattle.wc_model.specs.Text.Positions.{Opening, Position, at_line, openings_of, setting_in}
-use Rattle.wc_model.specs.Language.Tree.{Step, Word, Lines, End, Alone, Plain, Nested}
+use Rattle.wc_model.specs.Definitions.{Setting, InParentheses, HasContent, IsOn, label_in, line_ends, lines, opening, symbol, ◌then◌, one, Mark, ClosingBracket, LineEnd, IsSymbol, Opening, Position, at_line, openings_of, setting_in, Step, Word, Lines, End, Alone, Plain, Nested}
 
 -- what is appended to a sequence is appended to its last part
 pub append_last : {T : Type 0} {first second second' : List T → Type 0} {tokens : List T} (more : List T) → ((rest : List T) → second rest → second' (rest ++ more)) → (first then second) tokens → (first then second') (tokens ++ more)

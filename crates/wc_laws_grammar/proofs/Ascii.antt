@@ -1,17 +1,9 @@
 -- The tokens of a text, and the identifiers that the grammar sees in them, are ASCII.
 use Rattle.std.proofs.Common.{◌≡◌, ℕ, zero, suc, ◌<◌, Bool, true, false, cond, ◌&&◌, nat_le, List, [], ◌∷◌, ◌++◌, map, drop, sym, subst, ⊎_elim, arith, IsTrue}
-use Rattle.std.proofs.lemmas.Bool.{and_parts, or_cases, eqb-true, leb-true}
-use Rattle.std.proofs.lemmas.Str.{IsAscii-append}
-use Rattle.std.proofs.lemmas.Str.Ascii.{IsAscii-nil}
-use Rattle.std.specs.List.{list_all}
-use Rattle.std.specs.Prelude.{slice_index}
-use Rattle.std.specs.Str.{IsAscii}
-use Rattle.wc_model.specs.Text.Characters.{begins, is_address_character, is_identifier_character, is_minus, is_number_character, is_sign, starts_identifier}
-use Rattle.wc_model.specs.Text.Lexemes.{Lexeme, Run, Typed, Unsigned, Signed, Sign, Addressed, Marked, is_run, is_literal_value, is_unsigned_run}
+use Rattle.wc_model.proofs.Common.{slice_index, and_parts, or_cases, eqb-true, leb-true, IsAscii-append, IsAscii-nil, list_all, IsAscii}
+use Rattle.wc_model.specs.Definitions.{begins, is_address_character, is_identifier_character, is_minus, is_number_character, is_sign, starts_identifier, Lexeme, Run, Typed, Unsigned, Signed, Sign, Addressed, Marked, is_run, is_literal_value, is_unsigned_run, mark_of_token, symbol_of, Token, Cuts, Nothing, Skipped, Taken}
 use Rattle.wc_model.specs.Text.Marks as marks
-use Rattle.wc_model.specs.Text.Reading.{mark_of_token, symbol_of}
 use Rattle.wc_model.specs.Text.Shapes.{Shape, Identifier, Whole}
-use Rattle.wc_model.specs.Text.Tokens.{Token, Cuts, Nothing, Skipped, Taken}
 use Rattle.wc_laws_grammar.proofs.Reach.{mark_passes}
 
 -- ---- bytes

@@ -6,23 +6,16 @@ use Rattle.wc_laws_grammar.proofs.Exits.{Completed, IsOpening, NoOpens, complete
 use Rattle.wc_laws_grammar.proofs.InParentheses.{inside_is_reported}
 use Rattle.wc_laws_grammar.proofs.InUnit.{Split, split_closed, split_line, split_on, split_section, split_unnamed, stops_in_unit}
 use Rattle.wc_laws_grammar.proofs.Detected.{same_end}
-use Rattle.wc_laws_grammar.specs.LineMoves.{LineShape, LabelAlone, Instructs, Opens, StartedLine, OfStep, OfOpening, OfArgument, LineState, Bracketed, Named, Pointed, BracketedWith}
+use Rattle.wc_laws_grammar.specs.{LineShape, LabelAlone, Instructs, Opens, StartedLine, OfStep, OfOpening, OfArgument, LineState, Bracketed, Named, Pointed, BracketedWith, State, Outside, Unnamed, Declaring, AtLine, OnLine, Closed, Raised, at_end, at_first, has_program, open_in, open_on, walk}
 use Rattle.wc_laws_grammar.proofs.LineRests.{line_of, rest_of}
 use Rattle.wc_laws_grammar.proofs.LineSound.{mark_on}
-use Rattle.wc_laws_grammar.specs.Moves.{State, Outside, Unnamed, Declaring, AtLine, OnLine, Closed, Raised, at_end, at_first, has_program, open_in, open_on, walk}
 use Rattle.wc_laws_grammar.proofs.Orders.{IsOpen, Ordered, all_blocks, open_is}
 use Rattle.wc_laws_grammar.proofs.Stops.{opening_ends, opening_line}
 use Rattle.wc_laws_grammar.proofs.Reported.{AfterClosing, Exact, InLine, PartOpened, Reported}
 use Rattle.wc_laws_grammar.proofs.WalkedLines.{not_complete}
 use Rattle.wc_laws_grammar.proofs.WalkedUnits.{units_walked}
 use Rattle.wc_laws_grammar.proofs.Languages.{joined, next, pass, ungroup}
-use Rattle.wc_model.specs.Text.Grammar.{InParentheses, IsOn, bracket, head, label_in, lines, operand, symbol, units}
-use Rattle.wc_model.specs.Text.Keywords.{not_word}
-use Rattle.wc_model.specs.Text.Languages.{◌then◌, ◌or◌, started, one, optional, unfinished}
-use Rattle.wc_model.specs.Text.Marks.{ClosingBracket, Identifier, IsSymbol, LineEnd, Mark}
-use Rattle.wc_model.specs.Text.Positions.{Opening, Position, StopsInParentheses, StopsInUnit, at_line, cut_short, cut_short_inside, opening_cut_short, openings_of, part_of_line, setting_in}
-use Rattle.wc_model.specs.Text.ReadingFaults.{RaisedAtEnd, NotOneProgramLast, ParenthesisNotPaired, ReadingFault, UnitNotClosed, rank_of}
-use Rattle.wc_model.specs.Language.Tree.{Text, End, Negate, ProgramUnit}
+use Rattle.wc_model.specs.Definitions.{InParentheses, IsOn, bracket, head, label_in, lines, operand, symbol, units, not_word, ◌then◌, ◌or◌, started, one, optional, unfinished, ClosingBracket, Identifier, IsSymbol, LineEnd, Mark, Opening, Position, StopsInParentheses, StopsInUnit, at_line, cut_short, cut_short_inside, opening_cut_short, openings_of, part_of_line, setting_in, RaisedAtEnd, NotOneProgramLast, ParenthesisNotPaired, ReadingFault, UnitNotClosed, rank_of, Text, End, Negate, ProgramUnit}
 use Rattle.wc_model.specs.declared.operator.Operator.{Operator}
 
 -- tokens stop in parentheses whose opening is on this line

@@ -1,16 +1,9 @@
 -- There is a lexeme as long as the look ahead wherever the look ahead finds one.
 use Rattle.std.proofs.Common.{◌≡◌, ℕ, zero, suc, ◌+◌, ◌≤◌, Bool, true, false, cond, ◌||◌, List, [], ◌∷◌, ◌++◌, length, drop, take, Option, Some, None, refl, sym, ap, ◌∙◌, subst, ⊎_elim, arith, append_assoc, take-append-drop, length-append, one-add, add-zero}
-use Rattle.std.specs.Char.{is_ascii_digit}
-use Rattle.std.specs.Int.{is_in_range}
-use Rattle.std.specs.List.{list_all, prefix_len}
-use Rattle.std.specs.Option.{option_map_or}
-use Rattle.std.proofs.lemmas.Bool.{and_from, cases_Bool, or_left, or_from, not_from_false, eqb-true, cond-true, cond-false}
-use Rattle.std.proofs.lemmas.List.Folds.{length-prefix_len}
-use Rattle.wc_laws_grammar.specs.Reaches.{hash_reach, is_mark_before, is_pair_mark, mark_reach, reach, value_reach, word_reach}
+use Rattle.wc_model.proofs.Common.{is_ascii_digit, is_in_range, list_all, prefix_len, option_map_or, and_from, cases_Bool, or_left, or_from, not_from_false, eqb-true, cond-true, cond-false, length-prefix_len}
+use Rattle.wc_laws_grammar.specs.Sights.{hash_reach, is_mark_before, is_pair_mark, mark_reach, reach, value_reach, word_reach}
 use Rattle.wc_laws_grammar.proofs.Reach.{longest_at, reach_digit, reach_mark, reach_sign, reach_word, starts_mark}
-use Rattle.wc_model.specs.Text.Characters.{begins, is_address_character, is_hash, is_identifier_character, is_minus, is_number_character, is_percent, is_sign, is_underscore, starts_identifier}
-use Rattle.wc_model.specs.Text.Lexemes.{Lexeme, Run, Typed, Unsigned, Signed, Sign, Addressed, Marked, IsLongestLexeme, is_literal_value, may_occur_before}
-use Rattle.wc_model.specs.Text.Shapes.{Shape, mark_of}
+use Rattle.wc_model.specs.Definitions.{begins, is_address_character, is_hash, is_identifier_character, is_minus, is_number_character, is_percent, is_sign, is_underscore, starts_identifier, Lexeme, Run, Typed, Unsigned, Signed, Sign, Addressed, Marked, IsLongestLexeme, is_literal_value, may_occur_before, Shape, mark_of}
 
 -- a lexeme as long as the look ahead
 pub record Attained (rest : List ℕ) : Type 0 where

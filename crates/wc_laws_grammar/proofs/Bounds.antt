@@ -1,12 +1,8 @@
 -- The limits on units, lines and depth, along the walk.
-use Rattle.std.proofs.Common.{◌≡◌, ◌≤◌, ◌+◌, ℕ, suc, List, [], ◌∷◌, length, ap, subst, sym, arith}
-use Rattle.std.specs.List.{AllByRecursion}
+use Rattle.wc_model.proofs.Common.{◌≡◌, ◌≤◌, ◌+◌, ℕ, suc, List, [], ◌∷◌, length, ap, subst, sym, arith, AllByRecursion}
 use Rattle.std.specs.Prelude.{max}
-use Rattle.wc_laws_grammar.specs.LineMoves.{LineShape, LabelAlone, Instructs, Opens, OfOpening, LineState, Start, Worded, Labelled, Bracketed, Named, Pointed, BracketedWith, Ended}
-use Rattle.wc_laws_grammar.specs.Moves.{State, Outside, Unnamed, Declaring, AtLine, OnLine, Closed, after_closing, after_line, lines_and}
-use Rattle.wc_model.specs.Text.Limits.{IsBodyWithinLimits, depth, line_count, lines_before, lines_opened, most_depth, most_lines, most_units}
-use Rattle.wc_model.specs.Text.Positions.{Opening, Position}
-use Rattle.wc_model.specs.Language.Tree.{Alone, End, Lines, Nested, Plain, ProgramUnit}
+use Rattle.wc_laws_grammar.specs.{LineShape, LabelAlone, Instructs, Opens, OfOpening, LineState, Start, Worded, Labelled, Bracketed, Named, Pointed, BracketedWith, Ended, State, Outside, Unnamed, Declaring, AtLine, OnLine, Closed, after_closing, after_line, lines_and}
+use Rattle.wc_model.specs.Definitions.{IsBodyWithinLimits, depth, line_count, lines_before, lines_opened, most_depth, most_lines, most_units, Opening, Position, Alone, End, Lines, Nested, Plain, ProgramUnit}
 
 -- the number of lines a line counts that has come so far, or been
 abbrev pub counted_shape : LineShape → ℕ

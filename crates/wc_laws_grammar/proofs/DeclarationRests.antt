@@ -1,10 +1,7 @@
 -- What tokens complete a section of declarations from a place in it. Line ends are passed over, and are in none of these.
 use Rattle.std.specs.Prelude.{◌≡◌, List, [], ◌∷◌, ◌++◌, Some}
 use Rattle.wc_laws_grammar.specs.Moves.{InDeclaration, Undeclared, AfterNames, AfterComma, AfterColon, AfterType, AfterAssign, AfterValue}
-use Rattle.wc_model.specs.Text.Grammar.{symbol, declaration, initial_value, IsLiteral, IsOn}
-use Rattle.wc_model.specs.Text.Languages.{Language, nothing, one, ◌then◌, optional, each}
-use Rattle.wc_model.specs.Text.Marks.{Mark, Comma, Colon, Semicolon, IsWord}
-use Rattle.wc_model.specs.Language.Tree.{Word, Declaration}
+use Rattle.wc_model.specs.Definitions.{symbol, declaration, initial_value, IsLiteral, IsOn, Language, nothing, one, ◌then◌, optional, each, Mark, Comma, Colon, Semicolon, IsWord, Word, Declaration}
 use Rattle.wc_model.specs.declared.source.Initial.{Initial}
 use Rattle.wc_model.specs.declared.source.Section.{Section}
 

@@ -2,18 +2,11 @@
 use Rattle.std.proofs.Common.{◌≡◌, ◌≢◌, ℕ, Bool, true, false, List, [], ◌∷◌, ◌++◌, Option, Some, None, refl, ap, subst, append_assoc, append-nil, if◌then◌else◌, ◌∙◌, sym, inl, inr}
 use Rattle.wc_laws_grammar.proofs.DeclarationRests.{declarations_of, from_end, from_type, declared_rest}
 use Rattle.wc_laws_grammar.proofs.LineSound.{mark_on}
-use Rattle.wc_laws_grammar.specs.Moves.{InDeclaration, Undeclared, AfterNames, AfterComma, AfterColon, AfterType, AfterAssign, AfterValue, State, AtLine, Declaring, at_value, body_start, declaration_move}
+use Rattle.wc_laws_grammar.specs.{InDeclaration, Undeclared, AfterNames, AfterComma, AfterColon, AfterType, AfterAssign, AfterValue, State, AtLine, Declaring, at_value, body_start, declaration_move, found, literal_of, truth_value, truths}
 use Rattle.wc_laws_grammar.proofs.WalkedDeclarations.{unit_and}
 use Rattle.wc_laws_grammar.proofs.WordLaws.{same_is, truth_found}
-use Rattle.wc_laws_grammar.specs.Words.{found, literal_of, truth_value, truths}
 use Rattle.wc_laws_grammar.proofs.Languages.{next, pass, regroup, after}
-use Rattle.wc_model.specs.Language.Declarations.{same_name}
-use Rattle.wc_model.specs.Text.Grammar.{declared_names, identifier, initial_value, symbol, IsLiteral}
-use Rattle.wc_model.specs.Text.Keywords.{end_var}
-use Rattle.wc_model.specs.Text.Languages.{◌then◌, optional}
-use Rattle.wc_model.specs.Text.Marks.{Symbol, Identifier, Whole, Duration, Truth, Comma, Colon, Semicolon, Assign, LineEnd, Mark}
-use Rattle.wc_model.specs.Language.Names.{name_of}
-use Rattle.wc_model.specs.Language.Tree.{Word, Declaration, ProgramUnit}
+use Rattle.wc_model.specs.Definitions.{same_name, declared_names, identifier, initial_value, symbol, IsLiteral, end_var, ◌then◌, optional, Symbol, Identifier, Whole, Duration, Truth, Comma, Colon, Semicolon, Assign, LineEnd, Mark, name_of, Word, Declaration, ProgramUnit}
 use Rattle.wc_model.specs.declared.source.Section.{Section}
 use Rattle.wc_model.specs.declared.value.Value.{Value}
 use Rattle.wc_model.specs.declared.value.Value.TheVariants.{Bool as BoolValue, Dint, Time}

@@ -1,27 +1,15 @@
 -- Each fault that is found at a token is detected there, or one of lower rank.
-use Rattle.std.proofs.Common.{◌≡◌, ◌≢◌, ◌≤◌, ℕ, Bool, true, false, List, [], ◌∷◌, ◌++◌, length, Option, Some, None, refl, ap, subst, append-nil, ◌∙◌, sym, inl, inr, arith, not}
-use Rattle.std.proofs.lemmas.Bool.Decides.{nat_tests}
-use Rattle.std.proofs.lemmas.List.Folds.{list_any-from_Any}
+use Rattle.wc_model.proofs.Common.{◌≡◌, ◌≢◌, ◌≤◌, ℕ, Bool, true, false, List, [], ◌∷◌, ◌++◌, length, Option, Some, None, refl, ap, subst, append-nil, ◌∙◌, sym, inl, inr, arith, not, nat_tests, list_any-from_Any}
 use Rattle.std.specs.Prelude.{◌⊎◌, ◌&&◌, Any, nat_le, is_some}
 use Rattle.wc_laws_grammar.proofs.LineComplete.{Leads, labelled_operator, named, word_is}
-use Rattle.wc_laws_grammar.specs.LineMoves.{Opens, Labelled, Operated, Worded}
+use Rattle.wc_laws_grammar.specs.{Opens, Labelled, Operated, Worded, State, Outside, AtLine, OnLine, at_first, begins_transfer, started_line, colon_next, has_content, has_name, has_program, is_colon, is_full, is_identifier, is_program, fault_at, fault_at_closing, fault_at_line, fault_at_operator, fault_at_unit, Raised, fault_if, first_fault, move, start_move, walk, Applies, Operation, Operates, found, is_transfer, operation_of, unit_kinds}
 use Rattle.wc_laws_grammar.proofs.LineSound.{mark_on}
 use Rattle.wc_laws_grammar.proofs.LineStart.{no_colon_name, taken}
-use Rattle.wc_laws_grammar.specs.Moves.{State, Outside, AtLine, OnLine, at_first, begins_transfer, started_line, colon_next, has_content, has_name, has_program, is_colon, is_full, is_identifier, is_program, fault_at, fault_at_closing, fault_at_line, fault_at_operator, fault_at_unit, Raised, fault_if, first_fault, move, start_move, walk}
 use Rattle.wc_laws_grammar.proofs.WalkedLines.{begins, walk_on, walk_then}
 use Rattle.wc_laws_grammar.proofs.WalkedUnits.{at_line_walked, plain, units_walked, unit_found}
 use Rattle.wc_laws_grammar.proofs.WordLaws.{is_same, operator_is, step_begins, operation_in}
-use Rattle.wc_laws_grammar.specs.Words.{Applies, Operation, Operates, found, is_transfer, operation_of, unit_kinds}
 use Rattle.wc_laws_grammar.proofs.Languages.{both_empty, next, next_is, pass}
-use Rattle.wc_model.specs.Language.Declarations.{same_name}
-use Rattle.wc_model.specs.Text.Grammar.{HasContent, InBody, IsOn, IsOperator, IsTransfer, label_in, units}
-use Rattle.wc_model.specs.Text.Keywords.{end_word, unit_word}
-use Rattle.wc_model.specs.Text.Languages.{◌then◌, one}
-use Rattle.wc_model.specs.Text.Limits.{lines_before, most_depth, most_lines, most_units}
-use Rattle.wc_model.specs.Text.Marks.{ClosingBracket, Colon, Identifier, LineEnd, IsNamed, IsSymbol, Mark, OpeningBracket, Symbol, name_in}
-use Rattle.wc_model.specs.Language.Names.{Name, name_of}
-use Rattle.wc_model.specs.Text.Positions.{Opening, Position, at_instruction, at_line, setting_in}
-use Rattle.wc_model.specs.Text.ReadingFaults.{BeginsInstruction, BeginsTransferOrLabel, BeginsUnit, ColonFollows, EmptyParentheses, IsInnermost, RaisedAtToken, NotAllowedInParentheses, NotOneProgramLast, ParenthesisNotPaired, ReadingFault, TooDeep, TooMany, UnexpectedToken, UnitNotClosed, rank_of}
+use Rattle.wc_model.specs.Definitions.{same_name, HasContent, InBody, IsOn, IsOperator, IsTransfer, label_in, units, end_word, unit_word, ◌then◌, one, lines_before, most_depth, most_lines, most_units, ClosingBracket, Colon, Identifier, LineEnd, IsNamed, IsSymbol, Mark, OpeningBracket, Symbol, name_in, Name, name_of, Opening, Position, at_instruction, at_line, setting_in, BeginsInstruction, BeginsTransferOrLabel, BeginsUnit, ColonFollows, EmptyParentheses, IsInnermost, RaisedAtToken, NotAllowedInParentheses, NotOneProgramLast, ParenthesisNotPaired, ReadingFault, TooDeep, TooMany, UnexpectedToken, UnitNotClosed, rank_of}
 use Rattle.wc_model.specs.Language.Tree.{Call, Jump, Lines, End, Alone, Plain, Nested, ProgramUnit, Return, Step, Term, Word, Load, Store, Apply, Negate}
 use Rattle.wc_model.specs.declared.operator.Operator.{Operator}
 use Rattle.wc_model.specs.declared.source.UnitKind.{UnitKind}

@@ -1,10 +1,6 @@
 -- The parts of a duration, from its first one on.
-use Rattle.std.proofs.Common.{◌≡◌, ℕ, Bool, true, false, cond, List, [], ◌∷◌, ◌++◌, refl, sym, ap, ◌∙◌, subst}
-use Rattle.std.specs.Char.{is_ascii_alphabetic}
-use Rattle.std.specs.List.{list_all}
-use Rattle.std.proofs.lemmas.Bool.{and_parts, cond-true, cond-false}
-use Rattle.wc_model.specs.Text.Characters.{begins}
-use Rattle.wc_model.specs.Text.Durations.{Part, onto_parts, parts_of}
+use Rattle.wc_model.proofs.Common.{◌≡◌, ℕ, Bool, true, false, cond, List, [], ◌∷◌, ◌++◌, refl, sym, ap, ◌∙◌, subst, is_ascii_alphabetic, list_all, and_parts, cond-true, cond-false}
+use Rattle.wc_model.specs.Definitions.{begins, Part, onto_parts, parts_of}
 
 -- no byte is a letter
 abbrev pub has_no_letter : List ℕ → Bool

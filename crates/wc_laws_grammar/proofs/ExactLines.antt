@@ -1,18 +1,14 @@
 -- The walk on a line keeps what precedes and follows its operator.
 use Rattle.std.proofs.Common.{◌≡◌, ℕ, Bool, true, false, List, [], ◌∷◌, ◌++◌, Option, Some, None, refl, ap, append_assoc, append-nil, subst, if◌then◌else◌, ◌∙◌, sym}
-use Rattle.wc_laws_grammar.specs.LineMoves.{StartedLine, Listed, OperandOf, OfStep, OfOpening, OfArgument, InList, AtFirst, AtNext, AtAssign, AtValue, AtEnd, LineState, Start, Worded, Labelled, Operated, Jumped, Called, Instanced, Listing, Bracketed, Named, Pointed, Stepped, BracketedWith, Ended, at_bracketed, at_field, at_labelled, at_list, at_operand, at_operated, at_operator, at_start, at_start_in, after_name, after_operand, after_operator, line_move, name_or_literal, operator_or_label, simple_operator}
+use Rattle.wc_laws_grammar.specs.{StartedLine, Listed, OperandOf, OfStep, OfOpening, OfArgument, InList, AtFirst, AtNext, AtAssign, AtValue, AtEnd, LineState, Start, Worded, Labelled, Operated, Jumped, Called, Instanced, Listing, Bracketed, Named, Pointed, Stepped, BracketedWith, Ended, at_bracketed, at_field, at_labelled, at_list, at_operand, at_operated, at_operator, at_start, at_start_in, after_name, after_operand, after_operator, line_move, name_or_literal, operator_or_label, simple_operator, Operating, Applies, Operation, Operates, Negates, found, is_transfer, operation_of, operations, truths}
 use Rattle.wc_laws_grammar.proofs.Appending.{append_last}
 use Rattle.wc_laws_grammar.proofs.LineSound.{AllowsFrom, mark_on}
 use Rattle.wc_laws_grammar.proofs.Reported.{Exact, PartOpened}
 use Rattle.wc_laws_grammar.proofs.WordLaws.{is_operator}
-use Rattle.wc_laws_grammar.specs.Words.{Operating, Applies, Operation, Operates, Negates, found, is_transfer, operation_of, operations, truths}
 use Rattle.wc_laws_grammar.proofs.Languages.{joined}
 use Rattle.wc_model.specs.Text.Grammar as grammar
-use Rattle.wc_model.specs.Text.Grammar.{IsOn, IsOperator, Setting, InBody, InParentheses, label_in, operand}
-use Rattle.wc_model.specs.Text.Languages.{◌then◌, one, optional}
+use Rattle.wc_model.specs.Definitions.{IsOn, IsOperator, Setting, InBody, InParentheses, label_in, operand, ◌then◌, one, optional, Name, name_of, Word, Term}
 use Rattle.wc_model.specs.Text.Marks.{Symbol, Identifier, Whole, Duration, Truth, Direct, OpeningBracket, ClosingBracket, Comma, Colon, Point, Assign, Arrow, LineEnd, Mark}
-use Rattle.wc_model.specs.Language.Names.{Name, name_of}
-use Rattle.wc_model.specs.Language.Tree.{Word, Term}
 use Rattle.wc_model.specs.declared.operator.Operator.{Operator}
 
 -- what is kept after one more token

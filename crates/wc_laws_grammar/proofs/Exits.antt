@@ -2,19 +2,12 @@
 use Rattle.std.proofs.Common.{◌≡◌, ◌≢◌, ℕ, Bool, true, false, List, [], ◌∷◌, ◌++◌, Option, Some, None, refl, ap, subst, if◌then◌else◌, ◌∙◌, inl, inr}
 use Rattle.std.specs.List.{AllByRecursion}
 use Rattle.std.specs.Prelude.{◌⊎◌}
-use Rattle.wc_laws_grammar.specs.LineMoves.{with_actual, LineShape, LabelAlone, Instructs, Opens, StartedLine, Listed, OfStep, OfOpening, OfArgument, InList, AtFirst, AtNext, AtAssign, AtValue, AtEnd, LineState, Start, Worded, Labelled, Operated, Jumped, Called, Instanced, Listing, Bracketed, Named, Pointed, Stepped, BracketedWith, Ended}
+use Rattle.wc_laws_grammar.specs.{with_actual, LineShape, LabelAlone, Instructs, Opens, StartedLine, Listed, OfStep, OfOpening, OfArgument, InList, AtFirst, AtNext, AtAssign, AtValue, AtEnd, LineState, Start, Worded, Labelled, Operated, Jumped, Called, Instanced, Listing, Bracketed, Named, Pointed, Stepped, BracketedWith, Ended, InDeclaration, Undeclared, AfterNames, AfterComma, AfterColon, AfterType, AfterAssign, AfterValue, State, Outside, Unnamed, Declaring, AtLine, OnLine, Closed, after_closing, after_line, after_unit, body_start, colon_next, is_colon, has_content, lines_and, move, named_unit, start_move, on_line, open_in, open_on, unit_with, walk, section_or_line, section_of_word, with_declaration, step_of}
 use Rattle.wc_laws_grammar.proofs.LineRests.{rest_of}
 use Rattle.wc_laws_grammar.proofs.LineSound.{mark_on}
-use Rattle.wc_laws_grammar.specs.Moves.{InDeclaration, Undeclared, AfterNames, AfterComma, AfterColon, AfterType, AfterAssign, AfterValue, State, Outside, Unnamed, Declaring, AtLine, OnLine, Closed, after_closing, after_line, after_unit, body_start, colon_next, is_colon, has_content, lines_and, move, named_unit, start_move, on_line, open_in, open_on, unit_with, walk, section_or_line, section_of_word, with_declaration}
 use Rattle.wc_laws_grammar.proofs.WalkedLines.{on_line_walked, walk_on, walk_then}
-use Rattle.wc_laws_grammar.specs.Words.{step_of}
 use Rattle.wc_laws_grammar.proofs.Languages.{next, pass}
-use Rattle.wc_model.specs.Language.Declarations.{same_name}
-use Rattle.wc_model.specs.Text.Grammar.{IsProgramLast}
-use Rattle.wc_model.specs.Text.Keywords.{end_var, end_word, not_word, unit_word}
-use Rattle.wc_model.specs.Text.Marks.{Symbol, Identifier, Truth, Colon, Semicolon, Assign, LineEnd, ClosingBracket, Mark}
-use Rattle.wc_model.specs.Language.Names.{name_of}
-use Rattle.wc_model.specs.Text.Positions.{Opening, Position}
+use Rattle.wc_model.specs.Definitions.{same_name, IsProgramLast, end_var, end_word, not_word, unit_word, Symbol, Identifier, Truth, Colon, Semicolon, Assign, LineEnd, ClosingBracket, Mark, name_of, Opening, Position}
 use Rattle.wc_model.specs.Language.Tree.{Word, Term, Constant, Variable, Field, Assignment, Step, Negate, Jump, Call, Lines, End, Plain, ProgramUnit}
 use Rattle.wc_model.specs.declared.operator.Direction.TheVariants.{Into}
 use Rattle.wc_model.specs.declared.source.Section.{Section}

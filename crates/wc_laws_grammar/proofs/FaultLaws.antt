@@ -5,18 +5,13 @@ use Rattle.wc_laws_grammar.proofs.AtEnds.{at_end_raised, reported}
 use Rattle.wc_laws_grammar.proofs.Orders.{Ordered}
 use Rattle.wc_laws_grammar.proofs.InParentheses.{inside_is_reported}
 use Rattle.wc_laws_grammar.proofs.Detected.{Detected, detected, same_end}
-use Rattle.wc_laws_grammar.specs.Moves.{State, Outside, Raised, at_end, at_first, colon_next, has_program, is_colon, fault_at, move, reading, walk}
+use Rattle.wc_laws_grammar.specs.{State, Outside, Raised, at_end, at_first, colon_next, has_program, is_colon, fault_at, move, reading, walk, FaultSpellsNothing, OneText, TextOrFault}
 use Rattle.wc_laws_grammar.proofs.Readings.{ended_at, outcome, program_in, read_all, read_is_spelled, refused_is_first, walk_parts}
 use Rattle.wc_laws_grammar.proofs.Reported.{Reported}
 use Rattle.wc_laws_grammar.proofs.ReportedOn.{reported_after, reported_first}
 use Rattle.wc_laws_grammar.proofs.WalkedUnits.{units_walked}
 use Rattle.wc_laws_grammar.proofs.WithinBack.{no_program}
-use Rattle.wc_laws_grammar.specs.Laws.{FaultSpellsNothing, OneText, TextOrFault}
-use Rattle.wc_model.specs.Text.Grammar.{Spells}
-use Rattle.wc_model.specs.Text.Limits.{IsWithinLimits}
-use Rattle.wc_model.specs.Text.Marks.{Mark}
-use Rattle.wc_model.specs.Text.ReadingFaults.{EmptyParentheses, IsFirstReadingFault, IsRaised, RaisedAtEnd, RaisedAtToken, NotAllowedInParentheses, NotOneProgramLast, ParenthesisNotPaired, ReadingFault, TooDeep, TooMany, UnexpectedToken, UnitNotClosed, rank_of}
-use Rattle.wc_model.specs.Language.Tree.{Text}
+use Rattle.wc_model.specs.Definitions.{Spells, IsWithinLimits, Mark, EmptyParentheses, IsFirstReadingFault, IsRaised, RaisedAtEnd, RaisedAtToken, NotAllowedInParentheses, NotOneProgramLast, ParenthesisNotPaired, ReadingFault, TooDeep, TooMany, UnexpectedToken, UnitNotClosed, rank_of, Text}
 
 pub one_text : OneText
 one_text tokens text other s o = outside_is (same_end tokens false (Outside text) (Outside other) (units_walked text tokens false refl s.spelled) (units_walked other tokens false refl o.spelled))

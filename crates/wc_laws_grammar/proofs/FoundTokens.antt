@@ -1,18 +1,12 @@
 -- The tokens of a text or its first fault, by looking ahead at each place; and that they are what the definitions say.
 use Rattle.std.proofs.Common.{◌≡◌, ◌≢◌, ℕ, zero, suc, ◌+◌, ◌-◌, ◌≤◌, ◌==◌, true, false, List, [], ◌∷◌, ◌++◌, length, drop, take, Result, Ok, Err, refl, sym, ap, ◌∙◌, subst, subst₂, true≢false, nat_eq, append_assoc, ⊎_elim, inl, inr, arith, take-append-drop, length-append, length-take, length-drop, take_at, drop_at, ◌⊎◌}
-use Rattle.std.proofs.lemmas.Bool.{and_parts, or_cases, cond-true, cond-false, eqb-true, cases_lt}
-use Rattle.std.specs.Cmp.Lexicographic.{bytes_decides}
-use Rattle.std.specs.List.{starts_with}
+use Rattle.wc_model.proofs.Common.{and_parts, or_cases, cond-true, cond-false, eqb-true, cases_lt, bytes_decides, starts_with}
 use Rattle.wc_laws_grammar.proofs.Attained.{attained, attained_longest}
-use Rattle.wc_laws_grammar.specs.Reaches.{reach}
+use Rattle.wc_laws_grammar.specs.Sights.{reach, Sight, Pass, Take, Refuse, sight_in_comment, sight_of_lexeme, sight_by_reach, opens_comment, starts_space, sight_outside, sight}
 use Rattle.wc_laws_grammar.proofs.TokenSteps.{none_in_reach, blank_is_filled, lexeme_is_filled}
 use Rattle.wc_model.specs.Text.Blanks.{Blank, Space, Tab, Return, Comment, comment_opening, comment_closing, from_bracket, starts_with_bracket}
-use Rattle.wc_model.specs.Text.Characters.{begins, is_line_feed, is_star}
-use Rattle.wc_model.specs.Text.Lexemes.{IsLongestLexeme}
-use Rattle.wc_model.specs.Text.Shapes.{Shape, shape_of}
-use Rattle.wc_model.specs.Text.TokenLaws.{CutOrFault}
+use Rattle.wc_model.specs.Definitions.{begins, is_line_feed, is_star, IsLongestLexeme, Shape, shape_of, CutOrFault}
 use Rattle.wc_model.specs.Text.Tokens.{AtEnd, Cuts, Nothing, Skipped, Taken, Faulty, FaultAt, Foreign, Unclosed, Nested, Malformed, IsCut, IsFirstTokenFault, TooLong, Represents, Token, line_after, most_bytes, token_after}
-use Rattle.wc_laws_grammar.specs.Sights.{Sight, Pass, Take, Refuse, sight_in_comment, sight_of_lexeme, sight_by_reach, opens_comment, starts_space, sight_outside, sight}
 
 -- a token before the tokens that are found after it
 abbrev pub with_token : Token → Result (List Token) (ℕ × ℕ) → Result (List Token) (ℕ × ℕ)

@@ -2,20 +2,15 @@
 use Rattle.std.proofs.Common.{◌≡◌, ℕ, false, List, [], ◌∷◌, ◌++◌, Option, Some, refl, ap, subst, ◌∙◌, sym, inl, inr}
 use Rattle.std.specs.Prelude.{◌⊎◌, Err}
 use Rattle.wc_laws_grammar.proofs.Detected.{operator_walked, same_end}
-use Rattle.wc_laws_grammar.specs.LineMoves.{LineShape, Instructs, Opens, StartedLine, Bracketed, Operated}
+use Rattle.wc_laws_grammar.specs.{LineShape, Instructs, Opens, StartedLine, Bracketed, Operated, State, AtLine, OnLine, Closed, at_first, after_closing, after_line, colon_next, move, open_in, walk, Applies}
 use Rattle.wc_laws_grammar.proofs.LineRests.{line_of}
 use Rattle.wc_laws_grammar.proofs.LineStart.{bracket_no_colon}
-use Rattle.wc_laws_grammar.specs.Moves.{State, AtLine, OnLine, Closed, at_first, after_closing, after_line, colon_next, move, open_in, walk}
 use Rattle.wc_laws_grammar.proofs.Stops.{EndsOn, inside_begins, line_stays, on_line_ends, opening_ends, opening_line_is, opening_stays}
 use Rattle.wc_laws_grammar.proofs.WalkedLines.{closing_walked, line_walked, lines_walked, walk_on, walk_then, with_lines}
 use Rattle.wc_laws_grammar.proofs.WalkedUnits.{at_line_walked, plain}
-use Rattle.wc_laws_grammar.specs.Words.{Applies}
 use Rattle.wc_laws_grammar.proofs.Languages.{after, next_is, both_empty, regroup, ungroup}
-use Rattle.wc_model.specs.Text.Grammar.{InParentheses, IsOn, IsOperator, bracket, head, label_in, lines, operand, symbol, units}
-use Rattle.wc_model.specs.Text.Languages.{◌then◌, one, optional, unfinished}
-use Rattle.wc_model.specs.Text.Marks.{ClosingBracket, IsSymbol, LineEnd, Mark, OpeningBracket}
+use Rattle.wc_model.specs.Definitions.{InParentheses, IsOn, IsOperator, bracket, head, label_in, lines, operand, symbol, units, ◌then◌, one, optional, unfinished, ClosingBracket, IsSymbol, LineEnd, Mark, OpeningBracket, Lines, ProgramUnit, Term}
 use Rattle.wc_model.specs.Text.Positions.{Opening, Position, StopsInParentheses, at_instruction, at_line, cut_short, closed, cut_short_inside, opening_cut_short, openings_of, part_of_line, setting_in}
-use Rattle.wc_model.specs.Language.Tree.{Lines, ProgramUnit, Term}
 use Rattle.wc_model.specs.declared.operator.Operator.{Operator}
 
 -- if the walk leads, the text's end is found in parentheses, whose opening is on this line

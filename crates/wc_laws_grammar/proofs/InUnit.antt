@@ -2,20 +2,13 @@
 use Rattle.std.proofs.Common.{◌≡◌, ℕ, false, List, [], ◌∷◌, ◌++◌, Some, refl, ap, subst, append_assoc, append-nil, ◌∙◌, sym, inl, inr}
 use Rattle.wc_laws_grammar.proofs.Appending.{append_last}
 use Rattle.wc_laws_grammar.proofs.Exits.{Exits, exits_closed, exits_line, exits_on, exits_unnamed, section_exits}
-use Rattle.wc_laws_grammar.specs.LineMoves.{LineState}
+use Rattle.wc_laws_grammar.specs.{LineState, InDeclaration, State, Unnamed, Declaring, AtLine, OnLine, Closed, body_start}
 use Rattle.wc_laws_grammar.proofs.LineSound.{mark_on}
-use Rattle.wc_laws_grammar.specs.Moves.{InDeclaration, State, Unnamed, Declaring, AtLine, OnLine, Closed, body_start}
 use Rattle.wc_laws_grammar.proofs.Orders.{IsOpen, open_is}
 use Rattle.wc_laws_grammar.proofs.Reported.{AfterClosing, Exact, InLine, InSection, Reported}
 use Rattle.wc_laws_grammar.proofs.ReportedOn.{reported_after}
 use Rattle.wc_laws_grammar.proofs.Languages.{joined, many_are, next_is, pass, passed, both_empty, ungroup}
-use Rattle.wc_model.specs.Text.Grammar.{IsOn, head, identifier, lines, unit_of, units}
-use Rattle.wc_model.specs.Text.Keywords.{end_word, unit_word}
-use Rattle.wc_model.specs.Text.Languages.{◌then◌, one}
-use Rattle.wc_model.specs.Text.Marks.{Identifier, IsNamed, LineEnd, Mark, Symbol, name_in}
-use Rattle.wc_model.specs.Language.Names.{Name}
-use Rattle.wc_model.specs.Text.Positions.{Position, StopsInUnit, at_line, openings_of, setting_in}
-use Rattle.wc_model.specs.Language.Tree.{ProgramUnit}
+use Rattle.wc_model.specs.Definitions.{IsOn, head, identifier, lines, unit_of, units, end_word, unit_word, ◌then◌, one, Identifier, IsNamed, LineEnd, Mark, Symbol, name_in, Name, Position, StopsInUnit, at_line, openings_of, setting_in, ProgramUnit}
 use Rattle.wc_model.specs.declared.source.Section.{Section}
 use Rattle.wc_model.specs.declared.source.UnitKind.{UnitKind}
 use Rattle.wc_model.specs.declared.source.UnitKind.TheVariants.{FunctionBlock, Program}

@@ -2,7 +2,7 @@ pub mod Languages
 pub mod Spelling
 pub mod LineStarts
 pub mod OperatorWords
-pub mod PrefixLaws
+pub mod FirstFaults
 pub mod WordLaws
 pub mod LineRests
 pub mod Skipping
@@ -35,7 +35,6 @@ pub mod FaultLaws
 pub mod Unique
 pub mod Ranks
 pub mod OneLine
-pub mod FirstFaults
 pub mod Reach
 pub mod Ascii
 pub mod TokenSteps

@@ -2,14 +2,9 @@
 use Rattle.std.proofs.Common.{◌≡◌, ◌≢◌, ℕ, Bool, true, false, List, Option, Some, None, refl, ap, subst, if◌then◌else◌, sym, inl, inr, arith, ◌⊎◌}
 use Rattle.std.specs.Prelude.{is_some}
 use Rattle.wc_laws_grammar.proofs.Bounds.{Within, PositionWithin, counted, ended_was_within, ended_within, opened}
-use Rattle.wc_laws_grammar.specs.LineMoves.{StartedLine, Listed, InList, AtFirst, AtNext, AtAssign, AtValue, AtEnd, OperandOf, OfStep, OfOpening, OfArgument, LineState, Start, Worded, Labelled, Operated, Jumped, Called, Instanced, Listing, Bracketed, Named, Pointed, Stepped, BracketedWith, Ended, at_bracketed, at_field, at_labelled, at_list, at_operand, at_operated, at_operator, at_start, after_name, after_operand, after_operator, line_move, name_or_literal, operator_or_label, simple_operator}
-use Rattle.wc_laws_grammar.specs.Moves.{State, started_line}
-use Rattle.wc_laws_grammar.specs.Words.{Operating, Loads, Stores, Applies, Operation, Operates, found, is_transfer, operation_of, operations, truths}
-use Rattle.wc_model.specs.Text.Grammar.{Setting}
+use Rattle.wc_laws_grammar.specs.{StartedLine, Listed, InList, AtFirst, AtNext, AtAssign, AtValue, AtEnd, OperandOf, OfStep, OfOpening, OfArgument, LineState, Start, Worded, Labelled, Operated, Jumped, Called, Instanced, Listing, Bracketed, Named, Pointed, Stepped, BracketedWith, Ended, at_bracketed, at_field, at_labelled, at_list, at_operand, at_operated, at_operator, at_start, after_name, after_operand, after_operator, line_move, name_or_literal, operator_or_label, simple_operator, State, started_line, Operating, Loads, Stores, Applies, Operation, Operates, found, is_transfer, operation_of, operations, truths}
+use Rattle.wc_model.specs.Definitions.{Setting, Name, name_of, Position, Term, Word}
 use Rattle.wc_model.specs.Text.Marks.{Symbol, Identifier, Whole, Duration, Truth, Direct, OpeningBracket, ClosingBracket, Comma, Colon, Point, Assign, Arrow, LineEnd}
-use Rattle.wc_model.specs.Language.Names.{Name, name_of}
-use Rattle.wc_model.specs.Text.Positions.{Position}
-use Rattle.wc_model.specs.Language.Tree.{Term, Word}
 use Rattle.wc_model.specs.declared.operator.Operator.{Operator}
 
 -- the next place counts and opens so much

@@ -1,19 +1,15 @@
 -- What completes a line is taken by the walk, token by token.
 use Rattle.std.proofs.Common.{◌≡◌, ◌≢◌, ℕ, Bool, false, List, [], ◌∷◌, Option, Some, None, refl, ap, subst, append-nil, ◌∙◌, sym, inl, inr}
 use Rattle.std.specs.Prelude.{◌⊎◌, not, filter}
-use Rattle.wc_laws_grammar.specs.LineMoves.{Formal, formal_of, with_actual, LineShape, LabelAlone, Instructs, Opens, StartedLine, Listed, OperandOf, OfStep, OfOpening, OfArgument, InList, AtFirst, AtNext, AtAssign, AtValue, AtEnd, LineState, Start, Worded, Labelled, Operated, Jumped, Called, Instanced, Listing, Bracketed, Named, Pointed, Stepped, BracketedWith, Ended, after_operand, name_or_literal, at_operand, after_operator, at_operator, at_labelled, at_operated, at_list, at_bracketed, at_field, line_move}
+use Rattle.wc_laws_grammar.specs.{Formal, formal_of, with_actual, LineShape, LabelAlone, Instructs, Opens, StartedLine, Listed, OperandOf, OfStep, OfOpening, OfArgument, InList, AtFirst, AtNext, AtAssign, AtValue, AtEnd, LineState, Start, Worded, Labelled, Operated, Jumped, Called, Instanced, Listing, Bracketed, Named, Pointed, Stepped, BracketedWith, Ended, after_operand, name_or_literal, at_operand, after_operator, at_operator, at_labelled, at_operated, at_list, at_bracketed, at_field, line_move, Operating, Loads, Stores, Applies, Operation, Operates, found, operation_of, step_of, truths}
 use Rattle.wc_laws_grammar.proofs.LineRests.{after_its_name, after_its_point, more_arguments, list_rest, list_end, call_shape, operand_rest, labelled_rest, rest_of}
 use Rattle.wc_laws_grammar.proofs.LineSound.{mark_on, one_argument}
 use Rattle.wc_laws_grammar.proofs.Skipping.{following, skip_next_is, skip_over_is}
 use Rattle.wc_laws_grammar.proofs.WordLaws.{step_begins, operator_is, operation_in, truth_is_found, no_truth}
-use Rattle.wc_laws_grammar.specs.Words.{Operating, Loads, Stores, Applies, Operation, Operates, found, operation_of, step_of, truths}
 use Rattle.wc_laws_grammar.proofs.Languages.{next_is, passed, both_empty, given_are, given_first, ungroup, pass}
 use Rattle.wc_model.specs.Text.Grammar as grammar
-use Rattle.wc_model.specs.Text.Grammar.{sign_of, operand, argument, call_list, bracketed, instruction, opening, operands_of, IsLiteral, Setting}
-use Rattle.wc_model.specs.Text.Keywords.{truth_word}
-use Rattle.wc_model.specs.Text.Languages.{◌then◌, empty, optional, separated, skipping}
+use Rattle.wc_model.specs.Definitions.{sign_of, operand, argument, call_list, bracketed, instruction, opening, operands_of, IsLiteral, Setting, truth_word, ◌then◌, empty, optional, separated, skipping, Name, name_of}
 use Rattle.wc_model.specs.Text.Marks.{Symbol, Identifier, Direct, OpeningBracket, ClosingBracket, Comma, Colon, Point, Assign, Arrow, LineEnd, Mark, is_line_end, is_line_end_symbol, name_in, address_in}
-use Rattle.wc_model.specs.Language.Names.{Name, name_of}
 use Rattle.wc_model.specs.Language.Tree.{Word, Term, Constant, Address, Variable, Field, Assignment, Step, Load, Store, Apply, Negate, Jump, Call, Return}
 use Rattle.wc_model.specs.declared.operator.Condition.{Condition}
 use Rattle.wc_model.specs.declared.operator.Direction.{Direction}

@@ -1,11 +1,7 @@
 -- What completes a line that has started: for each state of the walk on a line, the token lists that go on from there to a shape.
 use Rattle.std.specs.Prelude.{◌≡◌, List, [], ◌∷◌, ◌++◌, Option, Some, ◌⊎◌}
-use Rattle.wc_laws_grammar.specs.LineMoves.{formal_of, with_actual, LineShape, LabelAlone, Instructs, Opens, StartedLine, Listed, OperandOf, OfStep, OfOpening, OfArgument, InList, AtFirst, AtNext, AtAssign, AtValue, AtEnd, LineState, Start, Worded, Labelled, Operated, Jumped, Called, Instanced, Listing, Bracketed, Named, Pointed, Stepped, BracketedWith, Ended}
-use Rattle.wc_laws_grammar.specs.Words.{Applies, step_of}
-use Rattle.wc_model.specs.Text.Grammar.{sign_of, symbol, identifier, operand, argument, call_list, instruction, opening, Setting, MayOccur, label_in}
-use Rattle.wc_model.specs.Text.Languages.{Language, nothing, empty, ◌then◌, ◌given◌, optional, each, separated, skipping}
-use Rattle.wc_model.specs.Text.Marks.{Mark, OpeningBracket, ClosingBracket, Comma, Colon, Point, LineEnd, is_line_end}
-use Rattle.wc_model.specs.Language.Names.{Name}
+use Rattle.wc_laws_grammar.specs.{formal_of, with_actual, LineShape, LabelAlone, Instructs, Opens, StartedLine, Listed, OperandOf, OfStep, OfOpening, OfArgument, InList, AtFirst, AtNext, AtAssign, AtValue, AtEnd, LineState, Start, Worded, Labelled, Operated, Jumped, Called, Instanced, Listing, Bracketed, Named, Pointed, Stepped, BracketedWith, Ended, Applies, step_of}
+use Rattle.wc_model.specs.Definitions.{sign_of, symbol, identifier, operand, argument, call_list, instruction, opening, Setting, MayOccur, label_in, Language, nothing, empty, ◌then◌, ◌given◌, optional, each, separated, skipping, Mark, OpeningBracket, ClosingBracket, Comma, Colon, Point, LineEnd, is_line_end, Name}
 use Rattle.wc_model.specs.Language.Tree.{Word, Term, Constant, Address, Variable, Field, Assignment, Jump, Call}
 use Rattle.wc_model.specs.declared.operator.Operator.{Operator}
 

@@ -1,16 +1,13 @@
 -- After each token that the walk takes on a line, what completes the line from there completes it from before the token too.
 use Rattle.std.proofs.Common.{◌≡◌, ◌≢◌, ℕ, Bool, true, false, List, [], ◌∷◌, Option, Some, None, refl, ap, subst, if◌then◌else◌, append_assoc, append-nil, ◌∙◌, sym, inl, inr}
-use Rattle.wc_laws_grammar.specs.LineMoves.{Formal, with_actual, LineShape, LabelAlone, Instructs, Opens, StartedLine, Listed, OperandOf, OfStep, OfOpening, OfArgument, InList, AtFirst, AtNext, AtAssign, AtValue, AtEnd, LineState, Start, Worded, Labelled, Operated, Jumped, Called, Instanced, Listing, Bracketed, Named, Pointed, Stepped, BracketedWith, with_argument, after_operand, name_or_literal, at_operand, after_operator, at_operator, operator_or_label, at_start, simple_operator, at_start_in, at_labelled, at_operated, at_list, at_bracketed, after_name, at_field, line_move}
+use Rattle.wc_laws_grammar.specs.{Formal, with_actual, LineShape, LabelAlone, Instructs, Opens, StartedLine, Listed, OperandOf, OfStep, OfOpening, OfArgument, InList, AtFirst, AtNext, AtAssign, AtValue, AtEnd, LineState, Start, Worded, Labelled, Operated, Jumped, Called, Instanced, Listing, Bracketed, Named, Pointed, Stepped, BracketedWith, with_argument, after_operand, name_or_literal, at_operand, after_operator, at_operator, operator_or_label, at_start, simple_operator, at_start_in, at_labelled, at_operated, at_list, at_bracketed, after_name, at_field, line_move, Operating, Loads, Stores, Applies, Operation, Operates, Negates, Jumps, Calls, Returns, found, is_transfer, operation_of, operations, step_of, truths}
 use Rattle.wc_laws_grammar.proofs.LineRests.{line_of, after_its_name, after_its_point, more_arguments, list_rest, call_shape, operand_rest, labelled_rest, rest_of}
 use Rattle.wc_laws_grammar.proofs.Skipping.{skip_next, skip_over, skip_none}
-use Rattle.wc_laws_grammar.specs.Words.{Operating, Loads, Stores, Applies, Operation, Operates, Negates, Jumps, Calls, Returns, found, is_transfer, operation_of, operations, step_of, truths}
 use Rattle.wc_laws_grammar.proofs.WordLaws.{truth_found, not_truth, is_operator, is_operator_of, operation_in, operation_in_step}
 use Rattle.wc_laws_grammar.proofs.Languages.{joined, next, pass, regroup, before, after}
 use Rattle.wc_model.specs.Text.Grammar as grammar
-use Rattle.wc_model.specs.Text.Grammar.{sign_of, operand, argument, call_list, bracketed, instruction, opening, operands_of, Setting, InBody, InParentheses, MayOccur}
-use Rattle.wc_model.specs.Text.Languages.{Language, ◌then◌, optional, separated}
+use Rattle.wc_model.specs.Definitions.{sign_of, operand, argument, call_list, bracketed, instruction, opening, operands_of, Setting, InBody, InParentheses, MayOccur, Language, ◌then◌, optional, separated, Name, name_of}
 use Rattle.wc_model.specs.Text.Marks.{Symbol, Identifier, Whole, Duration, Truth, Direct, Ampersand, AmpersandN, OpeningBracket, ClosingBracket, Comma, Colon, Point, Assign, Arrow, LineEnd, Mark, is_line_end}
-use Rattle.wc_model.specs.Language.Names.{Name, name_of}
 use Rattle.wc_model.specs.Language.Tree.{Word, Term, Constant, Address, Variable, Field, Assignment, Step, Negate, Jump, Call, Return}
 use Rattle.wc_model.specs.declared.operator.Condition.{Condition}
 use Rattle.wc_model.specs.declared.operator.Direction.{Direction}

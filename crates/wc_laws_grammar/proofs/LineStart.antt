@@ -1,18 +1,13 @@
 -- The first token of a line is taken by the walk.
 use Rattle.std.proofs.Common.{◌≡◌, ℕ, Bool, false, List, [], ◌∷◌, Some, None, refl, ap, subst, if◌then◌else◌, ◌∙◌, sym, inl, inr}
 use Rattle.wc_laws_grammar.proofs.LineComplete.{Leads, end_is, after_step, step_parts, opening_parts}
-use Rattle.wc_laws_grammar.specs.LineMoves.{LineShape, LabelAlone, Instructs, Opens, Worded, at_operator, after_operator, operator_or_label, at_start, simple_operator, at_start_in}
+use Rattle.wc_laws_grammar.specs.{LineShape, LabelAlone, Instructs, Opens, Worded, at_operator, after_operator, operator_or_label, at_start, simple_operator, at_start_in, is_colon, colon_next, Applies, Operation, Operates, is_transfer, operation_of}
 use Rattle.wc_laws_grammar.proofs.LineRests.{line_of, labelled_rest, rest_of}
 use Rattle.wc_laws_grammar.proofs.LineSound.{mark_on}
-use Rattle.wc_laws_grammar.specs.Moves.{is_colon, colon_next}
 use Rattle.wc_laws_grammar.proofs.WordLaws.{operation_in}
-use Rattle.wc_laws_grammar.specs.Words.{Applies, Operation, Operates, is_transfer, operation_of}
 use Rattle.wc_laws_grammar.proofs.Languages.{next_is, passed, both_empty, given_are, ungroup, after}
 use Rattle.wc_model.specs.Text.Grammar as grammar
-use Rattle.wc_model.specs.Text.Grammar.{operand, operands_of, IsLiteral, Setting, InBody, InParentheses, MayOccur}
-use Rattle.wc_model.specs.Text.Languages.{◌then◌}
-use Rattle.wc_model.specs.Text.Marks.{Symbol, Identifier, Colon, LineEnd, OpeningBracket, Mark, IsWord, name_in, address_in, Ampersand, AmpersandN}
-use Rattle.wc_model.specs.Language.Names.{Name, name_of}
+use Rattle.wc_model.specs.Definitions.{operand, operands_of, IsLiteral, Setting, InBody, InParentheses, MayOccur, ◌then◌, Symbol, Identifier, Colon, LineEnd, OpeningBracket, Mark, IsWord, name_in, address_in, Ampersand, AmpersandN, Name, name_of}
 use Rattle.wc_model.specs.Language.Tree.{Word, Term, Constant, Address, Variable, Field, Step, Load, Store, Apply, Negate, Jump, Call, Return}
 use Rattle.wc_model.specs.declared.value.Value.{Value}
 use Rattle.wc_model.specs.declared.value.Value.TheVariants.{Bool as BoolValue, Dint, Time}

@@ -1,10 +1,7 @@
 -- How the lines of a body may begin.
 use Rattle.std.proofs.Common.{List, ◌∷◌, inl, inr}
 use Rattle.std.specs.Prelude.{Some, ◌⊎◌}
-use Rattle.wc_model.specs.Text.Marks.{Mark, LineEnd, ClosingBracket, IsSymbol}
-use Rattle.wc_model.specs.Language.Tree.{Lines, End, Alone, Plain, Nested}
-use Rattle.wc_model.specs.Text.Languages.{Language, ◌then◌, one}
-use Rattle.wc_model.specs.Text.Grammar.{Setting, InParentheses, IsOn, symbol, label_in, instruction, opening, lines}
+use Rattle.wc_model.specs.Definitions.{Mark, LineEnd, ClosingBracket, IsSymbol, Lines, End, Alone, Plain, Nested, Language, ◌then◌, one, Setting, InParentheses, IsOn, symbol, label_in, instruction, opening, lines}
 use Rattle.wc_laws_grammar.proofs.Languages.{given_first, given_are, regroup, ungroup, many_are}
 
 -- lines whose first token is not a line end, and what follows them

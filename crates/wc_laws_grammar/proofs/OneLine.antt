@@ -12,15 +12,8 @@ use Rattle.wc_laws_grammar.proofs.Readings.{walk_parts}
 use Rattle.wc_laws_grammar.proofs.Unique.{cuts}
 use Rattle.wc_laws_grammar.proofs.WalkedLines.{walk_on}
 use Rattle.wc_laws_grammar.proofs.WalkedUnits.{at_line_walked, plain, unit_found, unit_walked, units_walked}
-use Rattle.wc_laws_grammar.specs.LineMoves.{Operated}
-use Rattle.wc_laws_grammar.specs.Moves.{Raised, State, Outside, Unnamed, AtLine, OnLine, at_first, colon_next, is_colon, move, walk}
-use Rattle.wc_laws_grammar.specs.Words.{found, unit_kinds}
-use Rattle.wc_model.specs.Text.Grammar.{unit_of, units}
-use Rattle.wc_model.specs.Text.Keywords.{end_word, unit_word}
-use Rattle.wc_model.specs.Text.Marks.{ClosingBracket, IsNamed, IsSymbol, Mark}
-use Rattle.wc_model.specs.Text.Positions.{Opening, Position, StopsInUnit}
-use Rattle.wc_model.specs.Text.ReadingFaults.{EmptyParentheses, IsInnermost, IsRaised, RaisedAtEnd, RaisedAtToken, NotAllowedInParentheses, NotOneProgramLast, ParenthesisNotPaired, ReadingFault, TooDeep, TooMany, UnexpectedToken, UnitNotClosed}
-use Rattle.wc_model.specs.Language.Tree.{ProgramUnit}
+use Rattle.wc_laws_grammar.specs.{Operated, Raised, State, Outside, Unnamed, AtLine, OnLine, at_first, colon_next, is_colon, move, walk, found, unit_kinds}
+use Rattle.wc_model.specs.Definitions.{unit_of, units, end_word, unit_word, ClosingBracket, IsNamed, IsSymbol, Mark, Opening, Position, StopsInUnit, EmptyParentheses, IsInnermost, IsRaised, RaisedAtEnd, RaisedAtToken, NotAllowedInParentheses, NotOneProgramLast, ParenthesisNotPaired, ReadingFault, TooDeep, TooMany, UnexpectedToken, UnitNotClosed, ProgramUnit}
 use Rattle.wc_model.specs.declared.source.UnitKind.{UnitKind}
 
 -- the parentheses that are open at a line

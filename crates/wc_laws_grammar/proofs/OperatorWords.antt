@@ -1,17 +1,12 @@
 -- Which identifiers are operators.
-use Rattle.std.proofs.Common.{◌≡◌, ℕ, Bool, true, false, List, [], ◌∷◌, refl, inl, inr}
+use Rattle.wc_model.proofs.Common.{◌≡◌, ℕ, Bool, true, false, List, [], ◌∷◌, refl, inl, inr, list_any}
 use Rattle.std.specs.Prelude.{Some}
-use Rattle.std.specs.List.{list_any}
-use Rattle.wc_model.specs.Language.Names.{Name, name_of}
-use Rattle.wc_model.specs.Text.Marks.{Identifier}
+use Rattle.wc_model.specs.Definitions.{Name, name_of, Identifier, load_word, store_word, operator_word, not_word, jump_word, call_word, return_word, IsOperator, IsOperatorOf, same_name}
 use Rattle.wc_model.specs.Language.Tree.{Step, Load, Store, Apply, Negate, Jump, Call, Return}
-use Rattle.wc_model.specs.Text.Keywords.{load_word, store_word, operator_word, not_word, jump_word, call_word, return_word}
-use Rattle.wc_model.specs.Text.Grammar.{IsOperator, IsOperatorOf}
 use Rattle.wc_model.specs.declared.operator.Condition.TheVariants.{Always, IfTrue, IfFalse}
 use Rattle.wc_model.specs.declared.operator.Operator.{Operator}
 use Rattle.wc_model.specs.declared.operator.Operator.TheVariants.{And, Andn, Or, Orn, Xor, Xorn, Add, Sub, Mul, Div, Mod, Gt, Ge, Eq, Ne, Le, Lt}
 use Rattle.wc_model.specs.declared.operator.Storing.TheVariants.{Result, Negation, Set, Reset}
-use Rattle.wc_model.specs.Language.Declarations.{same_name}
 
 -- the words of all operators
 abbrev pub operator_words : List Name

@@ -2,20 +2,10 @@
 use Rattle.std.proofs.Common.{◌≡◌, ◌≢◌, ℕ, Bool, true, false, List, [], ◌∷◌, length, Option, Some, None, refl, subst, if◌then◌else◌, inl, inr}
 use Rattle.std.specs.Prelude.{◌⊎◌, option_map, ◌||◌, nat_le}
 use Rattle.wc_laws_grammar.proofs.Exits.{AreBlocks, Finishing, blocks_and, exits_closed, exits_line, exits_on, exits_unnamed, finishes_blocks, finishes_text, finishing_exit, program_last, section_exits}
-use Rattle.wc_laws_grammar.specs.LineMoves.{LineShape, LabelAlone, Instructs, Opens, LineState, Start, Ended, line_move}
-use Rattle.wc_laws_grammar.specs.Moves.{State, Outside, Unnamed, Declaring, AtLine, OnLine, Closed, InDeclaration, Undeclared, AfterNames, AfterComma, AfterColon, AfterType, AfterAssign, AfterValue, Raised, at_value, started_line, after_closing, after_line, after_unit, body_move, body_start, declaration_move, has_content, has_program, is_program, fault_at, fault_at_unit, fault_if, first_fault, move, section_of_word, section_or_line, start_move, unit_with}
+use Rattle.wc_laws_grammar.specs.{LineShape, LabelAlone, Instructs, Opens, LineState, Start, Ended, line_move, State, Outside, Unnamed, Declaring, AtLine, OnLine, Closed, InDeclaration, Undeclared, AfterNames, AfterComma, AfterColon, AfterType, AfterAssign, AfterValue, Raised, at_value, started_line, after_closing, after_line, after_unit, body_move, body_start, declaration_move, has_content, has_program, is_program, fault_at, fault_at_unit, fault_if, first_fault, move, section_of_word, section_or_line, start_move, unit_with, found, literal_of, unit_kinds}
 use Rattle.wc_laws_grammar.proofs.Reported.{Exact, Reported}
 use Rattle.wc_laws_grammar.proofs.ReportedOn.{reported_after}
-use Rattle.wc_laws_grammar.specs.Words.{found, literal_of, unit_kinds}
-use Rattle.wc_model.specs.Language.Declarations.{same_name}
-use Rattle.wc_model.specs.Text.Grammar.{InBody, InParentheses, IsPrefix, IsProgramLast}
-use Rattle.wc_model.specs.Text.Keywords.{end_var, end_word}
-use Rattle.wc_model.specs.Text.Marks.{ClosingBracket, Identifier, LineEnd, Mark, Symbol, Comma, Colon, Semicolon, Assign}
-use Rattle.wc_model.specs.Language.Names.{name_of}
-use Rattle.wc_model.specs.Text.Positions.{Opening, Position, setting_in}
-use Rattle.wc_model.specs.Text.ReadingFaults.{NotOneProgramLast, TooMany}
-use Rattle.wc_model.specs.Text.Limits.{most_units}
-use Rattle.wc_model.specs.Language.Tree.{ProgramUnit, Word}
+use Rattle.wc_model.specs.Definitions.{same_name, InBody, InParentheses, IsPrefix, IsProgramLast, end_var, end_word, ClosingBracket, Identifier, LineEnd, Mark, Symbol, Comma, Colon, Semicolon, Assign, name_of, Opening, Position, setting_in, NotOneProgramLast, TooMany, most_units, ProgramUnit, Word}
 use Rattle.wc_model.specs.declared.source.Section.{Section}
 use Rattle.wc_model.specs.declared.source.UnitKind.{UnitKind}
 use Rattle.wc_model.specs.declared.source.UnitKind.TheVariants.{FunctionBlock, Program}

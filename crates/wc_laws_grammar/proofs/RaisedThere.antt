@@ -1,26 +1,15 @@
 -- Each fault that is detected at a token is found there.
-use Rattle.std.proofs.Common.{◌≡◌, ◌≢◌, ◌≤◌, ℕ, Bool, true, false, List, [], ◌∷◌, ◌++◌, length, Option, Some, None, refl, ap, subst, append_assoc, ◌∙◌, sym, inl, inr, arith, not}
-use Rattle.std.proofs.lemmas.Bool.Decides.{nat_tests}
-use Rattle.std.proofs.lemmas.List.Folds.{Any-from_list_any}
+use Rattle.wc_model.proofs.Common.{◌≡◌, ◌≢◌, ◌≤◌, ℕ, Bool, true, false, List, [], ◌∷◌, ◌++◌, length, Option, Some, None, refl, ap, subst, append_assoc, ◌∙◌, sym, inl, inr, arith, not, nat_tests, Any-from_list_any}
 use Rattle.std.specs.Prelude.{◌&&◌, Any, nat_le, is_some}
 use Rattle.wc_laws_grammar.proofs.Appending.{with_nothing}
 use Rattle.wc_laws_grammar.proofs.ExactLines.{one_operator}
-use Rattle.wc_laws_grammar.specs.LineMoves.{StartedLine, LineState, Labelled, Operated}
+use Rattle.wc_laws_grammar.specs.{StartedLine, LineState, Labelled, Operated, State, Outside, AtLine, OnLine, begins_transfer, colon_next, has_content, has_name, has_program, is_colon, is_full, is_identifier, is_program, fault_at, fault_at_closing, fault_at_line, fault_on_line, fault_at_operator, fault_at_unit, Raised, fault_if, first_fault, Loads, Stores, Applies, Operation, Operates, Negates, Jumps, Calls, Returns, found, is_transfer, operation_of, unit_kinds}
 use Rattle.wc_laws_grammar.proofs.LineSound.{mark_on}
-use Rattle.wc_laws_grammar.specs.Moves.{State, Outside, AtLine, OnLine, begins_transfer, colon_next, has_content, has_name, has_program, is_colon, is_full, is_identifier, is_program, fault_at, fault_at_closing, fault_at_line, fault_on_line, fault_at_operator, fault_at_unit, Raised, fault_if, first_fault}
 use Rattle.wc_laws_grammar.proofs.Reported.{InLine, Reported}
 use Rattle.wc_laws_grammar.proofs.WalkedUnits.{colon_is}
 use Rattle.wc_laws_grammar.proofs.WordLaws.{found_unit_kind, is_operator_of, operation_in, same_is}
-use Rattle.wc_laws_grammar.specs.Words.{Loads, Stores, Applies, Operation, Operates, Negates, Jumps, Calls, Returns, found, is_transfer, operation_of, unit_kinds}
 use Rattle.wc_laws_grammar.proofs.Languages.{before, joined}
-use Rattle.wc_model.specs.Text.Grammar.{HasContent, IsOn, IsOperator, IsOperatorOf, IsTransfer, label_in, units}
-use Rattle.wc_model.specs.Text.Keywords.{end_word, unit_word}
-use Rattle.wc_model.specs.Text.Languages.{◌then◌, one}
-use Rattle.wc_model.specs.Text.Limits.{lines_before, most_depth, most_lines, most_units}
-use Rattle.wc_model.specs.Text.Marks.{ClosingBracket, Identifier, IsNamed, Mark, OpeningBracket, Symbol, name_in}
-use Rattle.wc_model.specs.Language.Names.{Name, name_of}
-use Rattle.wc_model.specs.Text.Positions.{Opening, Position, at_instruction, at_line}
-use Rattle.wc_model.specs.Text.ReadingFaults.{ColonFollows, EmptyParentheses, RaisedAtToken, NotAllowedInParentheses, NotOneProgramLast, ParenthesisNotPaired, ReadingFault, TooDeep, TooMany}
+use Rattle.wc_model.specs.Definitions.{HasContent, IsOn, IsOperator, IsOperatorOf, IsTransfer, label_in, units, end_word, unit_word, ◌then◌, one, lines_before, most_depth, most_lines, most_units, ClosingBracket, Identifier, IsNamed, Mark, OpeningBracket, Symbol, name_in, Name, name_of, Opening, Position, at_instruction, at_line, ColonFollows, EmptyParentheses, RaisedAtToken, NotAllowedInParentheses, NotOneProgramLast, ParenthesisNotPaired, ReadingFault, TooDeep, TooMany}
 use Rattle.wc_model.specs.Language.Tree.{Call, Constant, End, Jump, Lines, Alone, Load, Negate, ProgramUnit, Return, Step, Store, Apply, Term, Word}
 use Rattle.wc_model.specs.declared.operator.Operator.{Operator}
 use Rattle.wc_model.specs.declared.source.UnitKind.{UnitKind}

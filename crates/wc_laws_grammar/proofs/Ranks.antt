@@ -2,16 +2,8 @@
 use Rattle.std.proofs.Common.{◌≡◌, ◌≤◌, ℕ, suc, ◌*◌, Bool, true, false, List, [], ◌∷◌, length, length-append, Option, Some, None, if◌then◌else◌, subst, arith}
 use Rattle.std.specs.Prelude.{option_map}
 use Rattle.wc_laws_grammar.proofs.WalkedLines.{walk_on}
-use Rattle.wc_laws_grammar.specs.LineMoves.{LineShape, LabelAlone, Instructs, Opens, LineState, Start, Ended, line_move}
-use Rattle.wc_laws_grammar.specs.Moves.{InDeclaration, Undeclared, AfterNames, AfterComma, AfterColon, AfterType, AfterAssign, AfterValue, State, Outside, Unnamed, Declaring, AtLine, OnLine, Closed, at_value, started_line, after_closing, after_line, after_unit, body_move, body_start, colon_next, declaration_move, has_content, move, section_of_word, section_or_line, start_move, unit_with, walk}
-use Rattle.wc_laws_grammar.specs.Words.{found, literal_of, unit_kinds}
-use Rattle.wc_model.specs.Language.Declarations.{same_name}
-use Rattle.wc_model.specs.Language.Names.{name_of}
-use Rattle.wc_model.specs.Language.Tree.{ProgramUnit, Word}
-use Rattle.wc_model.specs.Text.Grammar.{InBody, InParentheses}
-use Rattle.wc_model.specs.Text.Keywords.{end_var, end_word}
-use Rattle.wc_model.specs.Text.Marks.{Mark, Symbol, Identifier, ClosingBracket, Comma, Colon, Semicolon, Assign, LineEnd}
-use Rattle.wc_model.specs.Text.Positions.{Opening, Position, setting_in}
+use Rattle.wc_laws_grammar.specs.{LineShape, LabelAlone, Instructs, Opens, LineState, Start, Ended, line_move, InDeclaration, Undeclared, AfterNames, AfterComma, AfterColon, AfterType, AfterAssign, AfterValue, State, Outside, Unnamed, Declaring, AtLine, OnLine, Closed, at_value, started_line, after_closing, after_line, after_unit, body_move, body_start, colon_next, declaration_move, has_content, move, section_of_word, section_or_line, start_move, unit_with, walk, found, literal_of, unit_kinds}
+use Rattle.wc_model.specs.Definitions.{same_name, name_of, ProgramUnit, Word, InBody, InParentheses, end_var, end_word, Mark, Symbol, Identifier, ClosingBracket, Comma, Colon, Semicolon, Assign, LineEnd, Opening, Position, setting_in}
 use Rattle.wc_model.specs.declared.source.Section.{Section}
 use Rattle.wc_model.specs.declared.source.UnitKind.{UnitKind}
 use Rattle.wc_model.specs.declared.value.Value.{Value}

@@ -1,14 +1,9 @@
 -- No lexeme at a place is longer than what is found by looking ahead.
 use Rattle.std.proofs.Common.{◌≡◌, ℕ, suc, ◌+◌, ◌≤◌, Bool, true, false, cond, not, ◌||◌, List, [], ◌∷◌, ◌++◌, length, drop, find, Some, option_map, refl, sym, ap, ◌∙◌, subst, ⊎_elim, arith, append_assoc, drop_at, length-append, bytes_eq, nat_le, IsTrue, le_trans}
-use Rattle.std.specs.Char.{is_ascii_digit}
-use Rattle.std.specs.List.{list_all, prefix_len}
-use Rattle.std.specs.Option.{option_map_or}
-use Rattle.std.proofs.lemmas.Bool.{and_parts, or_cases, or_parts, or_from, and_left, eqb-true, leb-true, lt-leb, ne_eqb, not-true, cond-true, cond-false}
-use Rattle.std.specs.Cmp.Lexicographic.{bytes_decides}
-use Rattle.wc_model.specs.Text.Characters.{begins, is_address_character, is_identifier_character, is_minus, is_number_character, is_percent, is_sign, starts_identifier}
-use Rattle.wc_model.specs.Text.Lexemes.{Lexeme, Run, Typed, Unsigned, Signed, Sign, Addressed, Marked, is_run, is_literal_value, is_unsigned_run, may_occur_before, IsLongestLexeme}
+use Rattle.wc_model.proofs.Common.{is_ascii_digit, list_all, prefix_len, option_map_or, and_parts, or_cases, or_parts, or_from, and_left, eqb-true, leb-true, lt-leb, ne_eqb, not-true, cond-true, cond-false, bytes_decides}
+use Rattle.wc_model.specs.Definitions.{begins, is_address_character, is_identifier_character, is_minus, is_number_character, is_percent, is_sign, starts_identifier, Lexeme, Run, Typed, Unsigned, Signed, Sign, Addressed, Marked, is_run, is_literal_value, is_unsigned_run, may_occur_before, IsLongestLexeme}
 use Rattle.wc_model.specs.Text.Shapes.{Shape, Mark, marks, mark_of}
-use Rattle.wc_laws_grammar.specs.Reaches.{value_reach, hash_reach, word_reach, signed_reach, is_mark_before, is_pair_mark, mark_reach, reach}
+use Rattle.wc_laws_grammar.specs.Sights.{value_reach, hash_reach, word_reach, signed_reach, is_mark_before, is_pair_mark, mark_reach, reach}
 
 -- ---- the prefix of a list
 

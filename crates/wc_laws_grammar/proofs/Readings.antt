@@ -5,9 +5,8 @@ use Rattle.wc_laws_grammar.proofs.AtEnds.{at_end_raised}
 use Rattle.wc_laws_grammar.proofs.Bounds.{Within}
 use Rattle.wc_laws_grammar.proofs.Exits.{AreBlocks}
 use Rattle.wc_laws_grammar.proofs.Detected.{Detected, detected, same_end}
-use Rattle.wc_laws_grammar.specs.LineMoves.{LineState, Start, Worded, Jumped, Called, Instanced, Named, Stepped, BracketedWith, line_move}
+use Rattle.wc_laws_grammar.specs.{LineState, Start, Worded, Jumped, Called, Instanced, Named, Stepped, BracketedWith, line_move, State, Outside, Unnamed, Declaring, AtLine, OnLine, Closed, Raised, at_end, at_first, started_line, body_move, colon_next, has_program, is_colon, is_program, fault_at, move, reading, start_move, walk, section_or_line, section_of_word, after_unit}
 use Rattle.wc_laws_grammar.proofs.RaisedThere.{IsThere, there}
-use Rattle.wc_laws_grammar.specs.Moves.{State, Outside, Unnamed, Declaring, AtLine, OnLine, Closed, Raised, at_end, at_first, started_line, body_move, colon_next, has_program, is_colon, is_program, fault_at, move, reading, start_move, walk, section_or_line, section_of_word, after_unit}
 use Rattle.wc_laws_grammar.proofs.Orders.{Ordered, OrderedNext, prefix, ordered_on}
 use Rattle.wc_laws_grammar.proofs.Reported.{Exact, Keeps, Reported}
 use Rattle.wc_laws_grammar.proofs.ReportedOn.{reported_first, reported_on}
@@ -15,15 +14,7 @@ use Rattle.wc_laws_grammar.proofs.WalkedLines.{next_of_both, walk_on, walk_then}
 use Rattle.wc_laws_grammar.proofs.WalkedUnits.{colon_is, units_walked}
 use Rattle.wc_laws_grammar.proofs.WithinBack.{Good, WasGood, no_program, was_good}
 use Rattle.wc_laws_grammar.proofs.WithinOn.{GoesWithin, HasStarted, RejectsColon, within_on}
-use Rattle.wc_model.specs.Language.Declarations.{same_name}
-use Rattle.wc_model.specs.Text.Grammar.{IsPrefix, IsProgramLast, Setting, Spells, units}
-use Rattle.wc_model.specs.Text.Keywords.{end_word}
-use Rattle.wc_model.specs.Text.Limits.{IsWithinLimits}
-use Rattle.wc_model.specs.Text.Marks.{Colon, Identifier, LineEnd, Point, Mark, Symbol}
-use Rattle.wc_model.specs.Language.Names.{name_of}
-use Rattle.wc_model.specs.Text.Positions.{Opening, Position, setting_in}
-use Rattle.wc_model.specs.Text.ReadingFaults.{EmptyParentheses, IsFaultFree, IsFirstReadingFault, IsRaised, RaisedAtToken, NotAllowedInParentheses, NotOneProgramLast, ParenthesisNotPaired, ReadingFault, TooDeep, TooMany, UnexpectedToken, UnitNotClosed, rank_of}
-use Rattle.wc_model.specs.Language.Tree.{ProgramUnit, Text}
+use Rattle.wc_model.specs.Definitions.{same_name, IsPrefix, IsProgramLast, Setting, Spells, units, end_word, IsWithinLimits, Colon, Identifier, LineEnd, Point, Mark, Symbol, name_of, Opening, Position, setting_in, EmptyParentheses, IsFaultFree, IsFirstReadingFault, IsRaised, RaisedAtToken, NotAllowedInParentheses, NotOneProgramLast, ParenthesisNotPaired, ReadingFault, TooDeep, TooMany, UnexpectedToken, UnitNotClosed, rank_of, ProgramUnit, Text}
 use Rattle.wc_model.specs.declared.source.Section.{Section}
 
 -- if a walk goes over two parts, it stops between them

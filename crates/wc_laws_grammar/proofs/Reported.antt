@@ -3,20 +3,12 @@ use Rattle.std.proofs.Common.{◌≡◌, ℕ, List, [], ◌∷◌, ◌++◌, Opt
 use Rattle.std.specs.Prelude.{flat_map, option_map}
 use Rattle.wc_laws_grammar.proofs.Appending.{append_last, with_nothing}
 use Rattle.wc_laws_grammar.proofs.DeclarationRests.{declarations_of, declared_rest}
-use Rattle.wc_laws_grammar.specs.LineMoves.{LineShape, StartedLine, OfOpening, LineState, Start, Worded, Labelled, Operated, Bracketed, Named, Pointed, BracketedWith}
+use Rattle.wc_laws_grammar.specs.{LineShape, StartedLine, OfOpening, LineState, Start, Worded, Labelled, Operated, Bracketed, Named, Pointed, BracketedWith, InDeclaration, Undeclared, State, Outside, Unnamed, Declaring, AtLine, OnLine, Closed, after_closing, body_start, named_unit, Operates, found, operation_of, unit_kinds}
 use Rattle.wc_laws_grammar.proofs.LineRests.{line_of, rest_of}
 use Rattle.wc_laws_grammar.proofs.LineSound.{mark_on}
-use Rattle.wc_laws_grammar.specs.Moves.{InDeclaration, Undeclared, State, Outside, Unnamed, Declaring, AtLine, OnLine, Closed, after_closing, body_start, named_unit}
 use Rattle.wc_laws_grammar.proofs.WordLaws.{found_unit_kind}
-use Rattle.wc_laws_grammar.specs.Words.{Operates, found, operation_of, unit_kinds}
 use Rattle.wc_laws_grammar.proofs.Languages.{joined, pass, ungroup, after}
-use Rattle.wc_model.specs.Text.Grammar.{Group, HasContent, InBody, IsOn, Setting, bracket, head, identifier, label_in, line_ends, operand, section_of, sections, symbol, units}
-use Rattle.wc_model.specs.Text.Keywords.{end_var, section_word, unit_word}
-use Rattle.wc_model.specs.Text.Languages.{◌then◌, each, one, optional, skipping}
-use Rattle.wc_model.specs.Text.Marks.{ClosingBracket, Identifier, IsNamed, IsSymbol, IsWord, LineEnd, Mark, is_line_end}
-use Rattle.wc_model.specs.Language.Names.{name_of}
-use Rattle.wc_model.specs.Text.Positions.{Opening, Position, at_line, setting_in}
-use Rattle.wc_model.specs.Language.Tree.{Declaration, ProgramUnit, Term}
+use Rattle.wc_model.specs.Definitions.{Group, HasContent, InBody, IsOn, Setting, bracket, head, identifier, label_in, line_ends, operand, section_of, sections, symbol, units, end_var, section_word, unit_word, ◌then◌, each, one, optional, skipping, ClosingBracket, Identifier, IsNamed, IsSymbol, IsWord, LineEnd, Mark, is_line_end, name_of, Opening, Position, at_line, setting_in, Declaration, ProgramUnit, Term}
 use Rattle.wc_model.specs.declared.operator.Operator.{Operator}
 use Rattle.wc_model.specs.declared.source.Section.{Section}
 use Rattle.wc_model.specs.declared.source.UnitKind.{UnitKind}

@@ -4,24 +4,15 @@ use Rattle.wc_laws_grammar.proofs.Appending.{append_last, position_after_closing
 use Rattle.wc_laws_grammar.proofs.DeclarationRests.{declarations_of, declared_rest}
 use Rattle.wc_laws_grammar.proofs.DeclarationSound.{DeclarationAllows, SectionAllows, section_allowed}
 use Rattle.wc_laws_grammar.proofs.ExactLines.{ExactNext, exact_at_start, exact_move}
-use Rattle.wc_laws_grammar.specs.LineMoves.{LineState, Start, Ended, line_move}
+use Rattle.wc_laws_grammar.specs.{LineState, Start, Ended, line_move, InDeclaration, State, Outside, Unnamed, Declaring, AtLine, OnLine, Closed, at_first, started_line, after_closing, after_line, after_unit, body_move, colon_next, declaration_move, has_content, inside_move, move, section_of_word, section_or_line, start_move, unit_with, walk, found, unit_kinds}
 use Rattle.wc_laws_grammar.proofs.LineRests.{line_of}
 use Rattle.wc_laws_grammar.proofs.LineSound.{Allows, AllowsFrom, FromStart, mark_on, move_allowed, start_move_allowed}
-use Rattle.wc_laws_grammar.specs.Moves.{InDeclaration, State, Outside, Unnamed, Declaring, AtLine, OnLine, Closed, at_first, started_line, after_closing, after_line, after_unit, body_move, colon_next, declaration_move, has_content, inside_move, move, section_of_word, section_or_line, start_move, unit_with, walk}
 use Rattle.wc_laws_grammar.proofs.Skipping.{kept}
 use Rattle.wc_laws_grammar.proofs.Reported.{AfterClosing, Exact, InLine, InSection, Keeps, Reported, name_kept, outside_end, section_done, unit_kept}
 use Rattle.wc_laws_grammar.proofs.WalkedLines.{walk_on}
 use Rattle.wc_laws_grammar.proofs.WordLaws.{found_section, same_is}
-use Rattle.wc_laws_grammar.specs.Words.{found, unit_kinds}
 use Rattle.wc_laws_grammar.proofs.Languages.{joined, pass, passed, ungroup}
-use Rattle.wc_model.specs.Language.Declarations.{same_name}
-use Rattle.wc_model.specs.Text.Grammar.{HasContent, InBody, InParentheses, Setting, identifier, line_ends, lines, unit_of, units}
-use Rattle.wc_model.specs.Text.Keywords.{end_word}
-use Rattle.wc_model.specs.Text.Languages.{◌then◌, each, skipping}
-use Rattle.wc_model.specs.Text.Marks.{ClosingBracket, Identifier, LineEnd, Mark, Symbol, is_line_end, is_line_end_symbol}
-use Rattle.wc_model.specs.Language.Names.{name_of}
-use Rattle.wc_model.specs.Text.Positions.{Opening, Position, at_line, openings_of, setting_in}
-use Rattle.wc_model.specs.Language.Tree.{Alone, End, Lines, Nested, Plain, ProgramUnit, Term}
+use Rattle.wc_model.specs.Definitions.{same_name, HasContent, InBody, InParentheses, Setting, identifier, line_ends, lines, unit_of, units, end_word, ◌then◌, each, skipping, ClosingBracket, Identifier, LineEnd, Mark, Symbol, is_line_end, is_line_end_symbol, name_of, Opening, Position, at_line, openings_of, setting_in, Alone, End, Lines, Nested, Plain, ProgramUnit, Term}
 use Rattle.wc_model.specs.declared.source.Section.{Section}
 
 -- the tokens of a prefix and a part, and one more

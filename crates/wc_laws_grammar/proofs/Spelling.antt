@@ -1,16 +1,10 @@
 -- How a text of tokens is shown to spell a tree.
 use Rattle.std.proofs.Common.{◌≡◌, ℕ, Bool, true, false, List, [], ◌∷◌, refl}
 use Rattle.std.specs.Prelude.{◌≢◌, flat_map, Option, Some}
-use Rattle.wc_model.specs.Language.Names.{Name}
-use Rattle.wc_model.specs.Text.Marks.{Mark, LineEnd, ClosingBracket, IsNamed, IsSymbol}
-use Rattle.wc_model.specs.Language.Tree.{Word, Term, Step, Lines, Alone, Plain, Nested, Declaration, ProgramUnit}
-use Rattle.wc_model.specs.Text.Languages.{◌then◌, each, empty, one}
-use Rattle.wc_model.specs.Text.Keywords.{truth_word, unit_word, end_word}
-use Rattle.wc_model.specs.Text.Grammar.{Group, Setting, InBody, InParentheses, MayOccur, HasContent, IsOn, IsNameOf, symbol, identifier, line_ends, label_in, instruction, opening, lines, sections, section_of, units}
+use Rattle.wc_model.specs.Definitions.{Name, Mark, LineEnd, ClosingBracket, IsNamed, IsSymbol, Word, Term, Step, Lines, Alone, Plain, Nested, Declaration, ProgramUnit, ◌then◌, each, empty, one, truth_word, unit_word, end_word, Group, Setting, InBody, InParentheses, MayOccur, HasContent, IsOn, IsNameOf, symbol, identifier, line_ends, label_in, instruction, opening, lines, sections, section_of, units, same_name}
 use Rattle.wc_model.specs.declared.operator.Operator.{Operator}
 use Rattle.wc_laws_grammar.proofs.WordLaws.{is_same}
 use Rattle.wc_laws_grammar.proofs.Languages.{pass, given_first, regroup, ungroup, before, after, parts}
-use Rattle.wc_model.specs.Language.Declarations.{same_name}
 
 -- no declarations, and no section
 pub no_sections : {second : List Mark → Type 0} {tokens : List Mark} → second tokens → (sections [] then second) tokens

@@ -3,19 +3,13 @@ use Rattle.std.proofs.Common.{◌≡◌, ◌≢◌, ℕ, Bool, false, List, [], 
 use Rattle.std.specs.Prelude.{Err}
 use Rattle.wc_laws_grammar.proofs.Exits.{IsOpening, NoOpens}
 use Rattle.wc_laws_grammar.proofs.LineComplete.{Leads, move_led}
-use Rattle.wc_laws_grammar.specs.LineMoves.{at_bracketed, at_field, at_operand, name_or_literal, LineShape, Opens, StartedLine, OfStep, OfOpening, LineState, Bracketed, Named, Pointed, BracketedWith, Ended, at_start_in, line_move}
+use Rattle.wc_laws_grammar.specs.{at_bracketed, at_field, at_operand, name_or_literal, LineShape, Opens, StartedLine, OfStep, OfOpening, LineState, Bracketed, Named, Pointed, BracketedWith, Ended, at_start_in, line_move, State, AtLine, OnLine, started_line, at_end, colon_next, move, on_line, open_in, start_move, found, truths}
 use Rattle.wc_laws_grammar.proofs.LineRests.{line_of, rest_of}
 use Rattle.wc_laws_grammar.proofs.LineStart.{start_led}
-use Rattle.wc_laws_grammar.specs.Moves.{State, AtLine, OnLine, started_line, at_end, colon_next, move, on_line, open_in, start_move}
 use Rattle.wc_laws_grammar.proofs.Orders.{IsOpen}
 use Rattle.wc_laws_grammar.proofs.WalkedLines.{begins, walk_on}
-use Rattle.wc_laws_grammar.specs.Words.{found, truths}
-use Rattle.wc_model.specs.Text.Grammar.{Setting}
+use Rattle.wc_model.specs.Definitions.{Setting, Name, name_of, Opening, Position, setting_in, ParenthesisNotPaired, Term, Word}
 use Rattle.wc_model.specs.Text.Marks.{Direct, Identifier, LineEnd, Mark, Point, Symbol}
-use Rattle.wc_model.specs.Language.Names.{Name, name_of}
-use Rattle.wc_model.specs.Text.Positions.{Opening, Position, setting_in}
-use Rattle.wc_model.specs.Text.ReadingFaults.{ParenthesisNotPaired}
-use Rattle.wc_model.specs.Language.Tree.{Term, Word}
 use Rattle.wc_model.specs.declared.operator.Operator.{Operator}
 
 -- where a prefix of a line that has started stays on it

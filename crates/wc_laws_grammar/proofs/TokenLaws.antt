@@ -1,8 +1,6 @@
 -- The laws of the tokens of a text.
 use Rattle.std.proofs.Common.{◌≡◌, ℕ, List, ◌∷◌, ◌++◌, Ok, refl, sym, ap, ◌∙◌, subst, arith}
-use Rattle.wc_model.specs.Text.Shapes.{shape_of}
-use Rattle.wc_model.specs.Text.Tokens.{AtEnd, Cuts, Nothing, Skipped, Taken, Faulty, TooLong, Represents, Token, token_after}
-use Rattle.wc_model.specs.Text.TokenLaws.{CutIsUnique, CutHasNoFault, FirstFaultIsUnique, LongTextIsRefused}
+use Rattle.wc_model.specs.Definitions.{shape_of, AtEnd, Cuts, Nothing, Skipped, Taken, Faulty, TooLong, Represents, Token, token_after, CutIsUnique, CutHasNoFault, FirstFaultIsUnique, LongTextIsRefused}
 use Rattle.wc_laws_grammar.proofs.TokenSteps.{IsStuck, end_is_stuck, fault_is_before_end, fault_is_stuck, no_lexeme_at_blank, one_blank, one_fault, one_longest}
 
 -- two cuts have the same tokens and end at one place

@@ -1,9 +1,7 @@
 -- The tokens of a text are its slices, in rising order.
 use Rattle.std.proofs.Common.{◌≡◌, ℕ, ◌+◌, ◌≤◌, List, ◌++◌, length, take, drop, All, AllPairs, refl, sym, ap, ◌∙◌, arith, append_assoc, take_at, drop_at, length-append}
-use Rattle.std.proofs.lemmas.List.Elements.{All-cons, All-nil}
-use Rattle.std.proofs.lemmas.List.Kept.{AllPairs-cons}
-use Rattle.wc_model.specs.Text.TokenLaws.{IsSliceOf, TokensAreInOrder, TokensAreSlices}
-use Rattle.wc_model.specs.Text.Tokens.{Cuts, Nothing, Skipped, Taken, Token, line_after, token_after}
+use Rattle.wc_model.proofs.Common.{All-cons, All-nil, AllPairs-cons}
+use Rattle.wc_model.specs.Definitions.{IsSliceOf, TokensAreInOrder, TokensAreSlices, Cuts, Nothing, Skipped, Taken, Token, line_after, token_after}
 
 -- a slice moves from the rest of a text to what precedes it
 moved : (before chunk after rest text : List ℕ) → chunk ++ after ≡ rest → before ++ rest ≡ text → (before ++ chunk) ++ after ≡ text

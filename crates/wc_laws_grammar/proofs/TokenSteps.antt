@@ -1,11 +1,10 @@
 -- What is at a place is fixed by the rest of the text: one blank, one longest lexeme or one fault, and no two of these.
 use Rattle.std.proofs.Common.{◌≡◌, ◌≢◌, ℕ, suc, ◌≤◌, true, false, cond, List, [], ◌∷◌, ◌++◌, length, get_or, drop, take, Ok, Err, refl, sym, ap, ◌∙◌, subst, arith, take_at, drop_at, le_antisymm, ◌==◌}
 use Rattle.std.proofs.lemmas.List.{append_cancel_left, append_cancel_right}
-use Rattle.wc_laws_grammar.specs.Reaches.{reach}
+use Rattle.wc_laws_grammar.specs.Sights.{reach}
 use Rattle.wc_laws_grammar.proofs.Reach.{within_reach, mark_is_short}
 use Rattle.wc_model.specs.Text.Blanks.{Blank, Space, Tab, Return, Comment, comment_opening, comment_closing, from_bracket, starts_with_bracket}
-use Rattle.wc_model.specs.Text.Lexemes.{Lexeme, Run, Typed, Unsigned, Signed, Sign, Addressed, Marked, IsLongestLexeme}
-use Rattle.wc_model.specs.Text.Shapes.{Shape, shape_of}
+use Rattle.wc_model.specs.Definitions.{Lexeme, Run, Typed, Unsigned, Signed, Sign, Addressed, Marked, IsLongestLexeme, Shape, shape_of}
 use Rattle.wc_model.specs.Text.Tokens.{FaultAt, Foreign, Unclosed, Nested, Malformed}
 
 -- ---- blanks

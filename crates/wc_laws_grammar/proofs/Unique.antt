@@ -1,8 +1,7 @@
 -- Two first faults of a text are found after the same tokens, and are the same.
 use Rattle.std.proofs.Common.{◌≡◌, ◌≤◌, ℕ, List, [], ◌∷◌, ◌++◌, refl, ap, sym, ◌∙◌, inl, inr, arith}
 use Rattle.std.specs.Prelude.{◌⊎◌, ◌==◌, cond}
-use Rattle.wc_model.specs.Text.Marks.{Mark}
-use Rattle.wc_model.specs.Text.ReadingFaults.{ReadingFault, UnexpectedToken, UnitNotClosed, NotOneProgramLast, EmptyParentheses, NotAllowedInParentheses, ParenthesisNotPaired, TooDeep, TooMany, rank_of, IsRaised, IsFaultFree, IsFirstReadingFault}
+use Rattle.wc_model.specs.Definitions.{Mark, ReadingFault, UnexpectedToken, UnitNotClosed, NotOneProgramLast, EmptyParentheses, NotAllowedInParentheses, ParenthesisNotPaired, TooDeep, TooMany, rank_of, IsRaised, IsFaultFree, IsFirstReadingFault}
 
 -- the first list goes on with a token where the second ends
 abbrev pub GoesOn : (a b x y : List Mark) → Type 0

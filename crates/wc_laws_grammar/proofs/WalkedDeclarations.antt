@@ -3,20 +3,13 @@ use Rattle.std.proofs.Common.{◌≡◌, ◌≢◌, ℕ, Bool, true, false, List
 use Rattle.wc_laws_grammar.proofs.DeclarationRests.{declarations_of, from_end, from_type, from_names, declared_rest}
 use Rattle.wc_laws_grammar.proofs.LineComplete.{named, word_is}
 use Rattle.wc_laws_grammar.proofs.LineSound.{mark_on}
-use Rattle.wc_laws_grammar.specs.Moves.{InDeclaration, Undeclared, AfterNames, AfterComma, AfterColon, AfterType, AfterAssign, AfterValue, State, AtLine, Declaring, body_start, at_value, declaration_move, with_declaration, walk}
+use Rattle.wc_laws_grammar.specs.{InDeclaration, Undeclared, AfterNames, AfterComma, AfterColon, AfterType, AfterAssign, AfterValue, State, AtLine, Declaring, body_start, at_value, declaration_move, with_declaration, walk, found, literal_of, truth_value, truths}
 use Rattle.wc_laws_grammar.proofs.Skipping.{kept, passed_over}
 use Rattle.wc_laws_grammar.proofs.WalkedLines.{walk_on}
 use Rattle.wc_laws_grammar.proofs.WordLaws.{distinguished, truth_is_found}
-use Rattle.wc_laws_grammar.specs.Words.{found, literal_of, truth_value, truths}
 use Rattle.wc_laws_grammar.proofs.Languages.{next_is, passed, both_empty, given_are, ungroup, after}
-use Rattle.wc_model.specs.Language.Declarations.{same_name}
+use Rattle.wc_model.specs.Definitions.{same_name, declared_names, initial_value, IsLiteral, end_var, truth_word, ◌then◌, optional, skipping, Symbol, Colon, LineEnd, Mark, is_line_end, is_line_end_symbol, name_of, Word, Declaration, ProgramUnit}
 use Rattle.wc_model.specs.Text.Grammar as grammar
-use Rattle.wc_model.specs.Text.Grammar.{declared_names, initial_value, IsLiteral}
-use Rattle.wc_model.specs.Text.Keywords.{end_var, truth_word}
-use Rattle.wc_model.specs.Text.Languages.{◌then◌, optional, skipping}
-use Rattle.wc_model.specs.Text.Marks.{Symbol, Colon, LineEnd, Mark, is_line_end, is_line_end_symbol}
-use Rattle.wc_model.specs.Language.Names.{name_of}
-use Rattle.wc_model.specs.Language.Tree.{Word, Declaration, ProgramUnit}
 use Rattle.wc_model.specs.declared.source.Initial.{Initial}
 use Rattle.wc_model.specs.declared.source.Section.{Section}
 use Rattle.wc_model.specs.declared.value.Value.{Value}

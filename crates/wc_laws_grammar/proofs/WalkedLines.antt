@@ -1,22 +1,13 @@
 -- The lines of a body are walked.
 use Rattle.std.proofs.Common.{◌≡◌, ◌≢◌, ℕ, Bool, true, false, List, [], ◌∷◌, ◌++◌, Option, Some, None, refl, ap, subst, if◌then◌else◌, ◌∙◌, sym, inl, inr}
 use Rattle.wc_laws_grammar.proofs.LineComplete.{Leads, move_led}
-use Rattle.wc_laws_grammar.specs.LineMoves.{LineShape, LabelAlone, Instructs, Opens, OfStep, OfOpening, OfArgument, LineState, Start, Worded, Labelled, Operated, Jumped, Called, Instanced, Listing, Bracketed, Named, Pointed, Stepped, BracketedWith, Ended, at_start, at_start_in, line_move, operator_or_label}
+use Rattle.wc_laws_grammar.specs.{LineShape, LabelAlone, Instructs, Opens, OfStep, OfOpening, OfArgument, LineState, Start, Worded, Labelled, Operated, Jumped, Called, Instanced, Listing, Bracketed, Named, Pointed, Stepped, BracketedWith, Ended, at_start, at_start_in, line_move, operator_or_label, State, AtLine, Closed, after_line, after_closing, started_line, body_move, colon_next, is_colon, lines_and, has_content, move, on_line, after_unit, section_of_word, start_move, section_or_line, walk, word_move, Loads, Stores, Applies, Operation, Operates, Jumps, Calls, Returns, found, operations, operation_word, section_words}
 use Rattle.wc_laws_grammar.proofs.LineRests.{line_of, rest_of}
 use Rattle.wc_laws_grammar.proofs.LineStart.{start_led}
-use Rattle.wc_laws_grammar.specs.Moves.{State, AtLine, Closed, after_line, after_closing, started_line, body_move, colon_next, is_colon, lines_and, has_content, move, on_line, after_unit, section_of_word, start_move, section_or_line, walk, word_move}
 use Rattle.wc_laws_grammar.proofs.WordLaws.{found_operation}
-use Rattle.wc_laws_grammar.specs.Words.{Loads, Stores, Applies, Operation, Operates, Jumps, Calls, Returns, found, operations, operation_word, section_words}
 use Rattle.wc_laws_grammar.proofs.Languages.{next_is, both_empty, regroup, after, given_first}
-use Rattle.wc_model.specs.Language.Declarations.{same_name}
+use Rattle.wc_model.specs.Definitions.{same_name, IsOn, Setting, InBody, InParentheses, HasContent, lines, line_ends, end_word, ◌then◌, one, Symbol, Identifier, LineEnd, ClosingBracket, Mark, IsSymbol, Name, name_of, Opening, Position, setting_in, Term, Lines, End, Alone, Plain, Nested}
 use Rattle.wc_model.specs.Text.Grammar as grammar
-use Rattle.wc_model.specs.Text.Grammar.{IsOn, Setting, InBody, InParentheses, HasContent, lines, line_ends}
-use Rattle.wc_model.specs.Text.Keywords.{end_word}
-use Rattle.wc_model.specs.Text.Languages.{◌then◌, one}
-use Rattle.wc_model.specs.Text.Marks.{Symbol, Identifier, LineEnd, ClosingBracket, Mark, IsSymbol}
-use Rattle.wc_model.specs.Language.Names.{Name, name_of}
-use Rattle.wc_model.specs.Text.Positions.{Opening, Position, setting_in}
-use Rattle.wc_model.specs.Language.Tree.{Term, Lines, End, Alone, Plain, Nested}
 use Rattle.wc_model.specs.declared.operator.Condition.TheVariants.{Always}
 use Rattle.wc_model.specs.declared.operator.Operator.TheVariants.{And}
 use Rattle.wc_model.specs.declared.operator.Storing.TheVariants.{Result}

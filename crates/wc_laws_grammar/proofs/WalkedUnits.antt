@@ -3,23 +3,14 @@ use Rattle.std.proofs.Common.{◌≡◌, ◌≢◌, ℕ, Bool, true, false, List
 use Rattle.std.specs.Prelude.{flat_map, option_map}
 use Rattle.wc_laws_grammar.proofs.DeclarationRests.{declarations_of}
 use Rattle.wc_laws_grammar.proofs.LineComplete.{named}
-use Rattle.wc_laws_grammar.specs.LineMoves.{Opens}
+use Rattle.wc_laws_grammar.specs.{Opens, State, Outside, Unnamed, Declaring, AtLine, Undeclared, at_first, at_first_name, after_unit, body_start, colon_next, declaration_move, is_colon, move, section_or_line, section_of_word, start_move, walk, found, section_words, unit_kinds}
 use Rattle.wc_laws_grammar.proofs.LineStart.{no_colon, no_colon_name}
-use Rattle.wc_laws_grammar.specs.Moves.{State, Outside, Unnamed, Declaring, AtLine, Undeclared, at_first, at_first_name, after_unit, body_start, colon_next, declaration_move, is_colon, move, section_or_line, section_of_word, start_move, walk}
 use Rattle.wc_laws_grammar.proofs.Skipping.{skip_next_is}
 use Rattle.wc_laws_grammar.proofs.WalkedDeclarations.{declared_led, declarations_walked, unit_and}
 use Rattle.wc_laws_grammar.proofs.WalkedLines.{line_walked, line_ends_walked, lines_walked, parts_walked, walk_on, walk_then, with_lines}
 use Rattle.wc_laws_grammar.proofs.WordLaws.{is_same}
-use Rattle.wc_laws_grammar.specs.Words.{found, section_words, unit_kinds}
 use Rattle.wc_laws_grammar.proofs.Languages.{next_is, many_are, passed, both_empty, ungroup}
-use Rattle.wc_model.specs.Language.Declarations.{same_name}
-use Rattle.wc_model.specs.Text.Grammar.{Group, InBody, IsNameOf, IsOn, head, identifier, label_in, line_ends, lines, opening, section_of, sections, unit_of, units}
-use Rattle.wc_model.specs.Text.Keywords.{end_var, end_word, section_word, unit_word}
-use Rattle.wc_model.specs.Text.Languages.{◌then◌, each, one, skipping}
-use Rattle.wc_model.specs.Text.Marks.{Symbol, Identifier, Colon, LineEnd, Mark, IsNamed, is_line_end}
-use Rattle.wc_model.specs.Language.Names.{Name, name_of}
-use Rattle.wc_model.specs.Text.Positions.{Opening, Position, at_line, openings_of, setting_in}
-use Rattle.wc_model.specs.Language.Tree.{Declaration, End, ProgramUnit}
+use Rattle.wc_model.specs.Definitions.{same_name, Group, InBody, IsNameOf, IsOn, head, identifier, label_in, line_ends, lines, opening, section_of, sections, unit_of, units, end_var, end_word, section_word, unit_word, ◌then◌, each, one, skipping, Symbol, Identifier, Colon, LineEnd, Mark, IsNamed, is_line_end, Name, name_of, Opening, Position, at_line, openings_of, setting_in, Declaration, End, ProgramUnit}
 use Rattle.wc_model.specs.declared.source.Section.{Section}
 use Rattle.wc_model.specs.declared.source.Section.TheVariants.{Input}
 use Rattle.wc_model.specs.declared.source.UnitKind.{UnitKind}

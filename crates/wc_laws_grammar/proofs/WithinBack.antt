@@ -1,29 +1,18 @@
 -- If the limits and the order hold after a token, they held before it, and no fault was detected at it.
 use Rattle.std.proofs.Common.{◌≡◌, ◌≢◌, ◌≤◌, ℕ, suc, Bool, true, false, List, [], ◌∷◌, ◌++◌, length, Option, Some, None, refl, ap, subst, if◌then◌else◌, ◌∙◌, sym, inl, inr, arith, ◌⊎◌, not}
-use Rattle.std.proofs.lemmas.Bool.Decides.{nat_tests}
+use Rattle.wc_model.proofs.Common.{nat_tests, AllByRecursion}
 use Rattle.std.proofs.lemmas.List.{length-append}
-use Rattle.std.specs.List.{AllByRecursion}
 use Rattle.std.specs.Prelude.{◌&&◌, ◌||◌, is_some, nat_le, option_map}
 use Rattle.wc_laws_grammar.proofs.Bounds.{IsDeepEnough, PositionWithin, Within, closed_was_within, counted, opened}
 use Rattle.wc_laws_grammar.proofs.Exits.{AreBlocks}
 use Rattle.wc_laws_grammar.proofs.LineBounds.{Counts, IsSteady, count_operator, fitted, fitted_by, operated_counts, steady}
 use Rattle.wc_laws_grammar.proofs.LineComplete.{labelled_operator}
-use Rattle.wc_laws_grammar.specs.LineMoves.{LineShape, LabelAlone, Instructs, Opens, operator_or_label, StartedLine, LineState, Start, Labelled, Operated, Bracketed, Ended, at_labelled, at_operated, at_operator, at_start, after_operator, line_move, simple_operator}
+use Rattle.wc_laws_grammar.specs.{LineShape, LabelAlone, Instructs, Opens, operator_or_label, StartedLine, LineState, Start, Labelled, Operated, Bracketed, Ended, at_labelled, at_operated, at_operator, at_start, after_operator, line_move, simple_operator, InDeclaration, Undeclared, AfterNames, AfterComma, AfterColon, AfterType, AfterAssign, AfterValue, State, Outside, Unnamed, Declaring, AtLine, OnLine, Closed, Raised, at_value, begins_transfer, started_line, after_closing, after_line, after_unit, body_move, body_start, declaration_move, has_content, has_name, has_program, inside_move, is_full, is_identifier, is_program, fault_at, fault_at_closing, fault_at_line, fault_on_line, fault_at_operator, fault_at_unit, fault_if, first_fault, move, on_line, section_of_word, section_or_line, start_move, unit_with, Applies, Operating, Loads, Stores, Operation, found, is_transfer, literal_of, operation_of, operations, unit_kinds}
 use Rattle.wc_laws_grammar.proofs.LineStart.{operator_taken}
-use Rattle.wc_laws_grammar.specs.Moves.{InDeclaration, Undeclared, AfterNames, AfterComma, AfterColon, AfterType, AfterAssign, AfterValue, State, Outside, Unnamed, Declaring, AtLine, OnLine, Closed, Raised, at_value, begins_transfer, started_line, after_closing, after_line, after_unit, body_move, body_start, declaration_move, has_content, has_name, has_program, inside_move, is_full, is_identifier, is_program, fault_at, fault_at_closing, fault_at_line, fault_on_line, fault_at_operator, fault_at_unit, fault_if, first_fault, move, on_line, section_of_word, section_or_line, start_move, unit_with}
 use Rattle.wc_laws_grammar.proofs.WalkedLines.{ends_no_unit}
 use Rattle.wc_laws_grammar.proofs.WithinOn.{HasStarted, RejectsColon, simple_rejects}
 use Rattle.wc_laws_grammar.proofs.WordLaws.{found_operation, found_section, same_is}
-use Rattle.wc_laws_grammar.specs.Words.{Applies, Operating, Loads, Stores, Operation, found, is_transfer, literal_of, operation_of, operations, unit_kinds}
-use Rattle.wc_model.specs.Language.Declarations.{same_name}
-use Rattle.wc_model.specs.Text.Grammar.{IsProgramLast}
-use Rattle.wc_model.specs.Text.Keywords.{end_var, end_word, section_word}
-use Rattle.wc_model.specs.Text.Limits.{IsBodyWithinLimits, depth, line_count, lines_before, lines_opened, most_depth, most_lines, most_units}
-use Rattle.wc_model.specs.Text.Marks.{Symbol, Ampersand, AmpersandN, Identifier, ClosingBracket, OpeningBracket, Colon, Comma, Semicolon, Assign, LineEnd}
-use Rattle.wc_model.specs.Language.Names.{name_of}
-use Rattle.wc_model.specs.Text.Positions.{Opening, Position, setting_in}
-use Rattle.wc_model.specs.Text.ReadingFaults.{NotAllowedInParentheses, NotOneProgramLast, ReadingFault, TooDeep, TooMany, EmptyParentheses, ParenthesisNotPaired}
-use Rattle.wc_model.specs.Language.Tree.{Alone, End, Lines, Nested, Plain, ProgramUnit, Word}
+use Rattle.wc_model.specs.Definitions.{same_name, IsProgramLast, end_var, end_word, section_word, IsBodyWithinLimits, depth, line_count, lines_before, lines_opened, most_depth, most_lines, most_units, Symbol, Ampersand, AmpersandN, Identifier, ClosingBracket, OpeningBracket, Colon, Comma, Semicolon, Assign, LineEnd, name_of, Opening, Position, setting_in, NotAllowedInParentheses, NotOneProgramLast, ReadingFault, TooDeep, TooMany, EmptyParentheses, ParenthesisNotPaired, Alone, End, Lines, Nested, Plain, ProgramUnit, Word}
 use Rattle.wc_model.specs.declared.source.Section.{Section}
 use Rattle.wc_model.specs.declared.source.Section.TheVariants.{Input, Output, Own}
 use Rattle.wc_model.specs.declared.source.UnitKind.{UnitKind}

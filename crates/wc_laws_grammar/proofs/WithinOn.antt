@@ -1,22 +1,12 @@
 -- The limits hold along the walk if no fault is detected.
 use Rattle.std.proofs.Common.{◌≡◌, ◌≢◌, ◌≤◌, ℕ, suc, Bool, true, false, List, [], ◌∷◌, ◌++◌, length, Option, Some, None, refl, ap, subst, if◌then◌else◌, ◌∙◌, sym, inl, inr, arith, ◌⊎◌, not}
-use Rattle.std.proofs.lemmas.Bool.Decides.{nat_tests}
+use Rattle.wc_model.proofs.Common.{nat_tests, AllByRecursion}
 use Rattle.std.proofs.lemmas.List.{length-append}
-use Rattle.std.specs.List.{AllByRecursion}
 use Rattle.std.specs.Prelude.{◌&&◌, is_some, nat_le, option_map}
 use Rattle.wc_laws_grammar.proofs.Bounds.{HasCapacity, IsDeepEnough, Within, closed_within, counted, opened}
 use Rattle.wc_laws_grammar.proofs.LineBounds.{CountsOnce, Fits, IsSteady, WithinNext, fits_by, fits_on, labelled_once, operated_counts, simple_once, start_once, steady}
-use Rattle.wc_laws_grammar.specs.LineMoves.{StartedLine, LineState, Start, Worded, Labelled, Operated, at_labelled, at_operated, at_operator, at_start, after_operator, line_move, simple_operator}
-use Rattle.wc_laws_grammar.specs.Moves.{InDeclaration, Undeclared, AfterNames, AfterComma, AfterColon, AfterType, AfterAssign, AfterValue, State, Outside, Unnamed, Declaring, AtLine, OnLine, Closed, Raised, at_value, begins_transfer, started_line, after_closing, after_unit, body_move, body_start, declaration_move, has_content, has_name, has_program, inside_move, is_full, is_identifier, fault_at, fault_at_closing, fault_at_line, fault_on_line, fault_at_operator, fault_at_unit, fault_if, first_fault, move, named_unit, section_of_word, section_or_line, start_move, unit_with}
-use Rattle.wc_laws_grammar.specs.Words.{Applies, Operating, Loads, Stores, Operation, Operates, Negates, Jumps, Calls, Returns, found, is_transfer, literal_of, operation_of, unit_kinds}
-use Rattle.wc_model.specs.Language.Declarations.{same_name}
-use Rattle.wc_model.specs.Text.Keywords.{end_var, end_word}
-use Rattle.wc_model.specs.Text.Limits.{IsBodyWithinLimits, lines_before, lines_opened, most_depth, most_lines, most_units}
-use Rattle.wc_model.specs.Text.Marks.{Symbol, Identifier, ClosingBracket, OpeningBracket, Colon, Comma, Semicolon, Assign, LineEnd}
-use Rattle.wc_model.specs.Language.Names.{name_of}
-use Rattle.wc_model.specs.Text.Positions.{Opening, Position, setting_in}
-use Rattle.wc_model.specs.Text.ReadingFaults.{NotAllowedInParentheses, NotOneProgramLast, ReadingFault, TooDeep, TooMany, EmptyParentheses, ParenthesisNotPaired}
-use Rattle.wc_model.specs.Language.Tree.{ProgramUnit, Word}
+use Rattle.wc_laws_grammar.specs.{StartedLine, LineState, Start, Worded, Labelled, Operated, at_labelled, at_operated, at_operator, at_start, after_operator, line_move, simple_operator, InDeclaration, Undeclared, AfterNames, AfterComma, AfterColon, AfterType, AfterAssign, AfterValue, State, Outside, Unnamed, Declaring, AtLine, OnLine, Closed, Raised, at_value, begins_transfer, started_line, after_closing, after_unit, body_move, body_start, declaration_move, has_content, has_name, has_program, inside_move, is_full, is_identifier, fault_at, fault_at_closing, fault_at_line, fault_on_line, fault_at_operator, fault_at_unit, fault_if, first_fault, move, named_unit, section_of_word, section_or_line, start_move, unit_with, Applies, Operating, Loads, Stores, Operation, Operates, Negates, Jumps, Calls, Returns, found, is_transfer, literal_of, operation_of, unit_kinds}
+use Rattle.wc_model.specs.Definitions.{same_name, end_var, end_word, IsBodyWithinLimits, lines_before, lines_opened, most_depth, most_lines, most_units, Symbol, Identifier, ClosingBracket, OpeningBracket, Colon, Comma, Semicolon, Assign, LineEnd, name_of, Opening, Position, setting_in, NotAllowedInParentheses, NotOneProgramLast, ReadingFault, TooDeep, TooMany, EmptyParentheses, ParenthesisNotPaired, ProgramUnit, Word}
 use Rattle.wc_model.specs.declared.source.Section.{Section}
 use Rattle.wc_model.specs.declared.source.UnitKind.{UnitKind}
 use Rattle.wc_model.specs.declared.value.Value.{Value}

@@ -1,14 +1,8 @@
 -- What the tables of words say: a word represents one thing, and is found.
-use Rattle.std.proofs.Common.{◌≡◌, ℕ, Bool, true, false, List, [], ◌∷◌, map, Some, None, refl, ap, subst, ◌∙◌, inl, inr, arith}
-use Rattle.std.proofs.lemmas.Bool.Decides.{nat_tests}
+use Rattle.wc_model.proofs.Common.{◌≡◌, ℕ, Bool, true, false, List, [], ◌∷◌, map, Some, None, refl, ap, subst, ◌∙◌, inl, inr, arith, nat_tests, AllByRecursion}
 use Rattle.std.specs.Prelude.{◌≢◌, if◌then◌else◌, ◌&&◌, eqb}
-use Rattle.std.specs.List.{AllByRecursion}
 use Rattle.wc_laws_grammar.specs.Words.{found, Operating, Loads, Stores, Applies, Operation, Operates, Negates, Jumps, Calls, Returns, operation_word, all_operations, operations, worded, step_of, operation_of, unit_kinds, section_words, truths}
-use Rattle.wc_model.specs.Language.Declarations.{same_name}
-use Rattle.wc_model.specs.Text.Keywords.{truth_word, unit_word, section_word}
-use Rattle.wc_model.specs.Text.Marks.{Symbol, Identifier, Ampersand, AmpersandN, Mark, name_in}
-use Rattle.wc_model.specs.Language.Names.{Name, name_of}
-use Rattle.wc_model.specs.Text.Grammar.{IsOperator, IsOperatorOf}
+use Rattle.wc_model.specs.Definitions.{same_name, truth_word, unit_word, section_word, Symbol, Identifier, Ampersand, AmpersandN, Mark, name_in, Name, name_of, IsOperator, IsOperatorOf}
 use Rattle.wc_model.specs.Language.Tree.{Term, Step, Load, Store, Apply, Negate, Jump, Call, Return}
 use Rattle.wc_model.specs.declared.operator.Condition.TheVariants.{Always}
 use Rattle.wc_model.specs.declared.operator.Operator.{Operator}

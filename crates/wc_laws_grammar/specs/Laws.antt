@@ -1,10 +1,6 @@
 -- Laws of the grammar: tokens spell a text within the limits or have a first fault, never both, and one text at most.
 use Rattle.std.specs.Prelude.{◌≡◌, ℕ, List, ◌⊎◌}
-use Rattle.wc_model.specs.Text.Grammar.{Spells}
-use Rattle.wc_model.specs.Text.Limits.{IsWithinLimits}
-use Rattle.wc_model.specs.Text.Marks.{Mark}
-use Rattle.wc_model.specs.Text.ReadingFaults.{ReadingFault, IsFirstReadingFault}
-use Rattle.wc_model.specs.Language.Tree.{Text}
+use Rattle.wc_model.specs.Definitions.{Spells, IsWithinLimits, Mark, ReadingFault, IsFirstReadingFault, Text}
 
 -- tokens spell one text at most
 abbrev pub OneText : Type 0

@@ -3,15 +3,7 @@ use Rattle.std.specs.Prelude.{ℕ, nat_le, Bool, true, false, not, ◌&&◌, Lis
 use Rattle.std.specs.List.{list_any}
 use Rattle.wc_laws_grammar.specs.LineMoves.{LineShape, LabelAlone, Instructs, Opens, OfOpening, LineState, Start, Labelled, Operated, Bracketed, BracketedWith, Named, Pointed, Ended, line_move}
 use Rattle.wc_laws_grammar.specs.Words.{Applies, Operation, found, is_transfer, literal_of, operation_of, section_words, unit_kinds}
-use Rattle.wc_model.specs.Language.Declarations.{same_name}
-use Rattle.wc_model.specs.Text.Grammar.{InBody, InParentheses}
-use Rattle.wc_model.specs.Text.Keywords.{end_var, end_word}
-use Rattle.wc_model.specs.Text.Limits.{most_depth, most_lines, most_units, lines_before}
-use Rattle.wc_model.specs.Text.Marks.{Symbol, Identifier, ClosingBracket, OpeningBracket, Comma, Colon, Semicolon, Assign, LineEnd, Mark}
-use Rattle.wc_model.specs.Language.Names.{Name, name_of}
-use Rattle.wc_model.specs.Text.Positions.{Opening, Position, setting_in}
-use Rattle.wc_model.specs.Text.ReadingFaults.{ReadingFault, UnexpectedToken, UnitNotClosed, NotOneProgramLast, EmptyParentheses, NotAllowedInParentheses, ParenthesisNotPaired, TooDeep, TooMany}
-use Rattle.wc_model.specs.Language.Tree.{Word, Term, Lines, End, Alone, Plain, Nested, ProgramUnit, Text}
+use Rattle.wc_model.specs.Definitions.{same_name, InBody, InParentheses, end_var, end_word, most_depth, most_lines, most_units, lines_before, Symbol, Identifier, ClosingBracket, OpeningBracket, Comma, Colon, Semicolon, Assign, LineEnd, Mark, Name, name_of, Opening, Position, setting_in, ReadingFault, UnexpectedToken, UnitNotClosed, NotOneProgramLast, EmptyParentheses, NotAllowedInParentheses, ParenthesisNotPaired, TooDeep, TooMany, Word, Term, Lines, End, Alone, Plain, Nested, ProgramUnit, Text}
 use Rattle.wc_model.specs.declared.source.Initial.{Initial}
 use Rattle.wc_model.specs.declared.source.Section.{Section}
 use Rattle.wc_model.specs.declared.source.UnitKind.{UnitKind}

@@ -1,9 +1,6 @@
 -- What a word of the language represents.
 use Rattle.std.specs.Prelude.{Bool, true, false, List, [], ◌∷◌, map, Option, Some, None, if◌then◌else◌}
-use Rattle.wc_model.specs.Text.Keywords.{unit_word, section_word, truth_word, load_word, store_word, operator_word, not_word, jump_word, call_word, return_word}
-use Rattle.wc_model.specs.Text.Marks.{Symbol, Identifier, Whole, Duration, Truth, Ampersand, AmpersandN}
-use Rattle.wc_model.specs.Language.Declarations.{same_name}
-use Rattle.wc_model.specs.Language.Names.{Name, name_of}
+use Rattle.wc_model.specs.Definitions.{unit_word, section_word, truth_word, load_word, store_word, operator_word, not_word, jump_word, call_word, return_word, Symbol, Identifier, Whole, Duration, Truth, Ampersand, AmpersandN, same_name, Name, name_of}
 use Rattle.wc_model.specs.Language.Tree.{Term, Step, Load, Store, Apply}
 use Rattle.wc_model.specs.declared.operator.Condition.{Condition}
 use Rattle.wc_model.specs.declared.operator.Condition.TheVariants.{Always, IfTrue, IfFalse}

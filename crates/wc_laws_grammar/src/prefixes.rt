@@ -1,10 +1,7 @@
 //! Laws of prefixes, and of the first fault that is found in tokens.
 ghost use Rattle.std.specs.Prelude.{ℕ, List, ◌++◌};
 ghost use Rattle.wc_laws_grammar.specs.Laws.{OneFirstFault};
-ghost use Rattle.wc_model.specs.Language.Tree.{Text};
-ghost use Rattle.wc_model.specs.Text.Grammar.{IsPrefix, Spells};
-ghost use Rattle.wc_model.specs.Text.Marks.{Mark};
-ghost use Rattle.wc_model.specs.Text.ReadingFaults.{IsFaultFree, IsFirstReadingFault, KeepsLimits, UnexpectedToken};
+ghost use Rattle.wc_model.specs.Definitions.{Text, IsPrefix, Spells, Mark, IsFaultFree, IsFirstReadingFault, KeepsLimits, UnexpectedToken};
 
 /// The tokens of a whole text are a prefix.
 pub fn a_text_is_a_prefix()

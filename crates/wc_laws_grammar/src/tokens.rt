@@ -1,7 +1,6 @@
 //! Laws of all texts.
 ghost use Rattle.std.specs.Prelude.{◌≡◌, ℕ, List, length};
-ghost use Rattle.wc_model.specs.Text.TokenLaws.{CutHasNoFault, CutIsUnique, CutOrFault, FirstFaultIsUnique, LongTextIsRefused, TokensAreInOrder, TokensAreSlices};
-ghost use Rattle.wc_model.specs.Text.Tokens.{IsFirstTokenFault};
+ghost use Rattle.wc_model.specs.Definitions.{CutHasNoFault, CutIsUnique, CutOrFault, FirstFaultIsUnique, LongTextIsRefused, TokensAreInOrder, TokensAreSlices, IsFirstTokenFault};
 
 /// A text has one list of tokens.
 pub fn a_cut_is_unique()

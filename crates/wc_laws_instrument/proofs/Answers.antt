@@ -1,19 +1,12 @@
 -- An answer has twenty bytes.
-use Rattle.std.proofs.Common.{◌≡◌, ℕ, zero, suc, ◌+◌, ◌-◌, ◌*◌, ◌/◌, ◌%◌, ◌<◌, ◌≤◌, inl, inr, Bool, true, false, cond, not, ◌&&◌, List, [], ◌∷◌, ◌++◌, length, refl, ap, sym, subst, ◌∙◌, arith, length-append, append_assoc}
+use Rattle.wc_model.proofs.Common.{◌≡◌, ℕ, zero, suc, ◌+◌, ◌-◌, ◌*◌, ◌/◌, ◌%◌, ◌<◌, ◌≤◌, inl, inr, Bool, true, false, cond, not, ◌&&◌, List, [], ◌∷◌, ◌++◌, length, refl, ap, sym, subst, ◌∙◌, arith, length-append, append_assoc, mul-le-mul, mul-le-mul_right, length-decimal-le, ints, unsigned_abs-mul, is_negative}
 use Rattle.std.proofs.Math.ListN.{length-replicate}
-use Rattle.std.proofs.Math.Nat.{mul-le-mul, mul-le-mul_right}
 use Rattle.std.proofs.lemmas.Bool.{cases_lt, cases_Bool, and_parts, or_parts, not-true, true≢false, leb-true}
-use Rattle.std.proofs.lemmas.Fmt.{length-decimal-le}
-use Rattle.std.proofs.lemmas.Int.{ints, unsigned_abs-mul}
 use Rattle.std.specs.Prelude.{ℤ, pos, negsuc, ◌-ℤ◌, ◌*ℤ◌, int_le, int_lt, unsigned_abs, Option, Some, None, is_some, unwrap_or, decimal, Contains, nat_le, ◌==◌, ◌||◌, ⊤, replicate}
-use Rattle.std.specs.Int.{is_negative}
 use Rattle.std.specs.List.{list_all, slice_index_or}
 use Rattle.wc_laws_instrument.proofs.Indication.{tare_same_at_zero, tare_ended, tare_new, tare_same, no_intervals}
 use Rattle.wc_laws_instrument.proofs.Rounding.{quotient_bounds}
-use Rattle.wc_model.specs.Instrument.WeighingHistories.{Sample, SetZero, SetTare, ClearTare, History}
-use Rattle.wc_model.specs.Instrument.Indication.{refused_unless, has_sample, is_stable, is_over, is_under, is_valid, is_centre_of_zero, can_be_tared, zero_refusal, tare_refusal, from_zero, active_tare, is_tare_active, tare_counts, intervals_of, gross_intervals, net_intervals, in_units, tare_value, gross, net}
-use Rattle.wc_model.specs.Instrument.Plates.{PlateData, IsPlate, allowed_intervals, grams, kilograms, tonnes}
-use Rattle.wc_model.specs.Instrument.Rounding.{nearest, nearest_above_zero}
+use Rattle.wc_model.specs.Definitions.{Sample, SetZero, SetTare, ClearTare, History, refused_unless, has_sample, is_stable, is_over, is_under, is_valid, is_centre_of_zero, can_be_tared, zero_refusal, tare_refusal, from_zero, active_tare, is_tare_active, tare_counts, intervals_of, gross_intervals, net_intervals, in_units, tare_value, gross, net, PlateData, IsPlate, allowed_intervals, grams, kilograms, tonnes, nearest, nearest_above_zero}
 use Rattle.wc_model.specs.Instrument.Answers.{last_digits, minus_of, value_text, weight_text, Mode, Shown, Tare, Asked, Plain, ZeroRefused, TareRefused, status_byte, mode_byte, weight_asked, answer, answer_to, answers_to, command_of, after_command, after_requests}
 
 -- how far from 0 the nearest number is

@@ -1,16 +1,7 @@
 -- Reports over a change of the program.
-use Rattle.std.proofs.Common.{◌≡◌, refl, ap, sym, ◌∙◌, Bool, true, false, ℕ, List, [], ◌∷◌, ◌++◌, append_assoc, Option, None}
-use Rattle.std.specs.Prelude.{is_some}
+use Rattle.wc_model.proofs.Common.{◌≡◌, refl, ap, sym, ◌∙◌, Bool, true, false, ℕ, List, [], ◌∷◌, ◌++◌, append_assoc, Option, None, is_some}
 use Rattle.wc_laws_instrument.specs.Changes.{HasNoChange, IsNoChange, ReportsFromTheChange, ReportsUpToTheChange, RowsAreRun, lines_at, lines_from}
-use Rattle.wc_model.specs.Instrument.Plates.{PlateData}
-use Rattle.wc_model.specs.Language.Store.{Store}
-use Rattle.wc_model.specs.Language.Tree.{Text}
-use Rattle.wc_model.specs.Run.Log.{LogOf, LogRefusal}
-use Rattle.wc_model.specs.Run.ProcessImage.{image_after}
-use Rattle.wc_model.specs.Run.Rows.{RowData, Counts, Bytes, Inputs, Scan, Change, LogRow, Past}
-use Rattle.wc_model.specs.Say.LogFor.{log_while, row_on}
-use Rattle.wc_model.specs.Say.ProgramReport.{Logic, change_logic, logic_following, programs}
-use Rattle.wc_model.specs.Say.Report.{Program, ReportLine, lines_with, report_lines, state_after, state_with}
+use Rattle.wc_model.specs.Definitions.{PlateData, Store, Text, LogOf, LogRefusal, image_after, RowData, Counts, Bytes, Inputs, Scan, Change, LogRow, Past, log_while, row_on, Logic, change_logic, logic_following, programs, Program, ReportLine, lines_with, report_lines, state_after, state_with}
 
 module _ {State : Type 0} (plate : PlateData) (program : Program State) (start : State) where
   -- the lines of a row are those of the state that the rows before it left

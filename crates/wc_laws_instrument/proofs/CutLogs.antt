@@ -1,23 +1,14 @@
 -- A log can be cut: the rows of its prelude, read by a new scale, can be put in the place of the rows before the cut.
-use Rattle.std.proofs.Common.{◌≡◌, ℕ, zero, suc, ◌+◌, ◌-◌, ◌*◌, ◌<◌, ◌≤◌, Bool, true, false, ◌&&◌, List, [], ◌∷◌, ◌++◌, length, map, refl, ap, sym, subst, ◌∙◌, arith, append_assoc, append-nil}
+use Rattle.wc_model.proofs.Common.{◌≡◌, ℕ, zero, suc, ◌+◌, ◌-◌, ◌*◌, ◌<◌, ◌≤◌, Bool, true, false, ◌&&◌, List, [], ◌∷◌, ◌++◌, length, map, refl, ap, sym, subst, ◌∙◌, arith, append_assoc, append-nil, signed_Decides, list_all, option_or, option_to_list, int_eq}
 use Rattle.std.proofs.lemmas.List.{length-append, length-drop, length-map, length-replicate}
-use Rattle.std.specs.Cmp.{signed_Decides}
-use Rattle.std.specs.List.{list_all}
-use Rattle.std.specs.Option.{option_or, option_to_list}
-use Rattle.std.specs.Ordering.{int_eq}
 use Rattle.std.specs.Prelude.{ℤ, ◌+ℤ◌, Option, Some, None, codes, option_map, replicate, if◌then◌else◌, ◌==◌}
 use Rattle.wc_laws_instrument.proofs.Preludes.{again, before_samples, state_brought, tare_history, with_samples, zero_history}
 use Rattle.wc_laws_instrument.proofs.Requests.{in_chunk, open_after_feed, open_request_after, text_completes_nothing}
 use Rattle.wc_laws_instrument.proofs.SameLines.{AreAlike, ArePastsAlike, goes_on, kept}
 use Rattle.wc_laws_instrument.proofs.SameStates.{HaveSameState}
 use Rattle.wc_laws_instrument.specs.Preludes.{BringsBack, CanBeCut, at_load, brought_by, input_rows, load_rows, moved_zero, past_after, prelude_of, request_rows, scale_state, tare_load, text_kept}
-use Rattle.wc_model.specs.Instrument.Answers.{after_requests}
-use Rattle.wc_model.specs.Instrument.Indication.{active_tare, window_of, zero_point}
-use Rattle.wc_model.specs.Instrument.Plates.{PlateData}
-use Rattle.wc_model.specs.Instrument.Requests.{carriage_return, is_text, line_feed, open_at, open_request, requests_in}
-use Rattle.wc_model.specs.Instrument.WeighingHistories.{History, Sample, SetTare, SetZero, samples}
+use Rattle.wc_model.specs.Definitions.{after_requests, active_tare, window_of, zero_point, PlateData, carriage_return, is_text, line_feed, open_at, open_request, requests_in, History, Sample, SetTare, SetZero, samples, Bytes, Counts, LogRow, Past, RowData, history_of, history_with, line_bytes, line_bytes_in}
 use Rattle.wc_model.specs.Run.ProcessImage.{inputs_of, inputs_with}
-use Rattle.wc_model.specs.Run.Rows.{Bytes, Counts, LogRow, Past, RowData, history_of, history_with, line_bytes, line_bytes_in}
 
 -- what rows leave of a history, of the line's bytes and of the inputs
 abbrev history_on : List RowData → List ℕ → History → History

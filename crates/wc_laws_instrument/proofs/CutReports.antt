@@ -6,9 +6,7 @@ use Rattle.wc_laws_instrument.proofs.CutLogs.{pasts_brought}
 use Rattle.wc_laws_instrument.proofs.SameLines.{ArePastsAlike, alike_row, answers_alike, first_of, image_alike, rest_of}
 use Rattle.wc_laws_instrument.specs.Changes.{lines_at, lines_from}
 use Rattle.wc_laws_instrument.specs.Preludes.{ReportsCanBeCut, brought_by, input_rows, load_rows, past_after, prelude_of, request_rows, scale_state, timed}
-use Rattle.wc_model.specs.Instrument.Plates.{PlateData}
-use Rattle.wc_model.specs.Run.Rows.{Bytes, Change, Counts, Inputs, LogRow, Past, RowData, Scan}
-use Rattle.wc_model.specs.Say.Report.{Program, answer_line, scan_line, state_after, state_with}
+use Rattle.wc_model.specs.Definitions.{PlateData, Bytes, Change, Counts, Inputs, LogRow, Past, RowData, Scan, Program, answer_line, scan_line, state_after, state_with}
 
 -- a row that the program does not take part in
 abbrev IsQuiet : RowData → Type 0

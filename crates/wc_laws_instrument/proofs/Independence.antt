@@ -1,12 +1,7 @@
 -- The line does not depend on scans, inputs, programs and their changes.
-use Rattle.std.proofs.Common.{◌≡◌, ℕ, List, [], ◌∷◌, ◌++◌, refl, ap, sym, ◌∙◌, append-nil}
-use Rattle.std.proofs.lemmas.List.Elements.{filter-append}
+use Rattle.wc_model.proofs.Common.{◌≡◌, ℕ, List, [], ◌∷◌, ◌++◌, refl, ap, sym, ◌∙◌, append-nil, filter-append}
 use Rattle.std.specs.Prelude.{filter, map}
-use Rattle.wc_model.specs.Instrument.WeighingHistories.{last_items}
-use Rattle.wc_model.specs.Instrument.Independence.{indicator_rows, IsFreeOfScans, IsFreeOfPrograms}
-use Rattle.wc_model.specs.Instrument.Plates.{PlateData}
-use Rattle.wc_model.specs.Say.Report.{Program, is_answer_line, is_scan_line, answer_line, lines_with, report_lines, answer_lines, report_text}
-use Rattle.wc_model.specs.Run.Rows.{RowData, Counts, Bytes, Inputs, Scan, Change, LogRow, Past, line_bytes, line_bytes_in, history_with, history_of, answer_with, answer_of_row}
+use Rattle.wc_model.specs.Definitions.{last_items, indicator_rows, IsFreeOfScans, IsFreeOfPrograms, PlateData, Program, is_answer_line, is_scan_line, answer_line, lines_with, report_lines, answer_lines, report_text, RowData, Counts, Bytes, Inputs, Scan, Change, LogRow, Past, line_bytes, line_bytes_in, history_with, history_of, answer_with, answer_of_row}
 
 -- a row adds the same bytes, whether scans, inputs and changes are there or not
 bytes_with : (number ms : ℕ) (brings : RowData) (before : Past) → line_bytes before ≡ line_bytes (indicator_rows before) →

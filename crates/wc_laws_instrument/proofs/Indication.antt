@@ -1,14 +1,8 @@
 -- What one more event does to the zero point and the tare.
-use Rattle.std.proofs.Common.{◌≡◌, ◌+◌, ◌*◌, ◌/◌, ◌<◌, Bool, true, false, not, ◌∷◌, refl, ap, ◌∙◌, arith, length}
-use Rattle.std.proofs.Math.Nat.{div-eq_of_lt}
-use Rattle.std.proofs.lemmas.Bool.{and_left, lt-leb}
-use Rattle.std.proofs.lemmas.Int.{ints}
+use Rattle.wc_model.proofs.Common.{◌≡◌, ◌+◌, ◌*◌, ◌/◌, ◌<◌, Bool, true, false, not, ◌∷◌, refl, ap, ◌∙◌, arith, length, div-eq_of_lt, and_left, lt-leb, ints, option_map_or}
 use Rattle.std.specs.Prelude.{ℤ, pos, ◌-ℤ◌, Some, None, IsSome, is_some, unwrap_or, nat_le}
-use Rattle.std.specs.Option.{option_map_or}
 use Rattle.wc_model.specs.Instrument.WeighingHistories.{Event, SetZero, SetTare, History, Moment, last_that, samples}
-use Rattle.wc_model.specs.Instrument.Indication.{zero_refusal, tare_refusal, zero_point, active_tare, from_zero, present_counts, intervals_of, is_accepted_zero, acts_on_tare, tare_left_by, is_stable, spread_of, window_of}
-use Rattle.wc_model.specs.Instrument.Plates.{PlateData}
-use Rattle.wc_model.specs.Instrument.Effects.{EffectsOf}
+use Rattle.wc_model.specs.Definitions.{zero_refusal, tare_refusal, zero_point, active_tare, from_zero, present_counts, intervals_of, is_accepted_zero, acts_on_tare, tare_left_by, is_stable, spread_of, window_of, PlateData, EffectsOf}
 
 -- the last event that passes, if the newest does
 newest_passes : (test : Moment → Bool) (event : Event) (before : History) → test (record { event = event; before = before }) ≡ true →

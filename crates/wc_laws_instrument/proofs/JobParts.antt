@@ -1,10 +1,8 @@
 -- The parts of a job, joined, are its bytes.
 use Rattle.std.proofs.Common.{◌≡◌, ◌==◌, ℕ, Bool, true, false, codes, List, [], ◌∷◌, ◌++◌, length, Option, Some, None, Result, Ok, Err, if◌then◌else◌, refl, sym, ap, subst, ◌∙◌, append_assoc}
-use Rattle.std.proofs.lemmas.Bool.{eqb-true}
+use Rattle.wc_model.proofs.Common.{nat_lt, eqb-true, concat}
 use Rattle.std.proofs.lemmas.List.{append-nil}
-use Rattle.std.specs.List.{concat}
-use Rattle.std.specs.Prelude.{nat_lt}
-use Rattle.wc_laws_instrument.specs.Jobs.{IsMadeOf, IsNextPart, JobIsItsSections}
+use Rattle.wc_laws_instrument.specs.Logs.{IsMadeOf, IsNextPart, JobIsItsSections}
 use Rattle.wc_model.specs.Run.JobSections.{Parted, Sections, is_heading, longest_job, onto_first_line, part_at, sections_in, sections_or_refusal, sections_with_log, sections_with_next, sections_with_program, whole_lines, with_line}
 
 -- a byte before the first line precedes all

@@ -1,8 +1,6 @@
 -- The last items of a list, and what one more does to them.
-use Rattle.std.proofs.Common.{◌≡◌, ℕ, zero, suc, ◌+◌, ◌-◌, ◌<◌, ◌≤◌, inl, inr, List, [], ◌∷◌, ◌++◌, length, drop, refl, ap, sym, ◌∙◌, arith}
-use Rattle.std.proofs.lemmas.Bool.{cases_lt, le-leb, lt-leb}
+use Rattle.wc_model.proofs.Common.{◌≡◌, ℕ, zero, suc, ◌+◌, ◌-◌, ◌<◌, ◌≤◌, inl, inr, List, [], ◌∷◌, ◌++◌, length, drop, refl, ap, sym, ◌∙◌, arith, cases_lt, le-leb, lt-leb, last_or}
 use Rattle.std.proofs.lemmas.List.{drop-append-le, drop-drop, length-drop, length-append}
-use Rattle.std.specs.List.{last_or}
 use Rattle.std.specs.Prelude.{ℤ, Option, Some, None, nat_le}
 use Rattle.wc_model.specs.Instrument.WeighingHistories.{last_items}
 

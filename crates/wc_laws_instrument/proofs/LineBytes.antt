@@ -3,8 +3,7 @@ use Rattle.std.proofs.Common.{nat_lt, lit<, ◌≡◌, ℕ, zero, suc, ◌+◌, 
 use Rattle.std.specs.Prelude.{codes, decimal, ℤ, pos, negsuc}
 use Rattle.std.specs.Char.{digit_char}
 use Rattle.std.specs.Fmt.{digits, digits_onto, digit_glyph, signed_decimal}
-use Rattle.wc_model.specs.Run.Hex.{hex_of_bytes, hex_of_word}
-use Rattle.wc_model.specs.Say.Report.{ReportLine, ScanLine, AnswerLine, line_text, spaced_numbers}
+use Rattle.wc_model.specs.Definitions.{hex_of_bytes, hex_of_word, ReportLine, ScanLine, AnswerLine, line_text, spaced_numbers}
 
 -- each byte is above a line feed
 abbrev pub AreAboveLineFeed : List ℕ → Type 0

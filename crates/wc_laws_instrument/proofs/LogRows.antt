@@ -1,18 +1,9 @@
 -- The rows of a log are in order, and what they bring is in its range.
 use Rattle.std.proofs.Common.{◌≡◌, ◌==◌, ℕ, suc, ◌≤◌, ◌<◌, ◌^◌, ◌+◌, ◌*◌, Bool, true, false, ◌&&◌, List, [], ◌∷◌, codes, length, Option, Some, None, Result, Ok, Err, if◌then◌else◌, refl, subst, arith}
-use Rattle.std.proofs.lemmas.Bool.{and_parts, leb-true, eqb-true}
-use Rattle.std.proofs.lemmas.Bool.Decides.{nat_tests}
-use Rattle.std.proofs.lemmas.Int.{ints}
-use Rattle.std.proofs.lemmas.Int.Digits.{number_lt}
-use Rattle.std.specs.Char.{digit_value, is_digit}
-use Rattle.std.specs.Int.Digits.{AllBelowBase, number_from_digits}
+use Rattle.wc_model.proofs.Common.{and_parts, leb-true, eqb-true, nat_tests, ints, number_lt, digit_value, is_digit, AllBelowBase, number_from_digits, bytes_eq}
 use Rattle.std.specs.Prelude.{ℤ, int_le, nat_le, nat_lt, option_map}
-use Rattle.std.specs.Str.{bytes_eq}
 use Rattle.wc_laws_instrument.specs.Logs.{IsDataInRange, AreInOrder, RowsAreInOrder}
-use Rattle.wc_model.specs.Instrument.Plates.{least_sample, greatest_sample}
-use Rattle.wc_model.specs.Run.Hex.{byte_of_digits, bytes_of_hex, with_byte}
-use Rattle.wc_model.specs.Run.Log.{Record, brings_or, counts_of, first_row, greatest_moment, has_fields, inputs_word_of, is_in_order, last_moment, line_chunk_of, log_after, log_with, longest_chunk, moment_of, most_rows, number_within, row_at, row_data_of, row_from, row_of, row_of_fields, scan_of_data, where_passes, whole_of, change_of_data}
-use Rattle.wc_model.specs.Run.Rows.{RowData, Counts, Bytes, Inputs, Scan, Change, LogRow}
+use Rattle.wc_model.specs.Definitions.{least_sample, greatest_sample, byte_of_digits, bytes_of_hex, with_byte, Record, brings_or, counts_of, first_row, greatest_moment, has_fields, inputs_word_of, is_in_order, last_moment, line_chunk_of, log_after, log_with, longest_chunk, moment_of, most_rows, number_within, row_at, row_data_of, row_from, row_of, row_of_fields, scan_of_data, where_passes, whole_of, change_of_data, RowData, Counts, Bytes, Inputs, Scan, Change, LogRow}
 
 -- what passes a test
 passes : {A : Type 0} (test : A → Bool) (o : Option A) (value : A) → where_passes test o ≡ Some value → (o ≡ Some value) × (test value ≡ true)

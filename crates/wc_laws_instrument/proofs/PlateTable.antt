@@ -1,14 +1,9 @@
 -- A table that is accepted gives a plate in its ranges.
-use Rattle.std.proofs.Common.{◌≡◌, ℕ, suc, ◌+◌, ◌*◌, ◌/◌, ◌%◌, ◌^◌, ◌≤◌, inl, inr, Bool, true, false, cond, not, ◌&&◌, List, [], ◌∷◌, refl, ap, sym, subst, ◌∙◌, arith}
-use Rattle.std.proofs.Math.Nat.{div-add-mod, mul_comm}
+use Rattle.wc_model.proofs.Common.{◌≡◌, ℕ, suc, ◌+◌, ◌*◌, ◌/◌, ◌%◌, ◌^◌, ◌≤◌, inl, inr, Bool, true, false, cond, not, ◌&&◌, List, [], ◌∷◌, refl, ap, sym, subst, ◌∙◌, arith, div-add-mod, mul_comm, ints, list_any, bytes_eq}
 use Rattle.std.proofs.lemmas.Bool.{and_parts, or_cases, true≢false, leb-true}
-use Rattle.std.proofs.lemmas.Int.{ints}
 use Rattle.std.specs.Prelude.{ℤ, pos, negsuc, neg_ℤ, ◌≤ℤ◌, ◌*ℤ◌, int_le, int_div, int_rem, unsigned_abs, Option, Some, None, Ok, find, codes, Contains}
-use Rattle.std.specs.List.{list_any}
 use borrow.Author.Differences.{neg_is}
-use Rattle.std.specs.Str.{bytes_eq}
-use Rattle.wc_model.specs.Instrument.Plates.{PlateData, IsPlate, grams, kilograms, tonnes, grams_of, allowed_intervals, least_sample, greatest_sample}
-use Rattle.wc_model.specs.Instrument.PlateTable.{Table, Written, written_of, line_unit, is_between, is_interval, is_count, rules_after_unit, plate_from, unless_broken, validated, plate_of_written, plate_of}
+use Rattle.wc_model.specs.Definitions.{PlateData, IsPlate, grams, kilograms, tonnes, grams_of, allowed_intervals, least_sample, greatest_sample, Table, Written, written_of, line_unit, is_between, is_interval, is_count, rules_after_unit, plate_from, unless_broken, validated, plate_of_written, plate_of}
 
 -- if no rule is broken, each holds
 each_holds : (a b c d e : Bool) →

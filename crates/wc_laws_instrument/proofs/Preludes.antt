@@ -1,16 +1,11 @@
 -- The rows of a prelude leave the state of which it is the prelude.
-use Rattle.std.proofs.Common.{◌≡◌, ℕ, zero, suc, ◌+◌, ◌-◌, ◌*◌, ◌<◌, ◌≤◌, inl, inr, Bool, true, false, ◌&&◌, List, [], ◌∷◌, ◌++◌, length, drop, refl, ap, sym, subst, ◌∙◌, arith, append_assoc, append-nil}
-use Rattle.std.proofs.lemmas.Bool.{cases_lt, le-leb}
-use Rattle.std.proofs.lemmas.Int.{ints}
+use Rattle.wc_model.proofs.Common.{◌≡◌, ℕ, zero, suc, ◌+◌, ◌-◌, ◌*◌, ◌<◌, ◌≤◌, inl, inr, Bool, true, false, ◌&&◌, List, [], ◌∷◌, ◌++◌, length, drop, refl, ap, sym, subst, ◌∙◌, arith, append_assoc, append-nil, cases_lt, le-leb, ints, int_max, int_min}
 use Rattle.std.proofs.lemmas.List.{drop_at, length-append, length-drop, length-replicate, replicate_more}
 use Rattle.std.specs.Prelude.{ℤ, pos, ◌+ℤ◌, ◌-ℤ◌, int_le, int_lt, unsigned_abs, nat_le, replicate, fold, Option, Some, None, is_some, unwrap_or, if◌then◌else◌}
-use Rattle.std.specs.Int.{int_max, int_min}
 use Rattle.wc_laws_instrument.proofs.Indication.{zero_new, zero_same, tare_ended, tare_same_at_zero, tare_new, tare_same, too_few_samples}
 use Rattle.wc_laws_instrument.proofs.LastItems.{last_of}
 use Rattle.wc_laws_instrument.proofs.SameStates.{HaveSameState}
-use Rattle.wc_model.specs.Instrument.Indication.{CommandRefusal, active_tare, can_be_tared, from_zero, intervals_of, is_near_zero, is_stable, present_counts, refused_unless, spread_of, tare_refusal, window_of, zero_point, zero_refusal}
-use Rattle.wc_model.specs.Instrument.Plates.{PlateData}
-use Rattle.wc_model.specs.Instrument.WeighingHistories.{ClearTare, History, Sample, SetTare, SetZero, last_items, last_sample, samples}
+use Rattle.wc_model.specs.Definitions.{CommandRefusal, active_tare, can_be_tared, from_zero, intervals_of, is_near_zero, is_stable, present_counts, refused_unless, spread_of, tare_refusal, window_of, zero_point, zero_refusal, PlateData, ClearTare, History, Sample, SetTare, SetZero, last_items, last_sample, samples}
 
 -- the same sample n times, newest first
 abbrev pub again : ℕ → ℤ → History → History

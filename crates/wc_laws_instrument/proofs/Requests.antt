@@ -1,12 +1,8 @@
 -- A stream that is cut anywhere has the same requests.
-use Rattle.std.proofs.Common.{◌≡◌, ℕ, Bool, true, false, cond, ◌&&◌, List, [], ◌∷◌, ◌++◌, length, drop, refl, ap, sym, ◌∙◌, append_assoc, append-nil}
+use Rattle.wc_model.proofs.Common.{◌≡◌, ℕ, Bool, true, false, cond, ◌&&◌, List, [], ◌∷◌, ◌++◌, length, drop, refl, ap, sym, ◌∙◌, append_assoc, append-nil, inl, inr, drop-append_seam, cons_option, list_all, concat, option_or, option_to_list}
 use Rattle.std.proofs.Math.Numerals.{one-add}
-use Rattle.std.proofs.Math.Seq.{drop-append_seam}
 use Rattle.std.proofs.lemmas.Bool.{and_parts, and_cases, cases_Bool, both_ways, true≢false, or_parts, or_left, or_right, not-true, not_from_true, false_from_ne_true, cond-false, cond-true}
 use Rattle.std.specs.Prelude.{take_while, Option, Some, None, option_map, ◌==◌, ◌||◌}
-use Rattle.std.proofs.Common.{inl, inr}
-use Rattle.std.specs.List.{cons_option, list_all, concat}
-use Rattle.std.specs.Option.{option_or, option_to_list}
 use Rattle.wc_model.specs.Instrument.Requests.{line_feed, carriage_return, escape, is_text, begins_with, request_at, requests, requests_in, open_at, open_request, completed_by, opened_by, requests_in_chunks, IsCutAnywhere}
 
 module _ (p : ℕ → Bool) where

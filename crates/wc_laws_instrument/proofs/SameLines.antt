@@ -1,19 +1,13 @@
 -- Two lines whose open requests begin alike, with histories with the same state, answer alike whatever comes.
-use Rattle.std.proofs.Common.{◌≡◌, ℕ, ◌<◌, Bool, true, false, ◌&&◌, List, [], ◌∷◌, ◌++◌, refl, ap, sym, subst, ◌∙◌, append_assoc, append-nil}
-use Rattle.std.proofs.lemmas.List.{map-append}
-use Rattle.std.specs.Option.{option_to_list}
+use Rattle.wc_model.proofs.Common.{◌≡◌, ℕ, ◌<◌, Bool, true, false, ◌&&◌, List, [], ◌∷◌, ◌++◌, refl, ap, sym, subst, ◌∙◌, append_assoc, append-nil, map-append, option_to_list}
 use Rattle.std.specs.Prelude.{Option, Some, None, map, option_map, is_some, ◌==◌, if◌then◌else◌}
 use Rattle.wc_laws_instrument.proofs.Requests.{completed, in_chunk, open_request_after}
 use Rattle.wc_laws_instrument.proofs.SameStates.{HaveSameState, same_after, same_answer, same_image, same_readings, same_tare_refusal, same_zero_refusal}
 use Rattle.wc_laws_instrument.specs.Preludes.{GoesOnAlike, past_after, text_kept, timed}
 use Rattle.wc_model.specs.Instrument.Answers as line_answers
 use Rattle.wc_model.specs.Instrument.Answers.{AskTare, AskWeight, Clear, Command, Plain, Shown, TakeTare, TareRefused, Unknown, Zero, ZeroRefused, after_command, after_requests, answer_to, answers_to, command_of}
-use Rattle.wc_model.specs.Instrument.Plates.{PlateData}
-use Rattle.wc_model.specs.Instrument.Requests.{carriage_return, completed_by, is_text, line_feed, open_request, opened_by, requests_in}
-use Rattle.wc_model.specs.Instrument.WeighingHistories.{ClearTare, History, Sample, SetTare, SetZero}
+use Rattle.wc_model.specs.Definitions.{PlateData, carriage_return, completed_by, is_text, line_feed, open_request, opened_by, requests_in, ClearTare, History, Sample, SetTare, SetZero, Bytes, Change, Counts, Inputs, LogRow, Past, RowData, Scan, answer_with, answers_after, history_of, history_with, line_bytes, line_bytes_in, answer_line, answer_lines}
 use Rattle.wc_model.specs.Run.ProcessImage.{image_after, inputs_of, inputs_with}
-use Rattle.wc_model.specs.Run.Rows.{Bytes, Change, Counts, Inputs, LogRow, Past, RowData, Scan, answer_with, answers_after, history_of, history_with, line_bytes, line_bytes_in}
-use Rattle.wc_model.specs.Say.Report.{answer_line, answer_lines}
 
 -- no test of a text of two bytes or more against one of a single byte passes
 never : (b : Bool) → (b && false) ≡ false

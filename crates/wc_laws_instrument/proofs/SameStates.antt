@@ -1,15 +1,11 @@
 -- Two histories with the same zero point, tare and last samples have the same readings, now and after whatever comes.
-use Rattle.std.proofs.Common.{◌≡◌, ℕ, zero, ◌+◌, ◌-◌, ◌*◌, ◌<◌, not, ◌&&◌, [], ◌∷◌, ◌++◌, length, refl, ap, sym, ◌∙◌}
-use Rattle.std.specs.List.{last_or}
+use Rattle.wc_model.proofs.Common.{◌≡◌, ℕ, zero, ◌+◌, ◌-◌, ◌*◌, ◌<◌, not, ◌&&◌, [], ◌∷◌, ◌++◌, length, refl, ap, sym, ◌∙◌, last_or}
 use Rattle.std.specs.Prelude.{ℤ, pos, negsuc, ◌-ℤ◌, ◌*ℤ◌, int_le, int_lt, unsigned_abs, nat_le, ◌||◌, Option, Some, None, is_some, unwrap_or, if◌then◌else◌, codes}
 use Rattle.wc_laws_instrument.proofs.Indication.{zero_new, zero_same, tare_ended, tare_same_at_zero, tare_new, tare_same}
 use Rattle.wc_laws_instrument.proofs.LastItems.{full_window, last_of_window, one_more}
 use Rattle.wc_laws_instrument.specs.Preludes.{HaveSameReadings}
 use Rattle.wc_model.specs.Instrument.Answers.{Asked, Mode, Plain, Shown, Tare, TareRefused, ZeroRefused, answer, mode_byte, scale_status, status_byte, weight_asked, weight_text}
-use Rattle.wc_model.specs.Instrument.Indication.{CommandRefusal, active_tare, from_zero, gross, gross_intervals, has_sample, in_units, intervals_of, is_centre_of_zero, is_over, is_stable, is_tare_active, is_under, is_valid, net, net_intervals, present_counts, refused_unless, shown, spread_of, tare_counts, tare_refusal, tare_value, window_of, zero_point, zero_refusal}
-use Rattle.wc_model.specs.Instrument.Plates.{PlateData}
-use Rattle.wc_model.specs.Run.ProcessImage.{image_with, number_of_bits}
-use Rattle.wc_model.specs.Instrument.WeighingHistories.{ClearTare, Event, History, Sample, SetTare, SetZero, last_items, last_sample, samples}
+use Rattle.wc_model.specs.Definitions.{CommandRefusal, active_tare, from_zero, gross, gross_intervals, has_sample, in_units, intervals_of, is_centre_of_zero, is_over, is_stable, is_tare_active, is_under, is_valid, net, net_intervals, present_counts, refused_unless, shown, spread_of, tare_counts, tare_refusal, tare_value, window_of, zero_point, zero_refusal, PlateData, image_with, number_of_bits, ClearTare, Event, History, Sample, SetTare, SetZero, last_items, last_sample, samples}
 
 -- what all readings depend on
 pub record HaveSameState (p : PlateData) (history other : History) : Type 0 where

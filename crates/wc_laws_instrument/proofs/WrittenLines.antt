@@ -1,15 +1,9 @@
 -- The lines of scans can be taken out of the bytes of a report, and those of the line are left.
 use Rattle.std.proofs.Common.{◌≡◌, ℕ, zero, suc, ◌-◌, drop, length, ◌==◌, false, not, if◌then◌else◌, List, [], ◌∷◌, ◌++◌, refl, ap, sym, ◌∙◌, arith, append_assoc, append-nil}
-use Rattle.std.proofs.lemmas.Bool.{ne_eqb}
-use Rattle.std.proofs.lemmas.List.Elements.{filter-append}
+use Rattle.wc_model.proofs.Common.{ne_eqb, filter-append, concat, flat_map-append}
 use Rattle.std.specs.Prelude.{filter, map}
-use Rattle.std.specs.List.{concat}
-use Rattle.std.proofs.lemmas.Grind.{flat_map-append}
-use Rattle.wc_model.specs.Instrument.Plates.{PlateData}
-use Rattle.wc_model.specs.Run.JobSections.{onto_first_line, whole_lines}
-use Rattle.wc_model.specs.Run.Rows.{LogRow, Past, answer_of_row}
-use Rattle.wc_model.specs.Say.Report.{ReportLine, ScanLine, AnswerLine, Program, answer_line, answer_lines, is_answer_line, is_scan_line, line_report, line_text, report_lines, report_text}
-use Rattle.wc_laws_instrument.specs.WrittenLines.{ScanLinesComeOut, begins_with_s, without_scan_lines}
+use Rattle.wc_model.specs.Definitions.{PlateData, onto_first_line, whole_lines, LogRow, Past, answer_of_row, ReportLine, ScanLine, AnswerLine, Program, answer_line, answer_lines, is_answer_line, is_scan_line, line_report, line_text, report_lines, report_text}
+use Rattle.wc_laws_instrument.specs.Logs.{ScanLinesComeOut, begins_with_s, without_scan_lines}
 use Rattle.wc_laws_instrument.proofs.Independence.{answers_kept, is_free_of_programs}
 use Rattle.wc_laws_instrument.proofs.LineBytes.{AreAboveLineFeed, body_above, body_of, line_is}
 

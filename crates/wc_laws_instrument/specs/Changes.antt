@@ -1,16 +1,7 @@
 -- A report over a change of the program: up to it that of the old program alone, and from it that of the new one from what is
 -- carried over. (The profile's own.)
 use Rattle.std.specs.Prelude.{◌≡◌, ⊤, List, [], ◌∷◌, ◌++◌, Option, Some, None}
-use Rattle.wc_model.specs.Instrument.Plates.{PlateData}
-use Rattle.wc_model.specs.Language.Carried.{carried}
-use Rattle.wc_model.specs.Language.Store.{Store}
-use Rattle.wc_model.specs.Language.Tree.{Text}
-use Rattle.wc_model.specs.Run.Log.{LogOf}
-use Rattle.wc_model.specs.Run.ProcessImage.{image_after}
-use Rattle.wc_model.specs.Run.Rows.{RowData, Counts, Bytes, Inputs, Scan, Change, LogRow, Past, answer_of_row}
-use Rattle.wc_model.specs.Say.LogFor.{AreRun, log_for}
-use Rattle.wc_model.specs.Say.ProgramReport.{Logic, logic_following, programs}
-use Rattle.wc_model.specs.Say.Report.{Program, ReportLine, answer_line, report_lines, scan_line, state_with}
+use Rattle.wc_model.specs.Definitions.{PlateData, carried, Store, Text, LogOf, image_after, RowData, Counts, Bytes, Inputs, Scan, Change, LogRow, Past, answer_of_row, AreRun, log_for, Logic, logic_following, programs, Program, ReportLine, answer_line, report_lines, scan_line, state_with}
 
 -- a row that changes no program
 abbrev pub IsNoChange : RowData → Type 0

@@ -4,13 +4,8 @@ use Rattle.std.specs.Ordering.{int_eq}
 use Rattle.std.specs.Prelude.{◌≡◌, ℕ, zero, suc, ◌+◌, ◌*◌, ◌≤◌, List, [], ◌∷◌, ◌++◌, length, map, replicate, codes, ℤ, ◌+ℤ◌, Option, Some, None, option_map, if◌then◌else◌}
 use Rattle.wc_laws_instrument.specs.Changes.{lines_from}
 use Rattle.wc_model.specs.Instrument.Answers.{Asked, Mode, answer}
-use Rattle.wc_model.specs.Instrument.Indication.{active_tare, gross, has_sample, is_centre_of_zero, is_over, is_stable, is_tare_active, is_under, is_valid, net, shown, tare_refusal, tare_value, window_of, zero_point, zero_refusal}
-use Rattle.wc_model.specs.Instrument.Plates.{PlateData}
-use Rattle.wc_model.specs.Instrument.Requests.{carriage_return, line_feed, open_request}
-use Rattle.wc_model.specs.Instrument.WeighingHistories.{History}
+use Rattle.wc_model.specs.Definitions.{active_tare, gross, has_sample, is_centre_of_zero, is_over, is_stable, is_tare_active, is_under, is_valid, net, shown, tare_refusal, tare_value, window_of, zero_point, zero_refusal, PlateData, carriage_return, line_feed, open_request, History, Bytes, Counts, Inputs, LogRow, Past, RowData, answers_after, history_of, line_bytes, Program, answer_lines, report_lines, state_after}
 use Rattle.wc_model.specs.Run.ProcessImage.{image_after, inputs_of}
-use Rattle.wc_model.specs.Run.Rows.{Bytes, Counts, Inputs, LogRow, Past, RowData, answers_after, history_of, line_bytes}
-use Rattle.wc_model.specs.Say.Report.{Program, answer_lines, report_lines, state_after}
 
 -- All that the answers and images to come depend on: the load at which zero was set, unless it is the calibrated zero, the load
 -- at which the tare was taken, if one is active, the last samples, the open request's text as far as it matters, and the inputs.

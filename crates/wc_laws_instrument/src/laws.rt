@@ -3,22 +3,10 @@
 ghost use Rattle.std.specs.Prelude.{◌≡◌, ◌∷◌, ◌++◌, ℕ, ◌<◌, ℤ, List, length, Option, true, IsFalse};
 ghost use Rattle.std.specs.List.{list_all};
 ghost use Rattle.wc_laws_instrument.specs.Changes.{ReportsFromTheChange, ReportsUpToTheChange, RowsAreRun};
-ghost use Rattle.wc_laws_instrument.specs.Jobs.{JobIsItsSections};
-ghost use Rattle.wc_laws_instrument.specs.Logs.{RowsAreInOrder};
+ghost use Rattle.wc_laws_instrument.specs.Logs.{JobIsItsSections, RowsAreInOrder, ScanLinesComeOut};
 ghost use Rattle.wc_laws_instrument.specs.Preludes.{CanBeCut, ReportsCanBeCut};
-ghost use Rattle.wc_laws_instrument.specs.WrittenLines.{ScanLinesComeOut};
 ghost use Rattle.wc_model.specs.Instrument.Answers.{Asked, Mode, answer};
-ghost use Rattle.wc_model.specs.Instrument.Effects.{EffectsOf};
-ghost use Rattle.wc_model.specs.Instrument.WeighingHistories.{History, samples};
-ghost use Rattle.wc_model.specs.Instrument.Independence.{IsFreeOfScans, IsFreeOfPrograms};
-ghost use Rattle.wc_model.specs.Instrument.Indication.{is_stable};
-ghost use Rattle.wc_model.specs.Run.Log.{Record, row_of};
-ghost use Rattle.wc_model.specs.Instrument.Plates.{PlateData, IsPlate};
-ghost use Rattle.wc_model.specs.Instrument.PlateTable.{Table, plate_of};
-ghost use Rattle.wc_model.specs.Say.Report.{Program};
-ghost use Rattle.wc_model.specs.Instrument.Requests.{IsCutAnywhere, carriage_return, is_text, line_feed, requests, requests_in};
-ghost use Rattle.wc_model.specs.Instrument.Rounding.{HasOneNearest};
-ghost use Rattle.wc_model.specs.Run.Rows.{LogRow, Past};
+ghost use Rattle.wc_model.specs.Definitions.{EffectsOf, History, samples, IsFreeOfScans, IsFreeOfPrograms, is_stable, Record, row_of, PlateData, IsPlate, Table, plate_of, Program, IsCutAnywhere, carriage_return, is_text, line_feed, requests, requests_in, HasOneNearest, LogRow, Past};
 
 /// Exactly one whole number is nearest to a quotient by a positive span, and it is the one that is computed.
 pub fn one_number_is_nearest()

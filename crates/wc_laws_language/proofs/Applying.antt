@@ -1,13 +1,7 @@
 -- Operators on values of the kinds that they take.
 use Rattle.std.proofs.Common.{◌≡◌, zero, suc, Bool, true, false, not, ◌&&◌, ◌||◌, Some, Result, Ok, ℤ, pos, negsuc, ◌+ℤ◌, ◌-ℤ◌, ◌*ℤ◌, refl}
 use Rattle.std.specs.Prelude.{int_lt, int_le, int_div}
-use Rattle.wc_model.specs.Language.BodyRules.{takes, divides, is_divisor}
-use Rattle.wc_model.specs.Language.Kinds.{kind_after_operator}
-use Rattle.wc_model.specs.Language.Operators.{apply, differ, same_number}
-use Rattle.wc_model.specs.Language.Reasons.{Reason}
-use Rattle.wc_model.specs.Language.Scopes.{kind_of}
-use Rattle.wc_model.specs.Language.Tree.{Constant}
-use Rattle.wc_model.specs.Language.Values.{wrap}
+use Rattle.wc_model.specs.Definitions.{takes, divides, is_divisor, kind_after_operator, apply, differ, same_number, Reason, kind_of, Constant, wrap}
 use Rattle.wc_model.specs.declared.kind.Kind.{Kind}
 use Rattle.wc_model.specs.declared.kind.Kind.TheVariants.{Bool as KindBool, Dint as KindDint, Time as KindTime}
 use Rattle.wc_model.specs.declared.operator.Operator.{Operator}

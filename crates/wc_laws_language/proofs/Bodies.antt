@@ -1,17 +1,6 @@
 -- A body that breaks no rule ends well.
-use Rattle.std.proofs.Common.{◌≡◌, ℕ, Bool, true, false, not, ◌||◌, List, [], ◌∷◌, ◌++◌, Option, Some, None, Result, Ok, Err, refl, sym, ap, subst, ◌∙◌, inl, inr, ⊎_elim}
-use Rattle.std.specs.List.{list_all}
-use Rattle.std.specs.Prelude.{if◌then◌else◌}
-use Rattle.wc_model.specs.Language.BodyRules.{takes, divides, is_ahead, step_rules, opening_operand_checks, is_no_instance, opening_checks, closing_checks, inside_rules, result_checks}
-use Rattle.wc_model.specs.Language.Checks.{Check, asks}
-use Rattle.wc_model.specs.Language.Kinds.{same_result, term_kind, kind_after_operator, kind_after_step, BodyLine, PlainLine, label_of, kind_after, leaves, jumps_to, Known, kinds_from_jumps, kinds_from_label, kinds_from_above, edges_in, agreed, known_kinds, kind_at, opening_kind, kind_following}
-use Rattle.wc_model.specs.Language.Meaning.{Outcome, Done, Stuck, Mode, Running, Seeking, Returned, Effect, Goes, Fails, Context, arriving, carries, after, continued, step_effect, closed, opened, nested_effect, means}
-use Rattle.wc_model.specs.Language.Names.{Name}
-use Rattle.wc_model.specs.Language.Operators.{apply}
-use Rattle.wc_model.specs.Language.Reasons.{Reason}
-use Rattle.wc_model.specs.Language.Scopes.{Scope, kind_of}
-use Rattle.wc_model.specs.Language.Store.{Store}
-use Rattle.wc_model.specs.Language.Traces.{At}
+use Rattle.wc_model.proofs.Common.{◌≡◌, ℕ, Bool, true, false, not, ◌||◌, List, [], ◌∷◌, ◌++◌, Option, Some, None, Result, Ok, Err, refl, sym, ap, subst, ◌∙◌, inl, inr, ⊎_elim, if◌then◌else◌, list_all}
+use Rattle.wc_model.specs.Definitions.{takes, divides, is_ahead, step_rules, opening_operand_checks, is_no_instance, opening_checks, closing_checks, inside_rules, result_checks, Check, asks, same_result, term_kind, kind_after_operator, kind_after_step, BodyLine, PlainLine, label_of, kind_after, leaves, jumps_to, Known, kinds_from_jumps, kinds_from_label, kinds_from_above, edges_in, agreed, known_kinds, kind_at, opening_kind, kind_following, Outcome, Done, Stuck, Mode, Running, Seeking, Returned, Effect, Goes, Fails, Context, arriving, carries, after, continued, step_effect, closed, opened, nested_effect, means, Name, apply, Reason, Scope, kind_of, Store, At}
 use Rattle.wc_model.specs.Language.Tree.{Word, Term, Step, Load, Store as StoreStep, Apply, Negate, Jump, Call, Return, Lines, End, Alone, Plain, Nested}
 use Rattle.wc_model.specs.declared.kind.Kind.{Kind}
 use Rattle.wc_model.specs.declared.operator.Operator.{Operator}
@@ -23,8 +12,7 @@ use Rattle.wc_laws_language.proofs.Entities.{term_read}
 use Rattle.wc_laws_language.proofs.Places.{SameSlots-refl, SameSlots-trans, FitsScope-same}
 use Rattle.wc_laws_language.proofs.Steps.{clean_first, clean_second, some_of, is_kind-sound, value_goes, load_goes, store_result_goes, store_truth_goes, apply_goes, not_goes, jump_goes, return_goes}
 use Rattle.wc_laws_language.proofs.Tests.{both-true, same_name-sound}
-use Rattle.wc_laws_language.specs.Sound.{Clean, Agrees, GoesWell, EndsWell, step_jumps_to, step_returns, LeadsTo, IsAmong, ModeFits, ArrivedFits, InsideMode, CallsEndWell, is_simple, IsSimple}
-use Rattle.wc_laws_language.specs.Typing.{SameSlots, FitsScope}
+use Rattle.wc_laws_language.specs.{Clean, Agrees, GoesWell, EndsWell, step_jumps_to, step_returns, LeadsTo, IsAmong, ModeFits, ArrivedFits, InsideMode, CallsEndWell, is_simple, IsSimple, SameSlots, FitsScope}
 
 -- each step
 pub step_goes : (here : Context) (store : Store) → FitsScope store here.instance here.scope → CallsEndWell here.scope.before here.calls → (line : ℕ) (step : Step) (following : List BodyLine) (kind : Option Kind) (result : Option Value) → Agrees kind result → Clean (step_rules here.scope line step following kind) → GoesWell (LeadsTo here.scope step following kind) store (step_effect here line step result store)

@@ -1,14 +1,9 @@
 -- The rules on names and declarations of units do not look into bodies: with the lists of calls changed they are the same.
 use Rattle.std.proofs.Common.{◌≡◌, Bool, true, false, not, ◌||◌, ◌&&◌, List, [], ◌∷◌, ◌++◌, map, length, Option, Some, None, is_some, refl, ap}
-use Rattle.std.specs.List.{flat_map}
-use Rattle.std.specs.Prelude.{if◌then◌else◌}
-use Rattle.wc_model.specs.Language.Checks.{Check, asks, positions_of}
+use Rattle.wc_model.proofs.Common.{if◌then◌else◌, flat_map}
+use Rattle.wc_model.specs.Definitions.{Check, asks, positions_of, Block, Elementary, Standard, VariableType, block_named, block_type, elementary_types, is_block, named_in, same_name, standard_blocks, standard_type, type_named, variables_of, Name, Content, below, block_places, variable_places, Declaration, ProgramUnit, Text}
 use Rattle.wc_model.specs.Language.DeclarationRules.{Taken, and_more, declaration_checks, is_among, is_new, may_occur, names_are_new, names_block_of, names_declared, not_reserved, places_of_type, capacity_checks, suits_type, taken_at_first, taken_by, type_words, unit_declaration_checks}
-use Rattle.wc_model.specs.Language.Declarations.{Block, Elementary, Standard, VariableType, block_named, block_type, elementary_types, is_block, named_in, same_name, standard_blocks, standard_type, type_named, variables_of}
-use Rattle.wc_model.specs.Language.Names.{Name}
-use Rattle.wc_model.specs.Language.Store.{Content, below, block_places, variable_places}
-use Rattle.wc_model.specs.Language.Tree.{Declaration, ProgramUnit, Text}
-use Rattle.wc_laws_language.specs.OutputsRemoved.{ListChange, text_with, unit_with}
+use Rattle.wc_laws_language.specs.DeclarationLaws.{ListChange, text_with, unit_with}
 
 -- a block of that name in the whole text
 same_blocks_of : (change : ListChange) (text : Text) (name : Name) → names_block_of (text_with change text) name ≡ names_block_of text name

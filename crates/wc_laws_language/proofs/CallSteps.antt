@@ -1,18 +1,7 @@
 -- A call that breaks no rule goes well.
-use Rattle.std.proofs.Common.{◌≡◌, ℕ, Bool, true, false, not, ◌&&◌, ◌||◌, List, [], ◌∷◌, ◌++◌, map, Option, Some, None, Result, Ok, Err, append_assoc, refl, sym, ap, subst, ◌∙◌, inl, inr, ⊎_elim}
-use Rattle.std.specs.List.{flat_map}
-use Rattle.std.specs.Prelude.{if◌then◌else◌, is_some}
-use Rattle.wc_model.specs.Language.BodyRules.{is_readable, is_writable, is_of, is_bit_literal, input_named, output_named, formal_named, suits_input, suits_output, actual_checks, argument_checks, members_called, call_checks, condition_checks, is_instance}
+use Rattle.wc_model.proofs.Common.{◌≡◌, ℕ, Bool, true, false, not, ◌&&◌, ◌||◌, List, [], ◌∷◌, ◌++◌, map, Option, Some, None, Result, Ok, Err, append_assoc, refl, sym, ap, subst, ◌∙◌, inl, inr, ⊎_elim, if◌then◌else◌, is_some, flat_map}
+use Rattle.wc_model.specs.Definitions.{is_readable, is_writable, is_of, is_bit_literal, input_named, output_named, formal_named, suits_input, suits_output, actual_checks, argument_checks, members_called, call_checks, condition_checks, is_instance, Variable, VariableType, Elementary, Standard, Block, Member, type_named, variable_named, members_of, member_named, block_named, named_in, elementary_types, standard_blocks, standard_type, block_type, BodyLine, is_kind, elementary_kind, term_kind, Outcome, Done, Stuck, Mode, Running, Goes, Fails, Context, value_of, input_kind, argument_term, assigned_input, assigned_one, assigned, given_one, given_out, written_to, call_trace, body_outcome, made, called_type, call_effect, step_effect, Name, Reason, NoSuchPlace, Scope, Entity, kind_of, type_of, entity_of, member_entity, is_input, is_result, Path, Content, Store, written, unit_places, variable_places, block_places, At, StandardBody, Called, Term, Field, Assignment, inputs_of, outputs_of, Call, ProgramUnit}
 use Rattle.wc_model.specs.Language.Checks.{Position, positions_after, positions_of}
-use Rattle.wc_model.specs.Language.Declarations.{Variable, VariableType, Elementary, Standard, Block, Member, type_named, variable_named, members_of, member_named, block_named, named_in, elementary_types, standard_blocks, standard_type, block_type}
-use Rattle.wc_model.specs.Language.Kinds.{BodyLine, is_kind, elementary_kind, term_kind}
-use Rattle.wc_model.specs.Language.Meaning.{Outcome, Done, Stuck, Mode, Running, Goes, Fails, Context, value_of, input_kind, argument_term, assigned_input, assigned_one, assigned, given_one, given_out, written_to, call_trace, body_outcome, made, called_type, call_effect, step_effect}
-use Rattle.wc_model.specs.Language.Names.{Name}
-use Rattle.wc_model.specs.Language.Reasons.{Reason, NoSuchPlace}
-use Rattle.wc_model.specs.Language.Scopes.{Scope, Entity, kind_of, type_of, entity_of, member_entity, is_input, is_result}
-use Rattle.wc_model.specs.Language.Store.{Path, Content, Store, written, unit_places, variable_places, block_places}
-use Rattle.wc_model.specs.Language.Traces.{At, StandardBody, Called}
-use Rattle.wc_model.specs.Language.Tree.{Term, Field, Assignment, inputs_of, outputs_of, Call, ProgramUnit}
 use Rattle.wc_model.specs.declared.block.StandardBlock.{StandardBlock}
 use Rattle.wc_model.specs.declared.kind.Kind.{Kind}
 use Rattle.wc_model.specs.declared.kind.Kind.TheVariants.{Bool as KindBool, Dint as KindDint, Time as KindTime}
@@ -24,8 +13,7 @@ use Rattle.wc_laws_language.proofs.Entities.{GivesKind, Writes, term_read, term_
 use Rattle.wc_laws_language.proofs.Places.{SameSlots-refl, SameSlots-trans, FitsScope-same, Some-same, written-there, places_of, own_content, block_places-found}
 use Rattle.wc_laws_language.proofs.StandardCalls.{standard-safe, block_held}
 use Rattle.wc_laws_language.proofs.Steps.{clean_first, clean_second, some_of, is_of-sound, or-true, store_goes, alongside_truth, chosen_goes}
-use Rattle.wc_laws_language.specs.Sound.{Clean, Agrees, GoesWell, EndsWell, LeadsTo, CallsEndWell}
-use Rattle.wc_laws_language.specs.Typing.{slot_of_kind, slot_at, SameSlots, content_at, FitsScope}
+use Rattle.wc_laws_language.specs.{Clean, Agrees, GoesWell, EndsWell, LeadsTo, CallsEndWell, slot_of_kind, slot_at, SameSlots, content_at, FitsScope}
 
 -- an instance of a unit: its variable, and its type
 pub record IsInstance (scope : Scope) (name : Name) (type : VariableType) : Type 0 where

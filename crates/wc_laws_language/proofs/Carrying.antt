@@ -1,18 +1,8 @@
 -- What a change of the text does to the kinds of places, and to the fields of a standard block.
-use Rattle.std.proofs.Common.{◌≡◌, Bool, true, false, ◌&&◌, ◌||◌, List, [], ◌∷◌, ◌++◌, map, Option, Some, None, refl, sym, ap, subst, ◌∙◌, ◌⊎◌, inl, inr}
+use Rattle.wc_model.proofs.Common.{◌≡◌, Bool, true, false, ◌&&◌, ◌||◌, List, [], ◌∷◌, ◌++◌, map, Option, Some, None, refl, sym, ap, subst, ◌∙◌, ◌⊎◌, inl, inr, if◌then◌else◌, reverse, list_any}
 use Rattle.std.proofs.lemmas.List.{append-nil}
-use Rattle.std.specs.List.{list_any}
 use Rattle.std.specs.Option.{option_map}
-use Rattle.std.specs.Prelude.{if◌then◌else◌, reverse}
-use Rattle.wc_model.specs.Language.Carried.{Lead, ToPlace, ToField, carried, direct_lead, field_lead, keeps, lead_by, lead_from, lead_of, path_lead, plain_lead, same_block, same_lead}
-use Rattle.wc_model.specs.Language.Declarations.{Variable, VariableType, Elementary, Standard, Block, block_named, same_name, type_named, variable_named}
-use Rattle.wc_model.specs.Language.DirectVariables.{direct_variables, kind_of_direct}
-use Rattle.wc_model.specs.Language.Kinds.{is_kind}
-use Rattle.wc_model.specs.Language.Names.{Name}
-use Rattle.wc_model.specs.Language.Scans.{initial_of, initial_of_reversed}
-use Rattle.wc_model.specs.Language.Store.{Location, Direct, Path, Content, Store, block_places, first_content, initial_store, same_direct, standard_fields, unit_places, variable_places}
-use Rattle.wc_model.specs.Language.Tree.{ProgramUnit, Text}
-use Rattle.wc_model.specs.Text.Grammar.{IsProgramLast}
+use Rattle.wc_model.specs.Definitions.{Lead, ToPlace, ToField, carried, direct_lead, field_lead, keeps, lead_by, lead_from, lead_of, path_lead, plain_lead, same_block, same_lead, Variable, VariableType, Elementary, Standard, Block, block_named, same_name, type_named, variable_named, direct_variables, kind_of_direct, is_kind, Name, initial_of, initial_of_reversed, Location, Direct, Path, Content, Store, block_places, first_content, initial_store, same_direct, standard_fields, unit_places, variable_places, ProgramUnit, Text, IsProgramLast}
 use Rattle.wc_model.specs.declared.block.StandardBlock.{StandardBlock}
 use Rattle.wc_model.specs.declared.block.StandardBlock.TheVariants.{RTrig, Sr, Rs, Ctu, Ton, Tof, Tp}
 use Rattle.wc_model.specs.declared.kind.Kind.{Kind}
@@ -21,8 +11,7 @@ use Rattle.wc_model.specs.declared.kind.SlotKind.{SlotKind}
 use Rattle.wc_laws_language.proofs.Places.{block_places-found, first_content-slot, own_content}
 use Rattle.wc_laws_language.proofs.Programs.{first_store_fits}
 use Rattle.wc_laws_language.proofs.Texts.{turned}
-use Rattle.wc_laws_language.specs.Carrying.{AStandardBlockIsKeptWhole, ATextForItselfIsNoChange, CarriedStoreHoldsItsKinds, HoldsTheSameFields}
-use Rattle.wc_laws_language.specs.Typing.{slot_of_kind, slot_of, slot_at, content_at}
+use Rattle.wc_laws_language.specs.Typing.{AStandardBlockIsKeptWhole, ATextForItselfIsNoChange, CarriedStoreHoldsItsKinds, HoldsTheSameFields, slot_of_kind, slot_of, slot_at, content_at}
 
 -- the paths of a standard block's fields
 abbrev pub field_paths : StandardBlock → List (List Name × Content)

@@ -1,11 +1,9 @@
 -- The step of CTU agrees with its history.
 use Rattle.std.proofs.Common.{◌≡◌, ℕ, suc, ◌+◌, min, Bool, true, false, not, ◌&&◌, cond, List, [], ◌∷◌, ℤ, pos, ◌+ℤ◌, refl, sym, ap, ◌∙◌, arith}
 use Rattle.std.specs.Prelude.{int_lt, int_le, count_by, if◌then◌else◌}
-use Rattle.std.proofs.lemmas.Bool.Decides.{nat_tests}
-use Rattle.std.proofs.lemmas.List.Sums.{sum_by-cons, take_while-cons}
+use Rattle.wc_model.proofs.Common.{nat_tests, sum_by-cons, take_while-cons}
 use Rattle.wc_laws_language.specs.Laws.{ctu_call}
-use Rattle.wc_model.specs.Language.Blocks.{CtuFields, ctu_step}
-use Rattle.wc_model.specs.Language.Histories.{CtuCall, FitsCtu, first_or, is_rise, cus, is_reset, with_past, after_reset, edges}
+use Rattle.wc_model.specs.Definitions.{CtuFields, ctu_step, CtuCall, FitsCtu, first_or, is_rise, cus, is_reset, with_past, after_reset, edges}
 
 -- an edge: TRUE now, and not before
 pub is_rise-cons : (clk : Bool) (clks : List Bool) → is_rise (clk ∷ clks) ≡ (clk && not (first_or false clks))

@@ -1,22 +1,15 @@
 -- What outputs are to the pass on declarations.
-use Rattle.std.proofs.Common.{◌≡◌, Bool, true, false, not, List, [], ◌∷◌, ◌++◌, map, Option, Some, None, refl, sym, ap, subst, ◌∙◌, inr}
-use Rattle.std.proofs.lemmas.List.Folds.{list_all-append}
-use Rattle.std.specs.Cmp.Derive.{both_true}
-use Rattle.std.specs.List.{flat_map, list_all}
+use Rattle.wc_model.proofs.Common.{◌≡◌, Bool, true, false, not, List, [], ◌∷◌, ◌++◌, map, Option, Some, None, refl, sym, ap, subst, ◌∙◌, inr, list_all-append, both_true, flat_map, list_all}
 use Rattle.std.specs.Prelude.{◌==◌, ◌||◌, if◌then◌else◌, is_some}
 use Rattle.wc_model.specs.Language.Checks.{Check, Position, asks, first_broken, positions_after}
-use Rattle.wc_model.specs.Language.DeclarationRules.{body_name_checks, label_checks, not_reserved, operand_checks, step_checks, term_checks, text_declaration_checks, unit_checks}
-use Rattle.wc_model.specs.Language.Declarations.{is_block}
-use Rattle.wc_model.specs.Language.DirectVariables.{variable_at}
+use Rattle.wc_model.specs.Definitions.{body_name_checks, label_checks, not_reserved, operand_checks, step_checks, term_checks, text_declaration_checks, unit_checks, is_block, variable_at}
 use Rattle.wc_model.specs.Language.Tree.{Address, Alone, Apply, Assignment, Call, Constant, End, Field, Jump, Lines, Load, Negate, Nested, Plain, ProgramUnit, Return, Step, Store, Term, Text, Variable, Word, goes_in, inputs_of, outputs_of}
 use Rattle.wc_model.specs.declared.operator.Direction.{Direction}
 use Rattle.wc_model.specs.declared.operator.Direction.TheVariants.{Into, OutOf}
 use Rattle.wc_laws_language.proofs.BodiesBefore.{head_checks, same_head}
 use Rattle.wc_laws_language.proofs.Merging.{first_of_merged, first_of_other, merged_then, one_alone, other_alone}
 use Rattle.wc_laws_language.proofs.Unchanged.{all_go_in, first_goes_in}
-use Rattle.wc_laws_language.specs.DeclarationLaws.{AnOldTextStaysAsItIs, DeclarationsIgnoreDirections, OutputsAddOnlyTheirAddresses, OutputsFailOnlyByTheirAddresses}
-use Rattle.wc_laws_language.specs.OutputsRemoved.{AreMerged, ListChange, as_input, body_output_checks, body_with, outputs_as_inputs, step_output_checks, step_with, text_output_checks, text_with, unit_with, without_outputs}
-use Rattle.wc_laws_language.specs.TextLaws.{GivesNothingOut, StepGivesNothingOut, UnitsGiveNothingOut}
+use Rattle.wc_laws_language.specs.{AnOldTextStaysAsItIs, DeclarationsIgnoreDirections, OutputsAddOnlyTheirAddresses, OutputsFailOnlyByTheirAddresses, AreMerged, ListChange, as_input, body_output_checks, body_with, outputs_as_inputs, step_output_checks, step_with, text_output_checks, text_with, unit_with, without_outputs, GivesNothingOut, StepGivesNothingOut, UnitsGiveNothingOut}
 
 -- a change that leaves no output leaves a text that gives nothing out
 abbrev LeavesNone : ListChange → Type 0

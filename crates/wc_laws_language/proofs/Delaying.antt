@@ -1,10 +1,7 @@
 -- The steps of TON and TOF agree with their histories.
-use Rattle.std.proofs.Common.{◌≡◌, ℕ, Bool, true, false, not, ◌||◌, cond, List, [], ◌∷◌, refl, sym, ap, subst, ◌∙◌}
-use Rattle.std.proofs.lemmas.List.Sums.{take_while-cons}
-use Rattle.std.specs.Prelude.{take_while, if◌then◌else◌}
+use Rattle.wc_model.proofs.Common.{◌≡◌, ℕ, Bool, true, false, not, ◌||◌, cond, List, [], ◌∷◌, refl, sym, ap, subst, ◌∙◌, take_while, if◌then◌else◌, take_while-cons}
 use Rattle.wc_laws_language.specs.Laws.{ton_call, tof_call}
-use Rattle.wc_model.specs.Language.Blocks.{TonFields, TofFields, ton_step, ton_running, ton_idle, tof_step, tof_released, tof_held, tof_falling}
-use Rattle.wc_model.specs.Language.Histories.{TimerCall, FitsTon, FitsTonRun, FitsTonIdle, run_start, oldest_moment, FitsTof, FitsTofNever, FitsTofHeld, FitsTofFalling, FitsTofReleased, fall_start, was_held}
+use Rattle.wc_model.specs.Definitions.{TonFields, TofFields, ton_step, ton_running, ton_idle, tof_step, tof_released, tof_held, tof_falling, TimerCall, FitsTon, FitsTonRun, FitsTonIdle, run_start, oldest_moment, FitsTof, FitsTofNever, FitsTofHeld, FitsTofFalling, FitsTofReleased, fall_start, was_held}
 
 -- the calls of the run that ends the history
 abbrev pub running : List TimerCall → List TimerCall

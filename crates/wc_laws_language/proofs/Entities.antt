@@ -1,17 +1,6 @@
 -- What a term names is of the kind that the rules say, and can be read or written if they allow it.
-use Rattle.std.proofs.Common.{◌≡◌, Bool, true, false, ◌||◌, List, [], ◌∷◌, ◌++◌, map, Option, Some, None, Result, Ok, Err, refl, sym, ap, subst, ◌∙◌}
-use Rattle.std.specs.List.{flat_map, list_any, list_all}
-use Rattle.std.specs.Prelude.{find, if◌then◌else◌, is_some}
-use Rattle.std.specs.Str.{bytes_eq}
-use Rattle.wc_model.specs.Language.BodyRules.{is_readable, is_writable}
-use Rattle.wc_model.specs.Language.Declarations.{Variable, VariableType, Elementary, Standard, Block, Member, same_name, type_named, variables_of, variable_named, as_member, block_named, standard_members, members_of, member_named}
-use Rattle.wc_model.specs.Language.DirectVariables.{DirectVariable, direct_variables, spellings, variable_at, kind_of_direct}
-use Rattle.wc_model.specs.Language.Kinds.{elementary_kind, term_kind}
-use Rattle.wc_model.specs.Language.Meaning.{Context, value_of, stored_value, written_to}
-use Rattle.wc_model.specs.Language.Names.{Name}
-use Rattle.wc_model.specs.Language.Reasons.{Reason, NoSuchPlace}
-use Rattle.wc_model.specs.Language.Scopes.{Scope, Entity, kind_of, own_entity, type_of, member_entity, entity_of, within}
-use Rattle.wc_model.specs.Language.Store.{Location, Direct, Path, Content, Store, same_direct, value_at, written, below, variable_places, unit_places, block_places, first_content, standard_fields}
+use Rattle.wc_model.proofs.Common.{◌≡◌, Bool, true, false, ◌||◌, List, [], ◌∷◌, ◌++◌, map, Option, Some, None, Result, Ok, Err, refl, sym, ap, subst, ◌∙◌, find, if◌then◌else◌, is_some, flat_map, list_any, list_all, bytes_eq}
+use Rattle.wc_model.specs.Definitions.{is_readable, is_writable, Variable, VariableType, Elementary, Standard, Block, Member, same_name, type_named, variables_of, variable_named, as_member, block_named, standard_members, members_of, member_named, DirectVariable, direct_variables, spellings, variable_at, kind_of_direct, elementary_kind, term_kind, Context, value_of, stored_value, written_to, Name, Reason, NoSuchPlace, Scope, Entity, kind_of, own_entity, type_of, member_entity, entity_of, within, Location, Direct, Path, Content, Store, same_direct, value_at, written, below, variable_places, unit_places, block_places, first_content, standard_fields}
 use Rattle.wc_model.specs.Language.Tree.{Word, Term, Constant, Address, Variable as NameOf, Field, ProgramUnit}
 use Rattle.wc_model.specs.declared.block.StandardBlock.{StandardBlock}
 use Rattle.wc_model.specs.declared.block.StandardBlock.TheVariants.{RTrig}

@@ -1,14 +1,8 @@
 -- What a call of a standard block writes to the places of its instance.
-use Rattle.std.proofs.Common.{◌≡◌, ℕ, Bool, true, false, ◌&&◌, ◌||◌, List, [], ◌∷◌, ◌++◌, Some, Ok, refl, ap, ◌∙◌}
-use Rattle.std.specs.List.{list_any}
-use Rattle.std.specs.Prelude.{if◌then◌else◌}
-use Rattle.wc_laws_language.specs.BlockHistories.{of_block, Holds}
+use Rattle.wc_model.proofs.Common.{◌≡◌, ℕ, Bool, true, false, ◌&&◌, ◌||◌, List, [], ◌∷◌, ◌++◌, Some, Ok, refl, ap, ◌∙◌, if◌then◌else◌, list_any}
+use Rattle.wc_laws_language.specs.HistoryLaws.{of_block, Holds}
 use Rattle.wc_laws_language.proofs.Tests.{same_name-refl}
-use Rattle.wc_model.specs.Language.BlockCalls.{field_at, with_fields, standard_called}
-use Rattle.wc_model.specs.Language.Blocks.{r_trig_step, sr_step, rs_step, ctu_step, ton_step, tof_step, tp_step}
-use Rattle.wc_model.specs.Language.Declarations.{same_name}
-use Rattle.wc_model.specs.Language.Names.{Name}
-use Rattle.wc_model.specs.Language.Store.{Path, Content, Store, same_path, standard_fields, with_content}
+use Rattle.wc_model.specs.Definitions.{field_at, with_fields, standard_called, r_trig_step, sr_step, rs_step, ctu_step, ton_step, tof_step, tp_step, same_name, Name, Path, Content, Store, same_path, standard_fields, with_content}
 use Rattle.wc_model.specs.declared.block.StandardBlock.{StandardBlock}
 use Rattle.wc_model.specs.declared.block.StandardBlock.TheVariants.{RTrig, Sr, Rs, Ctu, Ton, Tof, Tp}
 

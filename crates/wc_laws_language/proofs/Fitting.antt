@@ -1,12 +1,11 @@
 -- Fields that fit a history fit it whatever their inputs are, and after a call with this call more.
 use Rattle.std.proofs.Common.{◌≡◌, ℕ, Bool, true, false, not, ◌&&◌, ◌||◌, List, [], ◌∷◌, refl, sym}
-use Rattle.wc_laws_language.specs.BlockHistories.{of_block}
+use Rattle.wc_laws_language.specs.HistoryLaws.{of_block}
 use Rattle.wc_laws_language.proofs.Fields.{stepped}
 use Rattle.wc_laws_language.proofs.Counting.{is_rise-cons, ctu_fits}
 use Rattle.wc_laws_language.proofs.Delaying.{ton_fits, tof_fits}
 use Rattle.wc_laws_language.proofs.Pulsing.{tp_fits}
-use Rattle.wc_model.specs.Language.Blocks.{TonFields, TofFields, TpFields}
-use Rattle.wc_model.specs.Language.Histories.{SrCall, RsCall, TimerCall, latched, latched_by_set, FitsTon, FitsTonRun, FitsTonIdle, run_start, FitsTof, FitsTofNever, FitsTofHeld, FitsTofFalling, FitsTofReleased, fall_start, was_held, FitsTpSpan, FitsTpOver, FitsTpPulse, span_start, has_ended, open_span}
+use Rattle.wc_model.specs.Definitions.{TonFields, TofFields, TpFields, SrCall, RsCall, TimerCall, latched, latched_by_set, FitsTon, FitsTonRun, FitsTonIdle, run_start, FitsTof, FitsTofNever, FitsTofHeld, FitsTofFalling, FitsTofReleased, fall_start, was_held, FitsTpSpan, FitsTpOver, FitsTpPulse, span_start, has_ended, open_span}
 use Rattle.wc_model.specs.declared.block.StandardBlock.{StandardBlock}
 use Rattle.wc_model.specs.declared.block.StandardBlock.TheVariants.{RTrig, Sr, Rs, Ctu, Ton, Tof, Tp}
 

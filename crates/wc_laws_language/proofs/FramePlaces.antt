@@ -1,10 +1,6 @@
 -- The numbers of places in a frame: one place has one number, and no two have the same.
-use Rattle.std.proofs.Common.{◌≡◌, ℕ, suc, ◌+◌, ◌<◌, Bool, true, false, cond, List, [], ◌∷◌, length, Option, Some, refl, sym, ap, ◌∙◌, arith}
-use Rattle.std.proofs.lemmas.Option.{slice_get_within}
-use Rattle.std.specs.List.{position_from}
-use Rattle.std.specs.Prelude.{slice_get}
-use Rattle.wc_model.specs.Language.Frames.{place_number}
-use Rattle.wc_model.specs.Language.Store.{Location, Direct, Path, Content, same_place}
+use Rattle.wc_model.proofs.Common.{◌≡◌, ℕ, suc, ◌+◌, ◌<◌, Bool, true, false, cond, List, [], ◌∷◌, length, Option, Some, refl, sym, ap, ◌∙◌, arith, slice_get, slice_get_within, position_from}
+use Rattle.wc_model.specs.Definitions.{place_number, Location, Direct, Path, Content, same_place}
 use Rattle.wc_laws_language.proofs.Tests.{same_place-sound, same_direct-refl, same_path-refl}
 
 -- what a search finds: an element that passes, at that index

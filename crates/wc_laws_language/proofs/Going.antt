@@ -1,18 +1,10 @@
 -- Histories go on over a call, and over a change.
-use Rattle.std.proofs.Common.{◌≡◌, Bool, true, false, List, [], ◌∷◌, ◌++◌, Option, Some, None, refl, sym, ap, ◌∙◌, ◌⊎◌, inl, inr}
-use Rattle.std.specs.Prelude.{if◌then◌else◌}
-use Rattle.wc_laws_language.specs.BlockHistories.{of_block, HasHistory, Holds}
-use Rattle.wc_laws_language.specs.HistoryLaws.{ACallAddsToTheHistory, HistoriesGoOnOverAChange, KeepsInstance}
+use Rattle.wc_model.proofs.Common.{◌≡◌, Bool, true, false, List, [], ◌∷◌, ◌++◌, Option, Some, None, refl, sym, ap, ◌∙◌, ◌⊎◌, inl, inr, if◌then◌else◌}
+use Rattle.wc_laws_language.specs.{of_block, HasHistory, Holds, ACallAddsToTheHistory, HistoriesGoOnOverAChange, KeepsInstance, HoldsTheSameFields}
 use Rattle.wc_laws_language.proofs.Fields.{AreFields, are_fields, called, stepped, written}
 use Rattle.wc_laws_language.proofs.Fitting.{fits_next}
 use Rattle.wc_laws_language.proofs.Carrying.{kept_whole}
-use Rattle.wc_laws_language.specs.Carrying.{HoldsTheSameFields}
-use Rattle.wc_model.specs.Language.BlockCalls.{with_fields}
-use Rattle.wc_model.specs.Language.Carried.{ToField, carried, keeps, lead_of, same_lead}
-use Rattle.wc_model.specs.Language.Names.{Name}
-use Rattle.wc_model.specs.Language.Scans.{initial_of}
-use Rattle.wc_model.specs.Language.Store.{Location, Path, Content, Moment, Store}
-use Rattle.wc_model.specs.Language.Tree.{Text}
+use Rattle.wc_model.specs.Definitions.{with_fields, ToField, carried, keeps, lead_of, same_lead, Name, initial_of, Location, Path, Content, Moment, Store, Text}
 use Rattle.wc_model.specs.declared.block.StandardBlock.{StandardBlock}
 use Rattle.wc_model.specs.declared.block.StandardBlock.TheVariants.{RTrig}
 

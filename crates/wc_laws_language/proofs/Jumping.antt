@@ -1,12 +1,15 @@
--- A run that looks for a label goes on with `ahead` of the lines.
-use Rattle.std.proofs.Common.{◌≡◌, [], Option, Some, refl, ◌∙◌, true, false}
-use Rattle.std.specs.Prelude.{if◌then◌else◌}
-use Rattle.wc_laws_language.specs.Laws.{from_label}
-use Rattle.wc_model.specs.Language.Meaning.{Context, Outcome, Done, Stuck, Running, Seeking, ahead, means, after, carries, line_effect, nested_effect, continued}
-use Rattle.wc_model.specs.Language.Names.{Name}
-use Rattle.wc_model.specs.Language.Store.{Store}
-use Rattle.wc_model.specs.Language.Tree.{Lines, End, Alone, Plain, Nested}
+-- What follows a return, and that a run that looks for a label goes on with `ahead` of the lines.
+use Rattle.wc_model.proofs.Common.{[], refl, ap, ◌≡◌, Option, Some, ◌∙◌, true, false, if◌then◌else◌}
+use Rattle.wc_laws_language.specs.Laws.{ReturnEndsTheBody, from_label}
+use Rattle.wc_model.specs.Definitions.{after, Context, Outcome, Done, Stuck, Running, Seeking, ahead, means, carries, line_effect, nested_effect, continued, End, Alone, Plain, Nested, Lines, Name, Store}
 use Rattle.wc_model.specs.declared.value.Value.{Value}
+
+-- each line is passed over
+pub return_ends : ReturnEndsTheBody
+return_ends here End result store = refl
+return_ends here (Alone word rest) result store = return_ends here rest result store
+return_ends here (Plain word line step rest) result store = ap (after []) (return_ends here rest result store)
+return_ends here (Nested word line operator operand inside close rest) result store = ap (after []) (return_ends here rest result store)
 
 -- an outcome with nothing before its trace
 pub after-nil : (o : Outcome) → after [] o ≡ o

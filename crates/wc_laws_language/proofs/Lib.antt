@@ -20,7 +20,6 @@ pub mod Refusing
 pub mod Longest
 pub mod TracesArePaths
 pub mod UnitBounds
-pub mod Returning
 pub mod KeptPlaces
 pub mod Pulsing
 pub mod OneBound

@@ -1,17 +1,8 @@
 -- A longest path of a body, computed from its end, and that it is one. If two paths are equally long, it takes the next line.
-use Rattle.std.proofs.Common.{◌≡◌, ℕ, ◌+◌, ◌<◌, ◌≤◌, Bool, true, false, cond, List, [], ◌∷◌, ◌++◌, map, length, length-append, Option, Some, None, ltb, refl, sym, ap, subst, ◌∙◌, arith, ◌⊎◌, inl, inr, ⊎_elim}
-use Rattle.std.proofs.lemmas.Bool.{ltb-true, ltb-false}
+use Rattle.wc_model.proofs.Common.{◌≡◌, ℕ, ◌+◌, ◌<◌, ◌≤◌, Bool, true, false, cond, List, [], ◌∷◌, ◌++◌, map, length, length-append, Option, Some, None, ltb, refl, sym, ap, subst, ◌∙◌, arith, ◌⊎◌, inl, inr, ⊎_elim, MatchOption, ltb-true, ltb-false, length-map}
 use Rattle.std.proofs.Math.Nat.{le_of_eq}
-use Rattle.std.proofs.lemmas.List.{length-map}
-use Rattle.std.specs.Prelude.{MatchOption}
-use Rattle.wc_model.specs.Language.Declarations.{VariableType, Elementary, Standard, Block, same_name}
-use Rattle.wc_model.specs.Language.Meaning.{call_trace}
-use Rattle.wc_model.specs.Language.Names.{Name}
-use Rattle.wc_model.specs.Language.Paths.{Way, Onward, Toward, Back, arriving_way, IsBodyPath, IsCallPath, MayAct, GoesOn, MayStep, MayPass, Joined, IsNestedPath, IsPathFrom, IsBlockPath, IsPath, IsLongest}
-use Rattle.wc_model.specs.Language.Scopes.{Scope, type_of}
-use Rattle.wc_model.specs.Language.Traces.{Item, At, Argument, StandardBody, Called, GivenOut, own_lines}
+use Rattle.wc_model.specs.Definitions.{VariableType, Elementary, Standard, Block, same_name, call_trace, Name, Way, Onward, Toward, Back, arriving_way, IsBodyPath, IsCallPath, MayAct, GoesOn, MayStep, MayPass, Joined, IsNestedPath, IsPathFrom, IsBlockPath, IsPath, IsLongest, Scope, type_of, Item, At, Argument, StandardBody, Called, GivenOut, own_lines, StaysOnward, ChoosesWorst, IsWorstFrom, IsWorstPath, AreWorstLines}
 use Rattle.wc_model.specs.Language.Tree.{Assignment, inputs_of, outputs_of, Step, Load, Store, Apply, Negate, Jump, Call, Return, Lines, End, Alone, Plain, Nested, ProgramUnit}
-use Rattle.wc_model.specs.Language.WorstPaths.{StaysOnward, ChoosesWorst, IsWorstFrom, IsWorstPath, AreWorstLines}
 use Rattle.wc_model.specs.declared.operator.Condition.{Condition}
 use Rattle.wc_model.specs.declared.operator.Condition.TheVariants.{Always, IfTrue, IfFalse}
 

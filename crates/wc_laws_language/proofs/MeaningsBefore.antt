@@ -1,21 +1,12 @@
 -- Texts that give no output out mean what they meant.
 use Rattle.std.proofs.Common.{◌≡◌, ℕ, Bool, true, false, List, [], ◌∷◌, ◌++◌, reverse, Option, Some, None, refl, sym, ap, subst, ◌∙◌}
 use Rattle.std.proofs.lemmas.Grind.{reverse_onto}
-use Rattle.wc_model.specs.Language.Declarations.{VariableType, same_name}
-use Rattle.wc_model.specs.Language.Meaning.{Calls, Context, Effect, Fails, Goes, Mode, Outcome, Returned, Running, Seeking, Stuck, acts, arriving, body_means, call_effect, called, called_type, chosen, continued, line_effect, means, nested_effect, program_means, step_effect}
-use Rattle.wc_model.specs.Language.Names.{Name}
-use Rattle.wc_model.specs.Language.Reasons.{NoSuchPlace}
-use Rattle.wc_model.specs.Language.Scans.{first_of_reversed, scan_of, with_image}
-use Rattle.wc_model.specs.Language.Scopes.{Scope, type_of}
-use Rattle.wc_model.specs.Language.Store.{Store}
-use Rattle.wc_model.specs.Language.Traces.{At}
+use Rattle.wc_model.specs.Definitions.{VariableType, same_name, Calls, Context, Effect, Fails, Goes, Mode, Outcome, Returned, Running, Seeking, Stuck, acts, arriving, body_means, call_effect, called, called_type, chosen, continued, line_effect, means, nested_effect, program_means, step_effect, Name, NoSuchPlace, first_of_reversed, scan_of, with_image, Scope, type_of, Store, At}
 use Rattle.wc_model.specs.Language.Tree.{Alone, Apply, Assignment, Call, End, Jump, Lines, Load, Negate, Nested, Plain, ProgramUnit, Return, Step, Store as StoreStep, Text, outputs_of}
 use Rattle.wc_model.specs.declared.image.Image.{Image}
 use Rattle.wc_model.specs.declared.value.Value.{Value}
 use Rattle.wc_laws_language.proofs.Unchanged.{same_call}
-use Rattle.wc_laws_language.specs.Before.{called_before}
-use Rattle.wc_laws_language.specs.TextLaws.{GivesNothingOut, StepGivesNothingOut, UnitsGiveNothingOut}
-use Rattle.wc_laws_language.specs.TextsBefore.{block_called_before, body_means_before, call_effect_before, line_effect_before, means_before, program_means_before, scan_of_before, step_effect_before}
+use Rattle.wc_laws_language.specs.{called_before, GivesNothingOut, StepGivesNothingOut, UnitsGiveNothingOut, block_called_before, body_means_before, call_effect_before, line_effect_before, means_before, program_means_before, scan_of_before, step_effect_before}
 
 -- a call
 same_call_effect : (here : Context) (line : ℕ) (instance : Name) (arguments : List Assignment) (result : Option Value) (store : Store) → outputs_of arguments ≡ []

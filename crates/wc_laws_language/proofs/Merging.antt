@@ -1,9 +1,7 @@
 -- Lists of rules that are merged from two.
-use Rattle.std.proofs.Common.{◌≡◌, Bool, true, false, ◌&&◌, List, [], ◌∷◌, ◌++◌, Option, Some, refl, sym, ap, subst, ◌∙◌, ◌⊎◌, inl, inr}
-use Rattle.std.specs.List.{list_all}
-use Rattle.std.specs.Prelude.{if◌then◌else◌}
+use Rattle.wc_model.proofs.Common.{◌≡◌, Bool, true, false, ◌&&◌, List, [], ◌∷◌, ◌++◌, Option, Some, refl, sym, ap, subst, ◌∙◌, ◌⊎◌, inl, inr, if◌then◌else◌, list_all}
 use Rattle.wc_model.specs.Language.Checks.{Check, Refusal, first_broken}
-use Rattle.wc_laws_language.specs.OutputsRemoved.{AreMerged}
+use Rattle.wc_laws_language.specs.DeclarationLaws.{AreMerged}
 
 -- all of the one, and all of the other
 pub one_alone : (checks : List Check) → AreMerged checks [] checks

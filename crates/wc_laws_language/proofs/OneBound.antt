@@ -3,11 +3,7 @@ use Rattle.std.proofs.Common.{◌≡◌, ℕ, suc, zero, ◌≤◌, List, [], �
 use Rattle.std.specs.Prelude.{IfSome, slice_get}
 use Rattle.std.proofs.lemmas.List.{append-nil}
 use Rattle.wc_laws_language.specs.Laws.{AUnitHasOneBound, ThePrintedBoundIsThePrograms}
-use Rattle.wc_model.specs.Language.Checks.{positions_after}
-use Rattle.wc_model.specs.Language.Paths.{IsLongest, IsBoundOfLast}
-use Rattle.wc_model.specs.Language.Scopes.{Scope}
-use Rattle.wc_model.specs.Language.Tree.{ProgramUnit}
-use Rattle.wc_model.specs.Say.UnitReport.{IsBoundOf}
+use Rattle.wc_model.specs.Definitions.{positions_after, IsLongest, IsBoundOfLast, Scope, ProgramUnit, IsBoundOf}
 use Rattle.wc_laws_language.proofs.Texts.{turned}
 
 -- no longest path is longer than another

@@ -1,18 +1,9 @@
 -- Units that give no output out have the paths that they had.
-use Rattle.std.proofs.Common.{◌≡◌, ℕ, true, false, List, [], ◌∷◌, Option, Some, refl, sym, ap, subst, ◌∙◌, inl, inr, ⊎_elim}
-use Rattle.std.specs.Prelude.{◌↔◌}
-use Rattle.wc_model.specs.Language.Checks.{Refusal, positions_after}
-use Rattle.wc_model.specs.Language.Declarations.{same_name}
-use Rattle.wc_model.specs.Language.Faults.{FirstTooLong, IsCostFault}
-use Rattle.wc_model.specs.Language.Names.{Name}
-use Rattle.wc_model.specs.Language.Paths.{GoesOn, IsBlockPath, IsBodyPath, IsCallPath, IsLongest, IsNestedPath, IsPath, IsPathFrom, Joined, MayAct, MayPass, MayStep, Onward, Way, arriving_way}
-use Rattle.wc_model.specs.Language.Scopes.{Scope, type_of}
-use Rattle.wc_model.specs.Language.Traces.{At, Item}
+use Rattle.wc_model.proofs.Common.{◌≡◌, ℕ, true, false, List, [], ◌∷◌, Option, Some, refl, sym, ap, subst, ◌∙◌, inl, inr, ⊎_elim, ◌↔◌}
+use Rattle.wc_model.specs.Definitions.{Refusal, positions_after, same_name, FirstTooLong, IsCostFault, Name, GoesOn, IsBlockPath, IsBodyPath, IsCallPath, IsLongest, IsNestedPath, IsPath, IsPathFrom, Joined, MayAct, MayPass, MayStep, Onward, Way, arriving_way, Scope, type_of, At, Item}
 use Rattle.wc_model.specs.Language.Tree.{Alone, Apply, Assignment, Call, End, Jump, Lines, Load, Negate, Nested, Plain, ProgramUnit, Return, Step, Store, Text, outputs_of}
 use Rattle.wc_laws_language.proofs.Unchanged.{same_trace}
-use Rattle.wc_laws_language.specs.Before.{IsCallPathBefore}
-use Rattle.wc_laws_language.specs.TextLaws.{GivesNothingOut, StepGivesNothingOut, UnitsGiveNothingOut}
-use Rattle.wc_laws_language.specs.TextsBefore.{FirstTooLongBefore, IsBlockPathBefore, IsCostFaultBefore, IsLongestBefore, IsPathBefore, IsPathFromBefore, MayStepBefore}
+use Rattle.wc_laws_language.specs.{IsCallPathBefore, GivesNothingOut, StepGivesNothingOut, UnitsGiveNothingOut, FirstTooLongBefore, IsBlockPathBefore, IsCostFaultBefore, IsLongestBefore, IsPathBefore, IsPathFromBefore, MayStepBefore}
 
 -- the paths of blocks
 abbrev pub BlockPaths : Type 1

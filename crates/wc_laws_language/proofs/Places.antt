@@ -1,13 +1,7 @@
 -- What a write leaves of the kinds in a store, and where the places of a unit's variables are found.
-use Rattle.std.proofs.Common.{◌≡◌, Bool, true, false, List, [], ◌∷◌, ◌++◌, Option, Some, None, Result, Ok, Err, refl, sym, ap, subst, ◌∙◌}
-use Rattle.std.specs.List.{flat_map}
-use Rattle.std.specs.Prelude.{find, if◌then◌else◌}
-use Rattle.wc_model.specs.Language.Declarations.{Variable, Elementary, same_name, type_named, variables_of, variable_named, is_block, block_named}
-use Rattle.wc_model.specs.Language.Names.{Name}
-use Rattle.wc_model.specs.Language.Reasons.{Reason, NoSuchPlace, WrongKind}
-use Rattle.wc_model.specs.Language.Scopes.{Scope, kind_of}
+use Rattle.wc_model.proofs.Common.{◌≡◌, Bool, true, false, List, [], ◌∷◌, ◌++◌, Option, Some, None, Result, Ok, Err, refl, sym, ap, subst, ◌∙◌, find, if◌then◌else◌, flat_map}
+use Rattle.wc_model.specs.Definitions.{Variable, Elementary, same_name, type_named, variables_of, variable_named, is_block, block_named, Name, Reason, NoSuchPlace, WrongKind, Scope, kind_of, ProgramUnit}
 use Rattle.wc_model.specs.Language.Store.{Location, Direct, Path, Content, Plain, Moment, Phase, Store, same_path, same_place, with_content, value_at, same_kind, written, below, variable_places, places_declared, unit_places, block_places, first_content}
-use Rattle.wc_model.specs.Language.Tree.{ProgramUnit}
 use Rattle.wc_model.specs.declared.kind.Kind.{Kind}
 use Rattle.wc_model.specs.declared.kind.Kind.TheVariants.{Bool as KindBool, Dint as KindDint, Time as KindTime}
 use Rattle.wc_model.specs.declared.kind.SlotKind.TheVariants.{Bool as SlotBool, Dint as SlotDint, Time as SlotTime}

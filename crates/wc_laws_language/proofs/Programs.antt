@@ -1,19 +1,10 @@
 -- A program whose bodies break no rule is never stuck.
-use Rattle.std.proofs.Common.{◌≡◌, ℕ, Bool, true, false, ◌||◌, List, [], ◌∷◌, ◌++◌, map, Option, Some, None, refl, sym, ap, subst, ◌∙◌}
-use Rattle.std.specs.List.{flat_map, list_any, list_all}
+use Rattle.wc_model.proofs.Common.{◌≡◌, ℕ, Bool, true, false, ◌||◌, List, [], ◌∷◌, ◌++◌, map, Option, Some, None, refl, sym, ap, subst, ◌∙◌, flat_map, list_any, list_all}
 use Rattle.std.specs.Option.{option_map}
 use Rattle.std.specs.Prelude.{MatchOption, if◌then◌else◌, slice_index_or, pos}
-use Rattle.wc_model.specs.Language.BodyRules.{step_rules, label_rules, rules_at_position, body_rules, opening_checks, closing_checks, inside_rules}
+use Rattle.wc_model.specs.Definitions.{step_rules, label_rules, rules_at_position, body_rules, opening_checks, closing_checks, inside_rules, same_name, block_named, is_block, DirectVariable, InputBit, StatusBit, Weight, direct_variables, numbers_below, kind_of_direct, BodyLine, AloneLine, PlainLine, NestedLine, lines_of, Known, known_kinds, kind_at, kind_after_operator, opening_kind, kind_following, Outcome, Done, Stuck, Mode, Running, Seeking, Returned, Effect, Goes, Fails, Context, Calls, arriving, line_effect, nested_effect, means, body_means, called, program_means, Name, is_bit_set, image_contents, overlaid, with_image, Scope, Word, Term, Step, Lines, End, Alone, Plain as PlainLines, Nested, ProgramUnit}
 use Rattle.wc_model.specs.Language.Checks.{Check, Position, positions_after}
-use Rattle.wc_model.specs.Language.Declarations.{same_name, block_named, is_block}
-use Rattle.wc_model.specs.Language.DirectVariables.{DirectVariable, InputBit, StatusBit, Weight, direct_variables, numbers_below, kind_of_direct}
-use Rattle.wc_model.specs.Language.Kinds.{BodyLine, AloneLine, PlainLine, NestedLine, lines_of, Known, known_kinds, kind_at, kind_after_operator, opening_kind, kind_following}
-use Rattle.wc_model.specs.Language.Meaning.{Outcome, Done, Stuck, Mode, Running, Seeking, Returned, Effect, Goes, Fails, Context, Calls, arriving, line_effect, nested_effect, means, body_means, called, program_means}
-use Rattle.wc_model.specs.Language.Names.{Name}
-use Rattle.wc_model.specs.Language.Scans.{is_bit_set, image_contents, overlaid, with_image}
-use Rattle.wc_model.specs.Language.Scopes.{Scope}
 use Rattle.wc_model.specs.Language.Store.{Location, Direct, Path, Content, Plain, Store, same_direct, same_path, same_place, zero_of, unit_places, store_of, initial_store}
-use Rattle.wc_model.specs.Language.Tree.{Word, Term, Step, Lines, End, Alone, Plain as PlainLines, Nested, ProgramUnit}
 use Rattle.wc_model.specs.declared.image.Image.{Image}
 use Rattle.wc_model.specs.declared.kind.Kind.{Kind}
 use Rattle.wc_model.specs.declared.kind.Kind.TheVariants.{Bool as KindBool, Dint as KindDint, Time as KindTime}
@@ -24,8 +15,7 @@ use Rattle.wc_laws_language.proofs.Bodies.{step_goes, nested_goes, inside_ends, 
 use Rattle.wc_laws_language.proofs.Places.{SameSlots-refl, SameSlots-trans, FitsScope-same, Some-same}
 use Rattle.wc_laws_language.proofs.Steps.{clean_first, clean_second}
 use Rattle.wc_laws_language.proofs.Tests.{both-true, same_direct-sound, same_direct-refl, same_place-sound}
-use Rattle.wc_laws_language.specs.Sound.{Clean, GoesWell, EndsWell, LeadsTo, CallsEndWell, IsSimple, NestsSimply, AreClean, ModeFits, ArrivedFits, InsideMode}
-use Rattle.wc_laws_language.specs.Typing.{slot_of_kind, slot_of, slot_at, SameSlots, content_at, HoldsDirect, FitsScope}
+use Rattle.wc_laws_language.specs.{Clean, GoesWell, EndsWell, LeadsTo, CallsEndWell, IsSimple, NestsSimply, AreClean, ModeFits, ArrivedFits, InsideMode, slot_of_kind, slot_of, slot_at, SameSlots, content_at, HoldsDirect, FitsScope}
 
 -- what follows of each mode
 pub goes_weaker : (P Q : Mode → Type 0) (store : Store) (e : Effect) → ((mode : Mode) → P mode → Q mode) → GoesWell P store e → GoesWell Q store e

@@ -1,9 +1,7 @@
 -- The steps of TP agree with their history.
-use Rattle.std.proofs.Common.{◌≡◌, ℕ, ◌-◌, Bool, true, false, not, ◌&&◌, ◌||◌, List, [], ◌∷◌, refl, sym, subst}
-use Rattle.std.specs.Prelude.{if◌then◌else◌, nat_le}
+use Rattle.wc_model.proofs.Common.{◌≡◌, ℕ, ◌-◌, Bool, true, false, not, ◌&&◌, ◌||◌, List, [], ◌∷◌, refl, sym, subst, if◌then◌else◌, nat_le}
 use Rattle.wc_laws_language.specs.Laws.{tp_call}
-use Rattle.wc_model.specs.Language.Blocks.{TpFields, preset, tp_pulsing, tp_idle, tp_held, tp_over, tp_started, tp_from, tp_step}
-use Rattle.wc_model.specs.Language.Histories.{TimerCall, span_start, has_ended, span_with, open_with, open_span, FitsTp, FitsTpSpan, FitsTpIdle, FitsTpPulse, FitsTpOver}
+use Rattle.wc_model.specs.Definitions.{TpFields, preset, tp_pulsing, tp_idle, tp_held, tp_over, tp_started, tp_from, tp_step, TimerCall, span_start, has_ended, span_with, open_with, open_span, FitsTp, FitsTpSpan, FitsTpIdle, FitsTpPulse, FitsTpOver}
 
 -- phase and start of a TP, by the span that is open
 abbrev pub TpHolds : List TimerCall → TpFields → Type 0

@@ -1,7 +1,5 @@
 -- The first broken rule is the first.
-use Rattle.std.proofs.Common.{◌≡◌, Bool, true, false, List, [], ◌∷◌, ◌++◌, ◌&&◌, Some, refl, sym, ap, ◌∙◌}
-use Rattle.std.specs.List.{list_all}
-use Rattle.std.specs.Prelude.{if◌then◌else◌}
+use Rattle.wc_model.proofs.Common.{◌≡◌, Bool, true, false, List, [], ◌∷◌, ◌++◌, ◌&&◌, Some, refl, sym, ap, ◌∙◌, if◌then◌else◌, list_all}
 use Rattle.wc_model.specs.Language.Checks.{Check, Refusal, IsFirstBroken, first_broken}
 
 -- the refusal of a broken rule

@@ -1,15 +1,11 @@
 -- Texts that give no output out are checked by the rules by which they were.
 use Rattle.std.proofs.Common.{◌≡◌, ℕ, List, [], ◌∷◌, ◌++◌, Option, is_some, refl, ap, ap₂}
 use Rattle.std.specs.List.{flat_map}
-use Rattle.wc_model.specs.Language.BodyRules.{body_rules, closing_checks, condition_checks, inside_rules, is_instance, label_rules, line_rules, members_called, opening_checks, rules_at_position, step_rules}
-use Rattle.wc_model.specs.Language.Checks.{Check, asks, positions_after}
-use Rattle.wc_model.specs.Language.Kinds.{AloneLine, BodyLine, NestedLine, PlainLine, kind_after_operator, kind_after_step, kind_at, kind_following, label_of, lines_of, opening_kind}
-use Rattle.wc_model.specs.Language.Scopes.{Scope, type_of}
+use Rattle.wc_model.specs.Definitions.{body_rules, closing_checks, condition_checks, inside_rules, is_instance, label_rules, line_rules, members_called, opening_checks, rules_at_position, step_rules, Check, asks, positions_after, AloneLine, BodyLine, NestedLine, PlainLine, kind_after_operator, kind_after_step, kind_at, kind_following, label_of, lines_of, opening_kind, Scope, type_of}
 use Rattle.wc_model.specs.Language.Tree.{Alone, Apply, Call, End, Jump, Lines, Load, Negate, Nested, Plain, ProgramUnit, Return, Step, Store}
 use Rattle.wc_model.specs.declared.kind.Kind.{Kind}
 use Rattle.wc_laws_language.proofs.Unchanged.{same_rules}
-use Rattle.wc_laws_language.specs.TextLaws.{GivesNothingOut, StepGivesNothingOut, UnitsGiveNothingOut}
-use Rattle.wc_laws_language.specs.TextsBefore.{body_rules_before, inside_rules_before, line_rules_before, rules_at_position_before, step_rules_before}
+use Rattle.wc_laws_language.specs.{GivesNothingOut, StepGivesNothingOut, UnitsGiveNothingOut, body_rules_before, inside_rules_before, line_rules_before, rules_at_position_before, step_rules_before}
 
 -- of a step
 same_step_rules : (scope : Scope) (line : ℕ) (step : Step) (following : List BodyLine) (kind : Option Kind) → StepGivesNothingOut step → step_rules scope line step following kind ≡ step_rules_before scope line step following kind

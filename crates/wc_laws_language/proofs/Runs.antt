@@ -1,23 +1,12 @@
 -- Whatever rows have come, no scan is stuck.
 use Rattle.std.proofs.Common.{ℕ, List, [], ◌∷◌, Option, Some, None}
-use Rattle.wc_model.specs.Language.Loading.{IsLoaded, IsNextLoaded}
-use Rattle.wc_model.specs.Language.Meaning.{Outcome, Done, Stuck}
-use Rattle.wc_model.specs.Instrument.Plates.{PlateData}
-use Rattle.wc_model.specs.Run.ProcessImage.{image_after}
-use Rattle.wc_model.specs.Say.ProgramReport.{Logic, change_to, first_logic, logic_following, programs, result_of}
-use Rattle.wc_model.specs.Say.Report.{state_with}
-use Rattle.wc_model.specs.Run.Rows.{RowData, Counts, Bytes, Inputs, Scan, Change, Past}
-use Rattle.wc_model.specs.Language.Scans.{scan_of, initial_of}
-use Rattle.wc_model.specs.Language.Store.{Store}
-use Rattle.wc_model.specs.Language.Tree.{Text}
+use Rattle.wc_model.specs.Definitions.{IsLoaded, IsNextLoaded, Outcome, Done, Stuck, PlateData, image_after, Logic, change_to, first_logic, logic_following, programs, result_of, state_with, RowData, Counts, Bytes, Inputs, Scan, Change, Past, scan_of, initial_of, Store, Text}
 use Rattle.wc_model.specs.declared.image.Image.{Image}
 use Rattle.wc_laws_language.proofs.Carrying.{carried_holds}
 use Rattle.wc_laws_language.proofs.Places.{SameSlots-refl}
 use Rattle.wc_laws_language.proofs.Programs.{Any}
 use Rattle.wc_laws_language.proofs.Spelled.{loaded_text_is_never_stuck}
-use Rattle.wc_laws_language.specs.SoundnessLaws.{NoRunIsEverStuck}
-use Rattle.wc_laws_language.specs.Sound.{EndsWell}
-use Rattle.wc_laws_language.specs.Typing.{SameSlots}
+use Rattle.wc_laws_language.specs.{NoRunIsEverStuck, EndsWell, SameSlots}
 
 -- a scan that ends well leaves a store of the same kinds
 pub left_by : (first old : Store) (outcome : Outcome) → EndsWell Any first outcome → SameSlots first (result_of old outcome).after

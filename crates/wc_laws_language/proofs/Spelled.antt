@@ -1,18 +1,11 @@
 -- What is spelled nests only simple instructions, so a text that is loaded is never stuck.
 use Rattle.std.proofs.Common.{◌≡◌, ℕ, true, List, [], ◌∷◌, None, refl}
-use Rattle.wc_model.specs.Language.Faults.{body_fault}
-use Rattle.wc_model.specs.Text.Grammar.{InBody, InParentheses, IsTransfer, IsProgramLast, lines, unit_of, units, line_ends}
-use Rattle.wc_model.specs.Text.Languages.{◌then◌, each}
-use Rattle.wc_model.specs.Text.Marks.{Mark}
-use Rattle.wc_model.specs.Language.Scans.{scan_of, initial_of}
-use Rattle.wc_model.specs.Language.Store.{Store}
+use Rattle.wc_model.specs.Definitions.{body_fault, InBody, InParentheses, IsTransfer, IsProgramLast, lines, unit_of, units, line_ends, ◌then◌, each, Mark, scan_of, initial_of, Store}
 use Rattle.wc_model.specs.Language.Tree.{Step, Load, Store as StoreStep, Apply, Negate, Jump, Call, Return, Lines, End, Alone, Plain, Nested, Text}
 use Rattle.wc_model.specs.declared.image.Image.{Image}
 use Rattle.wc_laws_language.proofs.Programs.{Any}
 use Rattle.wc_laws_language.proofs.Texts.{text_is_never_stuck}
-use Rattle.wc_laws_language.specs.SoundnessLaws.{UnitsNestSimply, SpelledTextNestsSimply, LoadedTextIsNeverStuck}
-use Rattle.wc_laws_language.specs.Sound.{is_simple, IsSimple, NestsSimply, EndsWell}
-use Rattle.wc_laws_language.specs.Typing.{SameSlots}
+use Rattle.wc_laws_language.specs.{UnitsNestSimply, SpelledTextNestsSimply, LoadedTextIsNeverStuck, is_simple, IsSimple, NestsSimply, EndsWell, SameSlots}
 
 -- what is not a jump, call or return is simple
 pub step_simple : (step : Step) → ¬ (IsTransfer step) → is_simple step ≡ true

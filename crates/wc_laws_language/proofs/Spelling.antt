@@ -1,11 +1,7 @@
 -- Texts that give no output out are spelled as they were.
-use Rattle.std.proofs.Common.{◌≡◌, Bool, true, false, List, [], ◌∷◌, Some, refl, sym, ap, subst}
-use Rattle.std.specs.Prelude.{◌↔◌}
+use Rattle.wc_model.proofs.Common.{◌≡◌, Bool, true, false, List, [], ◌∷◌, Some, refl, sym, ap, subst, ◌↔◌}
 use Rattle.wc_model.specs.Language.Tree.{Alone, Apply, Assignment, Call, End, Jump, Lines, Load, Negate, Nested, Plain, ProgramUnit, Return, Step, Store, Text, goes_in, outputs_of}
-use Rattle.wc_model.specs.Text.Grammar.{HasContent, InBody, InParentheses, IsOn, IsOperatorOf, MayOccur, Setting, Spells, argument, call_list, head, identifier, label_in, line_ends, lines, opening, operand, operands_of, sign_of, symbol, unit_of, units}
-use Rattle.wc_model.specs.Text.Keywords.{end_word}
-use Rattle.wc_model.specs.Text.Languages.{each, one, skipping, ◌given◌, ◌then◌}
-use Rattle.wc_model.specs.Text.Marks.{ClosingBracket, Comma, IsSymbol, LineEnd, Mark, OpeningBracket, is_line_end}
+use Rattle.wc_model.specs.Definitions.{HasContent, InBody, InParentheses, IsOn, IsOperatorOf, MayOccur, Setting, Spells, argument, call_list, head, identifier, label_in, line_ends, lines, opening, operand, operands_of, sign_of, symbol, unit_of, units, end_word, each, one, skipping, ◌given◌, ◌then◌, ClosingBracket, Comma, IsSymbol, LineEnd, Mark, OpeningBracket, is_line_end}
 use Rattle.wc_model.specs.declared.operator.Direction.{Direction}
 use Rattle.wc_model.specs.declared.operator.Direction.TheVariants.{Into, OutOf}
 use Rattle.wc_laws_language.proofs.Unchanged.{first_goes_in}

@@ -1,13 +1,7 @@
 -- A call of an instance of a standard block is never stuck, and keeps the kinds of all places.
-use Rattle.std.proofs.Common.{◌≡◌, ℕ, Bool, List, [], ◌∷◌, ◌++◌, map, Option, Some, Result, ℤ, append_assoc, refl, ap, ◌∙◌}
+use Rattle.wc_model.proofs.Common.{◌≡◌, ℕ, Bool, List, [], ◌∷◌, ◌++◌, map, Option, Some, Result, ℤ, append_assoc, refl, ap, ◌∙◌, codes}
 use Rattle.std.specs.Option.{option_map}
-use Rattle.std.specs.Prelude.{codes}
-use Rattle.wc_model.specs.Language.BlockCalls.{field_at, with_truth, with_dint, with_time, with_moment, with_phase, with_fields, r_trig_contents, r_trig_called, sr_contents, sr_called, rs_contents, rs_called, ctu_contents, ctu_called, ton_contents, ton_called, tof_contents, tof_called, tp_contents, tp_called, standard_called}
-use Rattle.wc_model.specs.Language.Blocks.{RTrigFields, SrFields, RsFields, CtuFields, TonFields, TofFields, TpFields, r_trig_step, sr_step, rs_step, ctu_step, ton_step, tof_step, tp_step}
-use Rattle.wc_model.specs.Language.Declarations.{Variable, VariableType, Standard, type_named, variable_named}
-use Rattle.wc_model.specs.Language.Names.{Name}
-use Rattle.wc_model.specs.Language.Reasons.{Reason}
-use Rattle.wc_model.specs.Language.Scopes.{Scope}
+use Rattle.wc_model.specs.Definitions.{field_at, with_truth, with_dint, with_time, with_moment, with_phase, with_fields, r_trig_contents, r_trig_called, sr_contents, sr_called, rs_contents, rs_called, ctu_contents, ctu_called, ton_contents, ton_called, tof_contents, tof_called, tp_contents, tp_called, standard_called, RTrigFields, SrFields, RsFields, CtuFields, TonFields, TofFields, TpFields, r_trig_step, sr_step, rs_step, ctu_step, ton_step, tof_step, tp_step, Variable, VariableType, Standard, type_named, variable_named, Name, Reason, Scope}
 use Rattle.wc_model.specs.Language.Store.{Path, Content, Plain, Moment, Phase, Store, with_content, standard_fields, variable_places, block_places}
 use Rattle.wc_model.specs.declared.block.StandardBlock.{StandardBlock}
 use Rattle.wc_model.specs.declared.block.StandardBlock.TheVariants.{RTrig, Sr, Rs, Ctu, Ton, Tof, Tp}

@@ -1,17 +1,7 @@
 -- A step that breaks no rule goes well.
 use Rattle.std.proofs.Common.{◌≡◌, ℕ, zero, suc, Bool, true, false, not, ◌&&◌, ◌||◌, List, [], ◌∷◌, ◌++◌, Option, Some, None, Result, Ok, pos, negsuc, refl, sym, ap, subst, ◌∙◌, ◌⊎◌, inl, inr, ⊎_elim, arith}
-use Rattle.std.proofs.lemmas.Bool.{leb-true}
-use Rattle.std.specs.Prelude.{if◌then◌else◌, is_some}
-use Rattle.wc_model.specs.Language.BodyRules.{is_readable, is_writable, is_of, is_bool, takes, divides, is_divisor, is_bit_literal, suits_result, load_checks, store_checks, apply_checks, is_ahead, truth_checks, condition_checks}
-use Rattle.wc_model.specs.Language.Checks.{Check}
-use Rattle.wc_model.specs.Language.Kinds.{BodyLine, is_kind, term_kind, step_leaves}
-use Rattle.wc_model.specs.Language.Meaning.{Mode, Running, Seeking, Returned, Effect, Goes, Context, as_truth, takes_truth, alongside, value_of, written_to, given, from_value, from_store, acts, chosen, stored, set_where, store_effect, next, step_effect}
-use Rattle.wc_model.specs.Language.Names.{Name}
-use Rattle.wc_model.specs.Language.Operators.{apply, negated}
-use Rattle.wc_model.specs.Language.Reasons.{Reason}
-use Rattle.wc_model.specs.Language.Scopes.{Scope, kind_of, entity_of}
-use Rattle.wc_model.specs.Language.Store.{Store}
-use Rattle.wc_model.specs.Language.Traces.{At}
+use Rattle.wc_model.proofs.Common.{if◌then◌else◌, is_some, leb-true}
+use Rattle.wc_model.specs.Definitions.{is_readable, is_writable, is_of, is_bool, takes, divides, is_divisor, is_bit_literal, suits_result, load_checks, store_checks, apply_checks, is_ahead, truth_checks, condition_checks, Check, BodyLine, is_kind, term_kind, step_leaves, Mode, Running, Seeking, Returned, Effect, Goes, Context, as_truth, takes_truth, alongside, value_of, written_to, given, from_value, from_store, acts, chosen, stored, set_where, store_effect, next, step_effect, Name, apply, negated, Reason, Scope, kind_of, entity_of, Store, At}
 use Rattle.wc_model.specs.Language.Tree.{Term, Constant, Address, Variable as NameOf, Field, Load, Store as StoreStep, Apply, Negate, Jump, Return}
 use Rattle.wc_model.specs.declared.kind.Kind.{Kind}
 use Rattle.wc_model.specs.declared.kind.Kind.TheVariants.{Bool as KindBool, Dint as KindDint, Time as KindTime}
@@ -27,8 +17,7 @@ use Rattle.wc_laws_language.proofs.Applying.{GivesAfter, applied, by_divisor, tr
 use Rattle.wc_laws_language.proofs.Entities.{GivesKind, term_read, term_written, writable_is_stored}
 use Rattle.wc_laws_language.proofs.Places.{SameSlots-refl}
 use Rattle.wc_laws_language.proofs.Tests.{both-true, same_name-refl}
-use Rattle.wc_laws_language.specs.Sound.{Clean, Agrees, GoesWell, LeadsTo}
-use Rattle.wc_laws_language.specs.Typing.{FitsScope}
+use Rattle.wc_laws_language.specs.{Clean, Agrees, GoesWell, LeadsTo, FitsScope}
 
 -- rules joined hold each
 pub clean_first : (xs ys : List Check) → Clean (xs ++ ys) → Clean xs

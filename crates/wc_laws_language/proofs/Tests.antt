@@ -1,11 +1,6 @@
 -- The tests of equality find equal things, and things are equal to themselves.
-use Rattle.std.proofs.Common.{◌≡◌, Bool, true, false, ◌&&◌, List, [], ◌∷◌, refl, ap}
-use Rattle.std.proofs.lemmas.Bool.{eq-eqb, eqb-true}
-use Rattle.std.proofs.lemmas.Slice.Eq.{bytes_eq-Decides}
-use Rattle.wc_model.specs.Language.Declarations.{same_name}
-use Rattle.wc_model.specs.Language.DirectVariables.{DirectVariable, InputBit, StatusBit, Weight, OutputBit, OutputWord}
-use Rattle.wc_model.specs.Language.Names.{Name}
-use Rattle.wc_model.specs.Language.Store.{Location, Direct, Path, same_direct, same_path, same_place}
+use Rattle.wc_model.proofs.Common.{◌≡◌, Bool, true, false, ◌&&◌, List, [], ◌∷◌, refl, ap, eq-eqb, eqb-true, bytes_eq-Decides}
+use Rattle.wc_model.specs.Definitions.{same_name, DirectVariable, InputBit, StatusBit, Weight, OutputBit, OutputWord, Name, Location, Direct, Path, same_direct, same_path, same_place}
 
 -- both halves of a conjunction
 pub both-true : (a b : Bool) → (a && b) ≡ true → (a ≡ true) × (b ≡ true)

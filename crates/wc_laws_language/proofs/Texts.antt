@@ -1,21 +1,13 @@
 -- A text whose bodies break no rule is never stuck.
-use Rattle.std.proofs.Common.{◌≡◌, ℕ, Bool, true, false, List, [], ◌∷◌, ◌++◌, Some, None, append_assoc, refl, sym, ap, subst, ◌∙◌}
-use Rattle.std.proofs.lemmas.Grind.{reverse_onto}
+use Rattle.wc_model.proofs.Common.{◌≡◌, ℕ, Bool, true, false, List, [], ◌∷◌, ◌++◌, Some, None, append_assoc, refl, sym, ap, subst, ◌∙◌, reverse_onto, flat_map}
 use Rattle.std.proofs.lemmas.List.{length-reverse, append-nil}
-use Rattle.std.specs.List.{flat_map}
 use Rattle.std.specs.Prelude.{reverse, if◌then◌else◌, length}
-use Rattle.wc_model.specs.Language.BodyRules.{body_rules, text_body_checks}
+use Rattle.wc_model.specs.Definitions.{body_rules, text_body_checks, program_means, first_of_reversed, initial_of_reversed, with_image, Store, ProgramUnit, Text}
 use Rattle.wc_model.specs.Language.Checks.{Check, Position, positions_after, first_broken}
-use Rattle.wc_model.specs.Language.Meaning.{program_means}
-use Rattle.wc_model.specs.Language.Scans.{first_of_reversed, initial_of_reversed, with_image}
-use Rattle.wc_model.specs.Language.Store.{Store}
-use Rattle.wc_model.specs.Language.Tree.{ProgramUnit, Text}
 use Rattle.wc_model.specs.declared.image.Image.{Image}
 use Rattle.wc_laws_language.proofs.Programs.{Any, scan_ends}
 use Rattle.wc_laws_language.proofs.Steps.{clean_first, clean_second}
-use Rattle.wc_laws_language.specs.SoundnessLaws.{UnitsNestSimply, VerifiedTextIsNeverStuck}
-use Rattle.wc_laws_language.specs.Sound.{Clean, AreClean, EndsWell}
-use Rattle.wc_laws_language.specs.Typing.{SameSlots}
+use Rattle.wc_laws_language.specs.{UnitsNestSimply, VerifiedTextIsNeverStuck, Clean, AreClean, EndsWell, SameSlots}
 
 -- if none of these rules is broken, each holds
 pub none_broken : (checks : List Check) → first_broken checks ≡ None → Clean checks

@@ -1,15 +1,6 @@
 -- The trace of a meaning is a path: what a run executes, some path through the conditionals executes.
 use Rattle.std.proofs.Common.{◌≡◌, ℕ, Bool, true, false, List, [], ◌∷◌, ◌++◌, map, Option, Some, None, Result, Ok, Err, refl, sym, subst, ◌⊎◌, inl, inr}
-use Rattle.wc_model.specs.Language.Declarations.{VariableType, Elementary, Standard, Block, same_name, members_of}
-use Rattle.wc_model.specs.Language.Meaning.{Outcome, Done, Stuck, Mode, Running, Seeking, Returned, Effect, Goes, Fails, Context, means, at_end, arriving, carries, after, continued, given, from_value, from_store, acts, chosen, stored, set_where, store_effect, next, call_trace, given_out, made, body_outcome, called_type, call_effect, step_effect, line_effect, closed, opened, nested_effect, assigned, value_of, written_to, alongside, called, body_means, program_means}
-use Rattle.wc_model.specs.Language.BlockCalls.{standard_called}
-use Rattle.wc_model.specs.Language.Names.{Name}
-use Rattle.wc_model.specs.Language.Operators.{apply, negated}
-use Rattle.wc_model.specs.Language.Paths.{Way, Onward, Toward, Back, arriving_way, EndsThere, IsBodyPath, IsCallPath, MayAct, GoesOn, MayStep, MayPass, Joined, IsNestedPath, IsPathFrom, IsBlockPath, IsPath}
-use Rattle.wc_model.specs.Language.Reasons.{Reason}
-use Rattle.wc_model.specs.Language.Scopes.{type_of}
-use Rattle.wc_model.specs.Language.Store.{Store}
-use Rattle.wc_model.specs.Language.Traces.{Item, At, StandardBody, Called}
+use Rattle.wc_model.specs.Definitions.{VariableType, Elementary, Standard, Block, same_name, members_of, Outcome, Done, Stuck, Mode, Running, Seeking, Returned, Effect, Goes, Fails, Context, means, at_end, arriving, carries, after, continued, given, from_value, from_store, acts, chosen, stored, set_where, store_effect, next, call_trace, given_out, made, body_outcome, called_type, call_effect, step_effect, line_effect, closed, opened, nested_effect, assigned, value_of, written_to, alongside, called, body_means, program_means, standard_called, Name, apply, negated, Way, Onward, Toward, Back, arriving_way, EndsThere, IsBodyPath, IsCallPath, MayAct, GoesOn, MayStep, MayPass, Joined, IsNestedPath, IsPathFrom, IsBlockPath, IsPath, Reason, type_of, Store, Item, At, StandardBody, Called}
 use Rattle.wc_model.specs.Language.Tree.{Word, Term, Assignment, inputs_of, outputs_of, Step, Load, Store as StoreStep, Apply, Negate, Jump, Call, Return, Lines, End, Alone, Plain, Nested, ProgramUnit}
 use Rattle.wc_model.specs.declared.operator.Condition.{Condition}
 use Rattle.wc_model.specs.declared.operator.Condition.TheVariants.{Always, IfTrue, IfFalse}

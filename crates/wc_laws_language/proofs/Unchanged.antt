@@ -1,22 +1,11 @@
 -- Lists that give no output out.
-use Rattle.std.proofs.Common.{◌≡◌, ℕ, Bool, true, false, not, List, [], ◌∷◌, ◌++◌, map, Option, Result, Ok, Err, append-nil, refl, sym, ap, ◌∙◌}
-use Rattle.std.specs.List.{flat_map}
-use Rattle.std.specs.Prelude.{◌↔◌, if◌then◌else◌}
-use Rattle.wc_model.specs.Language.BodyRules.{actual_checks, argument_checks, formal_named}
+use Rattle.wc_model.proofs.Common.{◌≡◌, ℕ, Bool, true, false, not, List, [], ◌∷◌, ◌++◌, map, Option, Result, Ok, Err, append-nil, refl, sym, ap, ◌∙◌, ◌↔◌, if◌then◌else◌, flat_map}
+use Rattle.wc_model.specs.Definitions.{actual_checks, argument_checks, formal_named, Member, VariableType, members_of, Context, Effect, Goes, Outcome, Done, Stuck, Running, assigned, body_outcome, call_trace, called_type, from_store, given_out, made, Name, IsCallPath, Reason, Scope, Store, Item, At, Argument, GivenOut, Assignment, goes_in, inputs_of, outputs_of}
 use Rattle.wc_model.specs.Language.Checks.{Check, Position, asks, positions_after}
-use Rattle.wc_model.specs.Language.Declarations.{Member, VariableType, members_of}
-use Rattle.wc_model.specs.Language.Meaning.{Context, Effect, Goes, Outcome, Done, Stuck, Running, assigned, body_outcome, call_trace, called_type, from_store, given_out, made}
-use Rattle.wc_model.specs.Language.Names.{Name}
-use Rattle.wc_model.specs.Language.Paths.{IsCallPath}
-use Rattle.wc_model.specs.Language.Reasons.{Reason}
-use Rattle.wc_model.specs.Language.Scopes.{Scope}
-use Rattle.wc_model.specs.Language.Store.{Store}
-use Rattle.wc_model.specs.Language.Traces.{Item, At, Argument, GivenOut}
-use Rattle.wc_model.specs.Language.Tree.{Assignment, goes_in, inputs_of, outputs_of}
 use Rattle.wc_model.specs.declared.operator.Direction.{Direction}
 use Rattle.wc_model.specs.declared.operator.Direction.TheVariants.{Into, OutOf}
 use Rattle.wc_model.specs.declared.value.Value.{Value}
-use Rattle.wc_laws_language.specs.Before.{IsCallPathBefore, argument_checks_before, called_before, made_before, trace_before}
+use Rattle.wc_laws_language.specs.CallLaws.{IsCallPathBefore, argument_checks_before, called_before, made_before, trace_before}
 
 -- the first of such a list goes in, and so do the others
 pub first_goes_in : (b : Bool) (a : Assignment) (others : List Assignment) → (if not b then a ∷ others else others) ≡ [] → (b ≡ true) × (others ≡ [])

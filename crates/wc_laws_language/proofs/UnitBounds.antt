@@ -1,25 +1,14 @@
 -- Each unit of a loaded text has a bound: run alone from its own first values it is never stuck, and its trace is a path.
-use Rattle.std.proofs.Common.{ℕ, ◌≤◌, List, [], ◌∷◌, length, Some, None, subst, inl, inr}
-use Rattle.std.specs.List.{AllByRecursion, flat_map}
+use Rattle.wc_model.proofs.Common.{ℕ, ◌≤◌, List, [], ◌∷◌, length, Some, None, subst, inl, inr, AllByRecursion, flat_map}
 use Rattle.wc_laws_language.proofs.Longest.{Found, WorstFrom, best_path, best_path_is_worst, longest_of_worst}
 use Rattle.wc_laws_language.proofs.TracesArePaths.{TraceIs, program_trace_is_path}
-use Rattle.wc_laws_language.specs.Laws.{HasABound, EachLoadedUnitHasABound}
-use Rattle.wc_model.specs.Language.BodyRules.{text_body_checks}
+use Rattle.wc_laws_language.specs.{HasABound, EachLoadedUnitHasABound, UnitsNestSimply, Clean, AreClean, EndsWell}
+use Rattle.wc_model.specs.Definitions.{text_body_checks, MOST_STEPS, FirstTooLong, IsShortEnough, Outcome, Done, Stuck, program_means, Onward, IsPath, IsLongest, Scope, Store, initial_store, Item, ProgramUnit, IsWorstPath}
 use Rattle.wc_model.specs.Language.Checks.{Position, positions_after}
-use Rattle.wc_model.specs.Language.Faults.{MOST_STEPS, FirstTooLong, IsShortEnough}
-use Rattle.wc_model.specs.Language.Meaning.{Outcome, Done, Stuck, program_means}
-use Rattle.wc_model.specs.Language.Paths.{Onward, IsPath, IsLongest}
-use Rattle.wc_model.specs.Language.Scopes.{Scope}
-use Rattle.wc_model.specs.Language.Store.{Store, initial_store}
-use Rattle.wc_model.specs.Language.Traces.{Item}
-use Rattle.wc_model.specs.Language.Tree.{ProgramUnit}
-use Rattle.wc_model.specs.Language.WorstPaths.{IsWorstPath}
 use Rattle.wc_laws_language.proofs.Programs.{Any, first_store_fits, program_ends}
 use Rattle.wc_laws_language.proofs.Spelled.{spelled_text_nests}
 use Rattle.wc_laws_language.proofs.Steps.{clean_first, clean_second}
 use Rattle.wc_laws_language.proofs.Texts.{none_broken, rules_at}
-use Rattle.wc_laws_language.specs.SoundnessLaws.{UnitsNestSimply}
-use Rattle.wc_laws_language.specs.Sound.{Clean, AreClean, EndsWell}
 
 -- an outcome that ends well has a path
 pub path_of : (scope : Scope) (first : Store) (outcome : Outcome) → TraceIs (IsPath scope) outcome → EndsWell Any first outcome → (path : List Item) × IsPath scope path

@@ -1,17 +1,9 @@
 -- Units that give no output out have the worst paths that they had, and a check prints of them what it printed.
-use Rattle.std.proofs.Common.{◌≡◌, ℕ, Bool, true, false, List, [], ◌∷◌, Some, refl, sym, ap, subst, ◌∙◌}
-use Rattle.std.specs.Prelude.{◌↔◌}
+use Rattle.wc_model.proofs.Common.{◌≡◌, ℕ, Bool, true, false, List, [], ◌∷◌, Some, refl, sym, ap, subst, ◌∙◌, ◌↔◌}
 use Rattle.wc_model.specs.Language.Checks.{Position, positions_after}
-use Rattle.wc_model.specs.Language.Paths.{IsNestedPath, MayPass, Onward, Way, arriving_way}
-use Rattle.wc_model.specs.Language.Scopes.{Scope}
-use Rattle.wc_model.specs.Language.Traces.{Item}
-use Rattle.wc_model.specs.Language.Tree.{Alone, End, Lines, Nested, Plain, ProgramUnit, Text}
-use Rattle.wc_model.specs.Language.WorstPaths.{AreWorstLines, ChoosesWorst, IsWorstFrom, IsWorstPath}
-use Rattle.wc_model.specs.Say.UnitReport.{AreUnitLines, IsPathPart, IsUnitReport}
+use Rattle.wc_model.specs.Definitions.{IsNestedPath, MayPass, Onward, Way, arriving_way, Scope, Item, Alone, End, Lines, Nested, Plain, ProgramUnit, Text, AreWorstLines, ChoosesWorst, IsWorstFrom, IsWorstPath, AreUnitLines, IsPathPart, IsUnitReport}
 use Rattle.wc_laws_language.proofs.PathsBefore.{BlockPaths, same_block_paths, same_lines, same_longest, same_may_step}
-use Rattle.wc_laws_language.specs.TextLaws.{GivesNothingOut, UnitsGiveNothingOut}
-use Rattle.wc_laws_language.specs.TextsBefore.{IsBlockPathBefore}
-use Rattle.wc_laws_language.specs.WorstPathsBefore.{AreUnitLinesBefore, AreWorstLinesBefore, IsPathPartBefore, IsUnitReportBefore, IsWorstFromBefore, IsWorstPathBefore}
+use Rattle.wc_laws_language.specs.{GivesNothingOut, UnitsGiveNothingOut, IsBlockPathBefore, AreUnitLinesBefore, AreWorstLinesBefore, IsPathPartBefore, IsUnitReportBefore, IsWorstFromBefore, IsWorstPathBefore}
 
 -- through the lines that are left
 same_worst : (block_path : BlockPaths) (scope : Scope) (lines : Lines) → GivesNothingOut lines → IsWorstFrom block_path scope lines ≡ IsWorstFromBefore block_path scope lines

@@ -1,9 +1,6 @@
 -- `wrap` gives the one number of 32 bits in a class modulo 2^32.
 use Rattle.std.proofs.Common.{◌≡◌, ℕ, suc, ◌-◌, ◌/◌, ◌%◌, ◌<◌, ◌≤◌, ◌^◌, ℤ, pos, negsuc, ◌+ℤ◌, ◌*ℤ◌, FitsSigned, to_z, arith, ap, ◌∙◌, ⊎_elim}
-use Rattle.std.proofs.lemmas.Bool.{cases_lt}
-use Rattle.std.proofs.lemmas.Int.{ints, SFits-int_wrap}
-use Rattle.std.proofs.Math.Facts.{to_z-neg}
-use Rattle.std.proofs.Math.IntN.{suc_ℤ-*ℤ}
+use Rattle.wc_model.proofs.Common.{cases_lt, ints, SFits-int_wrap, to_z-neg, suc_ℤ-*ℤ}
 use Rattle.std.specs.Int.{int_wrap, w32}
 use lib.IntN.{suc_ℤ}
 use Rattle.wc_model.specs.Language.Values.{IsWrapped, wrap}

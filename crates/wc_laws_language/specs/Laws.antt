@@ -1,26 +1,9 @@
 -- Statements about the definitions of the language.
-use Rattle.std.specs.Prelude.{◌≡◌, ℕ, suc, ◌≤◌, true, List, [], ◌∷◌, ◌↔◌, ◌⊎◌, length, Option, Some, None, ℤ}
-use Rattle.wc_model.specs.Language.Blocks.{RTrigFields, SrFields, RsFields, CtuFields, TonFields, TofFields, TpFields, r_trig_step, sr_step, rs_step, ctu_step, ton_step, tof_step, tp_step}
+use Rattle.std.specs.Prelude.{◌≡◌, ℕ, suc, ◌≤◌, true, List, [], ◌∷◌, ◌↔◌, ◌⊎◌, length, Option, Some, None, ℤ, Bool}
+use Rattle.wc_model.specs.Definitions.{RTrigFields, SrFields, RsFields, CtuFields, TonFields, TofFields, TpFields, r_trig_step, sr_step, rs_step, ctu_step, ton_step, tof_step, tp_step, MOST_STEPS, SrCall, RsCall, CtuCall, TimerCall, FitsRTrig, FitsSr, FitsRs, FitsCtu, FitsTon, FitsTof, FitsTp, IsLoaded, Context, Outcome, Done, Stuck, Running, Seeking, Returned, ahead, means, program_means, Lead, keeps, lead_of, Name, IsPath, IsLongest, IsProgramBound, NoLabelAhead, Location, Store, Item, Lines, ProgramUnit, Text, IsWrapped, wrap, IsWorstPath, steps_of, Scope, IsBoundAt, IsBoundOf}
 use Rattle.wc_model.specs.Language.Checks.{Check, Refusal, Position, IsFirstBroken, first_broken, positions_of}
-use Rattle.wc_model.specs.Language.Faults.{MOST_STEPS}
-use Rattle.wc_model.specs.Language.Histories.{SrCall, RsCall, CtuCall, TimerCall, FitsRTrig, FitsSr, FitsRs, FitsCtu, FitsTon, FitsTof, FitsTp}
-use Rattle.wc_model.specs.Language.Loading.{IsLoaded}
-use Rattle.wc_model.specs.Language.Meaning.{Context, Outcome, Done, Stuck, Running, Seeking, Returned, ahead, means, program_means}
-use Rattle.wc_model.specs.Language.Carried.{Lead, keeps, lead_of}
-use Rattle.wc_model.specs.Language.Names.{Name}
-use Rattle.wc_model.specs.Language.Paths.{IsPath, IsLongest, IsProgramBound}
-use Rattle.wc_model.specs.Language.Reasons.{NoLabelAhead}
-use Rattle.wc_model.specs.Language.Store.{Location, Store}
-use Rattle.wc_model.specs.Language.Traces.{Item}
-use Rattle.wc_model.specs.Language.Tree.{Lines, ProgramUnit, Text}
-use Rattle.wc_model.specs.Language.Values.{IsWrapped, wrap}
-use Rattle.wc_model.specs.Language.WorstPaths.{IsWorstPath}
-use Rattle.wc_model.specs.Language.Scans.{steps_of}
-use Rattle.wc_model.specs.Language.Scopes.{Scope}
-use Rattle.wc_model.specs.Say.UnitReport.{IsBoundAt, IsBoundOf}
 use Rattle.wc_model.specs.declared.value.Value.{Value}
 use Rattle.std.specs.List.{AllByRecursion}
-use Rattle.std.specs.Prelude.{Bool}
 
 -- `wrap n` is of 32 bits and of n's class, and no other number is
 abbrev pub WrapIsTheOnlyOne : Type 0

@@ -2,11 +2,8 @@
 -- `Before`; all around it is as it is. (No rule of the language.)
 use Rattle.std.specs.Prelude.{ℕ, List, [], ◌∷◌, Some}
 use Rattle.wc_model.specs.Language.Tree.{Alone, Apply, Assignment, Call, End, Jump, Lines, Load, Negate, Nested, Plain, ProgramUnit, Return, Step, Store, Text}
-use Rattle.wc_model.specs.Text.Grammar.{HasContent, InBody, InParentheses, IsOn, IsOperatorOf, IsProgramLast, MayOccur, Setting, head, identifier, label_in, line_ends, opening, operands_of, symbol}
-use Rattle.wc_model.specs.Text.Keywords.{end_word}
-use Rattle.wc_model.specs.Text.Languages.{Language, each, empty, one, separated, skipping, ◌given◌, ◌or◌, ◌then◌}
-use Rattle.wc_model.specs.Text.Marks.{ClosingBracket, Comma, IsSymbol, LineEnd, Mark, OpeningBracket, is_line_end}
-use Rattle.wc_laws_language.specs.Before.{argument_before}
+use Rattle.wc_model.specs.Definitions.{HasContent, InBody, InParentheses, IsOn, IsOperatorOf, IsProgramLast, MayOccur, Setting, head, identifier, label_in, line_ends, opening, operands_of, symbol, end_word, Language, each, empty, one, separated, skipping, ◌given◌, ◌or◌, ◌then◌, ClosingBracket, Comma, IsSymbol, LineEnd, Mark, OpeningBracket, is_line_end}
+use Rattle.wc_laws_language.specs.CallLaws.{argument_before}
 
 -- the list of a call, what follows an operator, an instruction, the lines left, a unit, units, a text
 abbrev pub input_before : Assignment → Language Mark

@@ -1,18 +1,9 @@
 -- A text that gives no output out in any call is what it was: its meaning with its trace, its paths and so its bound, the rules by
 -- which its bodies are checked, and its spelling.
 use Rattle.std.specs.Prelude.{◌≡◌, ◌↔◌, ℕ, List, [], ◌∷◌, Option}
-use Rattle.wc_model.specs.Language.BodyRules.{text_body_checks}
-use Rattle.wc_model.specs.Language.Checks.{Refusal}
-use Rattle.wc_model.specs.Language.Faults.{IsCostFault, body_fault}
-use Rattle.wc_model.specs.Language.Paths.{IsLongest, IsPath}
-use Rattle.wc_model.specs.Language.Scans.{scan_of}
-use Rattle.wc_model.specs.Language.Scopes.{Scope}
-use Rattle.wc_model.specs.Language.Store.{Store}
-use Rattle.wc_model.specs.Language.Traces.{Item}
+use Rattle.wc_model.specs.Definitions.{text_body_checks, Refusal, IsCostFault, body_fault, IsLongest, IsPath, scan_of, Scope, Store, Item, Spells, Mark}
 use Rattle.wc_model.specs.Language.Tree.{Alone, Apply, Call, End, Jump, Lines, Load, Negate, Nested, Plain, ProgramUnit, Return, Step, Store as StoreStep, Text, outputs_of}
 use Rattle.wc_model.specs.declared.image.Image.{Image}
-use Rattle.wc_model.specs.Text.Grammar.{Spells}
-use Rattle.wc_model.specs.Text.Marks.{Mark}
 use Rattle.wc_laws_language.specs.SpelledBefore.{SpelledBefore}
 use Rattle.wc_laws_language.specs.TextsBefore.{IsCostFaultBefore, IsLongestBefore, IsPathBefore, body_fault_before, scan_of_before, text_body_checks_before}
 

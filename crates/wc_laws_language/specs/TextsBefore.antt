@@ -1,27 +1,15 @@
 -- What texts meant before outputs could be given out, which paths they had and by which rules their bodies were checked, kept
 -- to be compared with: the step of a call is the one of `Before`; each other step, and all around it, is as it is. (No rule of
 -- the language.)
-use Rattle.std.specs.Prelude.{◌≡◌, ℕ, ◌<◌, ◌≤◌, ◌⊎◌, true, false, List, [], ◌∷◌, ◌++◌, length, reverse, Option, Some, None, is_some}
-use Rattle.std.specs.List.{flat_map}
-use Rattle.wc_model.specs.Language.BodyRules.{closing_checks, condition_checks, is_instance, label_rules, members_called, opening_checks, step_rules}
+use Rattle.std.specs.Prelude.{◌≡◌, ℕ, ◌<◌, ◌≤◌, ◌⊎◌, true, false, List, [], ◌∷◌, ◌++◌, length, reverse, Option, Some, None, is_some, flat_map}
+use Rattle.wc_model.specs.Definitions.{closing_checks, condition_checks, is_instance, label_rules, members_called, opening_checks, step_rules, same_name, MOST_STEPS, AloneLine, BodyLine, NestedLine, PlainLine, kind_after_operator, kind_after_step, kind_at, kind_following, label_of, lines_of, opening_kind, Calls, Context, Effect, Fails, Goes, Mode, Outcome, Returned, Running, Seeking, Stuck, acts, arriving, at_end, chosen, continued, nested_effect, step_effect, Name, EndsThere, GoesOn, IsNestedPath, Joined, MayAct, MayPass, MayStep, Onward, Way, arriving_way, NoSuchPlace, first_of_reversed, with_image, Scope, type_of, Store, At, Item}
 use Rattle.wc_model.specs.Language.Checks.{Check, Refusal, Position, asks, first_broken, positions_of}
-use Rattle.wc_model.specs.Language.Declarations.{same_name}
-use Rattle.wc_model.specs.Language.Faults.{MOST_STEPS}
-use Rattle.wc_model.specs.Language.Kinds.{AloneLine, BodyLine, NestedLine, PlainLine, kind_after_operator, kind_after_step, kind_at, kind_following, label_of, lines_of, opening_kind}
-use Rattle.wc_model.specs.Language.Meaning.{Calls, Context, Effect, Fails, Goes, Mode, Outcome, Returned, Running, Seeking, Stuck, acts, arriving, at_end, chosen, continued, nested_effect, step_effect}
-use Rattle.wc_model.specs.Language.Names.{Name}
-use Rattle.wc_model.specs.Language.Paths.{EndsThere, GoesOn, IsNestedPath, Joined, MayAct, MayPass, MayStep, Onward, Way, arriving_way}
-use Rattle.wc_model.specs.Language.Reasons.{NoSuchPlace}
-use Rattle.wc_model.specs.Language.Scans.{first_of_reversed, with_image}
-use Rattle.wc_model.specs.Language.Scopes.{Scope, type_of}
-use Rattle.wc_model.specs.Language.Store.{Store}
-use Rattle.wc_model.specs.Language.Traces.{At, Item}
 use Rattle.wc_model.specs.Language.Tree.{Alone, Apply, Assignment, Call, End, Jump, Lines, Load, Negate, Nested, Plain, ProgramUnit, Return, Step, Store as StoreStep, Text}
 use Rattle.wc_model.specs.declared.image.Image.{Image}
 use Rattle.wc_model.specs.declared.kind.Kind.{Kind}
 use Rattle.wc_model.specs.declared.operator.Condition.{Condition}
 use Rattle.wc_model.specs.declared.value.Value.{Value}
-use Rattle.wc_laws_language.specs.Before.{IsCallPathBefore, argument_checks_before, called_before}
+use Rattle.wc_laws_language.specs.CallLaws.{IsCallPathBefore, argument_checks_before, called_before}
 
 -- the meaning: a call, a step, a line, the lines left, a body, a block that is called, a scan
 abbrev pub call_effect_before : Context → ℕ → Name → List Assignment → Option Value → Store → Effect

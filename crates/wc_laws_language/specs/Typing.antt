@@ -1,15 +1,13 @@
--- What the places of a store hold, by their kinds alone.
-use Rattle.std.specs.Prelude.{◌≡◌, true, List, [], ◌∷◌, ◌++◌, Option, Some, None, if◌then◌else◌}
-use Rattle.std.specs.Option.{option_map}
+-- What the places of a store hold, by their kinds alone, also over a change of the text between two scans.
+use Rattle.std.specs.Prelude.{◌≡◌, true, List, [], ◌∷◌, ◌++◌, Option, Some, None, if◌then◌else◌, ◌⊎◌, option_map}
 use Rattle.std.specs.List.{list_any}
-use Rattle.wc_model.specs.Language.DirectVariables.{DirectVariable, direct_variables, kind_of_direct}
-use Rattle.wc_model.specs.Language.Names.{Name}
-use Rattle.wc_model.specs.Language.Scopes.{Scope, kind_of}
-use Rattle.wc_model.specs.Language.Store.{Location, Direct, Path, Content, Plain, Moment, Phase, Store, same_path, same_direct, unit_places}
+use Rattle.wc_model.specs.Definitions.{DirectVariable, direct_variables, kind_of_direct, Name, Scope, kind_of, field_at, Lead, ToField, carried, lead_of, same_name, initial_of, Text, IsProgramLast}
+use Rattle.wc_model.specs.Language.Store.{Location, Direct, Path, Content, Plain, Moment, Phase, Store, same_path, same_direct, unit_places, standard_fields}
 use Rattle.wc_model.specs.declared.kind.Kind.{Kind}
 use Rattle.wc_model.specs.declared.kind.Kind.TheVariants.{Bool as KindBool, Dint as KindDint, Time as KindTime}
 use Rattle.wc_model.specs.declared.kind.SlotKind.{SlotKind}
 use Rattle.wc_model.specs.declared.kind.SlotKind.TheVariants.{Bool as SlotBool, Dint as SlotDint, Time as SlotTime, Moment as SlotMoment, Phase as SlotPhase}
+use Rattle.wc_model.specs.declared.block.StandardBlock.{StandardBlock}
 
 -- the kind of place that holds a kind of value
 abbrev pub slot_of_kind : Kind → SlotKind
@@ -48,3 +46,22 @@ HoldsDirect store = (variable : DirectVariable) → list_any (same_direct variab
 pub record FitsScope (store : Store) (names : List Name) (scope : Scope) : Type 0 where
   pub own : Holds store names (unit_places scope.before scope.unit)
   pub direct : HoldsDirect store
+
+-- a store that is carried over holds the kinds of what the new text declares, if both texts have a program
+abbrev pub CarriedStoreHoldsItsKinds : Type 0
+CarriedStoreHoldsItsKinds = (old new : Text) (store : Store) → IsProgramLast old → IsProgramLast new → SameSlots (initial_of old) store → SameSlots (initial_of new) (carried old store new)
+
+-- two stores hold the same in each field of an instance of a standard block
+abbrev pub HoldsTheSameFields : Store → Store → List Name → StandardBlock → Type 0
+HoldsTheSameFields a b instance block = (field : Name) → list_any (λ f. same_name f.0 field) (standard_fields block) ≡ true → field_at a instance field ≡ field_at b instance field
+
+-- An instance of a standard block goes on with all its fields, or starts over with all of them. So a history of calls
+-- that its fields fit goes on to fit them, or none has come yet.
+abbrev pub AStandardBlockIsKeptWhole : Type 0
+AStandardBlockIsKeptWhole = (old new : Text) (store : Store) (instance : List Name) (block : StandardBlock) (field : Name) →
+    lead_of new (Path (instance ++ field ∷ [])) ≡ Some (ToField block) →
+    HoldsTheSameFields (carried old store new) store instance block ⊎ HoldsTheSameFields (carried old store new) (initial_of new) instance block
+
+-- a text that takes its own place changes nothing, wherever names lead to
+abbrev pub ATextForItselfIsNoChange : Type 0
+ATextForItselfIsNoChange = (text : Text) (store : Store) (place : Location) (lead : Lead) → lead_of text place ≡ Some lead → carried text store text place ≡ store place

@@ -1,6 +1,6 @@
 //! A text whose bodies break no rule is never stuck. Each function has an empty body: its clause is
 //! the law.
-ghost use Rattle.wc_laws_language.specs.Carrying.{AStandardBlockIsKeptWhole, ATextForItselfIsNoChange, CarriedStoreHoldsItsKinds};
+ghost use Rattle.wc_laws_language.specs.Typing.{AStandardBlockIsKeptWhole, ATextForItselfIsNoChange, CarriedStoreHoldsItsKinds};
 ghost use Rattle.wc_laws_language.specs.SoundnessLaws.{LoadedTextIsNeverStuck, NoRunIsEverStuck, SpelledTextNestsSimply, VerifiedTextIsNeverStuck};
 
 /// A scan of a text whose bodies break no rule ends, and keeps what kind of value each place holds.

@@ -2,13 +2,10 @@
 //! a text all of whose calls are such, is what it was before outputs could be given out. Each
 //! function has an empty body: its clause is the law.
 ghost use Rattle.std.specs.Prelude.{◌≡◌, None, Some};
-ghost use Rattle.wc_model.specs.Language.Checks.{first_broken};
-ghost use Rattle.wc_model.specs.Language.Faults.{declaration_fault};
+ghost use Rattle.wc_model.specs.Definitions.{first_broken, declaration_fault};
 ghost use Rattle.wc_laws_language.specs.CheckLaws.{ACheckPrintsWhatItPrinted, AUnitHasTheWorstPathItHad};
-ghost use Rattle.wc_laws_language.specs.DeclarationLaws.{AnOldTextStaysAsItIs, DeclarationsIgnoreDirections, OutputsAddOnlyTheirAddresses, OutputsFailOnlyByTheirAddresses};
+ghost use Rattle.wc_laws_language.specs.DeclarationLaws.{AnOldTextStaysAsItIs, DeclarationsIgnoreDirections, OutputsAddOnlyTheirAddresses, OutputsFailOnlyByTheirAddresses, gives_nowhere, text_output_checks, without_outputs};
 ghost use Rattle.wc_laws_language.specs.CallLaws.{ACallHasThePathsItHad, ACallIsValidatedAsItWas, ACallMeansWhatItDid, AnInputIsSpelledAsItWas};
-ghost use Rattle.wc_laws_language.specs.OutputExamples.{gives_nowhere};
-ghost use Rattle.wc_laws_language.specs.OutputsRemoved.{text_output_checks, without_outputs};
 ghost use Rattle.wc_laws_language.specs.TextLaws.{ATextIsValidatedAsItWas, ATextIsSpelledAsItWas, ATextIsTooLongWhereItWas, ATextMeansWhatItDid, AUnitHasTheBoundItHad, AUnitHasThePathsItHad};
 
 /// A call that gives no output out does what it did.

@@ -1,13 +1,8 @@
 -- A text has exactly one answer of the last pass: whether a unit is too long, and which is the first.
-use Rattle.std.proofs.Common.{◌≡◌, ℕ, ◌≤◌, ◌<◌, List, [], ◌∷◌, length, Option, Some, None, ◌⊎◌, inl, inr, refl, sym, ◌∙◌, arith}
-use Rattle.std.proofs.lemmas.Bool.Decides.{leb_tells}
+use Rattle.wc_model.proofs.Common.{◌≡◌, ℕ, ◌≤◌, ◌<◌, List, [], ◌∷◌, length, Option, Some, None, ◌⊎◌, inl, inr, refl, sym, ◌∙◌, arith, leb_tells}
 use Rattle.wc_laws_language.proofs.Longest.{Found, WorstFrom, best_path, best_path_is_worst, longest_of_worst}
 use Rattle.wc_model.specs.Language.Checks.{Refusal, Position}
-use Rattle.wc_model.specs.Language.Faults.{MOST_STEPS, FirstTooLong, IsShortEnough, IsTooLong}
-use Rattle.wc_model.specs.Language.Paths.{Onward, IsLongest, IsPath}
-use Rattle.wc_model.specs.Language.Scopes.{Scope}
-use Rattle.wc_model.specs.Language.Tree.{ProgramUnit}
-use Rattle.wc_model.specs.Language.WorstPaths.{IsWorstPath}
+use Rattle.wc_model.specs.Definitions.{MOST_STEPS, FirstTooLong, IsShortEnough, IsTooLong, Onward, IsLongest, IsPath, Scope, ProgramUnit, IsWorstPath}
 
 -- a unit that is too long is not short enough
 pub not_both : (position : Position ProgramUnit) → IsTooLong position → IsShortEnough position → ⊥

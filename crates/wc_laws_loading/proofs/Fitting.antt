@@ -1,8 +1,7 @@
 -- What a language spells takes at least as many tokens as it has parts.
 use Rattle.std.proofs.Common.{◌≡◌, ◌≤◌, ◌+◌, ℕ, suc, Bool, true, false, cond, List, [], ◌∷◌, ◌++◌, length, length-append, filter, refl, ap, ◌∙◌, arith}
 use Rattle.wc_laws_grammar.proofs.TokenSteps.{lexeme_is_filled}
-use Rattle.wc_model.specs.Text.Languages.{one, each, separated, ◌then◌, Sequence}
-use Rattle.wc_model.specs.Text.Tokens.{Token, Cuts, Nothing, Skipped, Taken}
+use Rattle.wc_model.specs.Definitions.{one, each, separated, ◌then◌, Sequence, Token, Cuts, Nothing, Skipped, Taken}
 
 -- each token has a byte at least
 pub tokens_fit : {Ends : List ℕ → List ℕ → Type 0} (before rest : List ℕ) (tokens : List Token) → Cuts Ends before rest tokens → length tokens ≤ length rest

@@ -1,14 +1,10 @@
 -- What is loaded is no larger than its bytes.
 use Rattle.std.proofs.Common.{◌≡◌, ◌≤◌, ◌+◌, ℕ, suc, not, List, [], ◌∷◌, ◌++◌, length, length-append, filter, map, flat_map, refl, sym, subst, arith}
-use Rattle.std.proofs.lemmas.List.{length-map}
-use Rattle.std.proofs.lemmas.List.Filters.{length-filter_both}
+use Rattle.wc_model.proofs.Common.{length-map, length-filter_both}
 use Rattle.wc_laws_loading.proofs.Fitting.{both, filter_shrinks, one_is_one, separated_fits, tokens_fit}
-use Rattle.wc_laws_loading.specs.Sizes.{IsSmall, LoadedTextsAreSmall, argument_count, body_parts, flat_count, name_count, tree_parts}
+use Rattle.wc_laws_loading.specs.Laws.{IsSmall, LoadedTextsAreSmall, argument_count, body_parts, flat_count, name_count, tree_parts}
 use Rattle.wc_model.specs.Language.Tree.{Assignment, goes_in, inputs_of, outputs_of, Step, Load, Store, Apply, Negate, Jump, Call, Return, Lines, End, Alone, Plain, Nested, Word, Declaration, ProgramUnit, Text}
-use Rattle.wc_model.specs.Text.Grammar.{Group, Setting, InParentheses, InBody, IsNameOf, IsOn, IsOperator, IsOperatorOf, argument, bracketed, call_list, declaration, declared_names, instruction, line_ends, lines, sections, section_of, unit_of, symbol}
-use Rattle.wc_model.specs.Text.Languages.{one, each, ◌then◌}
-use Rattle.wc_model.specs.Text.Marks.{Mark, IsNamed, IsSymbol, IsWord, ClosingBracket, Comma, LineEnd, is_line_end}
-use Rattle.wc_model.specs.Text.Reading.{IsRead, mark_of_token}
+use Rattle.wc_model.specs.Definitions.{Group, Setting, InParentheses, InBody, IsNameOf, IsOn, IsOperator, IsOperatorOf, argument, bracketed, call_list, declaration, declared_names, instruction, line_ends, lines, sections, section_of, unit_of, symbol, one, each, ◌then◌, Mark, IsNamed, IsSymbol, IsWord, ClosingBracket, Comma, LineEnd, is_line_end, IsRead, mark_of_token}
 use Rattle.wc_model.specs.declared.source.Section.{Section}
 use Rattle.wc_text_flat.specs.FlatPaths.{sources_of, step_sources}
 

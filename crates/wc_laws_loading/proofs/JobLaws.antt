@@ -3,14 +3,7 @@ use Rattle.std.proofs.Common.{◌≡◌, ℕ, List, Option, Some, None, inl, inr
 use Rattle.std.specs.Prelude.{Result, Ok, Err}
 use Rattle.wc_laws_loading.proofs.LoadLaws.{loaded_or_refused, never_both, one_loaded, one_refusal}
 use Rattle.wc_laws_loading.specs.Laws.{HasOne, OneAnswer}
-use Rattle.wc_model.specs.Instrument.PlateTable.{Table, plate_of}
-use Rattle.wc_model.specs.Instrument.Plates.{PlateData}
-use Rattle.wc_model.specs.Language.Loading.{IsLoaded, IsRefused}
-use Rattle.wc_model.specs.Language.Tree.{Text}
-use Rattle.wc_model.specs.Run.JobSections.{Sections, sections_of}
-use Rattle.wc_model.specs.Run.Log.{Record, log_of}
-use Rattle.wc_model.specs.Say.Job.{AnswersNext, AnswersPlate, AnswersProgram, AnswersSections, JobAnswer, loads_program, refuses_program, refusing, run_answer}
-use Rattle.wc_model.specs.Say.ProgramReport.{first_logic}
+use Rattle.wc_model.specs.Definitions.{Table, plate_of, PlateData, IsLoaded, IsRefused, Text, Sections, sections_of, Record, log_of, AnswersNext, AnswersPlate, AnswersProgram, AnswersSections, JobAnswer, loads_program, refuses_program, refusing, run_answer, first_logic}
 
 -- what is equal to something is that alone
 exactly : {A : Type 0} (x : A) → HasOne (λ (y : A). y ≡ x)

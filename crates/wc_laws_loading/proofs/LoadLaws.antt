@@ -1,20 +1,11 @@
 -- Any bytes are loaded or refused, never both, with one text or one refusal.
-use Rattle.std.proofs.Common.{◌≡◌, ℕ, ◌≤◌, List, map, length, Option, Some, None, ◌⊎◌, inl, inr, refl, subst}
-use Rattle.std.proofs.lemmas.Bool.Decides.{leb_tells}
+use Rattle.wc_model.proofs.Common.{◌≡◌, ℕ, ◌≤◌, List, map, length, Option, Some, None, ◌⊎◌, inl, inr, refl, subst, leb_tells}
 use Rattle.wc_laws_grammar.proofs.FaultLaws.{text_or_fault}
 use Rattle.wc_laws_loading.proofs.Costs.{cost_is}
 use Rattle.wc_laws_loading.proofs.ReadOnce.{one_read, read_has_no_token_fault, read_is_not_misread}
 use Rattle.wc_laws_loading.proofs.Reasons.{ByReading, ByText, ByTokens, IsLater, Reason, none_later, one_reason, reason_of}
 use Rattle.wc_laws_loading.specs.Laws.{LoadedOrRefused, NeverBoth, OneRefusal, OneText}
-use Rattle.wc_model.specs.Language.Checks.{Refusal, positions_of}
-use Rattle.wc_model.specs.Language.Faults.{IsCostFault, body_fault, declaration_fault}
-use Rattle.wc_model.specs.Language.Loading.{IsLoaded, IsRefused, at_bodies, at_costs, at_declarations, at_reading, at_tokens}
-use Rattle.wc_model.specs.Language.Tree.{Text}
-use Rattle.wc_model.specs.Text.Grammar.{Spells}
-use Rattle.wc_model.specs.Text.Limits.{IsWithinLimits}
-use Rattle.wc_model.specs.Text.Reading.{IsRead, last_line, mark_of_token}
-use Rattle.wc_model.specs.Text.ReadingFaults.{IsFirstReadingFault, ReadingFault, number_of}
-use Rattle.wc_model.specs.Text.Tokens.{IsCut, IsFirstTokenFault, Token, TooLong, most_bytes}
+use Rattle.wc_model.specs.Definitions.{Refusal, positions_of, IsCostFault, body_fault, declaration_fault, IsLoaded, IsRefused, at_bodies, at_costs, at_declarations, at_reading, at_tokens, Text, Spells, IsWithinLimits, IsRead, last_line, mark_of_token, IsFirstReadingFault, ReadingFault, number_of, IsCut, IsFirstTokenFault, Token, TooLong, most_bytes}
 use Rattle.wc_laws_grammar.proofs.FoundTokens.{cut_or_fault}
 
 -- what is said of the bytes

@@ -1,23 +1,14 @@
 -- A text that is loaded has one report.
-use Rattle.std.proofs.Common.{Bool, true, false, List, [], ◌∷◌, ◌++◌, Some, None, refl, ap, ◌∙◌}
-use Rattle.std.specs.List.{AllByRecursion}
+use Rattle.wc_model.proofs.Common.{Bool, true, false, List, [], ◌∷◌, ◌++◌, Some, None, refl, ap, ◌∙◌, AllByRecursion}
 use Rattle.wc_laws_language.proofs.Longest.{Found, WorstFrom, best_path, best_path_is_worst}
 use Rattle.wc_laws_language.proofs.OneBound.{one_bound}
 use Rattle.wc_laws_language.proofs.UnitBounds.{bounds_of_loaded}
-use Rattle.wc_laws_language.specs.Laws.{HasABound}
+use Rattle.wc_laws_language.specs.{HasABound, UnitsNestSimply, NestsSimply}
 use Rattle.wc_laws_loading.proofs.OneWorstPath.{one_list}
-use Rattle.wc_laws_loading.specs.Laws.{HasOne}
-use Rattle.wc_laws_loading.specs.Reports.{EachUnitHasOneWorstPath, HasOneWorstPath, OneReport}
+use Rattle.wc_laws_loading.specs.Laws.{HasOne, EachUnitHasOneWorstPath, HasOneWorstPath, OneReport}
 use Rattle.wc_laws_language.proofs.Spelled.{spelled_text_nests}
-use Rattle.wc_laws_language.specs.SoundnessLaws.{UnitsNestSimply}
-use Rattle.wc_laws_language.specs.Sound.{NestsSimply}
 use Rattle.wc_model.specs.Language.Checks.{Position, positions_after}
-use Rattle.wc_model.specs.Language.Paths.{Onward, IsPath}
-use Rattle.wc_model.specs.Language.Scopes.{Scope}
-use Rattle.wc_model.specs.Language.Traces.{Item, own_lines}
-use Rattle.wc_model.specs.Language.Tree.{ProgramUnit}
-use Rattle.wc_model.specs.Language.WorstPaths.{AreWorstLines, IsWorstPath}
-use Rattle.wc_model.specs.Say.UnitReport.{AreUnitLines, IsPathPart, path_line, unit_line}
+use Rattle.wc_model.specs.Definitions.{Onward, IsPath, Scope, Item, own_lines, ProgramUnit, AreWorstLines, IsWorstPath, AreUnitLines, IsPathPart, path_line, unit_line}
 
 -- a unit that has a path has a worst one, and its lines alone
 lines_there : (scope : Scope) → NestsSimply scope.unit.body → (path : List Item) → IsPath scope path → (found : Found)

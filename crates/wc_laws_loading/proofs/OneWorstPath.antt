@@ -2,14 +2,9 @@
 -- of its caller's, and inside parentheses nothing is conditional.
 use Rattle.std.proofs.Common.{◌≡◌, ◌≢◌, ℕ, true, List, [], ◌∷◌, ◌++◌, Option, Some, None, ◌⊎◌, inl, inr, sym, ap, subst, ◌∙◌, arith}
 use Rattle.wc_laws_language.proofs.Longest.{worst_is_path}
-use Rattle.wc_laws_language.specs.Sound.{is_simple, IsSimple, NestsSimply}
-use Rattle.wc_model.specs.Language.Declarations.{VariableType, Elementary, Standard, Block}
-use Rattle.wc_model.specs.Language.Names.{Name}
-use Rattle.wc_model.specs.Language.Paths.{Way, Onward, Toward, Back, arriving_way, GoesOn, IsBlockPath, IsBodyPath, IsCallPath, IsNestedPath, IsPathFrom, Joined, MayAct, MayPass, MayStep}
-use Rattle.wc_model.specs.Language.Scopes.{Scope, type_of}
-use Rattle.wc_model.specs.Language.Traces.{Item, At, own_lines}
+use Rattle.wc_laws_language.specs.SoundnessLaws.{is_simple, IsSimple, NestsSimply}
+use Rattle.wc_model.specs.Definitions.{VariableType, Elementary, Standard, Block, Name, Way, Onward, Toward, Back, arriving_way, GoesOn, IsBlockPath, IsBodyPath, IsCallPath, IsNestedPath, IsPathFrom, Joined, MayAct, MayPass, MayStep, Scope, type_of, Item, At, own_lines, AreWorstLines, ChoosesWorst, IsWorstFrom}
 use Rattle.wc_model.specs.Language.Tree.{Assignment, Step, Load, Store, Apply, Negate, Jump, Call, Return, Lines, End, Alone, Plain, Nested}
-use Rattle.wc_model.specs.Language.WorstPaths.{AreWorstLines, ChoosesWorst, IsWorstFrom}
 use Rattle.wc_model.specs.declared.operator.Condition.{Condition}
 use Rattle.wc_model.specs.declared.operator.Condition.TheVariants.{Always, IfTrue, IfFalse}
 use Rattle.wc_text_flat.proofs.FlatPaths.{no_own_lines, own_line_of_call, own_lines-append}

@@ -2,11 +2,7 @@
 use Rattle.std.proofs.Common.{◌≡◌, ℕ, List, map, subst}
 use Rattle.wc_laws_grammar.proofs.FaultLaws.{fault_spells_nothing, one_text}
 use Rattle.wc_laws_grammar.proofs.FirstFaults.{one_first_fault}
-use Rattle.wc_model.specs.Language.Tree.{Text}
-use Rattle.wc_model.specs.Text.Grammar.{Spells}
-use Rattle.wc_model.specs.Text.Reading.{IsMisread, IsRead, last_line, mark_of_token}
-use Rattle.wc_model.specs.Text.ReadingFaults.{IsFirstReadingFault, ReadingFault}
-use Rattle.wc_model.specs.Text.Tokens.{IsFirstTokenFault, Token}
+use Rattle.wc_model.specs.Definitions.{Text, Spells, IsMisread, IsRead, last_line, mark_of_token, IsFirstReadingFault, ReadingFault, IsFirstTokenFault, Token}
 use Rattle.wc_laws_grammar.proofs.TokenLaws.{cut_has_no_fault, cut_is_unique}
 
 -- bytes are read as one text

@@ -2,13 +2,7 @@
 use Rattle.std.proofs.Common.{◌≡◌, ℕ, List, Option, Some, None, ◌⊎◌, inl, inr, ap, subst, sym, ◌∙◌}
 use Rattle.wc_laws_loading.proofs.Costs.{one_cost}
 use Rattle.wc_laws_loading.proofs.ReadOnce.{misread_has_no_token_fault, one_misread, one_read, read_has_no_token_fault, read_is_not_misread}
-use Rattle.wc_model.specs.Language.Checks.{Refusal, positions_of}
-use Rattle.wc_model.specs.Language.Faults.{IsCostFault, body_fault, declaration_fault}
-use Rattle.wc_model.specs.Language.Loading.{IsRefused, at_bodies, at_costs, at_declarations, at_reading, at_tokens}
-use Rattle.wc_model.specs.Language.Tree.{Text}
-use Rattle.wc_model.specs.Text.Reading.{IsMisread, IsRead}
-use Rattle.wc_model.specs.Text.ReadingFaults.{ReadingFault, number_of}
-use Rattle.wc_model.specs.Text.Tokens.{IsFirstTokenFault}
+use Rattle.wc_model.specs.Definitions.{Refusal, positions_of, IsCostFault, body_fault, declaration_fault, IsRefused, at_bodies, at_costs, at_declarations, at_reading, at_tokens, Text, IsMisread, IsRead, ReadingFault, number_of, IsFirstTokenFault}
 use Rattle.wc_laws_grammar.proofs.TokenLaws.{first_fault_is_unique}
 
 -- the fault of the last two passes

@@ -2,9 +2,7 @@
 //! than its bytes. Each function has an empty body: its clause is the law.
 #![tactic(auto)]
 
-ghost use Rattle.wc_laws_loading.specs.Laws.{LoadedOrRefused, NeverBoth, OneAnswer, OneRefusal, OneText};
-ghost use Rattle.wc_laws_loading.specs.Sizes.{LoadedTextsAreSmall, TokensAreFew};
-ghost use Rattle.wc_laws_loading.specs.Reports.{EachUnitHasOneWorstPath, OneReport};
+ghost use Rattle.wc_laws_loading.specs.Laws.{LoadedOrRefused, NeverBoth, OneAnswer, OneRefusal, OneText, LoadedTextsAreSmall, TokensAreFew, EachUnitHasOneWorstPath, OneReport};
 
 /// Any bytes are loaded as a text, or refused with a number and a line.
 pub fn bytes_are_loaded_or_refused()

@@ -1,7 +1,5 @@
 -- Bytes that begin no bracket of a comment are passed over.
-use Rattle.std.proofs.Common.{◌≡◌, ℕ, zero, suc, ◌≤◌, Bool, true, false, cond, List, [], ◌∷◌, length, drop, take, refl, sym, ◌∙◌, subst, ⊎_elim, arith}
-use Rattle.std.proofs.lemmas.Bool.{or_cases}
-use Rattle.std.specs.Cmp.Lexicographic.{bytes_decides}
+use Rattle.wc_model.proofs.Common.{◌≡◌, ℕ, zero, suc, ◌≤◌, Bool, true, false, cond, List, [], ◌∷◌, length, drop, take, refl, sym, ◌∙◌, subst, ⊎_elim, arith, or_cases, bytes_decides}
 use Rattle.memchr.specs.Find.{Nowhere, Passes, is_byte2}
 use Rattle.wc_model.specs.Text.Blanks.{comment_closing, comment_opening, from_bracket, starts_with_bracket}
 

@@ -1,11 +1,8 @@
 -- What is where a colon is.
-use Rattle.std.proofs.Common.{◌≡◌, ◌==◌, ℕ, ◌≤◌, Bool, true, false, cond, not, ◌||◌, List, [], ◌∷◌, length, drop, Option, Some, None, refl, sym, ap, ◌∙◌, subst, arith, true≢false}
-use Rattle.std.proofs.lemmas.Bool.{eqb-true}
-use Rattle.std.specs.Option.{option_map_or}
+use Rattle.wc_model.proofs.Common.{◌≡◌, ◌==◌, ℕ, ◌≤◌, Bool, true, false, cond, not, ◌||◌, List, [], ◌∷◌, length, drop, Option, Some, None, refl, sym, ap, ◌∙◌, subst, arith, true≢false, eqb-true, option_map_or}
 use Rattle.wc_laws_grammar.proofs.Reach.{mark_passes}
 use Rattle.wc_laws_grammar.specs.Sights.{Take, sight, sight_by_reach}
-use Rattle.wc_model.specs.Text.Characters.{begins}
-use Rattle.wc_model.specs.Text.Lexemes.{may_occur_before}
+use Rattle.wc_model.specs.Definitions.{begins, may_occur_before}
 use Rattle.wc_model.specs.Text.Shapes.{Assign, Colon, Shape, mark_of}
 
 -- a mark of two bytes that starts with a colon ends with `=`

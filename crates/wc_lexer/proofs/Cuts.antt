@@ -1,7 +1,6 @@
 -- A list cut at the first element that passes.
 use Rattle.std.proofs.Common.{◌≡◌, ℕ, suc, ◌+◌, ◌-◌, ◌<◌, ◌≤◌, Bool, true, false, cond, not, ◌||◌, List, [], ◌∷◌, length, drop, take, refl, ap, ◌∙◌, arith, length-drop}
-use Rattle.std.proofs.lemmas.List.{take_all, drop-drop}
-use Rattle.std.specs.List.{after_first, before_first, list_any, position_or_len}
+use Rattle.wc_model.proofs.Common.{take_all, drop-drop, after_first, before_first, list_any, position_or_len}
 
 -- if the place is after the list, no element passes
 pub none_passes : (p : ℕ → Bool) (xs : List ℕ) → length xs ≤ position_or_len p xs → list_any p xs ≡ false

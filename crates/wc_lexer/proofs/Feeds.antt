@@ -1,17 +1,12 @@
 -- The number of line feeds the slices of a text hold.
 use Rattle.std.proofs.Common.{◌≡◌, ℕ, zero, suc, ◌≤◌, ◌<◌, Bool, true, false, cond, not, List, [], ◌∷◌, length, drop, take, count_by, length-take, refl, sym, ap, ◌∙◌, subst, arith, IsTrue, true≢false}
-use Rattle.std.proofs.lemmas.Bool.{and_from, and_parts, ne_eqb, not-true, not_from_false}
-use Rattle.std.proofs.lemmas.List.Folds.{list_all-append}
-use Rattle.std.proofs.lemmas.List.Sums.{count_by-le-length, sum_by-cons}
-use Rattle.std.specs.List.{list_all}
+use Rattle.wc_model.proofs.Common.{and_from, and_parts, ne_eqb, not-true, not_from_false, list_all-append, count_by-le-length, sum_by-cons, list_all}
 use Rattle.wc_lexer.proofs.Steps.{holds_at, some_left}
 use Rattle.wc_laws_grammar.proofs.FoundTokens.{Holds}
 use Rattle.wc_laws_grammar.proofs.Reach.{mark_passes}
 use Rattle.wc_laws_grammar.specs.Sights.{Pass, Take, sight}
 use Rattle.wc_model.specs.Text.Blanks.{Blank, Comment, Return, Space, Tab}
-use Rattle.wc_model.specs.Text.Characters.{begins, is_address_character, is_identifier_character, is_line_feed, is_minus, is_number_character, starts_identifier}
-use Rattle.wc_model.specs.Text.Lexemes.{Addressed, Lexeme, Marked, Run, Sign, Signed, Typed, Unsigned, is_literal_value, is_run, is_unsigned_run}
-use Rattle.wc_model.specs.Text.Shapes.{Shape}
+use Rattle.wc_model.specs.Definitions.{begins, is_address_character, is_identifier_character, is_line_feed, is_minus, is_number_character, starts_identifier, Addressed, Lexeme, Marked, Run, Sign, Signed, Typed, Unsigned, is_literal_value, is_run, is_unsigned_run, Shape}
 
 -- the byte is not a line feed
 abbrev pub is_other : ℕ → Bool

@@ -1,13 +1,10 @@
 -- A duration's first part by its longest number and its longest letters.
 use Rattle.std.proofs.Common.{◌≡◌, ℕ, ◌+◌, ◌≤◌, Bool, true, false, cond, not, List, [], ◌∷◌, ◌++◌, length, drop, take, refl, sym, ap, ◌∙◌, subst, arith, one-add, take-append-drop, true≢false}
-use Rattle.std.proofs.lemmas.Bool.{and_parts, cond-true, cond-false, not-true}
+use Rattle.wc_model.proofs.Common.{and_parts, cond-true, cond-false, not-true, is_ascii_alphabetic, list_all, prefix_len}
 use Rattle.std.proofs.lemmas.List.{append-nil}
-use Rattle.std.specs.Char.{is_ascii_alphabetic}
-use Rattle.std.specs.List.{list_all, prefix_len}
 use Rattle.wc_laws_grammar.proofs.Attained.{prefix_passes}
 use Rattle.wc_laws_grammar.proofs.DurationParts.{has_no_letter, part, first_part, onto_number}
-use Rattle.wc_model.specs.Text.Characters.{begins}
-use Rattle.wc_model.specs.Text.Durations.{parts_of, onto_parts}
+use Rattle.wc_model.specs.Definitions.{begins, parts_of, onto_parts}
 
 -- the byte is not a letter
 abbrev pub is_no_letter : ℕ → Bool

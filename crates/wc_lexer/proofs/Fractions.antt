@@ -1,16 +1,10 @@
 -- Digits after a point.
 use Rattle.std.proofs.Common.{◌≡◌, ℕ, ◌-◌, ◌*◌, ◌^◌, ◌≤◌, Bool, true, not, ◌&&◌, List, [], ◌∷◌, length, filter, Option, Some, None, nat_le, refl, sym, ap, ◌∙◌, ⊎_elim, arith}
-use Rattle.std.proofs.lemmas.Bool.{and_from, and_parts, cases_lt, cond-true, le-leb, leb-true, not_from_false, ne_eqb}
-use Rattle.std.proofs.Math.Nat.{one-le-pow}
-use Rattle.std.specs.Bool.{then_some}
-use Rattle.std.specs.Char.{is_ascii_digit}
-use Rattle.std.specs.List.{list_all}
+use Rattle.wc_model.proofs.Common.{and_from, and_parts, cases_lt, cond-true, le-leb, leb-true, not_from_false, ne_eqb, one-le-pow, then_some, is_ascii_digit, list_all, digits_value}
 use Rattle.std.specs.Option.{option_and_then}
-use Rattle.std.specs.Str.Parse.{digits_value}
 use Rattle.wc_lexer.proofs.Widths.{from_wide, narrow, wide}
-use Rattle.wc_lexer.specs.Widths.{within_64_bits}
-use Rattle.wc_model.specs.Text.Characters.{is_underscore}
-use Rattle.wc_model.specs.Text.Digits.{value_of_digits}
+use Rattle.wc_lexer.specs.Numbers.{within_64_bits}
+use Rattle.wc_model.specs.Definitions.{is_underscore, value_of_digits}
 
 -- digits hold no underscore
 pub without_underscores : (text : List ℕ) → list_all is_ascii_digit text ≡ true → filter (λ b. not (is_underscore b)) text ≡ text

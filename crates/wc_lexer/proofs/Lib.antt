@@ -1,6 +1,5 @@
 pub mod Cuts
 pub mod Widths
-pub mod Wholes
 pub mod Reaches
 pub mod FirstParts
 pub mod Fractions

@@ -1,11 +1,7 @@
 -- The prefix of a text that may be an identifier, byte by byte.
 use Rattle.std.proofs.Common.{◌≡◌, ℕ, ◌+◌, Bool, true, false, cond, not, ◌&&◌, ◌||◌, List, [], ◌∷◌, ◌-◌, ◌≤◌, drop, length, slice_index, subst, take, take_all, refl, sym, ap, ◌∙◌, one-add, arith, true≢false}
-use Rattle.std.proofs.lemmas.Bool.{ne_eqb}
-use Rattle.std.specs.Char.{is_ascii_alphabetic, is_ascii_alphanumeric, is_ascii_digit}
-use Rattle.std.specs.Int.{is_in_range}
-use Rattle.std.specs.List.{prefix_len}
-use Rattle.wc_model.specs.Text.Characters.{begins, is_identifier_character, is_underscore}
-use Rattle.wc_model.specs.Text.Digits.{has_single_underscores}
+use Rattle.wc_model.proofs.Common.{ne_eqb, is_ascii_alphabetic, is_ascii_alphanumeric, is_ascii_digit, is_in_range, prefix_len}
+use Rattle.wc_model.specs.Definitions.{begins, is_identifier_character, is_underscore, has_single_underscores}
 
 -- the characters of an identifier at the start
 abbrev pub name_prefix : List ℕ → List ℕ

@@ -1,24 +1,16 @@
 -- What a part and the parts after it are parsed as.
 use Rattle.std.proofs.Common.{◌≡◌, ℕ, ◌+◌, ◌-◌, ◌*◌, ◌^◌, ◌<◌, ◌≤◌, ◌/◌, ◌%◌, ◌==◌, Bool, true, false, cond, not, ◌&&◌, ◌||◌, List, [], ◌∷◌, ◌++◌, length, drop, take, map, Option, Some, None, option_map, is_some, nat_lt, nat_le, true≢false, length-drop, refl, sym, ap, ◌∙◌, subst, ⊎_elim, inl, inr, ◌⊎◌, arith, pos, neg_ℤ, count_by}
-use Rattle.std.proofs.lemmas.Bool.{and_from, cases_lt}
-use Rattle.std.proofs.lemmas.List.Sums.{sum_by-cons}
-use Rattle.std.specs.Bool.{then_some}
-use Rattle.std.specs.Char.{is_ascii_alphabetic, is_ascii_digit}
-use Rattle.std.specs.List.{after_first, list_all, list_any, position_or_len, prefix_len}
+use Rattle.wc_model.proofs.Common.{and_from, cases_lt, sum_by-cons, then_some, is_ascii_alphabetic, is_ascii_digit, after_first, list_all, list_any, position_or_len, prefix_len, digits_value}
 use Rattle.std.specs.Option.{option_and_then, option_map_or}
-use Rattle.std.specs.Str.Parse.{digits_value}
 use Rattle.wc_lexer.proofs.Cuts.{some_passes}
 use Rattle.wc_lexer.proofs.FirstParts.{is_no_letter, text_parts}
 use Rattle.wc_laws_grammar.proofs.DurationParts.{part}
 use Rattle.wc_lexer.proofs.Fractions.{wide_product}
 use Rattle.wc_lexer.proofs.Widths.{from_wide, narrow, wide, wide_for_32_bits}
-use Rattle.wc_lexer.specs.Parts.{IsParsedPart, IsParsedSum, IsParsedAs, are_later, are_none, parsed_fraction, part_by}
-use Rattle.wc_lexer.specs.Widths.{within_64_bits}
+use Rattle.wc_lexer.specs.Numbers.{IsParsedPart, IsParsedSum, IsParsedAs, are_later, are_none, parsed_fraction, part_by, within_64_bits}
 use Rattle.wc_lexer.specs.declared.durations.ParsedPart.{ParsedPart}
 use Rattle.wc_lexer.specs.declared.durations.TimeUnit as units
-use Rattle.wc_model.specs.Text.Characters.{begins, is_empty, is_point, is_underscore}
-use Rattle.wc_model.specs.Text.Digits.{are_digits, value_of_digits}
-use Rattle.wc_model.specs.Text.WholeNumbers.{within_32_bits}
+use Rattle.wc_model.specs.Definitions.{begins, is_empty, is_point, is_underscore, are_digits, value_of_digits, within_32_bits}
 use Rattle.wc_model.specs.Text.Durations.{Part, TimeUnit, are_duration_parts, billionths, billionths_of, fraction_digits, has_fraction_format, has_point, has_whole_format, is_falling, is_later_part, is_part, milliseconds_of, duration_parts, parts_of, without_separator, unit_below, unit_milliseconds, unit_named, whole_of}
 
 -- what is too wide stays so under a sum

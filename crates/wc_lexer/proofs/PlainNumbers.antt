@@ -1,17 +1,10 @@
 -- A number of digits alone, read in one pass.
 use Rattle.std.proofs.Common.{◌≡◌, ℕ, ◌+◌, ◌-◌, ◌*◌, ◌<◌, ◌≤◌, Bool, true, false, cond, not, ◌&&◌, ◌||◌, List, [], ◌∷◌, drop, filter, IfSome, length, slice_index, subst, take, take_all, Option, Some, None, refl, sym, ap, ◌∙◌, one-add, arith, true≢false, ⊎_elim}
-use Rattle.std.proofs.lemmas.Bool.{and_from, and_parts, cases_lt, cond-false, cond-true, le-leb, le-ltb, lt-ltb, ltb-true, ne_eqb, or_left, or_right}
-use Rattle.std.proofs.lemmas.List.Folds.{length-prefix_len}
+use Rattle.wc_model.proofs.Common.{and_from, and_parts, cases_lt, cond-false, cond-true, le-leb, le-ltb, lt-ltb, ltb-true, ne_eqb, or_left, or_right, length-prefix_len, digit_value, is_ascii_alphanumeric, is_ascii_digit, is_digit, is_in_range, list_all, list_any, prefix_len, digits_value, digits_value_after}
 use Rattle.std.specs.Bool.{nat_lt, then_some}
-use Rattle.std.specs.Char.{digit_value, is_ascii_alphanumeric, is_ascii_digit, is_digit}
-use Rattle.std.specs.Int.{is_in_range}
-use Rattle.std.specs.List.{list_all, list_any, prefix_len}
-use Rattle.std.specs.Str.Parse.{digits_value, digits_value_after}
 use Rattle.wc_laws_grammar.proofs.Attained.{digit_goes_on}
-use Rattle.wc_lexer.specs.PlainNumbers.{IsPlain, IsUnsigned, number_prefix}
-use Rattle.wc_model.specs.Text.Characters.{begins, is_hash, is_number_character, is_underscore}
-use Rattle.wc_model.specs.Text.Digits.{are_digits, digits_of, has_single_underscores, value_of_digits}
-use Rattle.wc_model.specs.Text.WholeNumbers.{unsigned_of}
+use Rattle.wc_lexer.specs.Numbers.{IsPlain, IsUnsigned, number_prefix}
+use Rattle.wc_model.specs.Definitions.{begins, is_hash, is_number_character, is_underscore, are_digits, digits_of, has_single_underscores, value_of_digits, unsigned_of}
 
 -- ---- digits of a base
 

@@ -1,11 +1,7 @@
 -- What the look ahead finds lies within the text, and what it says of its place.
-use Rattle.std.proofs.Common.{true, false, cond, ◌≡◌, ℕ, zero, suc, ◌≤◌, List, [], ◌∷◌, length, take, Ok, Err, refl, ap, ◌∙◌, ⊎_elim, arith}
-use Rattle.wc_laws_grammar.specs.Sights.{Take, Refuse, sight_by_reach, sight_of_lexeme}
-use Rattle.wc_laws_grammar.specs.Reaches.{reach}
-use Rattle.std.proofs.lemmas.Bool.{or_cases}
-use Rattle.std.specs.Cmp.Lexicographic.{bytes_decides}
-use Rattle.wc_model.specs.Text.Blanks.{comment_closing, comment_opening, from_bracket, starts_with_bracket}
-use Rattle.wc_model.specs.Text.Shapes.{Shape, shape_of}
+use Rattle.wc_model.proofs.Common.{true, false, cond, ◌≡◌, ℕ, zero, suc, ◌≤◌, List, [], ◌∷◌, length, take, Ok, Err, refl, ap, ◌∙◌, ⊎_elim, arith, or_cases, bytes_decides}
+use Rattle.wc_laws_grammar.specs.Sights.{Take, Refuse, sight_by_reach, sight_of_lexeme, reach}
+use Rattle.wc_model.specs.Definitions.{comment_closing, comment_opening, from_bracket, starts_with_bracket, Shape, shape_of}
 
 -- a lexeme with a shape
 pub sees_token : (count : ℕ) (text : List ℕ) (shape : Shape) → count ≡ reach text → ¬ (count ≡ 0) → Ok shape ≡ shape_of (take count text) → Take count shape ≡ sight_by_reach (reach text) text

@@ -1,16 +1,12 @@
 -- The slice at which a text can't be cut further is the one that its fault is about.
 use Rattle.std.proofs.Common.{◌≡◌, ◌≢◌, ℕ, zero, suc, ◌≤◌, ◌==◌, true, false, List, [], ◌∷◌, ◌++◌, length, take, refl, sym, ap, ◌∙◌, subst, arith, true≢false, if◌then◌else◌}
 use Rattle.std.proofs.lemmas.Bool.{and_parts, cond-false, eqb-true, ne_eqb}
-use Rattle.wc_lexer.specs.Refusals.{Names}
-use Rattle.wc_lexer.specs.Spans.{IsSpanAt, IsTokenSpan, NoSlice, FaultSlice, StopsAt, fault_slice, stuck_length}
+use Rattle.wc_lexer.specs.Spans.{Names, IsSpanAt, IsTokenSpan, NoSlice, FaultSlice, StopsAt, fault_slice, stuck_length}
 use Rattle.wc_laws_grammar.proofs.Attained.{attained, attained_longest}
 use Rattle.wc_laws_grammar.proofs.Reach.{within_reach}
 use Rattle.wc_laws_grammar.proofs.TokenSteps.{lexeme_is_filled, no_lexeme_at_comment}
-use Rattle.wc_laws_grammar.specs.Reaches.{reach}
-use Rattle.wc_laws_grammar.specs.Sights.{opens_comment}
-use Rattle.wc_model.specs.Text.Blanks.{comment_opening}
-use Rattle.wc_model.specs.Text.Characters.{is_star}
-use Rattle.wc_model.specs.Text.Lexemes.{IsLongestLexeme, Lexeme}
+use Rattle.wc_laws_grammar.specs.Sights.{reach, opens_comment}
+use Rattle.wc_model.specs.Definitions.{comment_opening, is_star, IsLongestLexeme, Lexeme}
 use Rattle.wc_model.specs.Text.Tokens.{Cuts, FaultAt, Faulty, Foreign, IsFirstTokenFault, Malformed, Nested, Nothing, Skipped, Represents, Taken, Token, TooLong, Unclosed}
 use Rattle.wc_model.specs.declared.fault.Fault.{Fault}
 use Rattle.wc_model.specs.declared.fault.Fault.TheVariants.{Memory, Refused}

@@ -1,20 +1,14 @@
 -- Slice by slice to the tokens of a text, or to its first fault.
 use Rattle.std.proofs.Common.{◌≡◌, ℕ, zero, suc, cond, ◌+◌, ◌≤◌, ◌<◌, List, [], ◌∷◌, ◌++◌, length, drop, take, count_by, Ok, refl, sym, ap, ◌∙◌, subst, subst₂, arith, append_assoc, take-append-drop, length-drop, length-take-le}
-use Rattle.std.proofs.Math.Seq.{take-add}
+use Rattle.wc_model.proofs.Common.{take-add, sum_by-append}
 use Rattle.std.proofs.lemmas.List.{append-nil, drop-drop}
-use Rattle.std.proofs.lemmas.List.Sums.{sum_by-append}
 use Rattle.wc_lexer.proofs.PartSums.{empty}
 use Rattle.wc_lexer.proofs.Spans.{is_stuck_length}
-use Rattle.wc_lexer.specs.Refusals.{AtToken, NeedsMemory}
-use Rattle.wc_lexer.specs.Spans.{IsSpanAt, IsTokenSpan, FaultSlice, stuck_length}
+use Rattle.wc_lexer.specs.Spans.{AtToken, NeedsMemory, IsSpanAt, IsTokenSpan, FaultSlice, stuck_length}
 use Rattle.wc_laws_grammar.specs.Sights.{Pass, Refuse, Sight, Take, sight}
 use Rattle.wc_laws_grammar.proofs.FoundTokens.{Holds, sight_holds}
 use Rattle.wc_laws_grammar.proofs.TokenSteps.{blank_is_filled, lexeme_is_filled}
-use Rattle.wc_model.specs.Text.Blanks.{Blank}
-use Rattle.wc_model.specs.Text.Characters.{is_line_feed}
-use Rattle.wc_model.specs.Text.Lexemes.{IsLongestLexeme}
-use Rattle.wc_model.specs.Text.Shapes.{Shape, shape_of}
-use Rattle.wc_model.specs.Text.Tokens.{AtEnd, Cuts, FaultAt, IsCut, Nothing, Skipped, Taken, Token, line_after, most_bytes, token_after}
+use Rattle.wc_model.specs.Definitions.{Blank, is_line_feed, IsLongestLexeme, Shape, shape_of, AtEnd, Cuts, FaultAt, IsCut, Nothing, Skipped, Taken, Token, line_after, most_bytes, token_after}
 
 -- what goes on from here completes these tokens
 abbrev pub Goes : (List ℕ → List ℕ → Type 0) → List ℕ → ℕ → List Token → Type 0

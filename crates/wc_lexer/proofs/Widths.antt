@@ -1,14 +1,9 @@
--- Numbers that are too wide for a word stay so.
-use Rattle.std.proofs.Common.{◌≡◌, ℕ, zero, suc, ◌+◌, ◌*◌, ◌^◌, ◌<◌, ◌≤◌, Bool, true, false, cond, not, List, [], ◌∷◌, length, get_or, filter, Option, Some, None, pos, negsuc, neg_ℤ, option_map, refl, sym, ap, ◌∙◌, arith, le_refl, ⊎_elim}
-use Rattle.std.specs.Bool.{then_some}
+-- Whole numbers by their sign, and that numbers which are too wide for a word stay so.
+use Rattle.std.proofs.Common.{◌≡◌, ℕ, zero, suc, ◌+◌, ◌*◌, ◌^◌, ◌<◌, ◌≤◌, Bool, true, false, cond, not, List, [], ◌∷◌, length, get_or, filter, Option, Some, None, pos, negsuc, neg_ℤ, option_map, refl, sym, ap, ◌∙◌, arith, le_refl, ⊎_elim, drop, ℤ}
+use Rattle.wc_model.proofs.Common.{then_some, digit_value, digits_value_after, le-ltb, lt-ltb, cases_lt, cond-true, not_from_false, ne_eqb, cond-false}
 use Rattle.std.specs.Option.{option_and_then}
-use Rattle.std.specs.Char.{digit_value}
-use Rattle.std.specs.Str.Parse.{digits_value_after}
-use Rattle.std.proofs.lemmas.Bool.{le-ltb, lt-ltb, cases_lt, cond-true, not_from_false, ne_eqb}
-use Rattle.wc_lexer.specs.Widths.{within_64_bits}
-use Rattle.wc_model.specs.Text.Characters.{is_underscore}
-use Rattle.wc_model.specs.Text.Digits.{value_of_digits}
-use Rattle.wc_model.specs.Text.WholeNumbers.{within_32_bits}
+use Rattle.wc_lexer.specs.Numbers.{within_64_bits}
+use Rattle.wc_model.specs.Definitions.{is_underscore, begins, is_minus, is_plus, value_of_digits, digits_of, within_32_bits, unsigned_of, whole_number_of, written_value}
 
 -- a number times a base is no smaller
 pub times : (base n : ℕ) → 1 ≤ base → n ≤ n * base
@@ -69,3 +64,27 @@ narrowed_size negative (Some n) =
     (λ less. ap (option_and_then (λ m. within_32_bits (cond negative (neg_ℤ (pos m)) (pos m)))) (narrow n less))
     (λ more. ap (option_and_then (λ m. within_32_bits (cond negative (neg_ℤ (pos m)) (pos m)))) (wide n more) ∙ sym (wide_has_no_32_bits negative n more))
     (cases_lt n (2 ^ 64))
+
+-- a number by its sign
+pub by_sign : (text : List ℕ) → written_value text ≡ cond (begins is_minus text) (option_map (λ n. neg_ℤ (pos n)) (digits_of 10 (drop 1 text))) (cond (begins is_plus text) (option_map pos (digits_of 10 (drop 1 text))) (option_map pos (unsigned_of text)))
+by_sign [] = refl
+by_sign (b ∷ rest) = refl
+
+-- the number of that sign, narrowed
+abbrev pub narrowed_to : (negative : Bool) → Option ℕ → Option ℤ
+narrowed_to negative size = option_and_then (λ n. within_32_bits (cond negative (neg_ℤ (pos n)) (pos n))) size
+
+-- a number with a minus
+pub whole_minus : (text number : List ℕ) (size : Option ℕ) (answer : Option ℤ) → begins is_minus text ≡ true → number ≡ drop 1 text → size ≡ option_and_then within_64_bits (digits_of 10 number) → answer ≡ narrowed_to true size → answer ≡ whole_number_of text
+whole_minus text number size answer minus rest sized narrowed =
+    narrowed ∙ ap (narrowed_to true) (sized ∙ ap (λ l. option_and_then within_64_bits (digits_of 10 l)) rest) ∙ narrowed_size true (digits_of 10 (drop 1 text)) ∙ ap (option_and_then within_32_bits) (sym (by_sign text ∙ cond-true _ _ _ minus))
+
+-- a number with a plus
+pub whole_plus : (text number : List ℕ) (size : Option ℕ) (answer : Option ℤ) → begins is_minus text ≡ false → begins is_plus text ≡ true → number ≡ drop 1 text → size ≡ option_and_then within_64_bits (digits_of 10 number) → answer ≡ narrowed_to false size → answer ≡ whole_number_of text
+whole_plus text number size answer minus plus rest sized narrowed =
+    narrowed ∙ ap (narrowed_to false) (sized ∙ ap (λ l. option_and_then within_64_bits (digits_of 10 l)) rest) ∙ narrowed_size false (digits_of 10 (drop 1 text)) ∙ ap (option_and_then within_32_bits) (sym (by_sign text ∙ cond-false _ _ _ minus ∙ cond-true _ _ _ plus))
+
+-- a number without a sign
+pub whole_unsigned : (text : List ℕ) (size : Option ℕ) (answer : Option ℤ) → begins is_minus text ≡ false → begins is_plus text ≡ false → size ≡ option_and_then within_64_bits (unsigned_of text) → answer ≡ narrowed_to false size → answer ≡ whole_number_of text
+whole_unsigned text size answer minus plus sized narrowed =
+    narrowed ∙ ap (narrowed_to false) sized ∙ narrowed_size false (unsigned_of text) ∙ ap (option_and_then within_32_bits) (sym (by_sign text ∙ cond-false _ _ _ minus ∙ cond-false _ _ _ plus))

@@ -1,15 +1,11 @@
 -- What the look ahead finds if an identifier starts and no `#` follows it.
 use Rattle.std.proofs.Common.{◌≡◌, ℕ, zero, suc, ◌+◌, ◌≤◌, Bool, true, false, cond, ◌||◌, List, [], ◌∷◌, length, drop, take, refl, sym, ap, ◌∙◌, subst, arith, add-zero, length-take-le, true≢false, Result, Ok, Err, if◌then◌else◌}
-use Rattle.std.proofs.lemmas.Bool.{and_parts, cond-false, cond-true, ne_eqb}
-use Rattle.std.proofs.lemmas.List.Sums.{prefix_len-le-length}
-use Rattle.std.specs.List.{list_all, list_any, prefix_len}
+use Rattle.wc_model.proofs.Common.{and_parts, cond-false, cond-true, ne_eqb, prefix_len-le-length, list_all, list_any, prefix_len}
 use Rattle.wc_lexer.specs.Views.{is_name_so}
 use Rattle.wc_laws_grammar.proofs.Attained.{prefix_passes, prefix_starts, start_goes_on}
 use Rattle.wc_laws_grammar.proofs.Reach.{reach_word}
-use Rattle.wc_laws_grammar.specs.Reaches.{hash_reach, reach}
-use Rattle.wc_laws_grammar.specs.Sights.{Take, sight_by_reach, sight_of_lexeme}
-use Rattle.wc_model.specs.Text.Characters.{begins, is_hash, is_identifier_character, starts_identifier}
-use Rattle.wc_model.specs.Text.Digits.{has_single_underscores}
+use Rattle.wc_laws_grammar.specs.Sights.{hash_reach, reach, Take, sight_by_reach, sight_of_lexeme}
+use Rattle.wc_model.specs.Definitions.{begins, is_hash, is_identifier_character, starts_identifier, has_single_underscores}
 use Rattle.wc_model.specs.Text.Shapes.{Identifier, Shape, shape_of}
 
 -- characters of an identifier hold no `#`

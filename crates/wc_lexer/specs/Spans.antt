@@ -1,12 +1,26 @@
--- Where the first fault of a text's tokens is. (The profile's own.)
-use Rattle.std.specs.Prelude.{◌≡◌, ℕ, ◌≤◌, ◌<◌, List, [], length, take, if◌then◌else◌, ◌==◌}
-use Rattle.wc_lexer.specs.Refusals.{NeedsMemory}
-use Rattle.wc_model.specs.Text.Blanks.{comment_opening}
-use Rattle.wc_model.specs.Text.Tokens.{Cuts, FaultAt, Foreign, Malformed, Nested, Token, Unclosed, line_after, most_bytes}
+-- What a refusal of the lexer says of its text, and where the first fault of a text's tokens is. (The profile's own.)
+use Rattle.std.specs.Prelude.{◌≡◌, ◌≤◌, ℕ, List, [], ◌++◌, length, Ok, ◌<◌, take, if◌then◌else◌, ◌==◌}
+use Rattle.wc_model.specs.Definitions.{IsLongestLexeme, Shape, shape_of, comment_opening}
+use Rattle.wc_model.specs.Text.Tokens.{Cuts, IsFirstTokenFault, Token, most_bytes, FaultAt, Foreign, Malformed, Nested, Unclosed, line_after}
 use Rattle.wc_model.specs.declared.fault.Fault.{Fault}
 use Rattle.wc_model.specs.declared.fault.Fault.TheVariants.{Memory, Refused}
-use Rattle.wc_laws_grammar.specs.Reaches.{reach}
-use Rattle.wc_laws_grammar.specs.Sights.{opens_comment}
+use Rattle.wc_laws_grammar.specs.Sights.{reach, opens_comment}
+
+-- a token is here
+abbrev pub AtToken : List ℕ → List ℕ → Type 0
+AtToken before rest = (shape : Shape) × (chunk : List ℕ) × (after : List ℕ) × (chunk ++ after ≡ rest) × IsLongestLexeme chunk after × (shape_of chunk ≡ Ok shape)
+
+-- space is needed for a token: the text is not too long, and is cut up to a place at which
+-- there is one
+pub record NeedsMemory (text : List ℕ) : Type 0 where
+  pub short : length text ≤ most_bytes
+  pub tokens : List Token
+  pub cut : Cuts AtToken [] text tokens
+
+-- the fault is the text's first, or out of memory, if memory is needed
+abbrev pub Names : List ℕ → Fault → Type 0
+Names text (Refused number place) = IsFirstTokenFault text number place
+Names text Memory = NeedsMemory text
 
 -- the slice that a fault is about: the byte that belongs to nothing, the opening of the comment, or
 -- the malformed lexeme

@@ -1,11 +1,13 @@
--- What the lexer's shapes and tokens say.
-use Rattle.std.specs.Prelude.{ℕ, Bool, ◌&&◌, Result, Ok, Err}
-use Rattle.std.specs.Bool.{nat_le}
+-- What the lexer's shapes and tokens say, and what its functions say of a place in a text.
+use Rattle.wc_model.specs.Text.Shapes as shapes
+use Rattle.wc_model.specs.Text.Tokens as tokens
+use Rattle.std.specs.Prelude.{ℕ, Bool, ◌&&◌, Result, Ok, Err, ◌≤◌, List, [], ◌∷◌, nat_le}
+use Rattle.wc_laws_grammar.specs.Sights.{Sight, Pass, Take, Refuse, mark_reach}
 use Rattle.wc_lexer.specs.declared.shape.Shape.{Shape}
 use Rattle.wc_lexer.specs.declared.shape.Shape.TheVariants.{Identifier, Whole, Duration, Truth, Address, And, AndNot, Opening, Closing, Comma, Colon, Semicolon, Point, Assign, Arrow, LineEnd}
 use Rattle.wc_lexer.specs.declared.shape.Token.{Token}
-use Rattle.wc_model.specs.Text.Shapes as shapes
-use Rattle.wc_model.specs.Text.Tokens as tokens
+use Rattle.wc_lexer.specs.declared.element.LexicalElement.{LexicalElement}
+use Rattle.wc_lexer.specs.declared.element.LexicalElement.TheVariants.{Space, Comment, Lexeme, Fault}
 
 -- the shape that a value of the lexer represents
 abbrev pub shape_view : Shape → shapes.Shape
@@ -38,3 +40,22 @@ token_view token = record { shape = shape_view token.shape; text = token.text.no
 -- an identifier of that length, with single underscores or not, is a name
 abbrev pub is_name_so : ℕ → Bool → Bool
 is_name_so length has_single = nat_le length shapes.longest_name && has_single
+
+-- the length of the mark that is here
+abbrev pub mark_reach_of : List ℕ → ℕ
+mark_reach_of [] = 0
+mark_reach_of (b ∷ rest) = mark_reach b rest
+
+-- what an element says of its place
+abbrev pub sight_of : LexicalElement → Sight
+sight_of Space = Pass 1
+sight_of (Comment count) = Pass count
+sight_of (Lexeme count shape) = Take count (shape_view shape)
+sight_of (Fault number) = Refuse number
+
+-- the element has at most n bytes
+abbrev pub IsWithin : ℕ → LexicalElement → Type 0
+IsWithin most Space = 1 ≤ most
+IsWithin most (Comment count) = count ≤ most
+IsWithin most (Lexeme count shape) = count ≤ most
+IsWithin most (Fault number) = Unit {0}

@@ -1,8 +1,6 @@
 ghost use Rattle.std.specs.Prelude.{◌≡◌, option_map};
 ghost use Rattle.wc_lexer.specs.Views.{shape_view};
-ghost use Rattle.wc_model.specs.Text.Characters.{is_address_character, is_identifier_character, is_number_character, is_sign, starts_identifier};
-ghost use Rattle.wc_model.specs.Text.Lexemes.{may_occur_before};
-ghost use Rattle.wc_model.specs.Text.Shapes.{mark_of};
+ghost use Rattle.wc_model.specs.Definitions.{is_address_character, is_identifier_character, is_number_character, is_sign, starts_identifier, may_occur_before, mark_of};
 
 use crate::Shape;
 

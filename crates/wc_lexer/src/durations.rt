@@ -3,11 +3,8 @@ ghost use Rattle.std.specs.Bool.{nat_le, nat_lt, then_some};
 ghost use Rattle.std.specs.Char.{is_ascii_digit};
 ghost use Rattle.std.specs.List.{before_first, list_all, list_any};
 ghost use Rattle.std.specs.Str.Parse.{digits_value};
-ghost use Rattle.wc_lexer.specs.Parts.{IsParsedPart, IsParsedSum, are_later, parsed_fraction};
-ghost use Rattle.wc_lexer.specs.Widths.{within_64_bits};
-ghost use Rattle.wc_model.specs.Text.Characters.{begins, is_empty, is_point, is_underscore};
-ghost use Rattle.wc_model.specs.Text.Digits.{are_digits, value_of_digits};
-ghost use Rattle.wc_model.specs.Text.Durations.{are_duration_parts, billionths, duration_of, duration_parts, milliseconds_of, parts_of, unit_named, without_separator};
+ghost use Rattle.wc_lexer.specs.Numbers.{IsParsedPart, IsParsedSum, are_later, parsed_fraction, within_64_bits};
+ghost use Rattle.wc_model.specs.Definitions.{begins, is_empty, is_point, is_underscore, are_digits, value_of_digits, are_duration_parts, billionths, duration_of, duration_parts, milliseconds_of, parts_of, unit_named, without_separator};
 
 use crate::numbers::{are_digits, signed, value_of_digits};
 use crate::prefixes::{

@@ -1,10 +1,8 @@
 ghost use Rattle.std.specs.Prelude.{◌≡◌, ◌+◌, ◌≤◌, ◌==◌, length, true};
 ghost use Rattle.std.specs.Char.{is_ascii_digit};
-ghost use Rattle.wc_lexer.specs.Sights.{IsWithin, sight_of};
-ghost use Rattle.wc_laws_grammar.specs.Sights.{sight, sight_by_reach, sight_in_comment};
-ghost use Rattle.wc_laws_grammar.specs.Reaches.{reach};
-ghost use Rattle.wc_model.specs.Text.Blanks.{from_bracket};
-ghost use Rattle.wc_model.specs.Text.Characters.{begins, starts_identifier};
+ghost use Rattle.wc_lexer.specs.Views.{IsWithin, sight_of};
+ghost use Rattle.wc_laws_grammar.specs.Sights.{sight, sight_by_reach, sight_in_comment, reach};
+ghost use Rattle.wc_model.specs.Definitions.{from_bracket, begins, starts_identifier};
 
 use crate::Shape;
 use crate::lengths::lexeme_length;

@@ -1,6 +1,6 @@
 ghost use Rattle.std.specs.Prelude.{◌≡◌, ◌+◌, ◌≤◌, length};
-ghost use Rattle.wc_laws_grammar.specs.Reaches.{hash_reach, is_mark_before, reach, signed_reach, value_reach, word_reach};
-ghost use Rattle.wc_lexer.specs.Sights.{mark_reach_of};
+ghost use Rattle.wc_laws_grammar.specs.Sights.{hash_reach, is_mark_before, reach, signed_reach, value_reach, word_reach};
+ghost use Rattle.wc_lexer.specs.Views.{mark_reach_of};
 
 use crate::Shape;
 use crate::characters::{is_sign, mark, may_occur_before, starts_identifier};

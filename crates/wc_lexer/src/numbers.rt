@@ -1,10 +1,8 @@
 ghost use Rattle.std.specs.Prelude.{◌≡◌, ◌≤◌, ◌+◌, ◌*◌, ◌||◌, if◌then◌else◌, neg_ℤ, pos, option_and_then};
 ghost use Rattle.std.specs.Char.{digit_value, is_digit};
 ghost use Rattle.std.specs.List.{list_all};
-ghost use Rattle.wc_lexer.specs.Widths.{within_64_bits};
-ghost use Rattle.wc_model.specs.Text.Characters.{begins, is_underscore};
-ghost use Rattle.wc_model.specs.Text.Digits.{are_digits, digits_of, has_single_underscores, value_of_digits};
-ghost use Rattle.wc_model.specs.Text.WholeNumbers.{base_of, unsigned_of, whole_number_of, within_32_bits};
+ghost use Rattle.wc_lexer.specs.Numbers.{within_64_bits};
+ghost use Rattle.wc_model.specs.Definitions.{begins, is_underscore, are_digits, digits_of, has_single_underscores, value_of_digits, base_of, unsigned_of, whole_number_of, within_32_bits};
 
 use crate::prefixes::{begins_with, cut_at, following_first};
 

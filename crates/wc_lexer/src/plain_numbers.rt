@@ -1,6 +1,6 @@
 ghost use Rattle.std.specs.Prelude.{◌≡◌, ◌≤◌, ◌+◌, ◌∷◌, IfSome, length, true};
 ghost use Rattle.std.specs.Char.{is_ascii_digit};
-ghost use Rattle.wc_lexer.specs.PlainNumbers.{IsPlain, IsUnsigned};
+ghost use Rattle.wc_lexer.specs.Numbers.{IsPlain, IsUnsigned};
 ghost use Rattle.wc_model.specs.Text.Characters.{begins};
 
 use crate::characters::is_number_character;

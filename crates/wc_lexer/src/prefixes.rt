@@ -1,8 +1,7 @@
 ghost use Rattle.std.specs.Prelude.{◌≡◌, ◌≤◌, ◌==◌, length, true, drop, false, not, take, MatchOption};
 ghost use Rattle.std.specs.Char.{is_ascii_alphabetic, is_ascii_alphanumeric};
 ghost use Rattle.std.specs.List.{after_first, before_first, list_any, position_or_len, prefix_len};
-ghost use Rattle.wc_model.specs.Text.Characters.{begins, is_address_character, is_identifier_character, is_number_character};
-ghost use Rattle.wc_model.specs.Text.Digits.{has_single_underscores};
+ghost use Rattle.wc_model.specs.Definitions.{begins, is_address_character, is_identifier_character, is_number_character, has_single_underscores};
 
 use crate::characters::{is_address_character, is_identifier_character, is_number_character};
 

@@ -1,9 +1,7 @@
 ghost use Rattle.std.specs.Prelude.{◌≡◌, if◌then◌else◌, ok_or};
 ghost use Rattle.std.specs.List.{list_any};
 ghost use Rattle.wc_lexer.specs.Views.{is_name_so, validation_view};
-ghost use Rattle.wc_model.specs.Text.Characters.{is_hash};
-ghost use Rattle.wc_model.specs.Language.Names.{name_of};
-ghost use Rattle.wc_model.specs.Text.Shapes.{duration_shape, identifier_shape, literal_shape, number_shape, shape_of, truth_shape, typed_shape, mark_of};
+ghost use Rattle.wc_model.specs.Definitions.{is_hash, name_of, duration_shape, identifier_shape, literal_shape, number_shape, shape_of, truth_shape, typed_shape, mark_of};
 
 use crate::Shape;
 use crate::characters::{is_sign, mark, starts_identifier};

@@ -1,7 +1,6 @@
 ghost use Rattle.std.specs.Prelude.{◌≡◌, ◌≤◌, count_by, if◌then◌else◌, length};
 ghost use Rattle.wc_laws_grammar.specs.Sights.{opens_comment, starts_space};
-ghost use Rattle.wc_model.specs.Text.Blanks.{from_bracket, starts_with_bracket};
-ghost use Rattle.wc_model.specs.Text.Characters.{begins, is_line_feed};
+ghost use Rattle.wc_model.specs.Definitions.{from_bracket, starts_with_bracket, begins, is_line_feed};
 
 use memchr::{memchr_iter, memchr2};
 

@@ -1,6 +1,5 @@
 ghost use Rattle.std.specs.Prelude.{◌≡◌, ◌+◌, ◌≤◌, IfErr, IfOk, length, map};
-ghost use Rattle.wc_lexer.specs.Refusals.{Names};
-ghost use Rattle.wc_lexer.specs.Spans.{StopsAt, stuck_length};
+ghost use Rattle.wc_lexer.specs.Spans.{Names, StopsAt, stuck_length};
 ghost use Rattle.wc_lexer.specs.Views.{token_view};
 ghost use Rattle.wc_model.specs.Text.Tokens.{IsCut, most_bytes};
 

@@ -1,24 +1,13 @@
 -- The numbers that are carried over are the contents of the store that is carried over.
-use Rattle.std.proofs.Common.{◌≡◌, ℕ, zero, suc, ◌+◌, ◌<◌, ◌≤◌, Bool, true, false, cond, List, [], ◌∷◌, length, Option, Some, None, option_map, ℤ, refl, sym, ap, ◌∙◌, ◌⊎◌, inl, inr, arith}
-use Rattle.std.proofs.lemmas.Bool.{cases_lt}
-use Rattle.std.proofs.lemmas.List.{length-map, length-set}
-use Rattle.std.proofs.lemmas.Option.{slice_get_within}
-use Rattle.std.specs.List.{position_from}
-use Rattle.std.specs.Prelude.{if◌then◌else◌, option_and_then, reverse, slice_get, slice_set}
+use Rattle.wc_model.proofs.Common.{◌≡◌, ℕ, zero, suc, ◌+◌, ◌<◌, ◌≤◌, Bool, true, false, cond, List, [], ◌∷◌, length, Option, Some, None, option_map, ℤ, refl, sym, ap, ◌∙◌, ◌⊎◌, inl, inr, arith, if◌then◌else◌, option_and_then, reverse, slice_get, slice_set, cases_lt, length-map, length-set, slice_get_within, position_from}
 use Rattle.wc_cost.proofs.CarriedKinds.{slots_alike}
 use Rattle.wc_text_flat.proofs.Images.{first_numbers_are_contents}
 use Rattle.wc_text_flat.proofs.PlaceNumbers.{set_elsewhere, set_here, there_is}
 use Rattle.wc_text_flat.specs.Contents.{AreContents, frame_of_reversed, frame_of_text}
 use Rattle.wc_execution.proofs.Moments.{written_moment}
-use Rattle.wc_machine.specs.Carrying.{AreCarried, number_carried}
+use Rattle.wc_machine.specs.Machines.{AreCarried, number_carried}
 use Rattle.wc_execution.specs.Lines.{AreBefore}
-use Rattle.wc_model.specs.Language.Carried.{carried, keeps}
-use Rattle.wc_model.specs.Language.CarriedPlaces.{carried_number, number_if_kept}
-use Rattle.wc_model.specs.Language.Frames.{content_number, first_numbers, place_number}
-use Rattle.wc_model.specs.Language.Scans.{initial_of, initial_of_reversed}
-use Rattle.wc_model.specs.Language.Store.{Location, Content, Store, same_place, store_of}
-use Rattle.wc_model.specs.Language.Tree.{ProgramUnit, Text}
-use Rattle.wc_model.specs.Text.Grammar.{IsProgramLast}
+use Rattle.wc_model.specs.Definitions.{carried, keeps, carried_number, number_if_kept, content_number, first_numbers, place_number, initial_of, initial_of_reversed, Location, Content, Store, same_place, store_of, ProgramUnit, Text, IsProgramLast}
 use Rattle.wc_model.specs.declared.kind.SlotKind.{SlotKind}
 use Rattle.wc_laws_language.proofs.Carrying.{carried_holds, first_holds, kept_leads}
 use Rattle.wc_laws_language.proofs.FramePlaces.{number_within, place_found}

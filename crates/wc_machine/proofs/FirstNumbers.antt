@@ -1,14 +1,12 @@
 -- The numbers that slots may hold before the first scan, one by one.
-use Rattle.std.proofs.Common.{◌≡◌, ◌<◌, ℕ, zero, suc, List, [], ◌∷◌, length, get_or, Some, ℤ, pos, refl, ap, sym, subst, arith}
-use Rattle.std.proofs.lemmas.Int.{ints}
-use Rattle.std.specs.Prelude.{IfSome, slice_get, slice_set}
+use Rattle.wc_model.proofs.Common.{◌≡◌, ◌<◌, ℕ, zero, suc, List, [], ◌∷◌, length, get_or, Some, ℤ, pos, refl, ap, sym, subst, arith, IfSome, slice_get, slice_set, ints}
 use Rattle.wc_execution.proofs.Moments.{set_keeps, set_moment_keeps}
 use Rattle.wc_execution.specs.Lines.{AreBefore}
 use Rattle.wc_model.specs.Language.Frames.{IsInRange}
 use Rattle.wc_model.specs.declared.kind.SlotKind.{SlotKind}
 use Rattle.wc_model.specs.declared.kind.SlotKind.TheVariants as slots
 use Rattle.wc_laws_language.specs.FirstNumbers.{AreFirst, IsFirst}
-use Rattle.wc_store.specs.Slots.{IsInRangeAt}
+use Rattle.wc_store.specs.Inside.{IsInRangeAt}
 
 -- there are as many as kinds
 pub first_count : (kinds : List SlotKind) (numbers : List ℤ) → AreFirst kinds numbers → length kinds ≡ length numbers

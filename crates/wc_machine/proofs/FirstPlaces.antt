@@ -1,21 +1,13 @@
 -- The first places of a program's frame, and the last of a text's units.
 use Rattle.std.proofs.Common.{◌≡◌, ℕ, zero, suc, ◌+◌, ◌<◌, ◌≤◌, Bool, true, ◌&&◌, List, [], ◌∷◌, ◌++◌, map, reverse, length, Some, ℤ, refl, ap, sym, ◌∙◌, subst, arith, append_assoc, length-append, ◌⊎◌, inl, inr}
-use Rattle.std.proofs.lemmas.Bool.{and_parts}
+use Rattle.wc_model.proofs.Common.{slice_get, and_parts}
 use Rattle.std.proofs.lemmas.List.{reverse-append, append-nil}
-use Rattle.std.specs.Prelude.{slice_get}
 use Rattle.wc_text_flat.proofs.Held.{below_next}
 use Rattle.wc_text_flat.proofs.Texts.{Newest, newest}
-use Rattle.wc_text_flat.specs.Contents.{frame_of_reversed, frame_of_text}
-use Rattle.wc_text_flat.specs.NumberBlocks.{is_slot}
+use Rattle.wc_text_flat.specs.{frame_of_reversed, frame_of_text, is_slot}
 use Rattle.wc_execution.specs.Lines.{AreAll}
 use Rattle.wc_model.specs.Language.Checks.{Position, positions_of, positions_after}
-use Rattle.wc_model.specs.Language.DirectVariables.{direct_variables, kind_of_direct}
-use Rattle.wc_model.specs.Language.Frames.{slot_kinds, slot_kind_of}
-use Rattle.wc_model.specs.Language.Paths.{IsProgramBound, IsBoundOfLast}
-use Rattle.wc_model.specs.Language.Store.{Path, program_frame, unit_places, zero_of}
-use Rattle.wc_model.specs.Language.Tree.{ProgramUnit, Text}
-use Rattle.wc_model.specs.Say.UnitReport.{IsBoundAt}
-use Rattle.wc_model.specs.Text.Reading.{IsRead}
+use Rattle.wc_model.specs.Definitions.{direct_variables, kind_of_direct, slot_kinds, slot_kind_of, IsProgramBound, IsBoundOfLast, Path, program_frame, unit_places, zero_of, ProgramUnit, Text, IsBoundAt, IsRead}
 use Rattle.wc_model.specs.declared.image.Outputs.{Outputs}
 use Rattle.wc_model.specs.declared.kind.SlotKind.{SlotKind}
 use Rattle.wc_model.specs.declared.kind.SlotKind.TheVariants as slots

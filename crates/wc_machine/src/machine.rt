@@ -2,13 +2,8 @@ ghost use Rattle.std.specs.Prelude.{◌≡◌, ◌≤◌, ◌<◌, ℕ, Some, If
 ghost use Rattle.wc_text_flat.specs.Contents.{frame_of_text, number_in};
 ghost use Rattle.wc_machine.specs.Machines.{text_of, Leaves, RepresentsText};
 ghost use Rattle.wc_machine.specs.Seeing.{IsScanShown, IsSeen};
-ghost use Rattle.wc_model.specs.Language.Carried.{carried};
-ghost use Rattle.wc_model.specs.Language.Frames.{place_number};
-ghost use Rattle.wc_model.specs.Language.Paths.{IsProgramBound};
+ghost use Rattle.wc_model.specs.Definitions.{carried, place_number, IsProgramBound, Location, Store as Contents, Text, text_view};
 ghost use Rattle.wc_model.specs.Language.Scans.{initial_of, outputs_of, scan_of};
-ghost use Rattle.wc_model.specs.Language.Store.{Location, Store as Contents};
-ghost use Rattle.wc_model.specs.Language.Tree.{Text};
-ghost use Rattle.wc_model.specs.Language.Views.{text_view};
 
 use crate::body::run;
 use crate::executable::Executable;

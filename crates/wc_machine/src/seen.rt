@@ -1,5 +1,5 @@
 ghost use Rattle.std.specs.Prelude.{[], ◌∷◌, ◌++◌, ◌≡◌, ◌≤◌, IfOk, IsOkUnless, List, None, Some, false, if◌then◌else◌, length, ⊤};
-ghost use Rattle.wc_execution.specs.Writing.{IsWritable};
+ghost use Rattle.wc_execution.specs.Lines.{IsWritable};
 ghost use Rattle.wc_machine.specs.Seeing.{Keeps, has_result, keeps_more, keeps_none, shown_line, started_line};
 ghost use Rattle.wc_machine.specs.declared.seen.SeenLine.{SeenLine};
 

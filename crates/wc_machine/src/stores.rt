@@ -1,9 +1,8 @@
 ghost use Rattle.std.specs.Prelude.{◌≡◌, ◌≤◌, ℕ, IfOk, IsOkUnless, length};
 ghost use Rattle.wc_execution.specs.Lines.{AreBefore};
 ghost use Rattle.wc_laws_language.specs.FirstNumbers.{AreFirst};
-ghost use Rattle.wc_machine.specs.Carrying.{AreCarried};
-ghost use Rattle.wc_model.specs.Language.Frames.{slot_kinds};
-ghost use Rattle.wc_model.specs.Language.Views.{text_view};
+ghost use Rattle.wc_machine.specs.Machines.{AreCarried};
+ghost use Rattle.wc_model.specs.Definitions.{slot_kinds, text_view};
 ghost use Rattle.wc_text_flat.specs.Contents.{frame_of_text};
 
 use std::alloc::Global;

@@ -3,3 +3,4 @@ pub mod Language
 pub mod Instrument
 pub mod Run
 pub mod Say
+pub mod Definitions

@@ -1,24 +1,10 @@
 -- The places of a program's frame that keep their values: addresses, and paths.
-use Rattle.std.proofs.Common.{◌≡◌, ℕ, ◌+◌, ◌-◌, ◌<◌, ◌≤◌, Bool, true, false, List, ◌++◌, map, length, Option, Some, None, option_map, refl, sym, ap, ◌∙◌, ◌⊎◌, inl, inr, arith, length-append}
-use Rattle.std.proofs.lemmas.List.{length-map}
-use Rattle.std.proofs.lemmas.Bool.{cases_lt}
-use Rattle.std.proofs.lemmas.Option.{slice_get-map, slice_get_within}
-use Rattle.std.specs.List.{list_any, list_all}
-use Rattle.std.specs.Prelude.{if◌then◌else◌, option_and_then, slice_get}
-use Rattle.wc_model.specs.Language.Carried.{ToPlace, direct_lead, lead_from, same_lead}
-use Rattle.wc_model.specs.Language.CarriedPlaces.{carried_within, number_if_kept_within}
-use Rattle.wc_model.specs.Language.Declarations.{is_block}
-use Rattle.wc_model.specs.Language.DirectVariables.{DirectVariable, direct_variables, kind_of_direct, numbers_below}
-use Rattle.wc_model.specs.Language.Frames.{frame_of, place_number}
-use Rattle.wc_model.specs.Language.Kinds.{is_kind}
-use Rattle.wc_model.specs.Language.Names.{Name}
-use Rattle.wc_model.specs.Language.Scopes.{Scope}
-use Rattle.wc_model.specs.Language.Store.{Location, Direct, Path, Content, program_frame, same_direct, same_path, unit_places, zero_of}
+use Rattle.wc_model.proofs.Common.{◌≡◌, ℕ, ◌+◌, ◌-◌, ◌<◌, ◌≤◌, Bool, true, false, List, ◌++◌, map, length, Option, Some, None, option_map, refl, sym, ap, ◌∙◌, ◌⊎◌, inl, inr, arith, length-append, if◌then◌else◌, option_and_then, slice_get, length-map, cases_lt, slice_get-map, slice_get_within, list_any, list_all}
+use Rattle.wc_model.specs.Definitions.{ToPlace, direct_lead, lead_from, same_lead, carried_within, number_if_kept_within, is_block, DirectVariable, direct_variables, kind_of_direct, numbers_below, frame_of, place_number, is_kind, Name, Scope, Location, Direct, Path, Content, program_frame, same_direct, same_path, unit_places, zero_of}
 use Rattle.wc_model.specs.declared.kind.Kind.{Kind}
 use Rattle.wc_model.specs.declared.kind.Kind.TheVariants.{Bool as KindBool, Dint as KindDint, Time as KindTime}
-use Rattle.wc_names.specs.Carrying.{kept_from}
-use Rattle.wc_built_in.specs.Direct.{direct_at}
-use Rattle.wc_names.specs.RepresentsText.{Represents, first_place}
+use Rattle.wc_names.specs.{kept_from, Represents, first_place}
+use Rattle.wc_built_in.specs.Fields.{direct_at}
 use Rattle.wc_names.specs.declared.unit_table.UnitTable.{UnitTable}
 use Rattle.wc_names.proofs.OwnPlaces.{unit_own}
 use Rattle.wc_names.proofs.Positions.{position_on}

@@ -1,21 +1,14 @@
 -- What terms name, by the rows of a unit's table.
-use Rattle.std.proofs.Common.{◌≡◌, ℕ, Bool, true, false, not, List, [], ◌∷◌, Option, Some, None, cond, option_map, refl, sym, ap, ◌∙◌}
-use Rattle.std.specs.Prelude.{find, option_and_then}
-use Rattle.wc_model.specs.Language.Declarations.{Member, Variable, VariableType, member_named, members_of, same_name, type_named, variables_of}
-use Rattle.wc_model.specs.Language.Frames.{frame_of, place_number}
-use Rattle.wc_model.specs.Language.Names.{Name}
-use Rattle.wc_model.specs.Language.Scopes.{Entity, Scope, entity_of, is_input, is_result, member_entity, own_entity, type_of}
-use Rattle.wc_model.specs.Language.Store.{Path}
+use Rattle.wc_model.proofs.Common.{◌≡◌, ℕ, Bool, true, false, not, List, [], ◌∷◌, Option, Some, None, cond, option_map, refl, sym, ap, ◌∙◌, find, option_and_then, bytes_eq-Decides}
+use Rattle.wc_model.specs.Definitions.{Member, Variable, VariableType, member_named, members_of, same_name, type_named, variables_of, frame_of, place_number, Name, Entity, Scope, entity_of, is_input, is_result, member_entity, own_entity, type_of, Path}
 use Rattle.wc_model.specs.Language.Tree.{Field, Variable as NameOf}
 use Rattle.wc_model.specs.declared.kind.Kind.{Kind}
 use Rattle.wc_built_in.specs.Fields.{Seen, member_seen}
-use Rattle.wc_names.specs.Members.{kind_numbered}
-use Rattle.wc_names.specs.Numbered.{numbered_entity, numbered_type}
+use Rattle.wc_names.specs.{kind_numbered, numbered_entity, numbered_type}
 use Rattle.wc_names.specs.declared.entity.Entity.{Entity as FoundEntity}
 use Rattle.wc_names.specs.declared.variable.Variable.{Variable as Row}
 use Rattle.wc_names.proofs.MemberTables.{kind_case}
 use Rattle.wc_names.proofs.Places.{type_case}
-use Rattle.std.proofs.lemmas.Slice.Eq.{bytes_eq-Decides}
 
 -- an entity with the number of its place
 abbrev pub made : Option Kind → Bool → Bool → Option ℕ → FoundEntity

@@ -1,6 +1,5 @@
 -- Slots that hold what they may before the first scan.
-use Rattle.std.proofs.Common.{◌≡◌, List, [], ◌∷◌, ◌++◌, ℤ, pos, refl, sym, subst, arith}
-use Rattle.std.proofs.lemmas.Int.{ints}
+use Rattle.wc_model.proofs.Common.{◌≡◌, List, [], ◌∷◌, ◌++◌, ℤ, pos, refl, sym, subst, arith, ints}
 use Rattle.wc_model.specs.declared.kind.SlotKind.{SlotKind}
 use Rattle.wc_model.specs.declared.kind.SlotKind.TheVariants as slots
 use Rattle.wc_model.specs.Language.Frames.{content_number, slot_kind_of}

@@ -1,13 +1,7 @@
 -- The inputs and outputs of instances, by their places.
 use Rattle.std.proofs.Common.{◌≡◌, ℕ, ◌+◌, Bool, true, false, ◌&&◌, List, [], ◌∷◌, Option, Some, None, cond, is_some, length, option_map, refl, sym, ap, ◌∙◌}
-use Rattle.std.specs.Prelude.{find, if◌then◌else◌, option_and_then}
-use Rattle.std.specs.List.{list_all, position_from}
-use Rattle.wc_model.specs.Language.BodyRules.{formal_named, passes}
-use Rattle.wc_model.specs.Language.Declarations.{Member, VariableType, Elementary, Standard, Block, member_named, members_of, same_name, standard_members}
-use Rattle.wc_model.specs.Language.Kinds.{elementary_kind}
-use Rattle.wc_model.specs.Language.Names.{Name}
-use Rattle.wc_model.specs.Language.Store.{standard_fields}
-use Rattle.wc_model.specs.Language.Tree.{ProgramUnit}
+use Rattle.wc_model.proofs.Common.{find, if◌then◌else◌, option_and_then, list_all, position_from}
+use Rattle.wc_model.specs.Definitions.{formal_named, passes, Member, VariableType, Elementary, Standard, Block, member_named, members_of, same_name, standard_members, elementary_kind, Name, standard_fields, ProgramUnit}
 use Rattle.wc_model.specs.declared.block.StandardBlock.{StandardBlock}
 use Rattle.wc_model.specs.declared.block.StandardBlock.TheVariants.{RTrig}
 use Rattle.wc_model.specs.declared.kind.Kind.{Kind}
@@ -16,9 +10,7 @@ use Rattle.wc_model.specs.declared.operator.Direction.TheVariants.{Into, OutOf}
 use Rattle.wc_model.specs.declared.source.Section.{Section}
 use Rattle.wc_model.specs.declared.source.Section.TheVariants.{Input, Output, Own}
 use Rattle.wc_built_in.specs.Fields.{Seen, member_seen}
-use Rattle.wc_names.specs.Members.{kind_numbered, row_seen}
-use Rattle.wc_names.specs.Numbered.{number_within, numbered_formal, numbered_type, is_allowed_in}
-use Rattle.wc_names.specs.RepresentsText.{Represents, row_named}
+use Rattle.wc_names.specs.{kind_numbered, row_seen, number_within, numbered_formal, numbered_type, is_allowed_in, Represents, row_named}
 use Rattle.wc_names.specs.declared.declared_type.DeclaredType.{DeclaredType}
 use Rattle.wc_names.specs.declared.declared_type.DeclaredType.TheVariants as numbered
 use Rattle.wc_names.specs.declared.formal.Formal.{Formal as FoundFormal}

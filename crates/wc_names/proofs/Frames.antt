@@ -1,16 +1,8 @@
 -- Where a path is in a unit's frame.
-use Rattle.std.proofs.Common.{◌≡◌, ℕ, suc, ◌+◌, ◌≤◌, Bool, true, false, ◌&&◌, List, [], ◌∷◌, Option, Some, None, cond, map, length, option_map, refl, sym, ap, subst, ◌∙◌, arith}
-use Rattle.std.proofs.lemmas.List.{length-map}
-use Rattle.std.proofs.lemmas.Slice.Eq.{bytes_eq-Decides}
+use Rattle.wc_model.proofs.Common.{◌≡◌, ℕ, suc, ◌+◌, ◌≤◌, Bool, true, false, ◌&&◌, List, [], ◌∷◌, Option, Some, None, cond, map, length, option_map, refl, sym, ap, subst, ◌∙◌, arith, length-map, bytes_eq-Decides, flat_map, position_from}
 use Rattle.std.specs.Prelude.{if◌then◌else◌, find, slice_get, ◌||◌}
-use Rattle.std.specs.List.{flat_map, position_from}
-use Rattle.wc_model.specs.Language.DeclarationRules.{is_among, places_of_type}
-use Rattle.wc_model.specs.Language.Declarations.{Variable, same_name, type_named}
-use Rattle.wc_model.specs.Language.Names.{Name}
-use Rattle.wc_model.specs.Language.Store.{Content, below, block_places, same_path, variable_places}
-use Rattle.wc_model.specs.Language.Tree.{ProgramUnit}
-use Rattle.wc_names.specs.Keys.{same_name_laws}
-use Rattle.wc_names.specs.RepresentsText.{AreDifferent, AreRows, IsRow, end_of, row_named}
+use Rattle.wc_model.specs.Definitions.{is_among, places_of_type, Variable, same_name, type_named, Name, Content, below, block_places, same_path, variable_places, ProgramUnit}
+use Rattle.wc_names.specs.{same_name_laws, AreDifferent, AreRows, IsRow, end_of, row_named}
 use Rattle.wc_names.specs.declared.variable.Variable.{Variable as Row}
 use Rattle.wc_built_in.proofs.FieldTables.{position_from-map}
 use Rattle.wc_names.proofs.Places.{same_count}

@@ -1,7 +1,5 @@
 -- What is so of a fault is so of it if it is propagated.
-use Rattle.std.proofs.Common.{◌≡◌, Result, Ok, Err, sym, subst}
-use Rattle.std.specs.Prelude.{IfOk, MatchResult, OnOk}
-use Rattle.std.specs.Result.{IsErr, IsErrAnd}
+use Rattle.wc_model.proofs.Common.{◌≡◌, Result, Ok, Err, sym, subst, IfOk, MatchResult, OnOk, IsErr, IsErrAnd}
 use Rattle.wc_model.specs.declared.fault.Fault.{Fault}
 
 pub propagated : {X : Type 0} (holds : Result X Fault → Type 0) (fault : Fault) (result : Result X Fault) → IsErr result × IsErrAnd result (λ e. e ≡ fault) → holds (Err fault) → holds result

@@ -1,20 +1,11 @@
 -- Where a place that keeps its value is in an old unit's frame, variable by variable.
-use Rattle.std.proofs.Common.{◌≡◌, ℕ, zero, suc, ◌+◌, ◌-◌, ◌<◌, Bool, true, false, cond, ◌||◌, List, [], ◌∷◌, map, length, Option, Some, None, option_map, refl, sym, ap, ◌∙◌, arith}
-use Rattle.std.proofs.lemmas.Option.{slice_get_within, slice_get-map}
-use Rattle.std.specs.List.{list_any, position_from}
-use Rattle.std.specs.Prelude.{if◌then◌else◌, slice_get}
-use Rattle.wc_model.specs.Language.Carried.{Lead, ToPlace, ToField, field_lead, lead_by, lead_from, plain_lead, same_block, same_lead}
-use Rattle.wc_model.specs.Language.Declarations.{Variable, VariableType, Elementary, Standard, same_name, type_named, variable_named}
-use Rattle.wc_model.specs.Language.Names.{Name}
-use Rattle.wc_model.specs.Language.Store.{Content, block_places, same_path, standard_fields, unit_places, variable_places}
-use Rattle.wc_model.specs.Language.Tree.{ProgramUnit}
+use Rattle.wc_model.proofs.Common.{◌≡◌, ℕ, zero, suc, ◌+◌, ◌-◌, ◌<◌, Bool, true, false, cond, ◌||◌, List, [], ◌∷◌, map, length, Option, Some, None, option_map, refl, sym, ap, ◌∙◌, arith, if◌then◌else◌, slice_get, slice_get_within, slice_get-map, list_any, position_from}
+use Rattle.wc_model.specs.Definitions.{Lead, ToPlace, ToField, field_lead, lead_by, lead_from, plain_lead, same_block, same_lead, Variable, VariableType, Elementary, Standard, same_name, type_named, variable_named, Name, Content, block_places, same_path, standard_fields, unit_places, variable_places, ProgramUnit}
 use Rattle.wc_model.specs.declared.block.StandardBlock.{StandardBlock}
 use Rattle.wc_model.specs.declared.block.StandardBlock.TheVariants.{RTrig, Sr, Rs, Ctu, Ton, Tof, Tp}
 use Rattle.wc_model.specs.declared.kind.Kind.{Kind}
 use Rattle.wc_model.specs.declared.source.Initial.{Initial}
-use Rattle.wc_names.specs.Carrying.{HasPlace, field_within, kept_from, plain_within}
-use Rattle.wc_names.specs.Keys.{same_name_laws}
-use Rattle.wc_names.specs.RepresentsText.{AreDifferent, Represents, first_place, row_named, type_at}
+use Rattle.wc_names.specs.{HasPlace, field_within, kept_from, plain_within, same_name_laws, AreDifferent, Represents, first_place, row_named, type_at}
 use Rattle.wc_names.specs.declared.declared_type.DeclaredType.{DeclaredType}
 use Rattle.wc_names.specs.declared.declared_type.DeclaredType.TheVariants as numbered
 use Rattle.wc_names.specs.declared.unit_table.UnitTable.{UnitTable}

@@ -1,5 +1,4 @@
 pub mod KeyNames
-pub mod KeyWords
 pub mod Lists
 pub mod HandedOn
 pub mod Places

@@ -1,19 +1,12 @@
 -- What a path is found to be in a unit's table.
 use Rattle.std.proofs.Common.{◌≡◌, ℕ, ◌+◌, ◌<◌, ◌≤◌, Bool, true, false, ◌&&◌, List, [], ◌∷◌, map, length, Option, Some, None, is_some, option_map, refl, sym, ap, subst, ◌∙◌, arith}
-use Rattle.std.specs.Prelude.{find, if◌then◌else◌, option_and_then}
-use Rattle.std.specs.List.{position_from}
-use Rattle.wc_model.specs.Language.DeclarationRules.{places_of_type}
-use Rattle.wc_model.specs.Language.Declarations.{Variable, VariableType, Elementary, Standard, Block, same_name, variables_of}
-use Rattle.wc_model.specs.Language.Names.{Name}
-use Rattle.wc_model.specs.Language.Store.{Content, below, block_places, first_content, same_path, standard_fields, unit_places, variable_places}
-use Rattle.wc_model.specs.Language.Tree.{ProgramUnit}
+use Rattle.wc_model.proofs.Common.{find, if◌then◌else◌, option_and_then, position_from}
+use Rattle.wc_model.specs.Definitions.{places_of_type, Variable, VariableType, Elementary, Standard, Block, same_name, variables_of, Name, Content, below, block_places, first_content, same_path, standard_fields, unit_places, variable_places, ProgramUnit, Scope, type_of, type_named}
 use Rattle.wc_model.specs.declared.block.StandardBlock.{StandardBlock}
 use Rattle.wc_model.specs.declared.kind.Kind.{Kind}
 use Rattle.wc_model.specs.declared.source.Initial.{Initial}
-use Rattle.wc_model.specs.Language.Scopes.{Scope, type_of}
-use Rattle.wc_names.specs.Numbered.{number_within, numbered_type, is_allowed_in}
+use Rattle.wc_names.specs.{number_within, numbered_type, is_allowed_in, AreRows, Represents, end_of, first_from, first_number, first_place, row_named, type_at}
 use Rattle.wc_names.specs.declared.declared_type.DeclaredType.{DeclaredType}
-use Rattle.wc_names.specs.RepresentsText.{AreRows, Represents, end_of, first_from, first_number, first_place, row_named, type_at}
 use Rattle.wc_names.specs.declared.declared_type.DeclaredType.TheVariants as numbered
 use Rattle.wc_names.specs.declared.unit_table.UnitTable.{UnitTable}
 use Rattle.wc_names.specs.declared.variable.Variable.{Variable as Row}
@@ -21,7 +14,6 @@ use Rattle.wc_names.proofs.Frames.{Leads, into, leads, nothing, own_places, plac
 use Rattle.wc_names.proofs.Places.{TypeCase, found_block, of_block, of_elementary, of_standard, holds_further, type_case}
 use Rattle.wc_names.proofs.Positions.{or_else, position_alike, position_append, position_none, position_within}
 use Rattle.wc_built_in.proofs.FieldTables.{position_from-map}
-use Rattle.wc_model.specs.Language.Declarations.{type_named}
 
 -- there are as many names as rows
 pub named_rows : (units : List UnitTable) (before : List ProgramUnit) (u : ProgramUnit) (h : Represents units before u) → length h.table.names ≡ length h.table.rows.items

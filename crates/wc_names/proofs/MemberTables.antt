@@ -1,17 +1,8 @@
 -- The members of a block, by the rows of its table.
-use Rattle.std.proofs.Common.{◌≡◌, ℕ, ◌+◌, Bool, true, false, List, [], ◌∷◌, ◌++◌, Option, Some, None, cond, map, length, option_map, refl, sym, ap, ◌∙◌}
-use Rattle.std.specs.Prelude.{find, if◌then◌else◌, option_and_then}
-use Rattle.std.specs.List.{flat_map, position_from}
-use Rattle.wc_model.specs.Language.DeclarationRules.{places_of_type}
-use Rattle.wc_model.specs.Language.Declarations.{Member, Variable, VariableType, Elementary, Standard, Block, as_member, member_named, members_of, same_name, type_named, variables_of}
-use Rattle.wc_model.specs.Language.Kinds.{elementary_kind}
-use Rattle.wc_model.specs.Language.Names.{Name}
-use Rattle.wc_model.specs.Language.Store.{same_path, unit_places}
-use Rattle.wc_model.specs.Language.Tree.{ProgramUnit}
+use Rattle.wc_model.proofs.Common.{◌≡◌, ℕ, ◌+◌, Bool, true, false, List, [], ◌∷◌, ◌++◌, Option, Some, None, cond, map, length, option_map, refl, sym, ap, ◌∙◌, find, if◌then◌else◌, option_and_then, flat_map, position_from}
+use Rattle.wc_model.specs.Definitions.{places_of_type, Member, Variable, VariableType, Elementary, Standard, Block, as_member, member_named, members_of, same_name, type_named, variables_of, elementary_kind, Name, same_path, unit_places, ProgramUnit}
 use Rattle.wc_built_in.specs.Fields.{member_seen}
-use Rattle.wc_names.specs.Members.{kind_numbered, row_seen}
-use Rattle.wc_names.specs.Numbered.{number_within, numbered_type}
-use Rattle.wc_names.specs.RepresentsText.{AreRows, Represents, first_place, row_named}
+use Rattle.wc_names.specs.{kind_numbered, row_seen, number_within, numbered_type, AreRows, Represents, first_place, row_named}
 use Rattle.wc_names.specs.declared.declared_type.DeclaredType.{DeclaredType}
 use Rattle.wc_names.specs.declared.declared_type.DeclaredType.TheVariants as numbered
 use Rattle.wc_names.specs.declared.unit_table.UnitTable.{UnitTable}

@@ -1,9 +1,6 @@
 -- A number that a path has in a frame is no other place's.
-use Rattle.std.proofs.Common.{◌≡◌, Option, Some, None, option_map, sym, ap}
-use Rattle.std.specs.Prelude.{IfSome, option_and_then}
-use Rattle.wc_model.specs.Language.Frames.{frame_of, location_of, number_of_path, place_number}
-use Rattle.wc_model.specs.Language.Scopes.{Scope}
-use Rattle.wc_model.specs.Language.Store.{Location}
+use Rattle.wc_model.proofs.Common.{◌≡◌, Option, Some, None, option_map, sym, ap, IfSome, option_and_then}
+use Rattle.wc_model.specs.Definitions.{frame_of, location_of, number_of_path, place_number, Scope, Location}
 use Rattle.wc_model.specs.declared.place.Path.{Path as WrittenPath}
 use Rattle.wc_model.specs.declared.place.Place.{Place}
 use Rattle.wc_laws_language.proofs.FramePlaces.{one_place}

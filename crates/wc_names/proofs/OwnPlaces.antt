@@ -1,14 +1,6 @@
 -- No two places of a frame have one path: each is at its own number.
-use Rattle.std.proofs.Common.{◌≡◌, ℕ, zero, suc, ◌+◌, ◌-◌, ◌<◌, ◌≤◌, ◌⊎◌, inl, inr, Bool, true, false, cond, List, [], ◌∷◌, map, length, Option, Some, None, option_map, refl, sym, ap, subst, ◌∙◌, arith}
-use Rattle.std.proofs.lemmas.Bool.{cases_lt}
-use Rattle.std.proofs.lemmas.Slice.Eq.{bytes_eq-Decides}
-use Rattle.std.specs.List.{position_from}
-use Rattle.std.specs.Prelude.{slice_get}
-use Rattle.wc_model.specs.Language.DeclarationRules.{is_among}
-use Rattle.wc_model.specs.Language.Declarations.{Variable, VariableType, Elementary, Standard, Block, same_name, type_named, variables_of}
-use Rattle.wc_model.specs.Language.Names.{Name}
-use Rattle.wc_model.specs.Language.Store.{Content, below, block_places, first_content, places_declared, same_path, standard_fields, unit_places, variable_places}
-use Rattle.wc_model.specs.Language.Tree.{ProgramUnit}
+use Rattle.wc_model.proofs.Common.{◌≡◌, ℕ, zero, suc, ◌+◌, ◌-◌, ◌<◌, ◌≤◌, ◌⊎◌, inl, inr, Bool, true, false, cond, List, [], ◌∷◌, map, length, Option, Some, None, option_map, refl, sym, ap, subst, ◌∙◌, arith, slice_get, cases_lt, bytes_eq-Decides, position_from}
+use Rattle.wc_model.specs.Definitions.{is_among, Variable, VariableType, Elementary, Standard, Block, same_name, type_named, variables_of, Name, Content, below, block_places, first_content, places_declared, same_path, standard_fields, unit_places, variable_places, ProgramUnit}
 use Rattle.wc_model.specs.declared.source.Initial.{Initial}
 use Rattle.wc_names.specs.RepresentsText.{AreDifferent, AreUnits, Represents}
 use Rattle.wc_names.specs.declared.unit_table.UnitTable.{UnitTable}

@@ -1,18 +1,10 @@
 -- The number of places variables have.
-use Rattle.std.proofs.Common.{◌≡◌, ℕ, ◌+◌, Bool, true, false, List, [], ◌∷◌, ◌++◌, length, Option, Some, None, option_map, refl, sym, ap, subst, ◌∙◌, arith, length-append}
-use Rattle.std.proofs.lemmas.List.{length-map}
-use Rattle.std.specs.Prelude.{option_and_then, if◌then◌else◌, slice_get}
-use Rattle.std.specs.List.{flat_map}
-use Rattle.wc_model.specs.Language.DeclarationRules.{places_of_type}
-use Rattle.wc_model.specs.Language.Declarations.{Variable, VariableType, Elementary, Standard, Block, block_named, block_type, elementary_types, is_block, named_in, same_name, standard_blocks, standard_type, type_named, variables_of}
-use Rattle.wc_model.specs.Language.Names.{Name}
-use Rattle.wc_model.specs.Language.Store.{Content, below, block_places, places_declared, standard_fields, variable_places}
-use Rattle.wc_model.specs.Language.Tree.{ProgramUnit}
+use Rattle.wc_model.proofs.Common.{◌≡◌, ℕ, ◌+◌, Bool, true, false, List, [], ◌∷◌, ◌++◌, length, Option, Some, None, option_map, refl, sym, ap, subst, ◌∙◌, arith, length-append, option_and_then, if◌then◌else◌, slice_get, length-map, flat_map}
+use Rattle.wc_model.specs.Definitions.{places_of_type, Variable, VariableType, Elementary, Standard, Block, block_named, block_type, elementary_types, is_block, named_in, same_name, standard_blocks, standard_type, type_named, variables_of, Name, Content, below, block_places, places_declared, standard_fields, variable_places, ProgramUnit}
 use Rattle.wc_model.specs.declared.block.StandardBlock.{StandardBlock}
 use Rattle.wc_model.specs.declared.kind.Kind.{Kind}
 use Rattle.wc_model.specs.declared.source.Initial.{Initial}
-use Rattle.wc_names.specs.Numbered.{numbered_type}
-use Rattle.wc_names.specs.RepresentsText.{AreUnits, Represents, end_of, first_place, number_named, type_at}
+use Rattle.wc_names.specs.{numbered_type, AreUnits, Represents, end_of, first_place, number_named, type_at}
 use Rattle.wc_names.specs.declared.declared_type.DeclaredType.{DeclaredType}
 use Rattle.wc_names.specs.declared.declared_type.DeclaredType.TheVariants as numbered
 use Rattle.wc_names.specs.declared.unit_table.UnitTable.{UnitTable}

@@ -1,19 +1,9 @@
 -- The plain variables of a unit, by its table.
-use Rattle.std.proofs.Common.{◌≡◌, ℕ, ◌+◌, Bool, true, false, List, [], ◌∷◌, ◌++◌, Option, Some, None, cond, map, length, refl, sym, ap, subst, ◌∙◌}
-use Rattle.std.proofs.lemmas.List.{length-map}
-use Rattle.std.proofs.lemmas.Slice.Eq.{bytes_eq-Decides}
+use Rattle.wc_model.proofs.Common.{◌≡◌, ℕ, ◌+◌, Bool, true, false, List, [], ◌∷◌, ◌++◌, Option, Some, None, cond, map, length, refl, sym, ap, subst, ◌∙◌, length-map, bytes_eq-Decides, flat_map, position_from}
 use Rattle.std.specs.Prelude.{◌||◌}
-use Rattle.std.specs.List.{flat_map, position_from}
-use Rattle.wc_model.specs.Language.DeclarationRules.{is_among, places_of_type}
-use Rattle.wc_model.specs.Language.Declarations.{Variable, VariableType, Elementary, Standard, Block, same_name, type_named, variables_of}
-use Rattle.wc_model.specs.Language.Frames.{frame_of, place_number, plain_of, plain_variables}
-use Rattle.wc_model.specs.Language.Names.{Name}
-use Rattle.wc_model.specs.Language.Scopes.{Scope}
-use Rattle.wc_model.specs.Language.Store.{Path, below, block_places, same_path, variable_places}
-use Rattle.wc_model.specs.Language.Tree.{ProgramUnit}
+use Rattle.wc_model.specs.Definitions.{is_among, places_of_type, Variable, VariableType, Elementary, Standard, Block, same_name, type_named, variables_of, frame_of, place_number, plain_of, plain_variables, Name, Scope, Path, below, block_places, same_path, variable_places, ProgramUnit}
 use Rattle.wc_model.specs.declared.kind.Kind.{Kind}
-use Rattle.wc_names.specs.Numbered.{plain_of_field}
-use Rattle.wc_names.specs.RepresentsText.{AreDifferent, Represents, first_place, plain_at, plain_from}
+use Rattle.wc_names.specs.{plain_of_field, AreDifferent, Represents, first_place, plain_at, plain_from}
 use Rattle.wc_names.specs.declared.unit_table.UnitTable.{UnitTable}
 use Rattle.wc_names.proofs.Frames.{own_places, places_of, position_below}
 use Rattle.wc_names.proofs.Places.{same_count}

@@ -1,6 +1,5 @@
 -- Where the first item that passes a test is.
-use Rattle.std.proofs.Common.{◌≡◌, ℕ, ◌+◌, ◌<◌, Bool, true, false, List, [], ◌∷◌, ◌++◌, Option, Some, None, cond, length, option_map, refl, ap, ◌∙◌, arith}
-use Rattle.std.specs.List.{position_from}
+use Rattle.wc_model.proofs.Common.{◌≡◌, ℕ, ◌+◌, ◌<◌, Bool, true, false, List, [], ◌∷◌, ◌++◌, Option, Some, None, cond, length, option_map, refl, ap, ◌∙◌, arith, position_from}
 
 -- the first of two that is there
 abbrev pub or_else : Option ℕ → Option ℕ → Option ℕ

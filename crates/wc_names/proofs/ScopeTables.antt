@@ -1,18 +1,7 @@
 -- The table of a unit by its number, and the unit's frame.
-use Rattle.std.proofs.Common.{◌≡◌, ℕ, zero, suc, ◌+◌, ◌<◌, ◌≢◌, Bool, true, false, ◌&&◌, List, [], ◌∷◌, ◌++◌, map, length, Option, Some, None, option_map, refl, sym, ap, subst, ◌∙◌, arith, ◌==◌, length-append}
-use Rattle.std.proofs.lemmas.List.{length-map}
-use Rattle.std.proofs.lemmas.Bool.{eq-eqb, eqb-true}
-use Rattle.std.specs.Prelude.{slice_get, option_and_then}
-use Rattle.std.specs.List.{list_all, position_from}
-use Rattle.wc_model.specs.Language.Checks.{positions_after}
-use Rattle.wc_model.specs.Language.Declarations.{is_block, variables_of}
-use Rattle.wc_model.specs.Language.DirectVariables.{DirectVariable, direct_variables, kind_of_direct, numbers_below}
-use Rattle.wc_model.specs.Language.Frames.{frame_of, place_number, scope_of_position}
-use Rattle.wc_model.specs.Language.Names.{Name}
-use Rattle.wc_model.specs.Language.Scopes.{Scope}
-use Rattle.wc_model.specs.Language.Store.{Content, Location, Direct, Path, same_path, same_place, unit_places, zero_of}
-use Rattle.wc_model.specs.Language.Tree.{ProgramUnit, Text}
-use Rattle.wc_built_in.specs.Direct.{direct_at}
+use Rattle.wc_model.proofs.Common.{◌≡◌, ℕ, zero, suc, ◌+◌, ◌<◌, ◌≢◌, Bool, true, false, ◌&&◌, List, [], ◌∷◌, ◌++◌, map, length, Option, Some, None, option_map, refl, sym, ap, subst, ◌∙◌, arith, ◌==◌, length-append, slice_get, option_and_then, length-map, eq-eqb, eqb-true, list_all, position_from}
+use Rattle.wc_model.specs.Definitions.{positions_after, is_block, variables_of, DirectVariable, direct_variables, kind_of_direct, numbers_below, frame_of, place_number, scope_of_position, Name, Scope, Content, Location, Direct, Path, same_path, same_place, unit_places, zero_of, ProgramUnit, Text}
+use Rattle.wc_built_in.specs.Fields.{direct_at}
 use Rattle.wc_names.specs.RepresentsText.{AreUnits, Represents, first_place, onto}
 use Rattle.wc_names.specs.declared.unit_table.UnitTable.{UnitTable}
 use Rattle.wc_built_in.proofs.FieldTables.{position_from-map}

@@ -1,19 +1,10 @@
 -- The slots of a frame, variable by variable.
-use Rattle.std.proofs.Common.{◌≡◌, ℕ, ◌+◌, ◌<◌, Bool, true, false, List, [], ◌∷◌, ◌++◌, map, drop, get_or, length, Some, option_map, append_assoc, length-append, refl, sym, ap, subst, ◌∙◌, arith}
+use Rattle.wc_model.proofs.Common.{◌≡◌, ℕ, ◌+◌, ◌<◌, Bool, true, false, List, [], ◌∷◌, ◌++◌, map, drop, get_or, length, Some, option_map, append_assoc, length-append, refl, sym, ap, subst, ◌∙◌, arith, if◌then◌else◌, slice_get, slice_get_within}
 use Rattle.std.proofs.lemmas.List.{append-nil, map-append}
-use Rattle.std.proofs.lemmas.Option.{slice_get_within}
-use Rattle.std.specs.Prelude.{if◌then◌else◌, slice_get}
-use Rattle.wc_model.specs.Language.Declarations.{Variable, is_block, type_named}
-use Rattle.wc_model.specs.Language.DeclarationRules.{places_of_type}
-use Rattle.wc_model.specs.Language.Frames.{content_number, first_numbers, frame_of, slot_kind_of, slot_kinds}
-use Rattle.wc_model.specs.Language.Names.{Name}
-use Rattle.wc_model.specs.Language.Scopes.{Scope}
-use Rattle.wc_model.specs.Language.Store.{Location, Path, Content, below, block_places, first_content, program_frame, standard_fields, unit_places, variable_places}
-use Rattle.wc_model.specs.Language.Tree.{ProgramUnit}
+use Rattle.wc_model.specs.Definitions.{Variable, is_block, type_named, places_of_type, content_number, first_numbers, frame_of, slot_kind_of, slot_kinds, Name, Scope, Location, Path, Content, below, block_places, first_content, program_frame, standard_fields, unit_places, variable_places, ProgramUnit}
 use Rattle.wc_model.specs.declared.block.StandardBlock.{StandardBlock}
 use Rattle.wc_model.specs.declared.kind.Kind.{Kind}
-use Rattle.wc_names.specs.Slots.{AreFinished, EachHoldsFirst, HoldsFirst, IsStarted, IsGrown, direct_contents, contents_of}
-use Rattle.wc_names.specs.RepresentsText.{AreRows, IsRow, Represents, type_at}
+use Rattle.wc_names.specs.{AreFinished, EachHoldsFirst, HoldsFirst, IsStarted, IsGrown, direct_contents, contents_of, AreRows, IsRow, Represents, type_at}
 use Rattle.wc_names.specs.declared.declared_type.DeclaredType.{DeclaredType}
 use Rattle.wc_names.specs.declared.declared_type.DeclaredType.TheVariants as numbered
 use Rattle.wc_names.specs.declared.frame.Frame.{Frame}

@@ -1,17 +1,9 @@
 -- Which variable of a unit has the place with a number.
-use Rattle.std.proofs.Common.{◌≡◌, ℕ, zero, suc, ◌+◌, ◌-◌, ◌<◌, ◌≤◌, Bool, true, false, cond, List, [], ◌∷◌, ◌++◌, map, length, Some, option_map, refl, sym, ap, subst, ◌∙◌, arith, zero-add}
+use Rattle.wc_model.proofs.Common.{◌≡◌, ℕ, zero, suc, ◌+◌, ◌-◌, ◌<◌, ◌≤◌, Bool, true, false, cond, List, [], ◌∷◌, ◌++◌, map, length, Some, option_map, refl, sym, ap, subst, ◌∙◌, arith, zero-add, slice_get_within, IsNonDecreasingBy}
 use Rattle.std.proofs.lemmas.List.{append-nil, length-map}
-use Rattle.std.proofs.lemmas.Option.{slice_get_within}
-use Rattle.std.specs.List.Sorted.{IsNonDecreasingBy}
 use Rattle.std.specs.Prelude.{find, slice_get, slice_index_or, ◌||◌}
-use Rattle.wc_model.specs.Language.DeclarationRules.{is_among, places_of_type}
-use Rattle.wc_model.specs.Language.Declarations.{Variable, same_name, type_named, variables_of}
-use Rattle.wc_model.specs.Language.Names.{Name}
-use Rattle.wc_model.specs.Language.Store.{Content, below, block_places}
-use Rattle.wc_model.specs.Language.Tree.{ProgramUnit}
-use Rattle.wc_names.specs.Carrying.{HasPlace}
-use Rattle.wc_names.specs.Keys.{same_name_laws}
-use Rattle.wc_names.specs.RepresentsText.{AreDifferent, AreRows, IsRow, IsTableOf, first_place, type_at}
+use Rattle.wc_model.specs.Definitions.{is_among, places_of_type, Variable, same_name, type_named, variables_of, Name, Content, below, block_places, ProgramUnit}
+use Rattle.wc_names.specs.{HasPlace, same_name_laws, AreDifferent, AreRows, IsRow, IsTableOf, first_place, type_at}
 use Rattle.wc_names.specs.declared.unit_table.UnitTable.{UnitTable}
 use Rattle.wc_names.specs.declared.variable.Variable.{Variable as Row}
 use Rattle.wc_names.proofs.Frames.{own_places, places_of}

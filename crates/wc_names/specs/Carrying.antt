@@ -1,19 +1,17 @@
--- Which variable of a unit has a place, and where a variable of another unit has the place that keeps its value. (No rule of
--- the language.)
-use Rattle.std.specs.Prelude.{◌≡◌, ℕ, ◌-◌, ◌≤◌, List, ◌∷◌, Option, Some, None, if◌then◌else◌, slice_get}
+-- The slots of a frame, part by part: which variable of a unit has a place, and where a variable of another unit has the place that
+-- keeps its value. (No rule of the language.)
+use Rattle.wc_names.specs.declared.declared_type.DeclaredType.TheVariants as numbered
+use Rattle.std.specs.Prelude.{◌≡◌, ℕ, ◌-◌, ◌≤◌, List, ◌∷◌, Option, Some, None, if◌then◌else◌, slice_get, Bool, true, false, [], ◌++◌, length, map}
 use Rattle.std.specs.List.{position_from}
-use Rattle.wc_model.specs.Language.Carried.{lead_from, same_block, same_lead}
-use Rattle.wc_model.specs.Language.Declarations.{Variable, type_named, variable_named}
-use Rattle.wc_model.specs.Language.Kinds.{is_kind}
-use Rattle.wc_model.specs.Language.Names.{Name}
-use Rattle.wc_model.specs.Language.Store.{Content, block_places, same_path, unit_places, variable_places}
-use Rattle.wc_model.specs.Language.Tree.{ProgramUnit}
+use Rattle.wc_model.specs.Definitions.{lead_from, same_block, same_lead, Variable, type_named, variable_named, is_kind, Name, Content, block_places, same_path, unit_places, variable_places, zero_of, ProgramUnit, direct_variables, kind_of_direct, content_number, slot_kind_of}
 use Rattle.wc_model.specs.declared.block.StandardBlock.{StandardBlock}
 use Rattle.wc_model.specs.declared.kind.Kind.{Kind}
-use Rattle.wc_names.specs.RepresentsText.{first_place, type_at}
+use Rattle.wc_laws_language.specs.FirstNumbers.{AreFirst}
+use Rattle.wc_names.specs.RepresentsText.{first_place, type_at, Represents}
 use Rattle.wc_names.specs.declared.declared_type.DeclaredType.{DeclaredType}
-use Rattle.wc_names.specs.declared.declared_type.DeclaredType.TheVariants as numbered
 use Rattle.wc_names.specs.declared.variable.Variable.{Variable as Row}
+use Rattle.wc_names.specs.declared.frame.Frame.{Frame}
+use Rattle.wc_names.specs.declared.unit_table.UnitTable.{UnitTable}
 
 -- the place with this number, at which this entry is, is one of those of the variable of that name, whose row this is
 pub record HasPlace (before : List ProgramUnit) (u : ProgramUnit) (number : ℕ) (entry : List Name × Content) (name : Name) (row : Row) : Type 0 where
@@ -41,3 +39,35 @@ field_within block n (numbered.Block number) = None
 abbrev pub kept_from : List ProgramUnit → ProgramUnit → List ProgramUnit → ProgramUnit → List Name → Option ℕ
 kept_from before u old_before old names =
     if same_lead (lead_from names old_before old) (lead_from names before u) then position_from (λ e. same_path e.0 names) (first_place old) (unit_places old_before old) else None
+
+-- each slot of a frame holds what it may before the first scan
+abbrev pub HoldsFirst : Frame → Type 0
+HoldsFirst frame = AreFirst frame.kinds.items frame.initials.items
+
+-- what places hold at first
+abbrev pub contents_of : List (List Name × Content) → List Content
+contents_of places = map (λ p. p.1) places
+
+-- the slots of these contents are added
+pub record IsGrown (old new : Frame) (contents : List Content) : Type 0 where
+  pub kinds : new.kinds.items ≡ old.kinds.items ++ map slot_kind_of contents
+  pub initials : new.initials.items ≡ old.initials.items ++ map content_number contents
+
+-- a frame to which nothing but the directly represented variables is added, and to a block's not even these
+abbrev pub direct_contents : Bool → List Content
+direct_contents true = []
+direct_contents false = map (λ v. zero_of (kind_of_direct v)) direct_variables
+
+pub record IsStarted (is_block : Bool) (frame : Frame) : Type 0 where
+  pub kinds : frame.kinds.items ≡ map slot_kind_of (direct_contents is_block)
+  pub initials : frame.initials.items ≡ map content_number (direct_contents is_block)
+
+-- the slots of an instance of each of the first n units, in text order
+pub record AreFinished (units : List UnitTable) (count : ℕ) (frames : List Frame) : Type 0 where
+  pub counted : length frames ≡ count
+  pub kinds : (before : List ProgramUnit) (u : ProgramUnit) (frame : Frame) → Represents units before u → slice_get frames (length before) ≡ Some frame → frame.kinds.items ≡ map slot_kind_of (contents_of (unit_places before u))
+  pub initials : (before : List ProgramUnit) (u : ProgramUnit) (frame : Frame) → Represents units before u → slice_get frames (length before) ≡ Some frame → frame.initials.items ≡ map content_number (contents_of (unit_places before u))
+
+-- each slot of each frame holds what it may before the first scan
+abbrev pub EachHoldsFirst : List Frame → Type 0
+EachHoldsFirst frames = (k : ℕ) (frame : Frame) → slice_get frames k ≡ Some frame → HoldsFirst frame

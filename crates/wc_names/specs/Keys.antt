@@ -5,8 +5,7 @@ use Rattle.std.proofs.Common.{sym, ap, w64}
 use Rattle.std.proofs.lemmas.Slice.Eq.{bytes_eq-Decides}
 use Rattle.std.specs.Cmp.{IsEquivalence, decided}
 use Rattle.std.specs.Hash as fed
-use Rattle.wc_model.specs.Language.Declarations.{same_name}
-use Rattle.wc_model.specs.Language.Names.{Name, name_of}
+use Rattle.wc_model.specs.Definitions.{same_name, Name, name_of}
 use Rattle.wc_names.specs.declared.key.Key.{Key}
 
 -- the name that a key names

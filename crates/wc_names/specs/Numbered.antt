@@ -1,14 +1,7 @@
 -- Units and types by their numbers, and what names represent by numbers. (No rule of the language.)
 use Rattle.std.specs.Prelude.{◌≡◌, ℕ, Bool, true, ◌+◌, List, [], ◌∷◌, Option, Some, None, option_map, option_and_then, slice_get, length}
 use Rattle.std.specs.List.{position_from}
-use Rattle.wc_model.specs.Language.DeclarationRules.{is_own}
-use Rattle.wc_model.specs.Language.Declarations.{Member, VariableType, Elementary, Standard, Block, block_named}
-use Rattle.wc_model.specs.Language.Frames.{PlainVariable, frame_of, place_number, scopes_of}
-use Rattle.wc_model.specs.Language.Kinds.{elementary_kind}
-use Rattle.wc_model.specs.Language.Names.{Name, name_of}
-use Rattle.wc_model.specs.Language.Scopes.{Scope, Entity}
-use Rattle.wc_model.specs.Language.Store.{Path, block_places, same_path, variable_places}
-use Rattle.wc_model.specs.Language.Tree.{ProgramUnit, Text}
+use Rattle.wc_model.specs.Definitions.{is_own, Member, VariableType, Elementary, Standard, Block, block_named, PlainVariable, frame_of, place_number, scopes_of, elementary_kind, Name, name_of, Scope, Entity, Path, block_places, same_path, variable_places, ProgramUnit, Text}
 use Rattle.wc_model.specs.declared.source.Section.{Section}
 use Rattle.wc_names.specs.declared.declared_type.DeclaredType.{DeclaredType}
 use Rattle.wc_names.specs.declared.declared_type.DeclaredType.TheVariants as numbered

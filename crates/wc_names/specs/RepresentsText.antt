@@ -1,11 +1,6 @@
 -- The text that tables represent.
 use Rattle.std.specs.Prelude.{◌≡◌, ℕ, ◌+◌, ◌≤◌, true, false, List, [], ◌∷◌, ◌++◌, map, length, Option, Some, None, if◌then◌else◌, option_map, option_and_then, slice_get}
-use Rattle.wc_model.specs.Language.DeclarationRules.{is_among, places_of_type, taken_at_first}
-use Rattle.wc_model.specs.Language.Declarations.{Variable, VariableType, Elementary, Standard, Block, is_block, same_name, type_named, variables_of}
-use Rattle.wc_model.specs.Language.Frames.{PlainVariable}
-use Rattle.wc_model.specs.Language.Names.{Name}
-use Rattle.wc_model.specs.Language.Scopes.{Scope}
-use Rattle.wc_model.specs.Language.Tree.{ProgramUnit, Text}
+use Rattle.wc_model.specs.Definitions.{is_among, places_of_type, taken_at_first, Variable, VariableType, Elementary, Standard, Block, is_block, same_name, type_named, variables_of, PlainVariable, Name, Scope, ProgramUnit, Text}
 use Rattle.wc_names.specs.Numbered.{numbered_type, plain_of_field, is_allowed_in}
 use Rattle.wc_names.specs.declared.declared_type.DeclaredType.{DeclaredType}
 use Rattle.wc_names.specs.declared.kept.Tables.{Tables}

@@ -1,9 +1,7 @@
 -- The names of plain variables as they are spelled, defined over the code's own tree: the view of a text folds letter
 -- case. (No rule of the language.)
-use Rattle.std.specs.Prelude.{◌≡◌, ℕ, Bool, true, false, List, [], map, is_some, if◌then◌else◌}
-use Rattle.std.specs.List.{flat_map}
-use Rattle.wc_model.specs.Language.Declarations.{elementary_types, named_in}
-use Rattle.wc_model.specs.Language.Names.{name_of}
+use Rattle.std.specs.Prelude.{◌≡◌, ℕ, Bool, true, false, List, [], map, is_some, if◌then◌else◌, flat_map}
+use Rattle.wc_model.specs.Definitions.{elementary_types, named_in, name_of}
 use Rattle.wc_model.specs.declared.operand.Word.{Word}
 use Rattle.wc_model.specs.declared.source.Decl.{Decl}
 use Rattle.wc_model.specs.declared.source.Source.{Source}

@@ -1,8 +1,6 @@
 ghost use Rattle.std.specs.Prelude.{◌≡◌, ◌<◌, ◌≤◌, ◌-◌, ℕ, List, MatchOption, Some, length, slice_get, slice_index_or};
 ghost use Rattle.std.specs.List.Sorted.{IsNonDecreasingBy};
-ghost use Rattle.wc_model.specs.Language.Names.{Name, name_of};
-ghost use Rattle.wc_model.specs.Language.Store.{Content, unit_places};
-ghost use Rattle.wc_model.specs.Language.Tree.{ProgramUnit};
+ghost use Rattle.wc_model.specs.Definitions.{Name, name_of, Content, unit_places, ProgramUnit};
 ghost use Rattle.wc_names.specs.Carrying.{HasPlace, field_within, kept_from, plain_within};
 ghost use Rattle.wc_names.specs.RepresentsText.{IsTableOf, Represents, first_place};
 ghost use Rattle.wc_names.specs.declared.variable.Variable.{Variable as Row};

@@ -1,10 +1,6 @@
 ghost use Rattle.std.specs.Prelude.{◌≡◌, ◌+◌, ◌++◌, List, Some, IfOk, OnOk, length, option_map, slice_get};
-ghost use Rattle.wc_model.specs.Language.Frames.{first_numbers, frame_of, slot_kinds};
-ghost use Rattle.wc_model.specs.Language.Store.{block_places, unit_places, variable_places};
-ghost use Rattle.wc_model.specs.Language.Declarations.{Variable as Declared, is_block, type_named};
-ghost use Rattle.wc_model.specs.Language.Scopes.{Scope};
-ghost use Rattle.wc_model.specs.Language.Tree.{ProgramUnit};
-ghost use Rattle.wc_names.specs.Slots.{AreFinished, EachHoldsFirst, HoldsFirst, IsStarted, IsGrown, contents_of};
+ghost use Rattle.wc_model.specs.Definitions.{first_numbers, frame_of, slot_kinds, block_places, unit_places, variable_places, Variable as Declared, is_block, type_named, Scope, ProgramUnit};
+ghost use Rattle.wc_names.specs.Carrying.{AreFinished, EachHoldsFirst, HoldsFirst, IsStarted, IsGrown, contents_of};
 ghost use Rattle.wc_names.specs.RepresentsText.{Represents, type_at};
 ghost use Rattle.wc_names.specs.declared.unit_table.UnitTable.{UnitTable};
 

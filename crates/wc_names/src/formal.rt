@@ -1,8 +1,5 @@
 ghost use Rattle.std.specs.Prelude.{◌≡◌, List, Some, option_and_then};
-ghost use Rattle.wc_model.specs.Language.BodyRules.{formal_named, passes};
-ghost use Rattle.wc_model.specs.Language.Declarations.{VariableType, members_of};
-ghost use Rattle.wc_model.specs.Language.Names.{name_of};
-ghost use Rattle.wc_model.specs.Language.Tree.{ProgramUnit};
+ghost use Rattle.wc_model.specs.Definitions.{formal_named, passes, VariableType, members_of, name_of, ProgramUnit};
 ghost use Rattle.wc_names.specs.Numbered.{numbered_formal, numbered_type};
 ghost use Rattle.wc_names.specs.RepresentsText.{Represents};
 

@@ -1,11 +1,8 @@
 ghost use Rattle.std.specs.Prelude.{◌≡◌, ◌+◌, ◌++◌, ◌∷◌, [], Option, Some, OnOk, length, map, option_map, pos, replicate};
-ghost use Rattle.wc_model.specs.Language.Frames.{content_number, slot_kind_of};
-ghost use Rattle.wc_model.specs.Language.Store.{first_content, standard_fields, zero_of};
-ghost use Rattle.wc_model.specs.Language.DirectVariables.{direct_variables, kind_of_direct};
+ghost use Rattle.wc_model.specs.Definitions.{content_number, slot_kind_of, first_content, standard_fields, zero_of, direct_variables, kind_of_direct};
 ghost use Rattle.wc_model.specs.declared.source.Initial.{Initial};
-ghost use Rattle.wc_laws_language.specs.FirstNumbers.{IsFirst};
-ghost use Rattle.wc_laws_language.specs.Typing.{slot_of_kind};
-ghost use Rattle.wc_names.specs.Slots.{HoldsFirst, IsGrown};
+ghost use Rattle.wc_laws_language.specs.{IsFirst, slot_of_kind};
+ghost use Rattle.wc_names.specs.Carrying.{HoldsFirst, IsGrown};
 
 use std::alloc::{AllocError, Global};
 use wc_built_in::standard_fields;

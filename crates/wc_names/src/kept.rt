@@ -1,13 +1,5 @@
 ghost use Rattle.std.specs.Prelude.{◌≡◌, ◌<◌, ◌≤◌, ℕ, None, false, Some, IfOk, IfSome, IsOkUnless, is_some, length, map, option_and_then, option_map, slice_get};
-ghost use Rattle.wc_model.specs.Language.BodyRules.{formal_named};
-ghost use Rattle.wc_model.specs.Language.CarriedPlaces.{carried_within};
-ghost use Rattle.wc_model.specs.Language.Declarations.{VariableType, is_block, members_of};
-ghost use Rattle.wc_model.specs.Language.Frames.{first_numbers, frame_of, location_of, number_of_path, place_number, plain_variables, slot_kinds};
-ghost use Rattle.wc_model.specs.Language.Names.{name_of};
-ghost use Rattle.wc_model.specs.Language.Scopes.{Scope, entity_of, type_of};
-ghost use Rattle.wc_model.specs.Language.Store.{Content, Location};
-ghost use Rattle.wc_model.specs.Language.Tree.{Text};
-ghost use Rattle.wc_model.specs.Language.Views.{term_view};
+ghost use Rattle.wc_model.specs.Definitions.{formal_named, carried_within, VariableType, is_block, members_of, first_numbers, frame_of, location_of, number_of_path, place_number, plain_variables, slot_kinds, name_of, Scope, entity_of, type_of, Content, Location, Text, term_view};
 ghost use Rattle.wc_laws_language.specs.FirstNumbers.{AreFirst};
 ghost use Rattle.wc_names.specs.RepresentsText.{AreTables, first_number};
 ghost use Rattle.wc_model.specs.declared.source.Source.{Source};

@@ -1,8 +1,7 @@
 ghost use Rattle.std.specs.Prelude.{◌≡◌, ◌≤◌, length, take};
 ghost use Rattle.std.specs.Char.{to_ascii_lowercase};
 ghost use Rattle.std.specs.Cmp.{partial_equiv_from_equiv};
-ghost use Rattle.wc_model.specs.Language.Declarations.{same_name};
-ghost use Rattle.wc_model.specs.Language.Names.{name_of};
+ghost use Rattle.wc_model.specs.Definitions.{same_name, name_of};
 ghost use Rattle.wc_names.specs.Keys.{caseless, fed_name, mix, name_number, name_of_key, same_key, same_key_fed, same_key_laws, word_of};
 
 use std::hash::{Hash, Hasher};

@@ -1,14 +1,9 @@
 ghost use Rattle.std.specs.Prelude.{◌≡◌, ◌<◌, ◌+◌, None, Option, [], ◌∷◌, ℕ, List, Some, map, length, slice_get, option_map, option_and_then};
 ghost use Rattle.std.specs.List.{position_from};
-ghost use Rattle.wc_model.specs.Language.DirectVariables.{variable_at};
-ghost use Rattle.wc_model.specs.Language.Frames.{frame_of, place_number};
-ghost use Rattle.wc_model.specs.Language.Names.{Name, name_of};
-ghost use Rattle.wc_model.specs.Language.Scopes.{Scope};
-ghost use Rattle.wc_model.specs.Language.Store.{Content, Direct, first_content, same_path, standard_fields, unit_places};
-ghost use Rattle.wc_model.specs.Language.Tree.{ProgramUnit};
+ghost use Rattle.wc_model.specs.Definitions.{variable_at, frame_of, place_number, Name, name_of, Scope, Content, Direct, first_content, same_path, standard_fields, unit_places, ProgramUnit};
 ghost use Rattle.wc_model.specs.declared.kind.Kind.{Kind};
 ghost use Rattle.wc_model.specs.declared.source.Initial.{Initial};
-ghost use Rattle.wc_built_in.specs.Direct.{direct_at};
+ghost use Rattle.wc_built_in.specs.Fields.{direct_at};
 ghost use Rattle.wc_names.specs.RepresentsText.{Represents, first_place, row_named};
 ghost use Rattle.wc_names.specs.declared.unit_table.UnitTable.{UnitTable as Table};
 

@@ -1,9 +1,6 @@
 ghost use Rattle.std.specs.Prelude.{◌≡◌, List, [], ◌∷◌, IfSome, option_map, length};
 ghost use Rattle.std.specs.List.{position_from};
-ghost use Rattle.wc_model.specs.Language.Declarations.{VariableType, member_named, members_of, same_name, standard_members};
-ghost use Rattle.wc_model.specs.Language.Names.{name_of};
-ghost use Rattle.wc_model.specs.Language.Tree.{ProgramUnit};
-ghost use Rattle.wc_model.specs.Language.Store.{same_path, standard_fields, unit_places};
+ghost use Rattle.wc_model.specs.Definitions.{VariableType, member_named, members_of, same_name, standard_members, name_of, ProgramUnit, same_path, standard_fields, unit_places};
 ghost use Rattle.wc_built_in.specs.Fields.{is_named, member_seen, value_kind};
 ghost use Rattle.wc_names.specs.Members.{found_seen, kind_numbered, row_seen};
 ghost use Rattle.wc_names.specs.Numbered.{number_within, numbered_type};

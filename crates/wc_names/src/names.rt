@@ -1,8 +1,6 @@
 ghost use Rattle.std.specs.Prelude.{◌≡◌, [], ◌∷◌, ◌++◌, List, IfOk, OnErr, IsOkUnless, false, not, if◌then◌else◌, option_map, slice_get};
 ghost use Rattle.std.specs.List.{position_from};
-ghost use Rattle.wc_model.specs.Language.DeclarationRules.{is_among};
-ghost use Rattle.wc_model.specs.Language.Declarations.{same_name};
-ghost use Rattle.wc_model.specs.Language.Names.{Name, name_of};
+ghost use Rattle.wc_model.specs.Definitions.{is_among, same_name, Name, name_of};
 ghost use Rattle.wc_names.specs.Keys.{names_of_keys};
 
 use crate::key::Key;

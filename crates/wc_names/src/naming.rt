@@ -1,10 +1,7 @@
 ghost use Rattle.std.specs.Prelude.{◌≡◌, ◌<◌, Some, None, true, false, option_map, length};
-ghost use Rattle.wc_model.specs.Language.DirectVariables.{is_output, kind_of_direct};
-ghost use Rattle.wc_model.specs.Language.Names.{name_of};
-ghost use Rattle.wc_model.specs.Language.Scopes.{Scope, entity_of, is_input, is_result, kind_of};
+ghost use Rattle.wc_model.specs.Definitions.{is_output, kind_of_direct, name_of, Scope, entity_of, is_input, is_result, kind_of, term_view, word_view};
 ghost use Rattle.wc_model.specs.Language.Tree.{Address, Field, Variable as NameOf};
-ghost use Rattle.wc_model.specs.Language.Views.{term_view, word_view};
-ghost use Rattle.wc_built_in.specs.Direct.{direct_at};
+ghost use Rattle.wc_built_in.specs.Fields.{direct_at};
 ghost use Rattle.wc_names.specs.Numbered.{numbered_entity};
 ghost use Rattle.wc_names.specs.RepresentsText.{Represents};
 

@@ -1,14 +1,6 @@
 -- What a look-up in a TOML table finds, as the rules for a plate see it.
-use Rattle.std.proofs.Common.{◌≡◌, ℕ, Bool, true, false, cond, ◌&&◌, ◌||◌, List, [], ◌∷◌, Result, Ok, Err, refl, sym, ap, subst, ◌∙◌, string_bytes, nat_cmp, Ordering, Less, Equal, Greater, is_eq, String, Global}
-use Rattle.std.proofs.lemmas.Map.Text.{is_eq-slice_cmp}
+use Rattle.wc_model.proofs.Common.{◌≡◌, ℕ, Bool, true, false, cond, ◌&&◌, ◌||◌, List, [], ◌∷◌, Result, Ok, Err, refl, sym, ap, subst, ◌∙◌, string_bytes, nat_cmp, Ordering, Less, Equal, Greater, is_eq, String, Global, is_eq-slice_cmp, list_all, list_any, keys_of, ok_or, IsErr, IsErrAnd, bytes_eq, match_ordering, slice_cmp, nat_list_eq_equiv}
 use Rattle.std.specs.Prelude.{Option, Some, None, is_some, option_map, option_and_then, find, IfErr, IfOk}
-use Rattle.std.specs.List.{list_all, list_any}
-use Rattle.std.specs.Map.{keys_of}
-use Rattle.std.specs.Option.{ok_or}
-use Rattle.std.specs.Result.{IsErr, IsErrAnd}
-use Rattle.std.specs.Str.{bytes_eq}
-use Rattle.std.specs.Ordering.{match_ordering}
-use Rattle.std.specs.Cmp.Lexicographic.{slice_cmp, nat_list_eq_equiv}
 use Rattle.toml.specs.Data.{Data, string, integer, float, boolean, datetime, array, table, Members, no_members, member, get_member, as_str, as_integer}
 use Rattle.toml.specs.declared.value.Value.{Value}
 use Rattle.toml.specs.View.{members_view}

@@ -1,8 +1,7 @@
 -- Which rule on the values of a plate is broken, and with which values it was checked. That a rule is reported with
 -- these is the profile's own.
 use Rattle.std.specs.Prelude.{◌≡◌, ℕ, ◌*ℤ◌, pos, int_div, false, Some, None, Result, Ok, Err}
-use Rattle.wc_model.specs.Instrument.Plates.{PlateData, least_sample, greatest_sample}
-use Rattle.wc_model.specs.Instrument.PlateTable.{Written, is_between, is_count, is_interval, validated, line_unit}
+use Rattle.wc_model.specs.Definitions.{PlateData, least_sample, greatest_sample, Written, is_between, is_count, is_interval, validated, line_unit}
 use Rattle.wc_plate.specs.declared.broken.BrokenRule.{BrokenRule}
 use Rattle.wc_plate.specs.declared.broken.BrokenRule.TheVariants.{UnknownKey, MissingKey, WrongKind, Unit, Decimals, Interval, Load, ZeroCounts, SpanCounts, Window}
 

@@ -1,13 +1,24 @@
--- Which key of a plate is named if its keys are not the seven in their kinds. That one is reported is the profile's own.
-use Rattle.std.specs.Prelude.{◌≡◌, ℕ, Bool, true, false, List, Some, None, Result, Ok, Err, codes, IfSome, is_some, if◌then◌else◌}
-use Rattle.std.specs.List.{list_any}
-use Rattle.std.specs.Str.{bytes_eq}
+-- The values of the seven keys as the rules see them, and which key of a plate is named if its keys are not the seven in their kinds.
+-- (The profile's own.)
 use Rattle.wc_model.specs.Instrument.PlateTable as plate
+use Rattle.std.specs.Prelude.{◌≡◌, ℕ, Bool, true, false, List, Some, None, Result, Ok, Err, codes, IfSome, is_some, if◌then◌else◌, bytes_eq}
+use Rattle.std.specs.List.{list_any}
 use Rattle.wc_model.specs.Instrument.PlateTable.{Table, entry_at, has_no_other_key, number_at, plate_keys, text_at}
-use Rattle.wc_plate.specs.Seen.{written_seen}
 use Rattle.wc_plate.specs.declared.keys.Written.{Written}
 use Rattle.wc_plate.specs.declared.broken.BrokenRule.{BrokenRule}
 use Rattle.wc_plate.specs.declared.broken.BrokenRule.TheVariants.{UnknownKey, MissingKey, WrongKind, Unit, Decimals, Interval, Load, ZeroCounts, SpanCounts, Window}
+
+-- the text and the numbers
+abbrev pub written_seen : Written → plate.Written
+written_seen w = record {
+  unit = w.unit.now;
+  decimals = w.decimals;
+  max = w.max;
+  e = w.e;
+  zero_counts = w.zero_counts;
+  span_counts = w.span_counts;
+  window = w.window;
+}
 
 -- one of the seven keys
 abbrev pub is_plate_key : List ℕ → Bool

@@ -2,9 +2,8 @@
 use Rattle.std.specs.Prelude.{◌≡◌, ℕ, List, Option, Some, None, Result, Ok, Err}
 use Rattle.wc_model.specs.declared.fault.Fault.{Fault}
 use Rattle.wc_model.specs.declared.fault.Fault.TheVariants.{Refused, Memory}
-use Rattle.wc_model.specs.Instrument.Plates.{PlateData}
+use Rattle.wc_model.specs.Definitions.{PlateData, Table, plate_of, written_of}
 use Rattle.wc_model.specs.Instrument.PlateTable as plate
-use Rattle.wc_model.specs.Instrument.PlateTable.{Table, plate_of, written_of}
 use Rattle.wc_plate.specs.Broken.{Breaks, number_of}
 use Rattle.wc_plate.specs.KeyFaults.{IsKeyFault}
 use Rattle.wc_plate.specs.declared.broken.BrokenRule.{BrokenRule}

@@ -3,7 +3,7 @@ ghost use Rattle.std.specs.List.{list_any};
 ghost use Rattle.wc_model.specs.Instrument.Plates.{grams_of, allowed_intervals, least_sample, greatest_sample};
 ghost use Rattle.wc_model.specs.Instrument.PlateTable as plate;
 ghost use Rattle.wc_plate.specs.Broken.{Validates};
-ghost use Rattle.wc_plate.specs.Seen.{written_seen};
+ghost use Rattle.wc_plate.specs.KeyFaults.{written_seen};
 
 use crate::broken::BrokenRule;
 use crate::kept::Plate;

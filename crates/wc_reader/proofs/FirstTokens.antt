@@ -1,16 +1,12 @@
 -- The first token of a line, if it is none of those that have a case of their own.
-use Rattle.std.proofs.Common.{◌≡◌, ℕ, Bool, true, false, List, [], ◌∷◌, Some, None, refl, ap, sym, ◌∙◌}
-use Rattle.std.specs.Prelude.{slice_get}
-use Rattle.wc_laws_grammar.specs.LineMoves.{Start, line_move}
-use Rattle.wc_laws_grammar.specs.Moves.{AtLine, started_line, body_move, inside_move, is_colon, colon_next, move, start_move, word_move}
+use Rattle.wc_model.proofs.Common.{◌≡◌, ℕ, Bool, true, false, List, [], ◌∷◌, Some, None, refl, ap, sym, ◌∙◌, slice_get}
+use Rattle.wc_laws_grammar.specs.{Start, line_move, AtLine, started_line, body_move, inside_move, is_colon, colon_next, move, start_move, word_move}
 use Rattle.wc_lexer.specs.Views.{shape_view}
 use Rattle.wc_lexer.specs.declared.shape.Shape.{Shape}
 use Rattle.wc_lexer.specs.declared.shape.Shape.TheVariants.{Identifier, Whole, Duration, Truth, Address, And, AndNot, Opening, Closing, Comma, Colon, LineEnd}
 use Rattle.wc_lexer.specs.declared.shape.Token.{Token}
-use Rattle.wc_model.specs.Text.Grammar.{InBody, InParentheses}
+use Rattle.wc_model.specs.Definitions.{InBody, InParentheses, Position, symbol_of}
 use Rattle.wc_model.specs.Text.Positions as positions
-use Rattle.wc_model.specs.Text.Positions.{Position}
-use Rattle.wc_model.specs.Text.Reading.{symbol_of}
 use Rattle.wc_text_lines.specs.Words.{marks_of}
 
 -- at the start of a line, other than its end

@@ -1,6 +1,4 @@
-mod AnyProgram
+mod Units
 mod FirstTokens
-mod LastLines
-mod OpenParentheses
 mod ReadingSteps
 pub mod ReadTexts

@@ -3,21 +3,15 @@ use Rattle.std.proofs.Common.{◌≡◌, ◌≤◌, ◌<◌, ℕ, List, [], map,
 use Rattle.std.specs.Prelude.{Ok, Err, Result, IfOk, IfErr}
 use Rattle.wc_laws_grammar.specs.Moves.{Raised, at_first, reading}
 use Rattle.wc_laws_grammar.proofs.Readings.{read_is_spelled, refused_is_first, refused_spells_nothing}
-use Rattle.wc_lexer.specs.Refusals.{AtToken, Names, NeedsMemory}
+use Rattle.wc_lexer.specs.Spans.{AtToken, Names, NeedsMemory}
 use Rattle.wc_laws_grammar.proofs.TokenLaws.{cut_has_no_fault, cut_is_unique}
-use Rattle.wc_model.specs.Text.Grammar.{Spells}
-use Rattle.wc_model.specs.Text.Marks.{Mark}
-use Rattle.wc_model.specs.Text.Reading.{IsMisread, IsRead, last_line, mark_of_token}
-use Rattle.wc_model.specs.Text.Tokens.{AtEnd, Cuts, IsCut, IsFirstTokenFault, Nothing, Skipped, Taken, Token, most_bytes}
-use Rattle.wc_model.specs.Language.Tree.{Text}
+use Rattle.wc_model.specs.Definitions.{Spells, Mark, IsMisread, IsRead, last_line, mark_of_token, AtEnd, Cuts, IsCut, IsFirstTokenFault, Nothing, Skipped, Taken, Token, most_bytes, Text, text_view}
 use Rattle.wc_model.specs.declared.fault.Fault.{Fault}
 use Rattle.wc_model.specs.declared.fault.Fault.TheVariants.{Memory, Refused}
-use Rattle.wc_reader.specs.ReadTexts.{IsRefusedAs, IsUnread}
-use Rattle.wc_model.specs.Language.Views.{text_view}
+use Rattle.wc_reader.specs.Reported.{IsRefusedAs, IsUnread, IsRaisedAs, ReportsReading, ReportsFault}
 use Rattle.wc_model.specs.declared.source.Source.{Source}
-use Rattle.wc_reader.specs.Reported.{IsRaisedAs, ReportsReading, ReportsFault}
-use Rattle.wc_text_short_lines.proofs.WalkSteps.{walk_reports}
-use Rattle.wc_text_short_lines.specs.Walks.{walk}
+use Rattle.wc_text_bodies.proofs.WalkSteps.{walk_reports}
+use Rattle.wc_text_bodies.specs.Views.{walk}
 
 -- what the walk reads is what the bytes are read as
 pub read_as : (bytes : List ℕ) (tokens : List Token) (text : Text) → length bytes ≤ most_bytes → IsCut bytes tokens → reading at_first (map mark_of_token tokens) (last_line bytes) ≡ Ok text → IsRead bytes text

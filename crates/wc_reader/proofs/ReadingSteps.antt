@@ -1,14 +1,12 @@
 -- What is reported at a token of the walk.
 use Rattle.std.proofs.Common.{◌≡◌, ℕ, Bool, false, List, ◌∷◌, Option, Some, None, option_map, refl, ap, ◌∙◌}
 use Rattle.wc_laws_grammar.specs.Moves.{Raised, State, colon_next, fault_at, move}
-use Rattle.wc_model.specs.Text.Marks.{Mark}
-use Rattle.wc_model.specs.Text.ReadingFaults.{UnexpectedToken}
+use Rattle.wc_model.specs.Definitions.{Mark, UnexpectedToken}
 use Rattle.wc_model.specs.declared.fault.Fault.{Fault}
 use Rattle.wc_model.specs.declared.fault.Fault.TheVariants.{Memory, Refused}
-use Rattle.wc_text_bodies.specs.BodyViews.{fault_of}
+use Rattle.wc_text_bodies.specs.Views.{fault_of, Stopping, walk}
 use Rattle.wc_reader.specs.Reported.{IsUnexpected, StopsWith, ReportsFault}
-use Rattle.wc_text_short_lines.specs.Walks.{Stopping, walk}
-use Rattle.wc_text_short_lines.proofs.WalkSteps.{after_fault, after_move, step, unjudged}
+use Rattle.wc_text_bodies.proofs.WalkSteps.{after_fault, after_move, step, unjudged}
 
 -- a detected fault is reported as such
 detected : (state : State) (mark : Mark) (following : List Mark) (colon : Bool) (fault : Fault) (raised : Option Raised) → colon_next following false ≡ colon → fault_at state mark.symbol mark.line colon ≡ raised

@@ -1,4 +1,2 @@
 pub mod TextViews
 pub mod Reported
-pub mod Programs
-pub mod ReadTexts

@@ -2,13 +2,10 @@
 use Rattle.std.specs.Prelude.{◌≡◌, List, map, Option, option_map, Result, IfOk}
 use Rattle.wc_laws_grammar.specs.Moves as moves
 use Rattle.wc_laws_grammar.specs.Moves.{State}
-use Rattle.wc_model.specs.Language.Tree.{ProgramUnit}
-use Rattle.wc_model.specs.Text.Positions.{Position}
-use Rattle.wc_model.specs.Language.Views.{unit_view}
+use Rattle.wc_model.specs.Definitions.{ProgramUnit, Position, unit_view}
 use Rattle.wc_model.specs.declared.source.Section.{Section}
-use Rattle.wc_text_bodies.specs.BodyViews.{IsCounted, position_view}
+use Rattle.wc_text_bodies.specs.Views.{IsCounted, position_view, declaring_view}
 use Rattle.wc_text_bodies.specs.declared.bodies.Body.{Body}
-use Rattle.wc_text_bodies.specs.SectionViews.{declaring_view}
 use Rattle.wc_text_bodies.specs.declared.declarations.DeclarationState.TheVariants.{Undeclared}
 use Rattle.wc_text_lines.specs.LineViews.{line_state_view}
 use Rattle.wc_reader.specs.declared.text_state.TextState.{TextState}

@@ -4,7 +4,7 @@ ghost use Rattle.wc_model.specs.Text.Marks as marks;
 ghost use Rattle.wc_model.specs.Text.Positions as positions;
 ghost use Rattle.wc_model.specs.Language.Tree.{ProgramUnit};
 ghost use Rattle.wc_text_lines.specs.LineViews.{started_view, in_line_view, line_state_view};
-ghost use Rattle.wc_text_bodies.specs.BodyViews.{IsCounted, position_view};
+ghost use Rattle.wc_text_bodies.specs.Views.{IsCounted, position_view};
 ghost use Rattle.wc_reader.specs.TextViews.{LeadsOn, line_place_view, place_view};
 ghost use Rattle.wc_text_lines.specs.Words.{symbol_view};
 

@@ -1,8 +1,7 @@
 ghost use Rattle.std.specs.Prelude.{◌≡◌, ℕ, IfErr, IfSome, List, MatchOption, Some, map};
 ghost use Rattle.wc_laws_grammar.specs.Moves as moves;
-ghost use Rattle.wc_model.specs.Language.Tree.{ProgramUnit};
-ghost use Rattle.wc_model.specs.Language.Views.{unit_view};
-ghost use Rattle.wc_text_bodies.specs.BodyViews.{position_view};
+ghost use Rattle.wc_model.specs.Definitions.{ProgramUnit, unit_view};
+ghost use Rattle.wc_text_bodies.specs.Views.{position_view};
 ghost use Rattle.wc_reader.specs.TextViews.{line_place_view, reading_view, state_view};
 ghost use Rattle.wc_reader.specs.Reported.{ReportsFault, ReportsReading};
 

@@ -1,12 +1,10 @@
 ghost use Rattle.std.specs.Prelude.{◌≡◌, Bool, List, Option, Some, None, length, map, nat_le, option_map};
 ghost use Rattle.std.specs.List.{list_any};
 ghost use Rattle.wc_laws_grammar.specs.Moves as moves;
-ghost use Rattle.wc_model.specs.Text.Limits.{most_units};
+ghost use Rattle.wc_model.specs.Definitions.{most_units, ProgramUnit, unit_view};
 ghost use Rattle.wc_model.specs.Text.ReadingFaults as faults;
-ghost use Rattle.wc_model.specs.Language.Tree.{ProgramUnit};
-ghost use Rattle.wc_model.specs.Language.Views.{unit_view};
-ghost use Rattle.wc_reader.specs.Programs.{is_program};
-ghost use Rattle.wc_text_bodies.specs.BodyViews.{IsCounted, fault_of, position_view};
+ghost use Rattle.wc_reader.specs.Reported.{is_program};
+ghost use Rattle.wc_text_bodies.specs.Views.{IsCounted, fault_of, position_view};
 ghost use Rattle.wc_reader.specs.TextViews.{IsStateCounted, line_place_view, reading_view};
 ghost use Rattle.wc_text_lines.specs.Words.{symbol_view};
 

@@ -1,11 +1,8 @@
 ghost use Rattle.std.specs.Prelude.{◌≡◌, Bool, IfOk, IfSome, List, OnOk, map, option_map};
 ghost use Rattle.wc_laws_grammar.specs.Moves as moves;
 ghost use Rattle.wc_laws_grammar.specs.Words.{found, unit_kinds};
-ghost use Rattle.wc_model.specs.Language.Names.{name_of};
-ghost use Rattle.wc_model.specs.Language.Tree.{ProgramUnit};
-ghost use Rattle.wc_model.specs.Language.Views.{unit_view};
-ghost use Rattle.wc_text_bodies.specs.BodyViews.{IsCounted, position_view};
-ghost use Rattle.wc_text_bodies.specs.SectionViews.{declaring_view, section_view};
+ghost use Rattle.wc_model.specs.Definitions.{name_of, ProgramUnit, unit_view};
+ghost use Rattle.wc_text_bodies.specs.Views.{IsCounted, position_view, declaring_view, section_view};
 ghost use Rattle.wc_reader.specs.TextViews.{IsStateCounted, line_place_view, place_view, state_view};
 ghost use Rattle.wc_text_lines.specs.Words.{symbol_view};
 

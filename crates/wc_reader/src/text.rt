@@ -1,17 +1,12 @@
 ghost use Rattle.std.specs.Prelude.{◌≡◌, ◌+◌, ◌==◌, ◌≤◌, ◌<◌, ◌∷◌, IfErr, IfOk, IfSome, List, OnOk, Some, count_by, drop, false, length, map};
 ghost use Rattle.wc_laws_grammar.specs.Moves as moves;
 ghost use Rattle.wc_laws_grammar.specs.Moves.{at_first, colon_next};
-ghost use Rattle.wc_model.specs.Text.Marks.{Mark};
-ghost use Rattle.wc_model.specs.Text.Reading.{IsRead, last_line, mark_of_token};
-ghost use Rattle.wc_model.specs.Text.Tokens.{IsCut, most_bytes};
-ghost use Rattle.wc_model.specs.Language.Tree.{ProgramUnit};
-ghost use Rattle.wc_model.specs.Language.Views.{text_view};
+ghost use Rattle.wc_model.specs.Definitions.{Mark, IsRead, last_line, mark_of_token, IsCut, most_bytes, ProgramUnit, text_view};
 ghost use Rattle.wc_lexer.specs.Views.{token_view};
-ghost use Rattle.wc_reader.specs.ReadTexts.{IsRefusedAs};
-ghost use Rattle.wc_text_short_lines.specs.Several.{GoesOn};
-ghost use Rattle.wc_text_short_lines.specs.Walks.{walk};
+ghost use Rattle.wc_reader.specs.Reported.{IsRefusedAs, IsUnexpected, StopsWith, ReportsReading};
+ghost use Rattle.wc_text_bodies.specs.Several.{GoesOn};
+ghost use Rattle.wc_text_bodies.specs.Views.{walk};
 ghost use Rattle.wc_reader.specs.TextViews.{IsUndeclared, IsStateCounted, reading_view, state_view};
-ghost use Rattle.wc_reader.specs.Reported.{IsUnexpected, StopsWith, ReportsReading};
 ghost use Rattle.wc_text_lines.specs.Words.{marks_of, symbol_view};
 
 use crate::ends::at_text_end;
@@ -22,8 +17,7 @@ use std::alloc::{AllocError, Global};
 use std::mem;
 use wc_lexer::{Shape, Token, tokens};
 use wc_model::{Fault, Section, Source};
-use wc_text_bodies::DeclarationState;
-use wc_text_short_lines::{take_declaration, take_line_and_call};
+use wc_text_bodies::{DeclarationState, take_declaration, take_line_and_call};
 
 /// Whether the next token is a colon.
 #[inline(always)]

@@ -1,8 +1,5 @@
 -- What is cut off a log changes neither its rows nor its refusal.
-use Rattle.std.proofs.Common.{◌≡◌, ◌≤◌, ◌⊎◌, ◌+◌, ◌&&◌, ℕ, suc, Bool, true, false, cond, List, [], ◌∷◌, ◌++◌, length, min, Option, Some, None, Err, refl, sym, ap, ◌∙◌, inl, inr, length-append, arith}
-use Rattle.std.proofs.lemmas.Bool.Decides.{nat_tests}
-use Rattle.std.specs.Prelude.{⊤, codes, nat_le, nat_lt}
-use Rattle.std.specs.Str.{bytes_eq}
+use Rattle.wc_model.proofs.Common.{◌≡◌, ◌≤◌, ◌⊎◌, ◌+◌, ◌&&◌, ℕ, suc, Bool, true, false, cond, List, [], ◌∷◌, ◌++◌, length, min, Option, Some, None, Err, refl, sym, ap, ◌∙◌, inl, inr, length-append, arith, ⊤, codes, nat_le, nat_lt, nat_tests, bytes_eq}
 use Rattle.csv.specs.Machine.{Read, ends_at_end, field_after, fields_after, is_end, next_record, step}
 use Rattle.csv.specs.Reading.{AreRecords, Reached, default_config, records}
 use Rattle.csv.specs.declared.parser.Action.{Action}
@@ -12,8 +9,7 @@ use Rattle.csv.specs.declared.parser.State.TheVariants as st
 use Rattle.wc_model.specs.Run.Log.{LogOf, Record, first_row, has_fields, last_moment, log_after, log_of, log_with, most_rows, refused_at, row_of, row_of_fields}
 use Rattle.wc_record.proofs.RecordEnds.{records_are_all}
 use Rattle.wc_record.proofs.Representation.{LeadsTo, IsAt, leads}
-use Rattle.wc_record.specs.Cutting.{cut_from}
-use Rattle.wc_record.specs.Places.{after, is_cut, record_start}
+use Rattle.wc_record.specs.Cutting.{cut_from, after, is_cut, record_start}
 use Rattle.wc_record.specs.declared.place.Place.{Place}
 
 -- a record of more than three fields

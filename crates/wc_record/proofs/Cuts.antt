@@ -1,10 +1,8 @@
 -- How the bytes of a log are cut, chunk by chunk.
 use Rattle.std.proofs.Common.{◌≡◌, ◌<◌, ◌+◌, ◌-◌, ℕ, true, false, List, [], ◌∷◌, ◌++◌, length, take, take-add, drop, refl, sym, ap, ◌∙◌, append_assoc, add-one, arith}
-use Rattle.std.proofs.lemmas.List.{drop_all, length-drop, take_all}
+use Rattle.wc_model.proofs.Common.{slice_index_or, drop_all, length-drop, take_all}
 use Rattle.std.proofs.Math.Seq.{drop-cons, take-suc}
-use Rattle.std.specs.Prelude.{slice_index_or}
-use Rattle.wc_record.specs.Cutting.{Cuts, Passes, cut_from}
-use Rattle.wc_record.specs.Places.{after, is_cut}
+use Rattle.wc_record.specs.Cutting.{Cuts, Passes, cut_from, after, is_cut}
 use Rattle.wc_record.specs.declared.place.Place.{Place}
 
 -- nothing is read after the cut

@@ -1,10 +1,5 @@
 -- Decimal digits as numbers.
-use Rattle.std.proofs.Common.{◌≡◌, ◌≤◌, ◌<◌, ◌+◌, ◌*◌, ◌-◌, ◌^◌, get_or, ℕ, zero, suc, take, drop, sym, subst, add-zero, add-suc, Bool, true, List, [], ◌∷◌, length, map, arith}
-use Rattle.std.specs.Char.{is_ascii_digit}
-use Rattle.std.specs.Int.Digits.{number_from_digits_after}
-use Rattle.std.specs.List.{list_all}
-use Rattle.std.proofs.Math.Nat.{pow-suc}
-use Rattle.std.proofs.Math.Seq.{take-length}
+use Rattle.wc_model.proofs.Common.{◌≡◌, ◌≤◌, ◌<◌, ◌+◌, ◌*◌, ◌-◌, ◌^◌, get_or, ℕ, zero, suc, take, drop, sym, subst, add-zero, add-suc, Bool, true, List, [], ◌∷◌, length, map, arith, is_ascii_digit, number_from_digits_after, list_all, pow-suc, take-length}
 
 -- the values of digits
 abbrev pub values : List ℕ → List ℕ

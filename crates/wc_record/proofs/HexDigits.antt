@@ -1,16 +1,10 @@
 -- The bytes that hexadecimal digits write, and what `hex` decodes.
 use Rattle.std.proofs.lemmas.List.{append-nil}
-use Rattle.std.proofs.Math.Seq.{take-length}
-use Rattle.std.proofs.Math.ListN.{drop_of_length-le}
-use Rattle.std.proofs.Common.{◌≡◌, ◌≤◌, ◌<◌, ◌+◌, ◌*◌, ◌%◌, ◌/◌, ◌==◌, ◌++◌, take, drop, ℕ, suc, Bool, true, false, cond, List, [], ◌∷◌, length, Option, Some, None, Result, Ok, Err, refl, sym, ap, ◌∙◌, arith, get_or}
-use Rattle.std.specs.Char.{digit_value, is_digit}
-use Rattle.std.proofs.lemmas.Bool.Decides.{nat_tests}
-use Rattle.std.specs.Int.Digits.{number_from_digits}
+use Rattle.wc_model.proofs.Common.{◌≡◌, ◌≤◌, ◌<◌, ◌+◌, ◌*◌, ◌%◌, ◌/◌, ◌==◌, ◌++◌, take, drop, ℕ, suc, Bool, true, false, cond, List, [], ◌∷◌, length, Option, Some, None, Result, Ok, Err, refl, sym, ap, ◌∙◌, arith, get_or, take-length, drop_of_length-le, digit_value, is_digit, nat_tests, number_from_digits}
 use Rattle.std.specs.Prelude.{nat_le, MatchResult, option_map}
 use Rattle.hex.specs.Hex.{hex_digit_value, pair_value, decode_pairs, decode_sized, ◌>>=◌}
 use Rattle.hex.specs.declared.error.FromHexError.{FromHexError}
-use Rattle.wc_model.specs.Run.Hex.{bytes_of_hex, byte_of_digits, with_byte}
-use Rattle.wc_model.specs.Run.Log.{where_passes, line_chunk_of, inputs_word_of}
+use Rattle.wc_model.specs.Definitions.{bytes_of_hex, byte_of_digits, with_byte, where_passes, line_chunk_of, inputs_word_of}
 
 -- the value of an answer
 abbrev pub ok_of : {A E : Type 0} → Result A E → Option A

@@ -1,24 +1,15 @@
 -- One step of a log, from a record that was read.
 use Rattle.std.proofs.Common.{◌≡◌, ◌≤◌, ◌<◌, ◌+◌, ◌^◌, ◌&&◌, ℕ, suc, Bool, true, false, cond, List, [], ◌∷◌, ◌++◌, length, reverse, Option, Some, None, Result, Ok, Err, refl, sym, ap, ◌∙◌, arith}
-use Rattle.std.proofs.lemmas.Bool.Decides.{nat_tests}
+use Rattle.wc_model.proofs.Common.{nat_tests, reverse_onto, bytes_eq-Decides, bytes_eq}
 use Rattle.circular_buffer.proofs.Places.{slice_get-append_right}
-use Rattle.std.proofs.lemmas.Grind.{reverse_onto}
 use Rattle.std.proofs.lemmas.List.{append_assoc, length-reverse}
-use Rattle.std.proofs.lemmas.Slice.Eq.{bytes_eq-Decides}
 use Rattle.std.specs.Prelude.{codes, nat_le, nat_lt, IfSome, option_map}
-use Rattle.std.specs.Str.{bytes_eq}
-use Rattle.wc_model.specs.Run.Log.{Record, LogOf, first_row, has_fields, last_moment, log_after, log_of, log_with, moment_of, number_within, refused_at, row_at, row_data_of, row_from, row_of, row_of_fields, where_passes, with_row}
-use Rattle.wc_model.specs.Run.Rows.{LogRow, RowData}
+use Rattle.wc_model.specs.Definitions.{Record, LogOf, first_row, has_fields, last_moment, log_after, log_of, log_with, moment_of, number_within, refused_at, row_at, row_data_of, row_from, row_of, row_of_fields, where_passes, with_row, LogRow, RowData}
 use Rattle.wc_record.proofs.Marks.{cut_log_is_same}
-use Rattle.wc_record.specs.Cutting.{cut_from}
-use Rattle.wc_record.specs.Places.{log_start}
-use Rattle.wc_record.specs.Left.{Answer, HasLeft, IsLeft, Takes, end_after, log_following, moment_or_zero, row_bytes}
-use Rattle.wc_record.specs.Steps.{GivesRecord}
-use Rattle.wc_record.specs.Reported.{Reads, ReadsTo, all_records, record_at, records_read}
-use Rattle.wc_record.specs.Reading.{HasRecords, records_of}
+use Rattle.wc_record.specs.Cutting.{cut_from, log_start}
+use Rattle.wc_record.specs.{Answer, HasLeft, IsLeft, Takes, end_after, log_following, moment_or_zero, row_bytes, GivesRecord, Reads, ReadsTo, all_records, record_at, records_read, HasRecords, records_of, head_view}
 use Rattle.wc_record.specs.declared.log.LogEnd.{LogEnd}
 use Rattle.wc_record.specs.declared.log.Rows.{Rows}
-use Rattle.wc_record.specs.Views.{head_view}
 use Rattle.wc_record.specs.declared.row_head.RowHead.{RowHead}
 use Rattle.wc_record.specs.declared.row_kind.LogFault.TheVariants as fault
 

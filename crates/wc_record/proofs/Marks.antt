@@ -1,11 +1,9 @@
 -- A byte order mark at the start of a log is read as `csv` reads it: it is not one of the log's bytes.
-use Rattle.std.proofs.Common.{◌≡◌, ◌==◌, ◌&&◌, ℕ, Bool, true, false, cond, List, [], ◌∷◌, refl, subst, sym, ap, ◌∙◌}
-use Rattle.std.proofs.lemmas.Bool.{eqb-true}
+use Rattle.wc_model.proofs.Common.{◌≡◌, ◌==◌, ◌&&◌, ℕ, Bool, true, false, cond, List, [], ◌∷◌, refl, subst, sym, ap, ◌∙◌, eqb-true}
 use Rattle.csv.specs.Reading.{default_config, records, strip_bom}
 use Rattle.wc_model.specs.Run.Log.{log_of}
 use Rattle.wc_record.proofs.CutRecords.{same_log}
-use Rattle.wc_record.specs.Cutting.{cut_from}
-use Rattle.wc_record.specs.Places.{after_opening, after_plain, log_start, record_start}
+use Rattle.wc_record.specs.Cutting.{cut_from, after_opening, after_plain, log_start, record_start}
 use Rattle.wc_record.specs.Reading.{records_of}
 use Rattle.wc_record.specs.declared.place.Place.{Place}
 use Rattle.wc_record.specs.declared.place.ByteState.{ByteState}

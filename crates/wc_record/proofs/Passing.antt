@@ -1,11 +1,8 @@
 -- What a read gives, up to the cut.
-use Rattle.std.proofs.Common.{◌≡◌, ◌≤◌, ◌<◌, ℕ, zero, suc, true, List, ◌++◌, length, take, Option, Some, None, refl, sym, ap, ◌∙◌, arith}
-use Rattle.std.proofs.lemmas.List.{take-take}
-use Rattle.std.specs.Io.KnownBytes.{Consumes, IsAtEnd}
+use Rattle.wc_model.proofs.Common.{◌≡◌, ◌≤◌, ◌<◌, ℕ, zero, suc, true, List, ◌++◌, length, take, Option, Some, None, refl, sym, ap, ◌∙◌, arith, take-take, Consumes, IsAtEnd}
 use Rattle.std.specs.Prelude.{option_map}
 use Rattle.wc_record.proofs.Cuts.{cut_at_end}
-use Rattle.wc_record.specs.Cutting.{Cuts, cut_from}
-use Rattle.wc_record.specs.Places.{is_cut}
+use Rattle.wc_record.specs.Cutting.{Cuts, cut_from, is_cut}
 use Rattle.wc_record.specs.declared.place.Place.{Place}
 
 -- the known bytes up to the cut

@@ -1,13 +1,12 @@
 -- The place at which a reader is, as the state machine of `csv` has it.
-use Rattle.std.proofs.Common.{◌≡◌, ◌+◌, ◌==◌, ◌||◌, ℕ, Bool, true, false, cond, min, refl, ap, arith}
-use Rattle.std.proofs.lemmas.Bool.{eqb-true}
+use Rattle.wc_model.proofs.Common.{◌≡◌, ◌+◌, ◌==◌, ◌||◌, ℕ, Bool, true, false, cond, min, refl, ap, arith, eqb-true}
 use Rattle.csv.specs.Machine.{in_field, start_field, start_record, step}
 use Rattle.csv.specs.Reading.{default_config}
 use Rattle.csv.specs.declared.parser.Action.{Action}
 use Rattle.csv.specs.declared.parser.Action.TheVariants as act
 use Rattle.csv.specs.declared.parser.State.{State}
 use Rattle.csv.specs.declared.parser.State.TheVariants as st
-use Rattle.wc_record.specs.Places.{after, after_opening, after_plain, record_start}
+use Rattle.wc_record.specs.Cutting.{after, after_opening, after_plain, record_start}
 use Rattle.wc_record.specs.declared.place.Place.{Place}
 use Rattle.wc_record.specs.declared.place.ByteState.{ByteState}
 use Rattle.wc_record.specs.declared.place.ByteState.TheVariants as byte_state

@@ -1,10 +1,7 @@
 -- A record of three fields, from its fields one by one.
-use Rattle.std.proofs.Common.{◌≡◌, ◌≤◌, ℕ, length, true, List, [], ◌∷◌, Some, None, Ok, Err, refl, arith}
-use Rattle.std.proofs.lemmas.Bool.Decides.{nat_tests}
-use Rattle.std.specs.Prelude.{nat_le}
+use Rattle.wc_model.proofs.Common.{◌≡◌, ◌≤◌, ℕ, length, true, List, [], ◌∷◌, Some, None, Ok, Err, refl, arith, nat_le, nat_tests}
 use Rattle.csv.specs.Records.{field_at}
-use Rattle.wc_model.specs.Run.Log.{Record, moment_of, row_data_of, row_of_fields}
-use Rattle.wc_model.specs.Run.Rows.{RowData}
+use Rattle.wc_model.specs.Definitions.{Record, moment_of, row_data_of, row_of_fields, RowData}
 use Rattle.wc_record.specs.Views.{SaysData, SaysRow, three_of}
 use Rattle.wc_record.specs.declared.row_data.RowFault.{RowFault}
 use Rattle.wc_record.specs.declared.row_data.RowFault.TheVariants.{Refused, Memory}

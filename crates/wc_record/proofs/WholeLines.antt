@@ -1,10 +1,7 @@
 -- Lines without quotes, too short to be cut, are passed whole.
-use Rattle.std.proofs.Common.{◌≡◌, ◌≢◌, ◌≤◌, ◌<◌, ◌+◌, ◌-◌, ◌==◌, ◌||◌, ◌&&◌, ℕ, zero, suc, Bool, true, false, cond, List, [], ◌∷◌, ◌++◌, length, min, refl, subst, ap, ◌∙◌, arith}
-use Rattle.std.proofs.lemmas.Bool.Decides.{nat_tests}
-use Rattle.std.specs.Prelude.{nat_le, slice_index}
+use Rattle.wc_model.proofs.Common.{◌≡◌, ◌≢◌, ◌≤◌, ◌<◌, ◌+◌, ◌-◌, ◌==◌, ◌||◌, ◌&&◌, ℕ, zero, suc, Bool, true, false, cond, List, [], ◌∷◌, ◌++◌, length, min, refl, subst, ap, ◌∙◌, arith, nat_le, slice_index, nat_tests}
 use Rattle.wc_record.proofs.Cuts.{cut_next}
-use Rattle.wc_record.specs.Cutting.{AreUnquotedLines, Passes, cut_from}
-use Rattle.wc_record.specs.Places.{after, after_at, after_plain, is_cut, is_outside, record_start}
+use Rattle.wc_record.specs.Cutting.{AreUnquotedLines, Passes, cut_from, after, after_at, after_plain, is_cut, is_outside, record_start}
 use Rattle.wc_record.specs.declared.place.Place.{Place}
 use Rattle.wc_record.specs.declared.place.ByteState.{ByteState}
 use Rattle.wc_record.specs.declared.place.ByteState.TheVariants as byte_state

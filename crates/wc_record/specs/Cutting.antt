@@ -1,8 +1,57 @@
--- The bytes of a log that are read: of a record whose third field has ended none after its first
--- 65536 (the profile's own).
-use Rattle.std.specs.Prelude.{◌≡◌, ◌≢◌, ◌<◌, ◌≤◌, ◌-◌, ℕ, List, [], ◌∷◌, ◌++◌, length, slice_index, take, drop, if◌then◌else◌}
-use Rattle.wc_record.specs.Places.{after, is_cut}
+-- Where a reader is in the bytes of a log (RFC 4180, section 2), which of them it reads, and how many: of a record whose third field
+-- has ended none after its first 65536 (the profile's own).
+use Rattle.wc_record.specs.declared.place.ByteState.TheVariants as byte_state
+use Rattle.std.specs.Prelude.{ℕ, ◌+◌, ◌==◌, ◌||◌, ◌&&◌, Bool, true, false, min, nat_le, if◌then◌else◌, ◌≡◌, ◌≢◌, ◌<◌, ◌≤◌, ◌-◌, List, [], ◌∷◌, ◌++◌, length, slice_index, take, drop, ◌^◌}
 use Rattle.wc_record.specs.declared.place.Place.{Place}
+use Rattle.wc_record.specs.declared.place.ByteState.{ByteState}
+
+-- before the first byte of a log
+abbrev pub log_start : Place
+log_start = record { byte_state = byte_state.LogStart; ended = 0; size = 0 }
+
+-- before the first byte of a record
+abbrev pub record_start : Place
+record_start = record { byte_state = byte_state.Opening; ended = 0; size = 0 }
+
+-- three fields of the current record have ended, so that it has more than three, and 65536 of its
+-- bytes were read
+abbrev pub is_cut : Place → Bool
+is_cut place = nat_le 3 place.ended && nat_le 65536 place.size
+
+-- after a byte outside of quotes that opens none: a comma ends a field, a line's end the record
+abbrev pub after_plain : ℕ → ℕ → ℕ → Place
+after_plain ended size byte =
+    if byte == 44 then record { byte_state = byte_state.Opening; ended = min 3 (ended + 1); size = size }
+    else if (byte == 13) || (byte == 10) then record_start
+    else record { byte_state = byte_state.Plain; ended = ended; size = size }
+
+-- after a byte where a quote opens quotes
+abbrev pub after_opening : ℕ → ℕ → ℕ → Place
+after_opening ended size byte =
+    if byte == 34 then record { byte_state = byte_state.Quoted; ended = ended; size = size } else after_plain ended size byte
+
+-- after one byte more, at each position
+abbrev pub after_at : ByteState → ℕ → ℕ → ℕ → Place
+after_at byte_state.Opening ended size byte = after_opening ended size byte
+after_at byte_state.Plain ended size byte = after_plain ended size byte
+after_at byte_state.Quoted ended size byte =
+    if byte == 34 then record { byte_state = byte_state.Opening; ended = ended; size = size }
+    else record { byte_state = byte_state.Quoted; ended = ended; size = size }
+after_at byte_state.LogStart ended size byte =
+    if byte == 0xEF then record { byte_state = byte_state.SecondOfMark; ended = ended; size = size } else after_opening ended size byte
+after_at byte_state.SecondOfMark ended size byte =
+    if byte == 0xBB then record { byte_state = byte_state.ThirdOfMark; ended = ended; size = size } else after_plain ended size byte
+after_at byte_state.ThirdOfMark ended size byte = if byte == 0xBF then record_start else after_plain ended size byte
+
+-- no quotes are open there, and no byte order mark
+abbrev pub is_outside : ByteState → Bool
+is_outside byte_state.Opening = true
+is_outside byte_state.Plain = true
+is_outside other = false
+
+-- after one byte more
+abbrev pub after : Place → ℕ → Place
+after place byte = after_at place.byte_state place.ended (min 65536 (place.size + 1)) byte
 
 -- those of these bytes, from a place on
 unfoldable pub cut_from : Place → List ℕ → List ℕ
@@ -24,3 +73,8 @@ abbrev pub AreUnquotedLines : List ℕ → ℕ → Type 0
 AreUnquotedLines bytes count =
     0 < count → (count ≤ length bytes) × (slice_index bytes (count - 1) ≡ 10)
     × ((k : ℕ) → k < length bytes → slice_index bytes k ≢ 34)
+
+-- as much was read as may be: 134217728 bytes and calls since the start, or the count has come to
+-- its end
+abbrev pub is_exhausted : ℕ → ℕ → Bool
+is_exhausted start spent = (spent == 2 ^ 64 - 1) || nat_le 134217728 (spent - start)

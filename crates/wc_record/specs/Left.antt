@@ -1,9 +1,8 @@
 -- What is left of a log: its rows and its refusal, if the bytes of the reader are known.
 use Rattle.std.specs.Prelude.{◌≡◌, ◌≤◌, ◌<◌, ◌^◌, ◌⊎◌, ⊤, ℕ, ◌-◌, true, List, [], ◌∷◌, length, Option, Some, None, Result, Ok, Err, IfOk, IfSome}
-use Rattle.wc_model.specs.Run.Log.{Record, LogOf, log_of, log_after, last_moment, refused_at, with_row}
-use Rattle.wc_model.specs.Run.Rows.{LogRow}
+use Rattle.wc_model.specs.Definitions.{Record, LogOf, log_of, log_after, last_moment, refused_at, with_row, LogRow}
 use Rattle.csv.specs.Reading.{reader_source}
-use Rattle.wc_record.specs.Bound.{is_exhausted}
+use Rattle.wc_record.specs.Cutting.{is_exhausted}
 use Rattle.wc_record.specs.Reading.{HasRecords, borrowed}
 use Rattle.wc_record.specs.Views.{IsDataInRange, head_view}
 use Rattle.wc_record.specs.declared.log.LogEnd.{LogEnd}

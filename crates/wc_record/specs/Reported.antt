@@ -3,9 +3,8 @@
 use Rattle.std.specs.Prelude.{◌≡◌, ⊤, ℕ, zero, suc, List, [], ◌∷◌, ◌++◌, reverse, Option, Some, None, slice_get, unwrap_or}
 use Rattle.csv.specs.Records.{fields_of}
 use Rattle.wc_model.specs.Run.Log.{Record}
-use Rattle.wc_record.specs.Cutting.{cut_from}
+use Rattle.wc_record.specs.Cutting.{cut_from, log_start}
 use Rattle.wc_record.specs.Left.{IsAfterRecords}
-use Rattle.wc_record.specs.Places.{log_start}
 use Rattle.wc_record.specs.Reading.{records_of}
 use Rattle.wc_record.specs.declared.log.LogEnd.{LogEnd}
 use Rattle.wc_record.specs.declared.log.LogEnd.TheVariants.{AllRead, Raised}

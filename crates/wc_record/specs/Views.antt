@@ -1,8 +1,6 @@
 -- What the rows of this crate represent, and what their answers say.
 use Rattle.std.specs.Prelude.{◌≡◌, ◌≤◌, ◌<◌, ◌^◌, ◌≤ℤ◌, ⊤, ℕ, List, length, [], ◌∷◌, Option, Some, None, Result, Ok, Err, IfOk}
-use Rattle.wc_model.specs.Run.Log.{Record}
-use Rattle.wc_model.specs.Instrument.Plates.{least_sample, greatest_sample}
-use Rattle.wc_model.specs.Run.Rows.{RowData, LogRow, Counts, Bytes, Inputs, Scan, Change}
+use Rattle.wc_model.specs.Definitions.{Record, least_sample, greatest_sample, RowData, LogRow, Counts, Bytes, Inputs, Scan, Change}
 use Rattle.wc_record.specs.declared.row_data.RowFields.{RowFields}
 use Rattle.wc_record.specs.declared.row_head.HeadKind.{HeadKind}
 use Rattle.wc_record.specs.declared.row_head.HeadKind.TheVariants as head

@@ -2,9 +2,7 @@ ghost use Rattle.std.specs.Prelude.{◌≡◌, true, false, option_map, Ok, IsEr
 ghost use Rattle.std.specs.Io.{ReadsAtMost};
 ghost use Rattle.std.specs.Io.KnownBytes.{ReadConsumes};
 ghost use Rattle.wc_model.specs.Run.Devices.{failures_after_read};
-ghost use Rattle.wc_record.specs.Bound.{is_exhausted};
-ghost use Rattle.wc_record.specs.Cutting.{cut_from};
-ghost use Rattle.wc_record.specs.Places.{is_cut, log_start};
+ghost use Rattle.wc_record.specs.Cutting.{is_exhausted, cut_from, is_cut, log_start};
 ghost use Rattle.wc_record.specs.Reading.{borrowed, borrowed_bytes};
 
 use crate::place::Place;

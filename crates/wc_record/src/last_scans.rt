@@ -26,11 +26,9 @@ pub struct Recorder {
 }
 
 impl Model for Recorder {
-    ghost use Rattle.wc_record.specs.Recorders.{RecorderState};
+    ghost use Rattle.wc_record.specs.Recorders.{RecorderState, recorder_view, IsRecorderSound};
 
     ghost Value = { RecorderState };
-
-    ghost use Rattle.wc_record.specs.RecorderFields.{recorder_view, IsRecorderSound};
 
     ghost view = { recorder_view };
 

@@ -2,8 +2,7 @@ ghost use Rattle.std.specs.Prelude.{◌≡◌, ◌≤◌, ◌≤ℤ◌, ◌<◌,
 ghost use Rattle.std.specs.Char.{is_ascii_digit};
 ghost use Rattle.std.specs.Int.Digits.{number_from_digits};
 ghost use Rattle.std.specs.List.{list_all};
-ghost use Rattle.wc_model.specs.Instrument.Plates.{least_sample, greatest_sample};
-ghost use Rattle.wc_model.specs.Run.Log.{number_within, moment_of, whole_of, counts_of, line_chunk_of, inputs_word_of};
+ghost use Rattle.wc_model.specs.Definitions.{least_sample, greatest_sample, number_within, moment_of, whole_of, counts_of, line_chunk_of, inputs_word_of};
 
 use std::alloc::AllocError;
 use wc_model::{GREATEST_COUNTS, LAST_MOMENT, LEAST_COUNTS};

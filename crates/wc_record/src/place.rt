@@ -1,6 +1,5 @@
 ghost use Rattle.std.specs.Prelude.{◌≡◌, ◌≤◌, ◌<◌, ◌+◌, length, true};
-ghost use Rattle.wc_record.specs.Cutting.{AreUnquotedLines, Cuts, Passes};
-ghost use Rattle.wc_record.specs.Places.{after, after_opening, after_plain, is_cut, is_outside, log_start, record_start};
+ghost use Rattle.wc_record.specs.Cutting.{AreUnquotedLines, Cuts, Passes, after, after_opening, after_plain, is_cut, is_outside, log_start, record_start};
 
 use memchr::{memchr, memrchr};
 

@@ -1,6 +1,3 @@
-mod HexSteps
-mod Lengths
-mod Placed
-mod ScanText
+pub mod Digits
 mod SpacedNumbers
-pub mod WrittenDigits
+mod ScanText

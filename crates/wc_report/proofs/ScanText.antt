@@ -1,12 +1,10 @@
 -- The line of a scan, put together from its end.
 use Rattle.hex.specs.Hex.{IsBytes, encode_lower}
-use Rattle.wc_report.proofs.WrittenDigits.{digits_same}
+use Rattle.wc_report.proofs.Digits.{digits_same}
 use Rattle.std.proofs.Common.{◌≡◌, ◌<◌, ◌/◌, ◌%◌, ◌^◌, ◌↔◌, ℕ, zero, suc, ℤ, List, [], ◌∷◌, ◌++◌, length, get_or, Result, Ok, Err, refl, sym, ap, ◌∙◌, arith, rules}
-use Rattle.std.specs.Fmt.{signed_decimal}
-use Rattle.std.specs.Prelude.{decimal, IsOk, OnOk}
+use Rattle.wc_model.proofs.Common.{decimal, IsOk, OnOk, signed_decimal}
 use Rattle.std.proofs.lemmas.List.{append_assoc}
-use Rattle.wc_model.specs.Run.Hex.{hex_of_word}
-use Rattle.wc_model.specs.Say.Report.{ScanLine, line_text}
+use Rattle.wc_model.specs.Definitions.{hex_of_word, ScanLine, line_text}
 use Rattle.wc_model.specs.declared.image.Outputs.{Outputs}
 
 -- a list of four

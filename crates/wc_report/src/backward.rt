@@ -17,7 +17,7 @@ pub(crate) fn put_byte(byte: u8, buffer: &mut [u8], end: usize) -> usize
 }
 
 /// Puts a number in decimal digits before the text, and a space before it, and returns where the text then starts.
-#[tactic(auto, using(crate::proofs::Lengths::short_decimal))]
+#[tactic(auto, using(crate::proofs::Digits::short_decimal))]
 pub(crate) fn put_number(number: u64, buffer: &mut [u8], end: usize) -> usize
     requires { (21 ≤ end) × (end ≤ length buffer.old) }
     ensures start { (result ≤ end) × (end ≤ result + 21) }
@@ -28,7 +28,7 @@ pub(crate) fn put_number(number: u64, buffer: &mut [u8], end: usize) -> usize
 }
 
 /// Likewise for a number that may be negative.
-#[tactic(auto, using(crate::proofs::Lengths::short_decimal))]
+#[tactic(auto, using(crate::proofs::Digits::short_decimal))]
 pub(crate) fn put_signed(number: &i32, buffer: &mut [u8], end: usize) -> usize
     requires { (22 ≤ end) × (end ≤ length buffer.old) }
     ensures start { (result ≤ end) × (end ≤ result + 22) }

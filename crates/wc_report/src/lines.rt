@@ -1,7 +1,5 @@
 ghost use Rattle.std.specs.Prelude.{◌≡◌, ◌≤◌, ◌++◌, ◌∷◌, [], decimal, drop, IfOk, IsOkUnless, OnOk};
-ghost use Rattle.wc_model.specs.Say.Job.{refused_text};
-ghost use Rattle.wc_model.specs.Say.Report.{AnswerLine, ScanLine, line_text};
-ghost use Rattle.wc_model.specs.Say.UnitReport.{path_line, unit_line};
+ghost use Rattle.wc_model.specs.Definitions.{refused_text, AnswerLine, ScanLine, line_text, path_line, unit_line};
 
 use crate::backward;
 use crate::numbers::{put_hex, spaced_lines};

@@ -1,9 +1,7 @@
-ghost use Rattle.std.specs.Prelude.{◌≡◌, ◌*◌, ◌<◌, ◌++◌, decimal, IfOk, IsOkUnless, OnOk, length};
+ghost use Rattle.std.specs.Prelude.{◌≡◌, ◌*◌, ◌<◌, ◌++◌, decimal, IfOk, IsOkUnless, OnOk, length, string_bytes};
 ghost use Rattle.std.specs.Char.{digit_char};
 ghost use Rattle.std.specs.Fmt.{signed_decimal};
-ghost use Rattle.std.specs.String.{string_bytes};
-ghost use Rattle.wc_model.specs.Run.Hex.{hex_of_bytes};
-ghost use Rattle.wc_model.specs.Say.UnitReport.{spaced_lines};
+ghost use Rattle.wc_model.specs.Definitions.{hex_of_bytes, spaced_lines};
 
 use itoa::Buffer;
 use std::alloc::Global;

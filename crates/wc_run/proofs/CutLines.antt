@@ -1,9 +1,8 @@
 -- A prefix of a text leaves a prefix of what the text leaves, once the lines that begin with an S are taken out of both.
 use Rattle.std.proofs.Common.{◌≡◌, ℕ, ◌==◌, Bool, true, false, not, cond, if◌then◌else◌, List, [], ◌∷◌, ◌++◌, refl, ap, sym, ◌∙◌}
-use Rattle.std.specs.Prelude.{filter}
-use Rattle.std.specs.List.{concat}
+use Rattle.wc_model.proofs.Common.{filter, concat}
 use Rattle.wc_model.specs.Run.JobSections.{onto_first_line, whole_lines}
-use Rattle.wc_laws_instrument.specs.WrittenLines.{begins_with_s, without_scan_lines}
+use Rattle.wc_laws_instrument.specs.Logs.{begins_with_s, without_scan_lines}
 
 -- whether a line stays
 abbrev stays : List ℕ → Bool

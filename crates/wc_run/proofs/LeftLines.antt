@@ -2,12 +2,8 @@
 use Rattle.std.proofs.Common.{◌≡◌, ℕ, List, ap, sym, ◌∙◌}
 use Rattle.std.specs.Prelude.{Option, Some, None, Result, Ok, Err}
 use Rattle.wc_laws_instrument.proofs.WrittenLines.{line_stays, scan_lines_come_out}
-use Rattle.wc_laws_instrument.specs.WrittenLines.{without_scan_lines}
-use Rattle.wc_model.specs.Instrument.Plates.{PlateData}
-use Rattle.wc_model.specs.Run.Log.{LogOf}
-use Rattle.wc_model.specs.Run.Rows.{LogRow}
-use Rattle.wc_model.specs.Say.ProgramReport.{Logic, programs}
-use Rattle.wc_model.specs.Say.Report.{line_report}
+use Rattle.wc_laws_instrument.specs.Logs.{without_scan_lines}
+use Rattle.wc_model.specs.Definitions.{PlateData, LogOf, LogRow, Logic, programs, line_report}
 use Rattle.wc_run.proofs.CutLines.{cut_lines_leave_a_prefix}
 use Rattle.wc_run.specs.Runs.{AppendsFirst, AppendsLineOfFirst, AppendsLinePrefix, AppendsPrefix, LeavesLine, Reports, report_coming, report_printing}
 use Rattle.wc_run.specs.declared.fault.RunFault.{RunFault}

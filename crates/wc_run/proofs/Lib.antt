@@ -8,7 +8,9 @@ pub mod RunEnds
 pub mod ScaleRows
 pub mod ProgramChanges
 pub mod LeftLines
-pub mod ReaderFailures
+pub mod Failures
 pub mod ReportedRows
-pub mod Silence
 pub mod CutLines
+pub mod Feeding
+pub mod RowCalls
+pub mod Scans

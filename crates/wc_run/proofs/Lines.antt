@@ -1,22 +1,9 @@
 -- The lines of a report, and what of them is written at once and at the end.
-use Rattle.std.proofs.Common.{◌≡◌, refl, ap, sym, subst, ◌∙◌, ℕ, zero, suc, ◌-◌, List, [], ◌∷◌, ◌++◌, length, drop, Option, Some, None, Result, Err, append-nil, inl, inr}
-use Rattle.std.proofs.lemmas.Grind.{flat_map-append}
+use Rattle.wc_model.proofs.Common.{◌≡◌, refl, ap, sym, subst, ◌∙◌, ℕ, zero, suc, ◌-◌, List, [], ◌∷◌, ◌++◌, length, drop, Option, Some, None, Result, Err, append-nil, inl, inr, filter, flat_map-append, filter-append, Appends-nil, Appends}
 use Rattle.std.proofs.lemmas.List.{append_assoc}
-use Rattle.std.proofs.lemmas.List.Elements.{filter-append}
-use Rattle.std.specs.Prelude.{filter}
 use Rattle.wc_laws_instrument.proofs.Independence.{is_free_of_programs}
-use Rattle.wc_model.specs.Instrument.Plates.{PlateData}
-use Rattle.wc_model.specs.Instrument.WeighingHistories.{last_items}
-use Rattle.wc_model.specs.Say.ProgramReport.{Logic, programs}
-use Rattle.wc_model.specs.Say.Report.{ReportLine, answer_line, answer_lines, is_answer_line, is_scan_line, line_text, report_text}
-use Rattle.wc_model.specs.Run.Rows.{LogRow, Past, answer_of_row}
-use Rattle.wc_model.specs.Run.Log.{LogOf, LogRefusal}
-use Rattle.std.proofs.KnownBytes.{Appends-nil}
-use Rattle.std.specs.Io.KnownBytes.{Appends}
-use Rattle.wc_run.specs.Doing.{IsClassified, WritesBy}
-use Rattle.wc_run.specs.Logics.{lines_of_row, lines_of_rows}
-use Rattle.wc_run.specs.Observing.{onto, text_coming, text_in_all}
-use Rattle.wc_run.specs.Reports.{last_plan, lines_so_far, plan_of, report_plan}
+use Rattle.wc_model.specs.Definitions.{PlateData, last_items, Logic, programs, ReportLine, answer_line, answer_lines, is_answer_line, is_scan_line, line_text, report_text, LogRow, Past, answer_of_row, LogOf, LogRefusal}
+use Rattle.wc_run.specs.{IsClassified, WritesBy, lines_of_row, lines_of_rows, onto, text_coming, text_in_all, last_plan, lines_so_far, plan_of, report_plan}
 use Rattle.wc_run.specs.Runs.{Reports, ReportsBy, report_coming, report_printing, report_written}
 use Rattle.wc_run.specs.declared.fault.RunFault.{RunFault}
 use Rattle.wc_run.specs.declared.fault.RunFault.TheVariants.{Memory}

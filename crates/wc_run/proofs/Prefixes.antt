@@ -1,8 +1,6 @@
 -- Prefixes of a text, and what precedes and follows them.
-use Rattle.std.proofs.Common.{ℕ, List, ◌++◌, Option, ap, sym, ◌∙◌}
-use Rattle.std.proofs.KnownBytes.{Appends-trans}
+use Rattle.wc_model.proofs.Common.{ℕ, List, ◌++◌, Option, ap, sym, ◌∙◌, Appends-trans, Appends}
 use Rattle.std.proofs.lemmas.List.{append_assoc}
-use Rattle.std.specs.Io.KnownBytes.{Appends}
 use Rattle.wc_run.specs.Runs.{AppendsPrefix}
 
 -- a prefix of a text is one of what is longer

@@ -1,25 +1,32 @@
--- What a change of the program leaves in a scale.
-use Rattle.std.proofs.Common.{◌≡◌, refl, ℕ, ◌∷◌, subst, true, false, Option, Some, None, is_some}
+-- What a change of the program leaves in a scale: a change of the machine inside is a change of what the scale represents.
+use Rattle.wc_run.specs.OpenScales as open_scale
+use Rattle.std.proofs.Common.{◌≡◌, ◌≤◌, IfSome, sym, subst, Some, refl, ℕ, ◌∷◌, true, false, Option, None, is_some}
 use Rattle.wc_cost.specs.LoadedTexts.{LoadedText}
-use Rattle.wc_model.specs.Instrument.Plates.{PlateData}
-use Rattle.wc_model.specs.Language.Tree.{Text}
-use Rattle.wc_model.specs.Language.Views.{text_view}
-use Rattle.wc_model.specs.Run.Log.{LogOf, refused_at, with_row}
-use Rattle.wc_model.specs.Run.Rows.{Change, LogRow, Past}
-use Rattle.wc_model.specs.Say.LogFor.{change_on, log_for, log_while}
-use Rattle.wc_model.specs.Say.ProgramReport.{Logic, change_to, logic_following}
-use Rattle.wc_open_scale.proofs.RowCalls.{each_row_is_a_call}
-use Rattle.wc_open_scale.specs.Changing.{IsChangedTo, changed_program}
-use Rattle.wc_open_scale.specs.Rows.{came_by}
-use Rattle.wc_open_scale.specs.Representation.{Running}
-use Rattle.wc_open_scale.specs.Representation as open_scale
-use Rattle.wc_open_scale.specs.declared.open_scale.OpenScale.{OpenScale}
-use Rattle.wc_run.proofs.ScaleRows.{not_none, not_some}
-use Rattle.wc_run.specs.Logics.{text_of_next}
-use Rattle.wc_run.specs.Representation.{IsNext, Represents, program_of}
-use Rattle.wc_run.specs.Taking.{row_at, RunsRow, StopsAtRow, TakesRow}
+use Rattle.wc_machine.specs.Machines.{MachineState, RepresentsText}
+use Rattle.wc_model.specs.Definitions.{carried, Store, Text, text_view, PlateData, LogOf, refused_at, with_row, Change, LogRow, Past, change_on, log_for, log_while, Logic, change_to, logic_following}
+use Rattle.wc_run.specs.{IsChangedTo, changed_program, IsRunning, Running, came_by, IsNext, Represents, program_of, text_of_next, row_at, RunsRow, StopsAtRow, TakesRow}
+use Rattle.wc_run.specs.declared.open_scale.OpenScale.{OpenScale}
 use Rattle.wc_run.specs.declared.fault.RunFault.TheVariants.{Refused}
 use Rattle.wc_run.specs.declared.scale.Scale.{Scale}
+use Rattle.wc_run.proofs.RowCalls.{each_row_is_a_call}
+use Rattle.wc_run.proofs.ScaleRows.{not_none, not_some}
+
+pub is_changed : {S : Type 0} (old : OpenScale S) (machine new : MachineState) (loaded : LoadedText) → old.machine ≡ Some machine →
+    ((text : Text) (store : Store) → RepresentsText machine text store → RepresentsText new (text_view loaded.source) (carried text store (text_view loaded.source))) →
+    new.last ≡ machine.last → IsChangedTo old (record old { machine = Some new }) (text_view loaded.source)
+is_changed old machine new loaded is changes same =
+    record {
+      represents = λ plate came running runs represents. record {
+        is_plate = represents.is_plate;
+        indicator = represents.indicator;
+        line = represents.line;
+        inputs = represents.inputs;
+        program = changes running.text running.store
+            (subst (λ program. IsRunning (Some machine) program) runs (subst (λ held. IsRunning held came.program) is represents.program));
+      };
+      stays = λ ms late. subst (λ held. IfSome held (λ m. m.last ≤ ms)) (sym is) (subst (λ last. last ≤ ms) same late);
+      last = λ ms early. subst (λ last. last ≤ ms) (sym same) (subst (λ held. IfSome held (λ m. m.last ≤ ms)) is early);
+    }
 
 -- what is loaded is the next text
 next_text : (next : Option LoadedText) (loaded : LoadedText) (left : Option Text) → next ≡ Some loaded → text_of_next next ≡ left → Some (text_view loaded.source) ≡ left

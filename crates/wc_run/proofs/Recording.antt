@@ -1,23 +1,11 @@
 -- The records of the last scans, and their lines.
-use Rattle.std.proofs.Common.{◌≡◌, refl, ap, sym, subst, ◌∙◌, ℕ, List, [], ◌∷◌, ◌++◌, length, drop, Option, Some, None, Result, append-nil}
-use Rattle.std.proofs.lemmas.Grind.{flat_map-append}
-use Rattle.std.proofs.lemmas.List.{drop-map, length-map, map-append, take_more}
-use Rattle.std.proofs.lemmas.List.Elements.{filter-append}
-use Rattle.std.proofs.lemmas.Option.{get_or_from_slice_get, slice_get_within}
+use Rattle.wc_model.proofs.Common.{◌≡◌, refl, ap, sym, subst, ◌∙◌, ℕ, List, [], ◌∷◌, ◌++◌, length, drop, Option, Some, None, Result, append-nil, flat_map-append, drop-map, length-map, map-append, take_more, filter-append, get_or_from_slice_get, slice_get_within}
 use Rattle.std.specs.Prelude.{◌+◌, ◌-◌, filter, slice_get, take}
-use Rattle.wc_model.specs.Instrument.Plates.{PlateData}
-use Rattle.wc_model.specs.Instrument.WeighingHistories.{last_items}
-use Rattle.wc_model.specs.Run.Rows.{Past}
-use Rattle.wc_model.specs.Say.ProgramReport.{Logic}
-use Rattle.wc_model.specs.Say.Report.{ReportLine, answer_line, is_scan_line, line_text, report_text}
+use Rattle.wc_model.specs.Definitions.{PlateData, last_items, Past, Logic, ReportLine, answer_line, is_scan_line, line_text, report_text}
 use Rattle.wc_record.specs.Recorders.{RecorderState, HoldsLast}
 use Rattle.wc_record.specs.declared.last_scans.Record.{Record}
 use Rattle.wc_run.proofs.Lines.{answer_dropped, lines_at_last}
-use Rattle.wc_run.specs.Doing.{Writes}
-use Rattle.wc_run.specs.Logics.{lines_of_row, lines_of_rows}
-use Rattle.wc_run.specs.Observing.{IsShown, lines_of_scan, lines_of_seen, onto, row_of}
-use Rattle.wc_run.specs.Outputs.{line_of_record, lines_of_records}
-use Rattle.wc_run.specs.Reports.{HoldsScans, KeepsScan, lines_so_far}
+use Rattle.wc_run.specs.{Writes, lines_of_row, lines_of_rows, IsShown, lines_of_scan, lines_of_seen, onto, row_of, line_of_record, lines_of_records, HoldsScans, KeepsScan, lines_so_far}
 use Rattle.wc_run.specs.declared.fault.RunFault.{RunFault}
 use Rattle.wc_run.specs.declared.row_seen.RowSeen.{RowSeen}
 use Rattle.wc_run.specs.declared.row_seen.ScanSeen.{ScanSeen}

@@ -2,15 +2,12 @@
 use Rattle.std.proofs.Common.{◌≡◌, ◌≤◌, ◌∙◌, ℕ, List, [], ◌∷◌, Option, Some, None, arith, inl, inr, sym}
 use Rattle.wc_model.specs.Run.Log.{Record}
 use Rattle.wc_record.proofs.LogSteps.{reads_still, record_read}
-use Rattle.wc_record.specs.Left.{ended, rows_read}
-use Rattle.wc_record.specs.Reported.{IsAmong, Reads, current_record, record_at}
+use Rattle.wc_record.specs.{ended, rows_read, IsAmong, Reads, current_record, record_at}
 use Rattle.wc_record.specs.declared.log.LogEnd.TheVariants.{Raised}
 use Rattle.wc_record.specs.declared.log.Rows.{Rows}
 use Rattle.wc_record.specs.declared.row_kind.LogFault.{LogFault}
 use Rattle.wc_record.specs.declared.row_kind.LogFault.TheVariants as fault
-use Rattle.wc_run.specs.Faults.{from_log_fault}
-use Rattle.wc_run.specs.Doing.{IsClassified}
-use Rattle.wc_run.specs.Runs.{IsFaultAt, IsNoRefusal, ReportsFault}
+use Rattle.wc_run.specs.{from_log_fault, IsClassified, IsFaultAt, IsNoRefusal, ReportsFault}
 use Rattle.wc_run.specs.declared.fault.RunFault.{RunFault}
 use Rattle.wc_run.specs.declared.fault.RunFault.TheVariants.{Refused, Read, Memory}
 

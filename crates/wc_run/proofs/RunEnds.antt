@@ -1,15 +1,8 @@
 -- The end of a run: what the observer writes after the rest, and how a fault is classified.
-use Rattle.std.proofs.Common.{inl, inr, ◌≡◌, sym, subst, ℕ, List, [], Option, Ok, Err, Result, append-nil, true, false}
-use Rattle.std.proofs.KnownBytes.{Appends-kept, Appends-trans}
-use Rattle.std.specs.Io.KnownBytes.{Appends}
-use Rattle.wc_model.specs.Run.Log.{LogOf}
-use Rattle.wc_model.specs.Instrument.Plates.{PlateData}
-use Rattle.wc_model.specs.Run.Rows.{LogRow, Past}
+use Rattle.wc_model.proofs.Common.{inl, inr, ◌≡◌, sym, subst, ℕ, List, [], Option, Ok, Err, Result, append-nil, true, false, Appends-kept, Appends-trans, Appends}
+use Rattle.wc_model.specs.Definitions.{LogOf, PlateData, LogRow, Past, Logic}
 use Rattle.wc_run.proofs.Prefixes.{prefix_after, prefix_of_more}
-use Rattle.wc_run.specs.Doing.{Ended, EndsWhole, HasSeenAll, IsCutShort, IsClassified, RunsRows, Seeing, Writes, WritesBy, is_cut_short, refused_in}
-use Rattle.wc_model.specs.Say.ProgramReport.{Logic}
-use Rattle.wc_run.specs.Observing.{Plan, Start, onto, refusal_of, text_coming}
-use Rattle.wc_run.specs.Runs.{IsNoRefusal, ReportsBy, ReportsWrite}
+use Rattle.wc_run.specs.{Ended, EndsWhole, HasSeenAll, IsCutShort, IsClassified, RunsRows, Seeing, Writes, WritesBy, is_cut_short, refused_in, Plan, Start, onto, refusal_of, text_coming, IsNoRefusal, ReportsBy, ReportsWrite}
 use Rattle.wc_run.specs.declared.fault.RunFault.{RunFault}
 use Rattle.wc_run.specs.declared.fault.RunFault.TheVariants.{Refused, Read, Write, Memory}
 

@@ -1,26 +1,14 @@
 -- While a log is run: what is done of it, and what is left.
 use Rattle.std.proofs.Common.{◌≡◌, refl, ap, sym, subst, ◌∙◌, ℕ, ◌+◌, List, [], ◌∷◌, ◌++◌, length, Option, Some, None, Result, Ok, Err, OnOk, arith}
-use Rattle.std.proofs.KnownBytes.{Appends-kept, Appends-nil, Appends-trans, Keeps-refl}
-use Rattle.std.specs.Io.KnownBytes.{Appends, Keeps}
-use Rattle.wc_model.specs.Run.Log.{LogOf, refused_at, with_row}
-use Rattle.wc_model.specs.Instrument.Plates.{PlateData}
-use Rattle.wc_model.specs.Run.Rows.{LogRow, Past}
-use Rattle.wc_record.specs.Left.{HasLeft, Takes, nothing_left, row_bytes}
-use Rattle.wc_record.specs.Views.{head_view}
+use Rattle.wc_model.proofs.Common.{Appends-kept, Appends-nil, Appends-trans, Keeps-refl, Appends, Keeps}
+use Rattle.wc_model.specs.Definitions.{LogOf, refused_at, with_row, PlateData, LogRow, Past, log_for, Logic}
+use Rattle.wc_record.specs.{HasLeft, Takes, nothing_left, row_bytes, head_view}
 use Rattle.wc_record.specs.declared.log.Rows.{Rows}
 use Rattle.wc_record.specs.declared.row_kind.LogFault.{LogFault}
 use Rattle.wc_record.specs.declared.row_kind.LogFault.TheVariants as fault
 use Rattle.wc_record.specs.declared.row_head.RowHead.{RowHead}
 use Rattle.wc_run.proofs.Prefixes.{prefix_after, prefix_of_more}
-use Rattle.wc_run.specs.Faults.{from_log_fault}
-use Rattle.wc_run.specs.Doing.{Does, HasSeenAll, RunsRows, Seeing, Writes}
-use Rattle.wc_model.specs.Say.LogFor.{log_for}
-use Rattle.wc_model.specs.Say.ProgramReport.{Logic}
-use Rattle.wc_run.specs.Logics.{IsTaken, logic_after}
-use Rattle.wc_run.specs.Observing.{Plan, onto, text_coming}
-use Rattle.wc_run.specs.Runs.{AppendsFirst, AppendsPrefix}
-use Rattle.wc_run.specs.Representation.{Represents}
-use Rattle.wc_run.specs.Taking.{StopsAtRow}
+use Rattle.wc_run.specs.{from_log_fault, Does, HasSeenAll, RunsRows, Seeing, Writes, StopsAtRow, IsTaken, logic_after, Plan, onto, text_coming, AppendsFirst, AppendsPrefix, Represents}
 use Rattle.wc_run.specs.declared.fault.RunFault.{RunFault}
 use Rattle.wc_run.specs.declared.fault.RunFault.TheVariants.{Refused, Read, Write, Memory}
 use Rattle.wc_run.specs.declared.scale.Scale.{Scale}

@@ -3,27 +3,15 @@ use Rattle.std.proofs.Common.{Global, Vec, ◌≡◌, refl, ℕ, ℤ, true, fals
 use Rattle.wc_laws_instrument.specs.Changes.{IsNoChange}
 use Rattle.wc_cost.specs.LoadedTexts.{LoadedText}
 use Rattle.wc_machine.specs.Machines.{MachineState}
-use Rattle.wc_model.specs.Instrument.Plates.{PlateData}
-use Rattle.wc_model.specs.Say.ProgramReport.{Logic, logic_following}
-use Rattle.wc_model.specs.Say.Report.{answer_line}
-use Rattle.wc_model.specs.Run.Rows.{RowData, Counts, Bytes, Inputs, Scan, Change, LogRow, Past, answer_of_row}
-use Rattle.wc_open_scale.proofs.RowCalls.{each_row_is_a_call}
-use Rattle.wc_open_scale.specs.Calls.{Answers}
-use Rattle.wc_open_scale.specs.Coming.{with_bytes, with_inputs, with_sample}
-use Rattle.wc_open_scale.specs.Rows.{came_by}
-use Rattle.wc_open_scale.specs.Scanning.{Scans, Sees}
-use Rattle.wc_open_scale.specs.Representation.{Came, Goes, IsRunning, Running}
-use Rattle.wc_open_scale.specs.Representation as open_scale
-use Rattle.wc_open_scale.specs.declared.open_scale.OpenScale.{OpenScale}
+use Rattle.wc_model.specs.Definitions.{PlateData, Logic, logic_following, answer_line, RowData, Counts, Bytes, Inputs, Scan, Change, LogRow, Past, answer_of_row}
+use Rattle.wc_run.proofs.RowCalls.{each_row_is_a_call}
+use Rattle.wc_run.specs.{Answers, with_bytes, with_inputs, with_sample, came_by, IsNext, Represents, program_of, Scans, Sees, Came, Goes, IsRunning, Running, IsTaken, IsAt, lines_of_row, logic_after, AreItems, items_of, lines_of_scan, line_of_record, row_at, Gives, GivesItems, RunsRow, StopsAtRow, TakesRow}
+use Rattle.wc_run.specs.OpenScales as open_scale
+use Rattle.wc_run.specs.declared.open_scale.OpenScale.{OpenScale}
 use Rattle.wc_machine.specs.declared.seen.SeenLine.{SeenLine}
 use Rattle.wc_record.specs.Views.{head_data_view, head_view}
 use Rattle.wc_record.specs.declared.last_scans.Record.{Record}
 use Rattle.wc_record.specs.declared.row_head.RowHead.{RowHead}
-use Rattle.wc_run.specs.Logics.{IsTaken, IsAt, lines_of_row, logic_after}
-use Rattle.wc_run.specs.Observing.{AreItems, items_of, lines_of_scan}
-use Rattle.wc_run.specs.Outputs.{line_of_record}
-use Rattle.wc_run.specs.Representation.{IsNext, Represents, program_of}
-use Rattle.wc_run.specs.Taking.{row_at, Gives, GivesItems, RunsRow, StopsAtRow, TakesRow}
 use Rattle.wc_run.specs.declared.fault.RunFault.{RunFault}
 use Rattle.wc_run.specs.declared.fault.RunFault.TheVariants.{Memory}
 use Rattle.wc_run.specs.declared.row_seen.ScanSeen.{ScanSeen}

@@ -1,10 +1,7 @@
 -- What is written of rows, one after the other.
 use Rattle.std.proofs.Common.{◌≡◌, refl, ap, sym, ◌∙◌, arith, ℕ, ◌+◌, List, [], ◌∷◌, ◌++◌, length, Option, append-nil}
 use Rattle.std.proofs.lemmas.List.{append_assoc}
-use Rattle.wc_model.specs.Instrument.Plates.{PlateData}
-use Rattle.wc_model.specs.Run.Rows.{LogRow, Past}
-use Rattle.wc_model.specs.Say.ProgramReport.{Logic}
-use Rattle.wc_model.specs.Run.Log.{LogRefusal}
+use Rattle.wc_model.specs.Definitions.{PlateData, LogRow, Past, Logic, LogRefusal}
 use Rattle.wc_run.specs.Observing.{Plan, onto, text_coming, text_in_all}
 
 -- the number of rows with those before them

@@ -1,17 +1,48 @@
--- What comes of one row, and of a log that gives no further row, with whoever observes the run.
-use Rattle.std.specs.Prelude.{◌≡◌, ◌⊎◌, ⊤, ℕ, Bool, true, false, List, [], ◌∷◌, length, Option, Some, None, Result, Ok, Err}
+-- What comes of one row, whatever the scale represents, and of a log that gives no further row, with whoever observes the run: stated
+-- of the row's moment and of what it brings. (The profile's own.)
+use Rattle.wc_model.specs.declared.fault.Fault.TheVariants as fault
+use Rattle.wc_record.specs.declared.row_kind.LogFault.TheVariants as log
+use Rattle.std.specs.Prelude.{◌≡◌, ⊤, ℕ, List, ◌∷◌, ◌++◌, Option, IfSome, ◌⊎◌, Bool, true, false, [], length, Some, None, Result, Ok, Err}
 use Rattle.std.specs.Io.KnownBytes.{Appends, Keeps}
-use Rattle.wc_model.specs.Instrument.Plates.{PlateData}
-use Rattle.wc_model.specs.Run.Log.{LogOf, LogRefusal}
-use Rattle.wc_model.specs.Run.Rows.{LogRow, Past}
-use Rattle.wc_model.specs.Say.ProgramReport.{Logic}
-use Rattle.wc_run.specs.Logics.{IsRefusedRow, IsTaken, logic_after}
-use Rattle.wc_run.specs.Observing.{Plan, Start, onto, text_coming, text_in_all}
-use Rattle.wc_run.specs.Runs.{AppendsFirst, AppendsPrefix, ReportsBy}
+use Rattle.wc_model.specs.Definitions.{PlateData, Logic, answer_line, RowData, LogRow, Past, LogOf, LogRefusal}
+use Rattle.wc_model.specs.declared.fault.Fault.{Fault}
+use Rattle.wc_record.specs.declared.row_kind.LogFault.{LogFault}
+use Rattle.wc_run.specs.Logics.{IsRefusedRow, IsTaken, lines_of_row, logic_after}
+use Rattle.wc_run.specs.Observing.{AreItems, items_of, lines_of_scan, Plan, Start, onto, text_coming, text_in_all}
 use Rattle.wc_run.specs.Representation.{Represents}
 use Rattle.wc_run.specs.declared.fault.RunFault.{RunFault}
 use Rattle.wc_run.specs.declared.fault.RunFault.TheVariants.{Refused, Read, Write, Memory}
+use Rattle.wc_run.specs.declared.row_seen.ScanSeen.{ScanSeen}
 use Rattle.wc_run.specs.declared.scale.Scale.{Scale}
+use Rattle.wc_run.specs.Runs.{AppendsFirst, AppendsPrefix, ReportsBy}
+
+-- the row of this number and moment that brings this
+abbrev pub row_at : ℕ → ℕ → RowData → LogRow
+row_at number ms brings = record { number = number; ms = ms; brings = brings }
+
+-- the scale represents what it represented, and one row more
+abbrev pub TakesRow : {S : Type 0} → Scale S → Scale S → ℕ → RowData → Type 0
+TakesRow old new ms brings = (plate : PlateData) (logic : Option Logic) (past : Past) (number : ℕ) → Represents old plate logic past → Represents new plate logic (row_at number ms brings ∷ past)
+
+-- these answers, and this scan, are what the report has of that row
+abbrev pub Gives : {S : Type 0} → Scale S → ℕ → RowData → List ℕ → Option ScanSeen → Type 0
+Gives old ms brings answers scan = (plate : PlateData) (logic : Option Logic) (past : Past) (number : ℕ) → Represents old plate logic past → lines_of_row plate logic past (row_at number ms brings) ≡ answer_line ms answers ++ lines_of_scan scan
+
+-- and these the items of its scan, if they are looked at
+abbrev pub GivesItems : {S : Type 0} → Scale S → ℕ → RowData → Option ScanSeen → Type 0
+GivesItems old ms brings scan = (plate : PlateData) (logic : Option Logic) (past : Past) (number : ℕ) → Represents old plate logic past → IfSome scan (λ done. AreItems plate logic past (row_at number ms brings) (items_of done))
+
+-- a run with whatever logic the scale represents takes the row
+abbrev pub RunsRow : {S : Type 0} → Scale S → LogRow → Type 0
+RunsRow old row = (plate : PlateData) (logic : Option Logic) (past : Past) → Represents old plate logic past → IsTaken (logic_after plate logic past) (logic_after plate logic (row ∷ past)) row
+
+-- a scale is kept from a row by lack of memory, or because a run with whatever logic it represents
+-- refuses the row
+abbrev pub StopsAtRow : {S : Type 0} → Scale S → LogRow → RunFault → Type 0
+StopsAtRow old row (Refused code place) = (plate : PlateData) (logic : Option Logic) (past : Past) → Represents old plate logic past → IsRefusedRow (logic_after plate logic past) row code place
+StopsAtRow old row Read = ⊥
+StopsAtRow old row Write = ⊥
+StopsAtRow old row Memory = ⊤
 
 -- Of a text that is not written whole a prefix is written at a write fault, and when out of
 -- memory nothing: a text is made before it is written.
@@ -99,3 +130,14 @@ abbrev pub IsClassified : RunFault → RunFault → Type 0
 IsClassified Read classified = (classified ≡ Read) ⊎ (classified ≡ Memory)
 IsClassified Memory classified = (classified ≡ Read) ⊎ (classified ≡ Memory)
 IsClassified fault classified = classified ≡ fault
+
+-- of a fault of a plate or a text
+abbrev pub from_fault : Fault → RunFault
+from_fault (fault.Refused number place) = Refused number place
+from_fault fault.Memory = Memory
+
+-- of a log that gives no further row
+abbrev pub from_log_fault : LogFault → RunFault
+from_log_fault (log.Refused number place) = Refused number place
+from_log_fault log.Read = Read
+from_log_fault log.Memory = Memory

@@ -3,14 +3,7 @@
 use Rattle.std.specs.Prelude.{◌≡◌, ⊤, ℕ, List, Option, Some, None, option_map}
 use Rattle.wc_cost.specs.LoadedTexts.{LoadedText}
 use Rattle.wc_machine.specs.Machines.{MachineState, RepresentsText}
-use Rattle.wc_model.specs.Instrument.Plates.{PlateData}
-use Rattle.wc_model.specs.Language.Tree.{Text}
-use Rattle.wc_model.specs.Language.Views.{text_view}
-use Rattle.wc_model.specs.Run.Log.{LogOf, refused_at, with_row}
-use Rattle.wc_model.specs.Say.LogFor.{log_for}
-use Rattle.wc_model.specs.Say.ProgramReport.{Logic, logic_following, program_report, program_report_last, programs}
-use Rattle.wc_model.specs.Say.Report.{ReportLine, answer_line, answer_lines, line_report, lines_with, report_lines}
-use Rattle.wc_model.specs.Run.Rows.{LogRow, Past, answer_of_row}
+use Rattle.wc_model.specs.Definitions.{PlateData, Text, text_view, LogOf, refused_at, with_row, log_for, Logic, logic_following, program_report, program_report_last, programs, ReportLine, answer_line, answer_lines, line_report, lines_with, report_lines, LogRow, Past, answer_of_row}
 
 -- the text of a next program that is loaded
 abbrev pub text_of_next : Option LoadedText → Option Text

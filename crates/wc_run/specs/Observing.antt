@@ -1,23 +1,25 @@
 -- What an observer of a run is shown of a row, and what it writes. (The profile's own.)
-use Rattle.std.specs.Prelude.{◌≡◌, ⊤, ℕ, Bool, true, false, List, [], ◌∷◌, ◌++◌, Option, Some, None, IfSome, is_some, option_map}
+use Rattle.std.specs.Prelude.{List, map, ◌≡◌, ⊤, ℕ, Bool, true, false, [], ◌∷◌, ◌++◌, Option, Some, None, IfSome, is_some, option_map}
+use Rattle.wc_model.specs.Definitions.{ReportLine, ScanLine, answer_line, PlateData, text_view, LogRefusal, image_after, LogRow, Past, Logic, first_logic, logic_following}
+use Rattle.wc_record.specs.declared.last_scans.Record.{Record}
 use Rattle.wc_cost.specs.LoadedTexts.{LoadedText}
 use Rattle.wc_machine.specs.Seeing.{IsSeen}
 use Rattle.wc_machine.specs.declared.seen.SeenLine.{SeenLine}
-use Rattle.wc_model.specs.Instrument.Plates.{PlateData}
-use Rattle.wc_model.specs.Language.Views.{text_view}
-use Rattle.wc_model.specs.Run.Log.{LogRefusal}
-use Rattle.wc_model.specs.Run.ProcessImage.{image_after}
-use Rattle.wc_model.specs.Run.Rows.{LogRow, Past}
-use Rattle.wc_model.specs.Say.ProgramReport.{Logic, first_logic, logic_following}
-use Rattle.wc_model.specs.Say.Report.{ReportLine, answer_line}
 use Rattle.wc_record.specs.Views.{head_view}
 use Rattle.wc_run.specs.Logics.{lines_of_row, text_of_next}
-use Rattle.wc_run.specs.Outputs.{line_of_record}
 use Rattle.wc_run.specs.declared.fault.RunFault.{RunFault}
 use Rattle.wc_run.specs.declared.fault.RunFault.TheVariants.{Refused, Read, Write, Memory}
 use Rattle.wc_run.specs.declared.program.Program.{Program}
 use Rattle.wc_run.specs.declared.row_seen.RowSeen.{RowSeen}
 use Rattle.wc_run.specs.declared.row_seen.ScanSeen.{ScanSeen}
+
+-- the line of a scan that is recorded
+abbrev pub line_of_record : Record → ReportLine
+line_of_record scan = ScanLine scan.ms scan.steps scan.outputs
+
+-- the lines of records, in their order
+abbrev pub lines_of_records : List Record → List ReportLine
+lines_of_records scans = map line_of_record scans
 
 -- what an observer writes of a row after those so far, the newest of which comes first, and what it writes after the last
 -- of these rows, or after those before a refused one

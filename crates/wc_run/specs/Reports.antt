@@ -1,16 +1,11 @@
 -- The two observers that write a report: one each line as its row comes, the other the answers as they come and the lines of
 -- the last n scans at the end.
 use Rattle.std.specs.Prelude.{◌≡◌, ℕ, List, [], ◌++◌, ◌∷◌, filter, Option, Some, None}
-use Rattle.wc_model.specs.Instrument.Plates.{PlateData}
-use Rattle.wc_model.specs.Instrument.WeighingHistories.{last_items}
-use Rattle.wc_model.specs.Run.Rows.{Past}
-use Rattle.wc_model.specs.Say.ProgramReport.{Logic}
-use Rattle.wc_model.specs.Say.Report.{ReportLine, is_answer_line, is_scan_line, report_text}
+use Rattle.wc_model.specs.Definitions.{PlateData, last_items, Past, Logic, ReportLine, is_answer_line, is_scan_line, report_text}
 use Rattle.wc_record.specs.Recorders.{RecorderState, HoldsLast}
 use Rattle.wc_record.specs.declared.last_scans.Record.{Record}
 use Rattle.wc_run.specs.Logics.{lines_of_row, lines_of_rows}
-use Rattle.wc_run.specs.Observing.{Plan}
-use Rattle.wc_run.specs.Outputs.{lines_of_records}
+use Rattle.wc_run.specs.Observing.{Plan, lines_of_records}
 use Rattle.wc_run.specs.declared.row_seen.ScanSeen.{ScanSeen}
 
 -- the lines of the rows so far

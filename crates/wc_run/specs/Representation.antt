@@ -1,14 +1,36 @@
--- What a scale represents while a log is run.
-use Rattle.std.specs.Prelude.{◌≡◌, ⊤, ℕ, Option, Some, None}
+-- What a scale represents while a log is run: each row does what a call does. (The profile's own.)
+use Rattle.wc_run.specs.OpenScales as open_scale
+use Rattle.std.specs.Prelude.{◌≡◌, ℕ, List, ◌∷◌, ◌++◌, Option, ℤ, ⊤, Some, None}
+use Rattle.wc_model.specs.Run.ProcessImage.{inputs_of}
+use Rattle.wc_model.specs.Definitions.{Bytes, Change, Counts, Inputs, Past, RowData, Scan, history_of, line_bytes, PlateData, Logic}
 use Rattle.wc_cost.specs.LoadedTexts.{LoadedText}
-use Rattle.wc_model.specs.Instrument.Plates.{PlateData}
-use Rattle.wc_model.specs.Run.Rows.{Past}
-use Rattle.wc_model.specs.Say.ProgramReport.{Logic}
-use Rattle.wc_open_scale.specs.Rows.{came_by}
-use Rattle.wc_open_scale.specs.Representation.{Running}
-use Rattle.wc_open_scale.specs.Representation as open_scale
+use Rattle.wc_run.specs.Coming.{with_bytes, with_inputs, with_sample}
+use Rattle.wc_run.specs.OpenScales.{Came, Running}
 use Rattle.wc_run.specs.Logics.{logic_after, text_of_next}
 use Rattle.wc_run.specs.declared.scale.Scale.{Scale}
+
+-- what rows have brought, with a program or none
+abbrev pub came_by : Past → Option Running → Came
+came_by past program = record { history = history_of past; bytes = line_bytes past; inputs = inputs_of past; program = program }
+
+-- one row more
+abbrev pub one_more : ℕ → ℕ → RowData → Past → Past
+one_more number ms brings past = record { number = number; ms = ms; brings = brings } ∷ past
+
+-- a row brings what its call brings, and a row of a scan or of a change nothing but what comes of the program
+pub record EachRowIsACall : Type 0 where
+  pub sample : (past : Past) (program : Option Running) (number ms : ℕ) (counts : ℤ) →
+      with_sample counts (came_by past program) ≡ came_by (one_more number ms (Counts counts) past) program
+  pub bytes : (past : Past) (program : Option Running) (number ms : ℕ) (bytes : List ℕ) →
+      with_bytes bytes (came_by past program) ≡ came_by (one_more number ms (Bytes bytes) past) program
+  pub inputs : (past : Past) (program : Option Running) (number ms inputs : ℕ) →
+      with_inputs inputs (came_by past program) ≡ came_by (one_more number ms (Inputs inputs) past) program
+  pub scan : (past : Past) (program : Option Running) (number ms : ℕ) → came_by past program ≡ came_by (one_more number ms Scan past) program
+  pub change : (past : Past) (program : Option Running) (number ms : ℕ) → came_by past program ≡ came_by (one_more number ms Change past) program
+
+-- bytes bring the same, however they are cut
+abbrev pub BytesAreCutAnywhere : Type 0
+BytesAreCutAnywhere = (first second : List ℕ) (came : Came) → with_bytes second (with_bytes first came) ≡ with_bytes (first ++ second) came
 
 -- the program of the logic, if there is one
 abbrev pub program_of : Option Logic → Option Running

@@ -1,13 +1,8 @@
 -- What an answer of a run says of the log and of what was written.
 use Rattle.std.specs.Prelude.{◌≡◌, ◌≤◌, ℕ, List, ◌++◌, length, Option, Some, None, IfSome, Result, Ok, Err}
 use Rattle.std.specs.Io.KnownBytes.{Appends}
-use Rattle.wc_model.specs.Run.Log.{LogOf, Record}
-use Rattle.wc_model.specs.Instrument.Plates.{PlateData}
-use Rattle.wc_model.specs.Run.Rows.{LogRow}
-use Rattle.wc_model.specs.Run.Writing.{HasFailedSince}
-use Rattle.wc_model.specs.Say.Report.{line_report}
-use Rattle.wc_laws_instrument.specs.WrittenLines.{without_scan_lines}
-use Rattle.wc_model.specs.Say.ProgramReport.{Logic}
+use Rattle.wc_model.specs.Definitions.{LogOf, Record, PlateData, LogRow, HasFailedSince, line_report, Logic}
+use Rattle.wc_laws_instrument.specs.Logs.{without_scan_lines}
 use Rattle.wc_record.specs.Reported.{record_at, records_read}
 use Rattle.wc_run.specs.Logics.{run_report, run_report_last}
 use Rattle.wc_run.specs.Observing.{Written}

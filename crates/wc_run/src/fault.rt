@@ -1,5 +1,5 @@
 ghost use Rattle.std.specs.Prelude.{◌≡◌};
-ghost use Rattle.wc_run.specs.Faults.{from_fault, from_log_fault};
+ghost use Rattle.wc_run.specs.Doing.{from_fault, from_log_fault};
 ghost use Rattle.wc_run.specs.declared.fault.RunFault.TheVariants.{Memory, Write};
 
 use std::alloc::AllocError;

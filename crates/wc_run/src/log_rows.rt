@@ -1,14 +1,8 @@
 ghost use Rattle.std.specs.Prelude.{◌≡◌, ◌<◌, ◌^◌, List, [], Option, IfErr, OnOk};
-ghost use Rattle.wc_model.specs.Run.Log.{LogOf, Record};
-ghost use Rattle.wc_model.specs.Instrument.Plates.{PlateData};
-ghost use Rattle.wc_model.specs.Run.Rows.{Past};
-ghost use Rattle.wc_record.specs.Left.{HasLeft, last_ms, rows_read};
-ghost use Rattle.wc_record.specs.Reported.{Reads, current_record};
-ghost use Rattle.wc_record.specs.Views.{IsDataInRange, head_data_view, head_view};
+ghost use Rattle.wc_model.specs.Definitions.{LogOf, Record, PlateData, Past, log_for, Logic};
+ghost use Rattle.wc_record.specs.{HasLeft, last_ms, rows_read, Reads, current_record, IsDataInRange, head_data_view, head_view};
 ghost use Rattle.wc_run.specs.Doing.{Does, RunsRows, seen_writing};
 ghost use Rattle.wc_run.specs.Observing.{Start, said};
-ghost use Rattle.wc_model.specs.Say.LogFor.{log_for};
-ghost use Rattle.wc_model.specs.Say.ProgramReport.{Logic};
 ghost use Rattle.wc_run.specs.Runs.{IsFaultAt, ReportsRow, ReportsWrites};
 ghost use Rattle.wc_run.specs.Representation.{IsNotAfter, Represents};
 

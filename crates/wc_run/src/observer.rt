@@ -1,8 +1,5 @@
 ghost use Rattle.std.specs.Prelude.{◌≡◌, ⊤, ℕ, Bool, true, List, [], ◌∷◌, Option, IfErr, OnOk};
-ghost use Rattle.wc_model.specs.Instrument.Plates.{PlateData};
-ghost use Rattle.wc_model.specs.Run.Log.{LogRefusal};
-ghost use Rattle.wc_model.specs.Run.Rows.{LogRow, Past};
-ghost use Rattle.wc_model.specs.Say.ProgramReport.{Logic};
+ghost use Rattle.wc_model.specs.Definitions.{PlateData, LogRefusal, LogRow, Past, Logic};
 ghost use Rattle.wc_run.specs.Doing.{Writes};
 ghost use Rattle.wc_run.specs.Observing.{IsLookedAt, IsShown, Plan, RefusesToBegin, Start, loaded_of, logic_of, onto, refusal_of, row_of, said, start_of};
 ghost use Rattle.wc_run.specs.Runs.{IsNoRefusal, ReportsWrites};

@@ -1,8 +1,7 @@
 ghost use Rattle.std.specs.Prelude.{◌≡◌, ◌<◌, ◌+◌, ◌++◌, IfErr, IfOk, IsOkUnless, OnOk};
 ghost use Rattle.wc_model.specs.Say.Report.{AnswerLine, answer_line, line_text, report_text};
 ghost use Rattle.wc_run.specs.Doing.{Writes};
-ghost use Rattle.wc_run.specs.Observing.{lines_of_seen};
-ghost use Rattle.wc_run.specs.Outputs.{line_of_record, lines_of_records};
+ghost use Rattle.wc_run.specs.Observing.{lines_of_seen, line_of_record, lines_of_records};
 ghost use Rattle.wc_run.specs.Runs.{IsNoRefusal, ReportsWrites};
 
 use crate::fault::RunFault;

@@ -1,12 +1,7 @@
 ghost use Rattle.std.specs.Prelude.{◌≡◌, ◌≤◌, ℕ, false, List, [], Option, IfSome, IsErrOf};
-ghost use Rattle.wc_model.specs.Run.Log.{LogOf, Record, log_of};
-ghost use Rattle.wc_model.specs.Instrument.Plates.{PlateData};
-ghost use Rattle.wc_record.specs.Left.{HasCause};
-ghost use Rattle.wc_record.specs.Reading.{records_of};
-ghost use Rattle.wc_record.specs.Reported.{fields_reported};
+ghost use Rattle.wc_model.specs.Definitions.{LogOf, Record, log_of, PlateData, log_for, Logic};
+ghost use Rattle.wc_record.specs.{HasCause, records_of, fields_reported};
 ghost use Rattle.wc_run.specs.Doing.{EndsWhole, IsClassified, RunsRows, WritesBy, is_cut_short, refused_in, seen_writing};
-ghost use Rattle.wc_model.specs.Say.LogFor.{log_for};
-ghost use Rattle.wc_model.specs.Say.ProgramReport.{Logic};
 ghost use Rattle.wc_run.specs.Observing.{Plan, Start, said};
 ghost use Rattle.wc_run.specs.Runs.{HasNotFailed, ReportsRefused, ReportsRow, ReportsWrites};
 ghost use Rattle.wc_run.specs.Representation.{IsNotAfter, Represents};

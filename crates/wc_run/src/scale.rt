@@ -1,22 +1,19 @@
 ghost use Rattle.std.specs.Prelude.{◌≡◌, ◌<◌, ◌^◌, ◌++◌, ℕ, [], ◌∷◌, None, Option, IfErr, IfOk, IfSome, IsOkUnless, OnOk, option_copied, true};
-ghost use Rattle.wc_model.specs.Instrument.Plates.{PlateData};
-ghost use Rattle.wc_model.specs.Run.Rows.{Past, Counts, Bytes, Inputs, Scan, Change};
+ghost use Rattle.wc_model.specs.Definitions.{PlateData, Past, Counts, Bytes, Inputs, Scan, Change, Logic, answer_line};
 ghost use Rattle.wc_record.specs.Views.{IsDataInRange, head_data_view, head_view};
-ghost use Rattle.wc_model.specs.Say.ProgramReport.{Logic};
-ghost use Rattle.wc_model.specs.Say.Report.{answer_line};
 ghost use Rattle.wc_run.specs.Logics.{IsAt, lines_of_row};
 ghost use Rattle.wc_run.specs.Observing.{AreItems, IsLookedAt, items_of, lines_of_scan};
 ghost use Rattle.wc_run.specs.Runs.{IsFaultAt};
 ghost use Rattle.wc_run.specs.Representation.{IsNotAfter, Represents};
-ghost use Rattle.wc_run.specs.Taking.{Gives, GivesItems, RunsRow, StopsAtRow, TakesRow, row_at};
+ghost use Rattle.wc_run.specs.Doing.{Gives, GivesItems, RunsRow, StopsAtRow, TakesRow, row_at};
 
 use crate::fault::RunFault;
+use crate::open_scale::OpenScale;
 use crate::row_seen::{Answers, ScanSeen};
 use std::alloc::Global;
 use wc_cost::Loaded;
 use wc_indicator::Indicator;
 use wc_machine::Machine;
-use wc_open_scale::OpenScale;
 use wc_plate::Plate;
 use wc_record::{HeadKind, RowHead};
 use wc_store::Store;

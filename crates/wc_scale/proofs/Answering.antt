@@ -1,18 +1,14 @@
 -- The answer to one byte fits twenty bytes, so a buffer of twenty never fails.
 use Rattle.std.proofs.Common.{◌≡◌, ◌==◌, refl, ◌<◌, ◌≤◌, ◌⊎◌, inl, inr, ℕ, Bool, true, false, List, [], ◌∷◌, ◌++◌, length, take, sym, subst, ap, arith, Option, Some, None, if◌then◌else◌, length-append}
-use Rattle.std.specs.Option.{option_to_list}
-use Rattle.std.proofs.lemmas.List.{length-take}
+use Rattle.wc_model.proofs.Common.{option_to_list, length-take}
 use Rattle.wc_indicator.specs.Kept.{IndicatorState}
 use Rattle.wc_laws_instrument.proofs.Answers.{length_answer}
 use Rattle.wc_laws_instrument.proofs.Requests.{is_cut_anywhere}
 use Rattle.wc_model.specs.Instrument.Answers.{AskTare, AskWeight, Clear, Command, Plain, Shown, TakeTare, Tare, Unknown, Zero, after_requests, answer_to, answers_to, asked_tare, asked_zero, command_of}
-use Rattle.wc_model.specs.Instrument.Plates.{IsPlate, PlateData}
-use Rattle.wc_model.specs.Instrument.Requests.{carriage_return, open_request, requests_in}
-use Rattle.wc_model.specs.Instrument.WeighingHistories.{ClearTare, History, SetTare, SetZero}
-use Rattle.wc_model.specs.Run.Writing.{HasFailedSince}
-use Rattle.wc_open_scale.specs.Calls.{HasLineFailed, IsCutShortAt}
-use Rattle.wc_open_scale.specs.Representation.{Came, Represents}
-use Rattle.wc_open_scale.specs.declared.open_scale.OpenScale.{OpenScale}
+use Rattle.wc_model.specs.Definitions.{IsPlate, PlateData, carriage_return, open_request, requests_in, ClearTare, History, SetTare, SetZero, HasFailedSince}
+use Rattle.wc_run.specs.Coming.{HasLineFailed, IsCutShortAt}
+use Rattle.wc_run.specs.OpenScales.{Came, Represents}
+use Rattle.wc_run.specs.declared.open_scale.OpenScale.{OpenScale}
 use Rattle.wc_scale.specs.declared.line.AnswerBuffer.{AnswerBuffer}
 use Rattle.wc_sma.specs.Feeding.{IsCutShort}
 

@@ -2,11 +2,9 @@
 use Rattle.std.proofs.Common.{◌≡◌, refl, sym, ap, ◌∙◌, subst, ℕ, List, [], ◌∷◌, ◌++◌, append-nil, not, take}
 use Rattle.std.specs.Prelude.{cond}
 use Rattle.wc_scale.proofs.LineSteps.{each_step}
-use Rattle.wc_scale.specs.LineCalls.{AnswersWithoutTheCustomer, AreMade, Byte, Call, CustomersCallsHaveNoPart, HasLegalState, LegalCallsDecide, Look, Open, Sample, after_call, after_calls, answer_to_call, answers_to_calls, is_customers, legal_calls}
+use Rattle.wc_scale.specs.{AnswersWithoutTheCustomer, AreMade, Byte, Call, CustomersCallsHaveNoPart, HasLegalState, LegalCallsDecide, Look, Open, Sample, after_call, after_calls, answer_to_call, answers_to_calls, is_customers, legal_calls, RefusesByte, TakesByte}
 use Rattle.wc_model.specs.Instrument.Plates.{PlateData}
-use Rattle.wc_open_scale.specs.Coming.{with_byte}
-use Rattle.wc_open_scale.specs.Representation.{Came}
-use Rattle.wc_scale.specs.Calls.{RefusesByte, TakesByte}
+use Rattle.wc_run.specs.{with_byte, Came}
 use Rattle.wc_scale.specs.declared.results.Answer.{Answer}
 use Rattle.wc_scale.specs.declared.scale.Scale.{Scale}
 

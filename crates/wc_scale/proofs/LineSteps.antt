@@ -1,17 +1,11 @@
 -- Each call does what the fold's step does.
 use Rattle.std.proofs.Common.{◌≡◌, refl, sym, ap, ◌∙◌, subst, arith, ℕ, zero, suc, ℤ, Bool, true, false, Option, Some, None, if◌then◌else◌}
 use Rattle.std.proofs.lemmas.Int.{ints}
-use Rattle.wc_scale.specs.LineCalls.{Byte, Change, EachCallIsAStep, HasLegalState, Inputs, Load, Look, Open, Sample, Scan, answer_to_call, legal_part}
+use Rattle.wc_scale.specs.{Byte, Change, EachCallIsAStep, HasLegalState, Inputs, Load, Look, Open, Sample, Scan, answer_to_call, legal_part, RefusesSample, TakesSample, HasNoProgram, IsClosed, IsKept, IsOpenAt, Represents, machine_in}
 use Rattle.wc_machine.specs.Machines.{MachineState}
-use Rattle.wc_model.specs.Instrument.PlateTable.{is_between}
-use Rattle.wc_model.specs.Instrument.Plates.{PlateData, greatest_sample, least_sample}
-use Rattle.wc_open_scale.specs.Changing.{changed_program}
-use Rattle.wc_open_scale.specs.Coming.{IsSample, with_byte, with_inputs, with_program, with_sample}
-use Rattle.wc_open_scale.specs.Representation.{Came, IsRunning, Running}
-use Rattle.wc_open_scale.specs.Scanning.{scanned_program}
-use Rattle.wc_open_scale.specs.declared.open_scale.OpenScale.{OpenScale}
-use Rattle.wc_scale.specs.Calls.{RefusesSample, TakesSample}
-use Rattle.wc_scale.specs.Representation.{HasNoProgram, IsClosed, IsKept, IsOpenAt, Represents, machine_in}
+use Rattle.wc_model.specs.Definitions.{is_between, PlateData, greatest_sample, least_sample}
+use Rattle.wc_run.specs.{changed_program, IsSample, with_byte, with_inputs, with_program, with_sample, Came, IsRunning, Running, scanned_program}
+use Rattle.wc_run.specs.declared.open_scale.OpenScale.{OpenScale}
 use Rattle.wc_scale.specs.declared.scale.Scale.{Scale}
 use Rattle.wc_store.specs.declared.slot_store.SlotStore.{SlotStore}
 

@@ -4,15 +4,11 @@ use Rattle.wc_controller.specs.Loads.{IsNeverRefused}
 use Rattle.wc_laws_language.proofs.Going.{goes_on}
 use Rattle.wc_laws_loading.proofs.FittingTexts.{loaded_is_small}
 use Rattle.wc_machine.specs.Machines.{MachineState, RepresentsText}
-use Rattle.wc_model.specs.Instrument.Plates.{PlateData}
-use Rattle.wc_model.specs.Language.Tree.{Text}
-use Rattle.wc_open_scale.specs.Changing.{IsChangedTo as IsOpenChangedTo, changed_program}
-use Rattle.wc_open_scale.specs.Coming.{with_program}
-use Rattle.wc_open_scale.specs.Representation.{Came, Goes, Running, Represents as OpenRepresents, started}
-use Rattle.wc_open_scale.specs.declared.open_scale.OpenScale.{OpenScale}
-use Rattle.wc_scale.specs.Beginning.{Begins}
-use Rattle.wc_scale.specs.Programs.{IsStarted, IsChangedTo}
-use Rattle.wc_scale.specs.Representation.{IsOpenAt, machine_in}
+use Rattle.wc_model.specs.Definitions.{PlateData, Text}
+use Rattle.wc_run.specs.Coming.{IsChangedTo as IsOpenChangedTo, changed_program, with_program}
+use Rattle.wc_run.specs.OpenScales.{Came, Goes, Running, Represents as OpenRepresents, started}
+use Rattle.wc_run.specs.declared.open_scale.OpenScale.{OpenScale}
+use Rattle.wc_scale.specs.{Begins, IsStarted, IsChangedTo, IsOpenAt, machine_in}
 use Rattle.wc_scale.specs.declared.scale.Scale.{Scale}
 use Rattle.wc_store.specs.declared.slot_store.SlotStore.{SlotStore}
 

@@ -2,23 +2,18 @@
 use Rattle.std.proofs.Common.{◌≡◌, ◌∙◌, ℕ, ℤ, List, false, Option, Some, None, ap, inr, pos, refl, subst, sym, is_some}
 use Rattle.wc_text_flat.specs.Contents.{frame_of_text, number_in}
 use Rattle.wc_machine.specs.Machines.{MachineState, RepresentsText}
-use Rattle.wc_model.specs.Instrument.Plates.{PlateData}
-use Rattle.wc_model.specs.Language.Frames.{content_number, place_number}
+use Rattle.wc_model.specs.Definitions.{PlateData, content_number, place_number, Text, text_view}
 use Rattle.wc_model.specs.Language.Store.{Location, Plain, Store}
-use Rattle.wc_model.specs.Language.Tree.{Text}
-use Rattle.wc_model.specs.Language.Views.{text_view}
 use Rattle.wc_model.specs.declared.source.Source.{Source}
-use Rattle.wc_open_scale.specs.Representation.{Came, IsRunning, Running}
-use Rattle.wc_open_scale.specs.declared.open_scale.OpenScale.{OpenScale}
+use Rattle.wc_run.specs.OpenScales.{Came, IsRunning, Running}
+use Rattle.wc_run.specs.declared.open_scale.OpenScale.{OpenScale}
 use Rattle.wc_scale.proofs.Opened.{is_allowed_in}
-use Rattle.wc_scale.specs.Representation.{Represents, machine_in}
-use Rattle.wc_scale.specs.Values.{IsValueOf, OfProgram, RefusesValue, kind_number}
+use Rattle.wc_scale.specs.Representation.{Represents, machine_in, IsValueOf, OfProgram, RefusesValue, kind_number}
 use Rattle.wc_scale.specs.declared.results.VariableRead.{VariableRead}
 use Rattle.wc_scale.specs.declared.scale.Scale.{Scale}
 use Rattle.wc_store.specs.declared.slot_store.SlotStore.{SlotStore}
 use Rattle.wc_text_variables.proofs.Readings.{Reads, known, reads}
-use Rattle.wc_text_variables.specs.Names.{named_location}
-use Rattle.wc_text_variables.specs.Numbered.{variable_named}
+use Rattle.wc_text_variables.specs.Names.{named_location, variable_named}
 use Rattle.wc_text_variables.specs.declared.variables.NamedVariable.{NamedVariable}
 
 module _ (scale : Scale) (opened : OpenScale SlotStore) (machine : MachineState) (is : scale.opened ≡ Some opened) (has : opened.machine ≡ Some machine) where

@@ -1,9 +1,8 @@
 -- What a scan answers that is refused, and what one answers that is done.
 use Rattle.std.proofs.Common.{◌≡◌, ℕ, ◌<◌, ◌≤◌, Option, Some, None, IfSome, option_map, is_some, true, pos, replicate, refl, sym, ap, ◌∙◌, subst, arith}
 use Rattle.wc_machine.specs.Machines.{MachineState}
-use Rattle.wc_open_scale.specs.declared.open_scale.OpenScale.{OpenScale}
-use Rattle.wc_scale.specs.Calls.{RefusesScan, TakesScan}
-use Rattle.wc_scale.specs.Representation.{machine_in}
+use Rattle.wc_run.specs.declared.open_scale.OpenScale.{OpenScale}
+use Rattle.wc_scale.specs.{RefusesScan, TakesScan, machine_in}
 use Rattle.wc_scale.specs.declared.results.Scanned.{Scanned}
 use Rattle.wc_scale.specs.declared.scale.Scale.{Scale}
 use Rattle.wc_store.specs.declared.slot_store.SlotStore.{SlotStore}

@@ -3,14 +3,10 @@ use Rattle.std.proofs.Common.{◌≡◌, ◌≤◌, ℕ, Bool, true, List, Optio
 use Rattle.wc_controller.specs.Loads.{IsRefusedLoad, IsTheOnlyRefusal}
 use Rattle.wc_model.specs.declared.fault.Fault.{Fault}
 use Rattle.wc_model.specs.declared.fault.Fault.TheVariants.{Memory, Refused}
-use Rattle.wc_open_scale.specs.Representation.{HasNoProgram}
-use Rattle.wc_open_scale.specs.declared.open_scale.OpenScale.{OpenScale}
-use Rattle.wc_scale.specs.About.{ReportsNoUnit}
-use Rattle.wc_scale.specs.Beginning.{IsRefusedAt}
-use Rattle.wc_scale.specs.Programs.{RefusesChange, RefusesLoad}
-use Rattle.wc_scale.specs.Representation.{machine_in}
+use Rattle.wc_run.specs.OpenScales.{HasNoProgram}
+use Rattle.wc_run.specs.declared.open_scale.OpenScale.{OpenScale}
+use Rattle.wc_scale.specs.{ReportsNoUnit, IsRefusedAt, IsBare, ReportsFault, RefusesChange, RefusesLoad, machine_in}
 use Rattle.wc_scale.specs.declared.scale.Scale.{Scale}
-use Rattle.wc_scale.specs.Refusals.{IsBare, ReportsFault}
 use Rattle.wc_scale.specs.declared.results.Refusal.{Refusal}
 use Rattle.wc_store.specs.declared.slot_store.SlotStore.{SlotStore}
 

@@ -1,10 +1,8 @@
 -- What is reported about a unit of a program's text.
 use Rattle.std.specs.Prelude.{◌≡◌, ◌⊎◌, ℕ, ◌<◌, ◌≤◌, ◌-◌, min, List, drop, length, replicate, take, Some, option_map, slice_get}
 use Rattle.wc_cost.specs.LoadedTexts.{AreWorstAt}
-use Rattle.wc_model.specs.Language.Loading.{IsLoaded}
-use Rattle.wc_model.specs.Language.Tree.{Text}
-use Rattle.wc_model.specs.Say.UnitReport.{IsBoundAt}
-use Rattle.wc_scale.specs.Beginning.{IsRefusedAt}
+use Rattle.wc_model.specs.Definitions.{IsLoaded, Text, IsBoundAt}
+use Rattle.wc_scale.specs.Opening.{IsRefusedAt}
 use Rattle.wc_scale.specs.declared.results.PathAnswer.{PathAnswer}
 use Rattle.wc_scale.specs.declared.results.Refusal.{Refusal}
 use Rattle.wc_scale.specs.declared.results.UnitAnswer.{UnitAnswer}

@@ -1,18 +1,9 @@
 -- What each call with a row's work does to a scale and what it answers, for whatever plate and whatever has come the scale
 -- represents. A call that answers any status but 0 changes nothing. (The profile's own.)
 use Rattle.std.specs.Prelude.{◌≡◌, ℕ, ◌<◌, ◌≤◌, ◌-◌, List, [], ◌∷◌, drop, take, replicate, ℤ, pos, IfSome, Some}
-use Rattle.wc_model.specs.Instrument.Answers.{answers_to}
-use Rattle.wc_model.specs.Instrument.Plates.{PlateData}
-use Rattle.wc_model.specs.Instrument.Requests.{requests_in}
-use Rattle.wc_model.specs.Language.Paths.{IsProgramBound}
-use Rattle.wc_model.specs.Language.Scans.{scan_of}
-use Rattle.wc_model.specs.Language.Store.{Store}
-use Rattle.wc_model.specs.Say.Report.{ScanResult}
-use Rattle.wc_open_scale.specs.Coming.{IsSample, image_of, with_byte, with_inputs, with_program, with_sample}
-use Rattle.wc_open_scale.specs.Scanning.{IsDone, scan_result, scanned_program}
-use Rattle.wc_open_scale.specs.Representation.{Came, Running, nothing_yet}
-use Rattle.wc_scale.specs.Opening.{GivesPlate, RefusesPlate}
-use Rattle.wc_scale.specs.Refusals.{IsBare}
+use Rattle.wc_model.specs.Definitions.{answers_to, PlateData, requests_in, IsProgramBound, scan_of, Store, ScanResult}
+use Rattle.wc_run.specs.{IsSample, image_of, with_byte, with_inputs, with_program, with_sample, IsDone, scan_result, scanned_program, Came, Running, nothing_yet}
+use Rattle.wc_scale.specs.Opening.{GivesPlate, RefusesPlate, IsBare}
 use Rattle.wc_scale.specs.Representation.{HasNoProgram, IsClosed, IsKept, IsNotAfter, Represents, machine_in}
 use Rattle.wc_scale.specs.declared.results.Answer.{Answer}
 use Rattle.wc_scale.specs.declared.results.Engraved.{Engraved}

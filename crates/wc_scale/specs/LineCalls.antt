@@ -1,12 +1,8 @@
 -- Calls of a scale that is open, and what its line makes of them: the customer's calls have no part in it. The last call of a list
 -- is its first item, as the last event of a history is. (The profile's own.)
 use Rattle.std.specs.Prelude.{◌≡◌, ℕ, Bool, true, false, not, List, [], ◌∷◌, ◌++◌, filter, take, ℤ, None, if◌then◌else◌}
-use Rattle.wc_model.specs.Instrument.Answers.{answers_to}
-use Rattle.wc_model.specs.Instrument.PlateTable.{is_between}
-use Rattle.wc_model.specs.Instrument.Plates.{PlateData, greatest_sample, least_sample}
-use Rattle.wc_model.specs.Instrument.Requests.{requests_in}
-use Rattle.wc_open_scale.specs.Coming.{with_byte, with_sample}
-use Rattle.wc_open_scale.specs.Representation.{Came}
+use Rattle.wc_model.specs.Definitions.{answers_to, is_between, PlateData, greatest_sample, least_sample, requests_in}
+use Rattle.wc_run.specs.{with_byte, with_sample, Came}
 use Rattle.wc_scale.specs.Calls.{RefusesByte, RefusesInputs, RefusesOpen, RefusesSample, RefusesScan, TakesByte, TakesInputs, TakesOpen, TakesSample, TakesScan}
 use Rattle.wc_scale.specs.Programs.{RefusesChange, RefusesLoad, TakesChange, TakesLoad}
 use Rattle.wc_scale.specs.Representation.{Represents}

@@ -2,18 +2,12 @@
 use Rattle.std.specs.Prelude.{◌≡◌, ℕ, ◌≤◌, List, IfSome, Some}
 use Rattle.wc_controller.specs.Loads.{IsNeverRefused}
 use Rattle.wc_laws_language.specs.HistoryLaws.{HistoriesGoOn}
-use Rattle.wc_laws_loading.specs.Sizes.{IsSmall}
-use Rattle.wc_model.specs.Instrument.Plates.{PlateData}
-use Rattle.wc_model.specs.Language.Loading.{IsLoaded}
-use Rattle.wc_model.specs.Language.Store.{Store}
-use Rattle.wc_model.specs.Language.Tree.{Text}
-use Rattle.wc_open_scale.specs.Changing.{changed_program}
-use Rattle.wc_open_scale.specs.Coming.{with_program}
-use Rattle.wc_open_scale.specs.Representation.{Came, Running, started}
-use Rattle.wc_open_scale.specs.declared.change_fault.ChangeFault.{ChangeFault}
-use Rattle.wc_open_scale.specs.declared.change_fault.ChangeFault.TheVariants.{Memory, NoProgram}
-use Rattle.wc_scale.specs.Beginning.{IsRefusedAt}
-use Rattle.wc_scale.specs.Refusals.{IsBare}
+use Rattle.wc_laws_loading.specs.Laws.{IsSmall}
+use Rattle.wc_model.specs.Definitions.{PlateData, IsLoaded, Store, Text}
+use Rattle.wc_run.specs.{changed_program, with_program, Came, Running, started}
+use Rattle.wc_run.specs.declared.change_fault.ChangeFault.{ChangeFault}
+use Rattle.wc_run.specs.declared.change_fault.ChangeFault.TheVariants.{Memory, NoProgram}
+use Rattle.wc_scale.specs.Opening.{IsRefusedAt, IsBare}
 use Rattle.wc_scale.specs.Representation.{HasNoProgram, IsClosed, IsKept, IsNotAfter, Represents, machine_in}
 use Rattle.wc_scale.specs.declared.results.Refusal.{Refusal}
 use Rattle.wc_scale.specs.declared.scale.Scale.{Scale}

@@ -1,19 +1,18 @@
 ghost use Rattle.std.specs.Prelude.{◌≡◌, ◌-◌, drop, option_map, pos, replicate, take, ◌++◌, ℕ, List, [], ◌==◌, ◌≤◌, length};
-ghost use Rattle.wc_open_scale.specs.States.{state_view};
-ghost use Rattle.wc_scale.specs.Preludes.{HasZerosBesides, HoldsNothing, IsReportedState, ReportsPrelude, load_reported, request_bytes};
+ghost use Rattle.wc_run.specs.OpenScales.{state_view};
+ghost use Rattle.wc_scale.specs.Preludes.{HasZerosBesides, HoldsNothing, IsReportedState, ReportsPrelude, load_reported, request_bytes, ReportsDigest, ShowsNoDigest, engraved_lines, plate_lines, unit_line, unit_text, value_line, with_number};
 ghost use Rattle.wc_scale.specs.Representation.{IsClosed};
 ghost use Rattle.std.specs.List.{position_or_len};
 ghost use Rattle.sha2.specs.Hashers.{Holds256};
 ghost use Rattle.sha2.specs.Sha256.{sha256};
-ghost use Rattle.wc_scale.specs.PlateDigests.{ReportsDigest, ShowsNoDigest, engraved_lines, plate_lines, unit_line, unit_text, value_line, with_number};
 
 use crate::results::{CLOSED, DONE, PlateDigest, PreludeAnswer};
 use crate::scale::Scale;
 use arrayvec::ArrayVec;
 use itoa::Buffer;
 use sha2::{Digest, Sha256};
-use wc_open_scale::Prelude;
 use wc_plate::Plate;
+use wc_run::Prelude;
 
 /// A list of at most sixteen numbers with zeros after it, and their number.
 fn padded(items: &ArrayVec<i32, 16>) -> (u32, [i32; 16])

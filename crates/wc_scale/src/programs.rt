@@ -1,6 +1,6 @@
 ghost use Rattle.std.specs.Prelude.{IfErr, IfOk};
 ghost use Rattle.wc_controller.specs.Loads.{IsNeverRefused, IsRefusedLoad, IsTheOnlyRefusal};
-ghost use Rattle.wc_scale.specs.Beginning.{Begins};
+ghost use Rattle.wc_scale.specs.Opening.{Begins};
 ghost use Rattle.wc_scale.specs.Programs.{IsChangeStatus, RefusesChange, RefusesLoad, TakesChange, TakesLoad};
 
 use crate::results::{CLOSED, DONE, NO_MEMORY, NO_PROGRAM, Refusal, of_fault, only};
@@ -9,7 +9,7 @@ use std::alloc::Global;
 use wc_controller::load;
 use wc_machine::Machine;
 use wc_model::Fault;
-use wc_open_scale::ChangeFault;
+use wc_run::ChangeFault;
 use wc_store::SlotStore;
 
 /// A machine before its first scan by a program's text.

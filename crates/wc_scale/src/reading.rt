@@ -1,8 +1,7 @@
 ghost use Rattle.std.specs.Prelude.{◌≡◌, pos, replicate};
 ghost use Rattle.wc_scale.specs.Calls.{ShowsNoPlate, ShowsNothing, ReportsEngraved, ReportsReading, RefusesScan, TakesScan};
-ghost use Rattle.wc_scale.specs.Representation.{IsClosed};
-ghost use Rattle.wc_scale.specs.Values.{RefusesValue, ReportsValue, kind_number};
-ghost use Rattle.wc_text_variables.specs.Numbered.{variable_named};
+ghost use Rattle.wc_scale.specs.Representation.{IsClosed, RefusesValue, ReportsValue, kind_number};
+ghost use Rattle.wc_text_variables.specs.Names.{variable_named};
 
 use crate::results::{
     CLOSED, DONE, Engraved, MOMENT_BACK, MOMENT_OUT_OF_RANGE, NO_MEMORY, NO_PROGRAM, NO_VARIABLE,

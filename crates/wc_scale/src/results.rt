@@ -1,5 +1,5 @@
 ghost use Rattle.std.specs.Prelude.{◌≡◌};
-ghost use Rattle.wc_scale.specs.Refusals.{ReportsFault};
+ghost use Rattle.wc_scale.specs.Opening.{ReportsFault};
 
 use wc_model::Fault;
 

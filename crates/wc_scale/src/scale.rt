@@ -6,8 +6,8 @@ ghost use Rattle.wc_scale.specs.Opening.{HasPlate, IsRefusedPlate};
 use crate::results::{ALREADY_OPEN, CLOSED, COUNTS_OUT_OF_RANGE, DONE, Refusal, of_fault, only};
 use std::alloc::Global;
 use wc_model::{Fault, GREATEST_COUNTS, LEAST_COUNTS};
-use wc_open_scale::OpenScale;
 use wc_plate::plate;
+use wc_run::OpenScale;
 use wc_store::SlotStore;
 
 /// A scale, open or closed.

@@ -2,9 +2,7 @@
 use Rattle.std.proofs.Common.{◌≡◌, ℕ, zero, suc, ◌&&◌, ◌||◌, not, Bool, true, false, List, [], ◌∷◌, codes, refl, sym, lit<, lit≤, arith}
 use Rattle.std.specs.Prelude.{pos, negsuc, if◌then◌else◌, Contains}
 use Rattle.wc_model.specs.Instrument.Answers as answers
-use Rattle.wc_model.specs.Instrument.Indication.{has_sample, is_centre_of_zero, is_over, is_stable, is_tare_active, is_under}
-use Rattle.wc_model.specs.Instrument.Plates.{PlateData, IsPlate, grams, kilograms, tonnes}
-use Rattle.wc_model.specs.Instrument.WeighingHistories.{History, Sample, SetTare}
+use Rattle.wc_model.specs.Definitions.{has_sample, is_centre_of_zero, is_over, is_stable, is_tare_active, is_under, PlateData, IsPlate, grams, kilograms, tonnes, History, Sample, SetTare}
 use Rattle.wc_sma.specs.Letters.{IsKind, IsStatus, LettersAreAnswers, kind_letter, motion_letter, status_letter, unit_letters}
 use Rattle.wc_sma.specs.declared.letters.MassUnit.{MassUnit}
 use Rattle.wc_sma.specs.declared.letters.MassUnit.TheVariants.{Gram, Kilogram, Tonne}

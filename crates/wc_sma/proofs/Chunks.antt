@@ -1,16 +1,12 @@
 -- Chunks joined.
-use Rattle.std.proofs.Common.{ℕ, List, [], ◌∷◌, ◌++◌, ap, sym, ◌∙◌, subst, append_assoc}
+use Rattle.wc_model.proofs.Common.{ℕ, List, [], ◌∷◌, ◌++◌, ap, sym, ◌∙◌, subst, append_assoc, Appends, Appends-trans}
 use Rattle.std.specs.Prelude.{Option}
-use Rattle.std.specs.Io.KnownBytes.{Appends}
-use Rattle.std.proofs.KnownBytes.{Appends-trans}
-use Rattle.wc_model.specs.Instrument.Requests.{requests_in}
-use Rattle.wc_model.specs.Instrument.Answers.{after_requests, answers_to, answer_to, command_of}
+use Rattle.wc_model.specs.Definitions.{requests_in, after_requests, answers_to, answer_to, command_of}
 use Rattle.wc_laws_instrument.proofs.Requests.{requests_in_again}
 use Rattle.wc_laws_instrument.proofs.Answers.{after_more_requests, answers_to_more}
 use Rattle.wc_indicator.specs.Kept.{IndicatorState, RepresentsHistory}
 use Rattle.wc_sma.specs.declared.line.Line.{Line}
-use Rattle.wc_sma.specs.Representation.{RepresentsBytes}
-use Rattle.wc_sma.specs.Feeding.{Feeds, Fails, IsCutShort}
+use Rattle.wc_sma.specs.Feeding.{RepresentsBytes, Feeds, Fails, IsCutShort}
 
 module _ (line middle line' : Line) (indicator between indicator' : IndicatorState) (taken more taken' : Option (List ℕ)) (first second : List ℕ)
     (fed : Feeds line indicator taken middle between more first) where

@@ -1,5 +1,4 @@
 pub mod Digits
-pub mod Joining
 pub mod Stepping
 pub mod Chunks
 pub mod AnswerLetters

@@ -1,12 +1,7 @@
 -- One byte of the stream.
-use Rattle.std.proofs.Common.{◌≡◌, ℕ, Bool, true, false, ◌==◌, List, [], ◌∷◌, ◌++◌, refl, ap, sym, ◌∙◌, subst, append-nil}
+use Rattle.wc_model.proofs.Common.{◌≡◌, ℕ, Bool, true, false, ◌==◌, List, [], ◌∷◌, ◌++◌, refl, ap, sym, ◌∙◌, subst, append-nil, option_to_list, Appends, Appends-nil}
 use Rattle.std.specs.Prelude.{Option, Some, None, map, option_map, if◌then◌else◌}
-use Rattle.std.specs.Option.{option_to_list}
-use Rattle.std.specs.Io.KnownBytes.{Appends}
-use Rattle.std.proofs.KnownBytes.{Appends-nil}
-use Rattle.wc_model.specs.Instrument.Plates.{PlateData}
-use Rattle.wc_model.specs.Instrument.WeighingHistories.{History}
-use Rattle.wc_model.specs.Instrument.Requests.{carriage_return, open_request, requests_in, completed_by, opened_by}
+use Rattle.wc_model.specs.Definitions.{PlateData, History, carriage_return, open_request, requests_in, completed_by, opened_by, TakesPrefix}
 use Rattle.wc_model.specs.Instrument.Answers as line_answers
 use Rattle.wc_laws_instrument.proofs.Requests.{requests_in_byte, open_request_after}
 use Rattle.wc_indicator.specs.Kept.{IndicatorState, RepresentsHistory}
@@ -14,9 +9,7 @@ use Rattle.wc_sma.specs.declared.command.Seen.{Seen}
 use Rattle.wc_sma.specs.declared.command.Command.{Command}
 use Rattle.wc_sma.specs.declared.line.Line.{Line}
 use Rattle.wc_sma.specs.Seen.{seen_in, command_view, completes}
-use Rattle.wc_sma.specs.Representation.{RepresentsBytes}
-use Rattle.wc_model.specs.Run.Writing.{TakesPrefix}
-use Rattle.wc_sma.specs.Feeding.{Feeds, Fails}
+use Rattle.wc_sma.specs.Feeding.{RepresentsBytes, Feeds, Fails}
 
 -- what is seen is seen of a text
 seen_text : (o : Option (List ℕ)) (seen : Seen) → Some seen ≡ option_map seen_in o → (text : List ℕ) × (o ≡ Some text) × (seen ≡ seen_in text)

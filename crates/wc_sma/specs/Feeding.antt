@@ -1,14 +1,23 @@
--- What comes of a chunk of the stream: for whatever bytes the line is after, and whatever plate and history the
--- indicator represents.
-use Rattle.std.specs.Prelude.{◌≡◌, ℕ, ◌<◌, List, [], ◌∷◌, ◌++◌, length, Option}
+-- The bytes after which a line is, and what comes of a chunk of the stream, for whatever plate and history there are. (The profile's own.)
+use Rattle.std.specs.Prelude.{◌≡◌, ℕ, true, false, List, option_map, ◌<◌, [], ◌∷◌, ◌++◌, length, Option}
 use Rattle.std.specs.Io.KnownBytes.{Appends}
-use Rattle.wc_model.specs.Instrument.Plates.{PlateData}
-use Rattle.wc_model.specs.Instrument.WeighingHistories.{History}
-use Rattle.wc_model.specs.Instrument.Requests.{requests_in}
-use Rattle.wc_model.specs.Instrument.Answers.{after_requests, answers_to, answer_to, command_of}
+use Rattle.wc_model.specs.Definitions.{open_request, requests_in, PlateData, History, after_requests, answers_to, answer_to, command_of}
 use Rattle.wc_indicator.specs.Kept.{IndicatorState, RepresentsHistory}
 use Rattle.wc_sma.specs.declared.line.Line.{Line}
-use Rattle.wc_sma.specs.Representation.{RepresentsBytes, HasFailed}
+use Rattle.wc_sma.specs.declared.requests.RequestReader.{RequestReader}
+use Rattle.wc_sma.specs.Seen.{seen_in}
+
+-- it has not failed, and knows of the request that these bytes leave open what it needs
+abbrev pub RepresentsBytes : Line → List ℕ → Type 0
+RepresentsBytes line bytes = (line.started ≡ option_map seen_in (open_request bytes)) × (line.failed ≡ false)
+
+-- an answer could not be written in full
+abbrev pub HasFailed : Line → Type 0
+HasFailed line = line.failed ≡ true
+
+-- a reader of requests knows of the request that these bytes leave open what it needs
+abbrev pub HasRead : RequestReader → List ℕ → Type 0
+HasRead reader bytes = reader.started ≡ option_map seen_in (open_request bytes)
 
 -- more has come to the plate and the history that the indicator represents
 abbrev pub Adds : (History → History) → IndicatorState → IndicatorState → Type 0

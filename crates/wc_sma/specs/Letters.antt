@@ -1,9 +1,7 @@
 -- The letters of an answer's fields, and what each says. The letters are those of the definition of the line's answers.
 use Rattle.std.specs.Prelude.{◌≡◌, ℕ, Bool, true, false, List, [], ◌∷◌}
 use Rattle.wc_model.specs.Instrument.Answers as answers
-use Rattle.wc_model.specs.Instrument.Indication.{has_sample, is_centre_of_zero, is_over, is_stable, is_tare_active, is_under, is_valid}
-use Rattle.wc_model.specs.Instrument.Plates.{PlateData, IsPlate, grams, kilograms, tonnes}
-use Rattle.wc_model.specs.Instrument.WeighingHistories.{History}
+use Rattle.wc_model.specs.Definitions.{has_sample, is_centre_of_zero, is_over, is_stable, is_tare_active, is_under, is_valid, PlateData, IsPlate, grams, kilograms, tonnes, History}
 use Rattle.wc_sma.specs.declared.letters.MassUnit.{MassUnit}
 use Rattle.wc_sma.specs.declared.letters.MassUnit.TheVariants.{Gram, Kilogram, Tonne}
 use Rattle.wc_sma.specs.declared.letters.Status.{Status}

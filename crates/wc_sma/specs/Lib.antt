@@ -1,7 +1,5 @@
 pub mod Fields
-pub mod Asking
-pub mod Seen
 pub mod Replies
-pub mod Representation
+pub mod Seen
 pub mod Feeding
 pub mod Letters

@@ -1,11 +1,24 @@
--- The bytes of a `Reply`.
-use Rattle.std.specs.Prelude.{ℕ, List, [], ◌∷◌, ◌++◌, codes}
-use Rattle.wc_model.specs.Instrument.Plates.{PlateData}
-use Rattle.wc_model.specs.Instrument.WeighingHistories.{History}
+-- What is asked, in the definitions' words, and the bytes of a `Reply`.
 use Rattle.wc_model.specs.Instrument.Answers as answers
-use Rattle.wc_sma.specs.Asking.{asked_view, mode_view}
+use Rattle.std.specs.Prelude.{ℕ, List, [], ◌∷◌, ◌++◌, codes}
+use Rattle.wc_model.specs.Definitions.{PlateData, History}
+use Rattle.wc_sma.specs.declared.answers.Mode.{Mode}
+use Rattle.wc_sma.specs.declared.answers.Mode.TheVariants.{Shown, Tare}
+use Rattle.wc_sma.specs.declared.answers.Asked.{Asked}
+use Rattle.wc_sma.specs.declared.answers.Asked.TheVariants.{Plain, ZeroRefused, TareRefused}
 use Rattle.wc_sma.specs.declared.acting.Reply.{Reply}
 use Rattle.wc_sma.specs.declared.acting.Reply.TheVariants.{Weight, Unknown}
+
+-- which weight
+abbrev pub mode_view : Mode → answers.Mode
+mode_view Shown = answers.Shown
+mode_view Tare = answers.Tare
+
+-- what the answer is to
+abbrev pub asked_view : Asked → answers.Asked
+asked_view Plain = answers.Plain
+asked_view ZeroRefused = answers.ZeroRefused
+asked_view TareRefused = answers.TareRefused
 
 -- those of a weight, after this history, or LF, `?`, CR
 abbrev pub reply_bytes : PlateData → History → Reply → List ℕ

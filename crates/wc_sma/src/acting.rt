@@ -1,12 +1,10 @@
 ghost use Rattle.std.specs.Prelude.{◌≡◌, ◌∷◌};
-ghost use Rattle.wc_model.specs.Instrument.Plates.{PlateData};
-ghost use Rattle.wc_model.specs.Instrument.WeighingHistories.{SetZero, SetTare, History};
+ghost use Rattle.wc_model.specs.Definitions.{PlateData, SetZero, SetTare, History};
 ghost use Rattle.wc_model.specs.Instrument.Answers as answers;
 ghost use Rattle.wc_indicator.specs.Kept.{RepresentsHistory, Reports};
-ghost use Rattle.wc_sma.specs.Asking.{asked_view};
+ghost use Rattle.wc_sma.specs.Replies.{asked_view, reply_bytes};
 ghost use Rattle.wc_sma.specs.Feeding.{Adds};
 ghost use Rattle.wc_sma.specs.Seen.{command_view};
-ghost use Rattle.wc_sma.specs.Replies.{reply_bytes};
 
 use crate::answers::{Asked, Mode};
 use crate::command::Command;

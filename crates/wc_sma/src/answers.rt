@@ -1,7 +1,7 @@
 ghost use Rattle.std.specs.Prelude.{◌∷◌, []};
 ghost use Rattle.wc_model.specs.Instrument.Answers as answers;
 ghost use Rattle.wc_indicator.specs.Kept.{Reports};
-ghost use Rattle.wc_sma.specs.Asking.{mode_view, asked_view};
+ghost use Rattle.wc_sma.specs.Replies.{mode_view, asked_view};
 
 use crate::weight::weight_field;
 use wc_indicator::Indicator;

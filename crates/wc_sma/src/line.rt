@@ -1,15 +1,11 @@
 ghost use Rattle.std.specs.Prelude.{◌≡◌, ◌⊎◌, ℕ, List, [], ◌∷◌, false, Option, option_map, IfOk, IfErr, IsErr, OnErr, OnOk};
 ghost use Rattle.wc_laws_instrument.specs.Preludes.{text_kept};
-ghost use Rattle.wc_model.specs.Instrument.Plates.{PlateData};
-ghost use Rattle.wc_model.specs.Instrument.WeighingHistories.{History};
+ghost use Rattle.wc_model.specs.Definitions.{PlateData, History, open_request, HasFailedSince, TakesPrefix};
 ghost use Rattle.wc_model.specs.Instrument.Answers as answers;
-ghost use Rattle.wc_model.specs.Instrument.Requests.{open_request};
 ghost use Rattle.std.specs.Io.KnownBytes.{Appends};
 ghost use Rattle.wc_indicator.specs.Kept.{RepresentsHistory};
 ghost use Rattle.wc_sma.specs.Seen.{seen_in, command_view, completes};
-ghost use Rattle.wc_model.specs.Run.Writing.{HasFailedSince, TakesPrefix};
-ghost use Rattle.wc_sma.specs.Representation.{RepresentsBytes, HasFailed};
-ghost use Rattle.wc_sma.specs.Feeding.{Adds, Feeds, Fails};
+ghost use Rattle.wc_sma.specs.Feeding.{RepresentsBytes, HasFailed, Adds, Feeds, Fails};
 
 use crate::acting::{Reply, act};
 use crate::answers::answer;

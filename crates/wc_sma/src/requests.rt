@@ -1,9 +1,7 @@
-ghost use Rattle.std.specs.Prelude.{◌≡◌, ℕ, List, [], ◌∷◌, ◌++◌, map, option_map};
-ghost use Rattle.std.specs.Option.{option_to_list};
-ghost use Rattle.wc_model.specs.Instrument.Answers.{command_of};
-ghost use Rattle.wc_model.specs.Instrument.Requests.{requests_in};
+ghost use Rattle.std.specs.Prelude.{◌≡◌, ℕ, List, [], ◌∷◌, ◌++◌, map, option_map, option_to_list};
+ghost use Rattle.wc_model.specs.Definitions.{command_of, requests_in};
 ghost use Rattle.wc_sma.specs.Seen.{command_view};
-ghost use Rattle.wc_sma.specs.Representation.{HasRead};
+ghost use Rattle.wc_sma.specs.Feeding.{HasRead};
 
 use crate::command::{Command, Seen, after_byte, command_of};
 use crate::line::completed;

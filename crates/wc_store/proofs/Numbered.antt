@@ -1,13 +1,10 @@
 -- Entries whose places are numbered from 0 on: what is kept under a place is what is at its index.
 use Rattle.std.proofs.Common.{◌≡◌, ◌≢◌, ◌≤◌, ◌<◌, ℕ, zero, suc, ◌+◌, Bool, true, false, List, [], ◌∷◌, ◌++◌, Option, Some, None, length, length-append, replicate, map, subst, cond, option_map, ℤ, pos, refl, ap, sym, ◌∙◌, arith, eq-eqb, ne_eqb}
-use Rattle.std.proofs.lemmas.List.{map-append, length-map}
-use Rattle.std.specs.Prelude.{slice_get, slice_set, eqb, IfSome}
-use Rattle.std.specs.Map.{lookup, set_value}
+use Rattle.wc_model.proofs.Common.{slice_get, slice_set, eqb, IfSome, map-append, length-map, lookup, set_value}
 use Rattle.wc_model.specs.Language.Frames.{IsInRange}
 use Rattle.wc_model.specs.declared.kind.SlotKind.{SlotKind}
 use Rattle.wc_store.proofs.Ranges.{range_at, written_fits}
-use Rattle.wc_store.specs.Inside.{ArePlacesFrom, kinds_in, numbers_in, tag_view, number_view}
-use Rattle.wc_store.specs.Slots.{AreInRange, IsInRangeAt}
+use Rattle.wc_store.specs.Inside.{ArePlacesFrom, kinds_in, numbers_in, tag_view, number_view, AreInRange, IsInRangeAt}
 use Rattle.wc_store.specs.declared.named_store.TaggedNumber.{TaggedNumber}
 
 -- a place has this number

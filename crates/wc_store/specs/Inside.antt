@@ -1,13 +1,32 @@
--- What the stores of the code keep. (No rule of the language.)
-use Rattle.std.specs.Prelude.{◌≡◌, ◌+◌, ℕ, List, [], ◌∷◌, map, ℤ, pos}
-use Rattle.wc_model.specs.Language.Frames.{bit_number}
-use Rattle.wc_model.specs.declared.kind.SlotKind.{SlotKind}
+-- What a store is, and what the stores of the code keep: the kinds of slots and their numbers, in the order of the places. (No rule of the language.)
 use Rattle.wc_model.specs.declared.kind.SlotKind.TheVariants as slots
-use Rattle.wc_store.specs.Slots.{SlotNumbers, AreInRange}
+use Rattle.wc_store.specs.declared.named_store.TaggedNumber.TheVariants as tagged
+use Rattle.std.specs.Prelude.{ℕ, ◌+◌, List, [], ◌∷◌, ℤ, IfSome, slice_get, slice_set, ◌≡◌, map, pos}
+use Rattle.wc_model.specs.Language.Frames.{IsInRange, bit_number}
+use Rattle.wc_model.specs.declared.kind.SlotKind.{SlotKind}
 use Rattle.wc_store.specs.declared.named_store.NamedStore.TheInside.{Inside as NamedFields}
 use Rattle.wc_store.specs.declared.slot_store.SlotStore.TheInside.{Inside as SlotFields}
 use Rattle.wc_store.specs.declared.named_store.TaggedNumber.{TaggedNumber}
-use Rattle.wc_store.specs.declared.named_store.TaggedNumber.TheVariants as tagged
+
+-- kinds and numbers, one of each for a place
+pub record SlotNumbers : Type 0 where
+  pub kinds : List SlotKind
+  pub numbers : List ℤ
+
+-- a number is in the range of the slot at a place
+abbrev pub IsInRangeAt : List SlotKind → ℕ → ℤ → Type 0
+IsInRangeAt kinds place number = IfSome (slice_get kinds place) (λ kind. IsInRange kind number)
+
+-- there are as many numbers as kinds, each in the range of its kind
+abbrev pub AreInRange : List SlotKind → List ℤ → Type 0
+AreInRange [] [] = Unit {0}
+AreInRange (kind ∷ kinds) (n ∷ numbers) = IsInRange kind n × AreInRange kinds numbers
+AreInRange [] (n ∷ numbers) = ⊥
+AreInRange (kind ∷ kinds) [] = ⊥
+
+-- the numbers with these four from a place on
+abbrev pub with_four : List ℤ → ℕ → ℤ → ℤ → ℤ → ℤ → List ℤ
+with_four numbers at a b c d = slice_set (slice_set (slice_set (slice_set numbers at a) (at + 1) b) (at + 2) c) (at + 3) d
 
 -- a store of plain numbers
 abbrev pub slots_view : SlotFields → SlotNumbers

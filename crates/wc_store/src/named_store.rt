@@ -75,11 +75,9 @@ pub struct NamedStore {
 }
 
 impl Model for NamedStore {
-    ghost use Rattle.wc_store.specs.Slots.{SlotNumbers};
+    ghost use Rattle.wc_store.specs.Inside.{SlotNumbers, named_view, AreNamesSound};
 
     ghost Value = { SlotNumbers };
-
-    ghost use Rattle.wc_store.specs.Inside.{named_view, AreNamesSound};
 
     ghost view = { named_view };
 

@@ -1,5 +1,5 @@
 ghost use Rattle.std.specs.Prelude.{◌≡◌, ◌+◌, ◌≤◌, length};
-ghost use Rattle.wc_store.specs.Slots.{with_four};
+ghost use Rattle.wc_store.specs.Inside.{with_four};
 
 use crate::store::Store;
 use std::alloc::Global;
@@ -14,11 +14,9 @@ pub struct SlotStore {
 }
 
 impl Model for SlotStore {
-    ghost use Rattle.wc_store.specs.Slots.{SlotNumbers};
+    ghost use Rattle.wc_store.specs.Inside.{SlotNumbers, slots_view, AreSlotsSound};
 
     ghost Value = { SlotNumbers };
-
-    ghost use Rattle.wc_store.specs.Inside.{slots_view, AreSlotsSound};
 
     ghost view = { slots_view };
 

@@ -1,6 +1,6 @@
 ghost use Rattle.std.specs.Prelude.{◌≡◌, ◌+◌, ◌<◌, ◌≤◌, List, ℤ, Some, pos, IfOk, IsOkUnless, length, replicate, slice_get, slice_set};
 ghost use Rattle.wc_model.specs.declared.kind.SlotKind.{SlotKind};
-ghost use Rattle.wc_store.specs.Slots.{IsInRangeAt, with_four};
+ghost use Rattle.wc_store.specs.Inside.{IsInRangeAt, with_four};
 
 use std::alloc::Global;
 use wc_model::{Fault, Place, SlotKind};

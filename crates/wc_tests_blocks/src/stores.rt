@@ -1,7 +1,7 @@
 //! Both stores of a frame's numbers, through their trait, and over the same writes.
 ghost use Rattle.std.specs.Prelude.{◌≡◌, ◌<◌, ◌≤◌, length, true};
 ghost use Rattle.wc_model.specs.Language.Frames.{IsInRange};
-ghost use Rattle.wc_store.specs.Slots.{IsInRangeAt};
+ghost use Rattle.wc_store.specs.Inside.{IsInRangeAt};
 
 use std::alloc::Global;
 use wc_model::{Fault, Place, SlotKind};

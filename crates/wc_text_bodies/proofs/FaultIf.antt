@@ -5,7 +5,7 @@ use Rattle.wc_laws_grammar.specs.Moves.{fault_if}
 use Rattle.wc_model.specs.Text.ReadingFaults.{ReadingFault, TooMany, number_of}
 use Rattle.wc_model.specs.declared.fault.Fault.{Fault}
 use Rattle.wc_model.specs.declared.fault.Fault.TheVariants.{Refused}
-use Rattle.wc_text_bodies.specs.BodyViews.{fault_of}
+use Rattle.wc_text_bodies.specs.Views.{fault_of}
 
 -- the test comes before or after the report
 pub reported-raised : (test : Bool) (fault : ReadingFault) (line : ℕ)

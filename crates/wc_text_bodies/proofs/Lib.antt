@@ -1,4 +1,6 @@
-mod Counting
+mod CallLists
+mod ShortLines
+pub mod WalkSteps
+pub mod Openings
 pub mod LineLists
 mod FaultIf
-pub mod Openings

@@ -1,11 +1,7 @@
 -- One more line after others, as a tree and as a count.
-use Rattle.std.proofs.Common.{◌≡◌, ◌+◌, List, [], ◌∷◌, ◌++◌, Option, Some, None, option_map, length, false, refl, ap, ◌∙◌, ◌==◌, arith}
-use Rattle.std.proofs.lemmas.Bool.Decides.{nat_tests}
-use Rattle.std.proofs.lemmas.List.{length_push}
+use Rattle.wc_model.proofs.Common.{◌≡◌, ◌+◌, List, [], ◌∷◌, ◌++◌, Option, Some, None, option_map, length, false, refl, ap, ◌∙◌, ◌==◌, arith, nat_tests, length_push}
 use Rattle.wc_laws_grammar.specs.Moves.{are_no_lines, lines_and}
-use Rattle.wc_model.specs.Text.Limits.{line_count}
-use Rattle.wc_model.specs.Language.Tree.{Word, Lines, End, Alone, Plain, Nested}
-use Rattle.wc_model.specs.Language.Views.{line_view, lines_view, instruction_view, line_step_view, word_view}
+use Rattle.wc_model.specs.Definitions.{line_count, Word, Lines, End, Alone, Plain, Nested, line_view, lines_view, instruction_view, line_step_view, word_view}
 use Rattle.wc_model.specs.declared.operand.Word.{Word as Spelled}
 use Rattle.wc_model.specs.declared.tree.Instr.{Instr}
 use Rattle.wc_model.specs.declared.tree.Instr.TheFolds.{fold-Instr, fold_out-Instr, fold_out-Line}

@@ -1,8 +1,12 @@
--- The parentheses that are open, the innermost last in the reader and first in the tree.
-use Rattle.std.proofs.Common.{◌≡◌, ◌==◌, ◌+◌, List, [], ◌∷◌, ◌++◌, length, false, refl, arith}
+-- The parentheses that are open, the innermost last in the reader and first in the tree, and the count of a body's lines.
 use Rattle.wc_model.specs.Text.Positions as positions
-use Rattle.wc_text_bodies.specs.BodyViews.{opening_view, openings_view}
+use Rattle.std.proofs.Common.{◌≡◌, ℕ, ◌+◌, min, arith, ◌==◌, List, [], ◌∷◌, ◌++◌, length, false, refl}
+use Rattle.wc_text_bodies.specs.Views.{opening_view, openings_view}
 use Rattle.wc_text_bodies.specs.declared.bodies.Opening.{Opening}
+
+-- one line more, as far as lines are counted
+pub counted_more : (n k m : ℕ) → k ≡ min n 1024 → m ≡ min (k + 1) 1024 → m ≡ min (n + 1) 1024
+counted_more n k m e f = omega (arith, e, f)
 
 -- a parenthesis more
 pub opened-append : (outer : List positions.Opening) (xs : List Opening) (x : Opening) → openings_view outer (xs ++ x ∷ []) ≡ opening_view x ∷ openings_view outer xs

@@ -1,2 +1,2 @@
-pub mod BodyViews
-pub mod SectionViews
+pub mod Several
+pub mod Views

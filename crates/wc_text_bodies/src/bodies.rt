@@ -1,13 +1,10 @@
 ghost use Rattle.std.specs.Prelude.{◌≡◌, ◌==◌, ◌+◌, ◌∷◌, [], length, min, IfOk, OnOk, MatchOption, List, Some, option_map, Option, None, true, if◌then◌else◌};
 ghost use Rattle.wc_laws_grammar.specs.LineMoves as lines;
 ghost use Rattle.wc_laws_grammar.specs.Moves as moves;
-ghost use Rattle.wc_model.specs.Text.Limits.{most_lines};
+ghost use Rattle.wc_model.specs.Definitions.{most_lines, name_of, ProgramUnit, lines_view, term_view, unit_view, word_view};
 ghost use Rattle.wc_model.specs.Text.Positions as positions;
-ghost use Rattle.wc_model.specs.Language.Names.{name_of};
-ghost use Rattle.wc_model.specs.Language.Tree.{ProgramUnit};
-ghost use Rattle.wc_model.specs.Language.Views.{lines_view, term_view, unit_view, word_view};
 ghost use Rattle.wc_text_lines.specs.LineViews.{started_view, shape_view, step_view};
-ghost use Rattle.wc_text_bodies.specs.BodyViews.{IsCounted, position_view, opening_view, openings_view};
+ghost use Rattle.wc_text_bodies.specs.Views.{IsCounted, position_view, opening_view, openings_view};
 
 use crate::tree_lines::{label_line, nested_line, step_line};
 use std::alloc::{AllocError, Global};

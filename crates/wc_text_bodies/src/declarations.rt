@@ -1,10 +1,9 @@
 ghost use Rattle.std.specs.Prelude.{◌≡◌, ◌++◌, ◌∷◌, [], IfOk, List, Some, map, option_map};
-ghost use Rattle.wc_text_bodies.specs.SectionViews.{Leads, LeadsOn, declaring_view, section_view};
+ghost use Rattle.wc_text_bodies.specs.Views.{Leads, LeadsOn, declaring_view, section_view};
 ghost use Rattle.wc_laws_grammar.specs.Moves as moves;
 ghost use Rattle.wc_laws_grammar.specs.Words.{literal_of};
 ghost use Rattle.wc_text_lines.specs.Words.{symbol_view};
-ghost use Rattle.wc_model.specs.Language.Tree.{ProgramUnit};
-ghost use Rattle.wc_model.specs.Language.Views.{unit_view, word_view};
+ghost use Rattle.wc_model.specs.Definitions.{ProgramUnit, unit_view, word_view};
 
 use std::alloc::{AllocError, Global};
 use wc_lexer::{Shape, Token};

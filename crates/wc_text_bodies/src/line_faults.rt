@@ -1,12 +1,10 @@
 ghost use Rattle.std.specs.Prelude.{◌≡◌, ◌∷◌, [], ◌&&◌, List, Some, None, is_some, length, nat_le, option_map, if◌then◌else◌};
 ghost use Rattle.wc_laws_grammar.specs.Moves as moves;
 ghost use Rattle.wc_laws_grammar.specs.Words as words;
-ghost use Rattle.wc_model.specs.Text.Keywords.{end_word};
-ghost use Rattle.wc_model.specs.Text.Limits.{most_depth};
+ghost use Rattle.wc_model.specs.Definitions.{end_word, most_depth, ProgramUnit};
 ghost use Rattle.wc_model.specs.Text.Positions as positions;
 ghost use Rattle.wc_model.specs.Text.ReadingFaults as faults;
-ghost use Rattle.wc_model.specs.Language.Tree.{ProgramUnit};
-ghost use Rattle.wc_text_bodies.specs.BodyViews.{IsCounted, fault_of, position_view, openings_view};
+ghost use Rattle.wc_text_bodies.specs.Views.{IsCounted, fault_of, position_view, openings_view};
 ghost use Rattle.wc_text_lines.specs.LineViews.{started_view, in_line_view, line_state_view};
 ghost use Rattle.wc_text_lines.specs.Words.{symbol_view};
 

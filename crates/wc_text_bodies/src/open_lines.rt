@@ -1,9 +1,8 @@
 ghost use Rattle.std.specs.Prelude.{◌≡◌, [], List};
 ghost use Rattle.wc_laws_grammar.specs.Moves as moves;
-ghost use Rattle.wc_model.specs.Language.Tree.{ProgramUnit};
-ghost use Rattle.wc_model.specs.Language.Views.{unit_view};
+ghost use Rattle.wc_model.specs.Definitions.{ProgramUnit, unit_view};
 ghost use Rattle.wc_text_lines.specs.LineViews.{started_view, in_line_view, line_state_view};
-ghost use Rattle.wc_text_bodies.specs.BodyViews.{fault_of, position_view, openings_view};
+ghost use Rattle.wc_text_bodies.specs.Views.{fault_of, position_view, openings_view};
 
 use crate::bodies::{Body, innermost};
 use crate::line_faults::refused;

@@ -1,8 +1,7 @@
 ghost use Rattle.std.specs.Prelude.{◌≡◌, Some, map, option_map};
 ghost use Rattle.wc_laws_grammar.specs.Words.{step_of};
 ghost use Rattle.wc_model.specs.Language.Tree as tree;
-ghost use Rattle.wc_model.specs.Language.Tree.{Lines};
-ghost use Rattle.wc_model.specs.Language.Views.{assignment_view, line_view, lines_view, name_view, term_view, word_view};
+ghost use Rattle.wc_model.specs.Definitions.{Lines, assignment_view, line_view, lines_view, name_view, term_view, word_view};
 ghost use Rattle.wc_text_lines.specs.LineViews.{step_view};
 ghost use Rattle.wc_text_lines.specs.Words.{operating_view};
 

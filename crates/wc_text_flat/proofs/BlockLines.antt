@@ -1,22 +1,12 @@
 -- A flat call of a standard block follows the tree's.
-use Rattle.std.proofs.Common.{◌≡◌, ℕ, suc, ◌+◌, Bool, true, List, [], ◌∷◌, ◌++◌, map, Option, Some, None, Result, Ok, Err, ℤ, append_assoc, refl, sym, ap, subst, ◌∙◌, arith}
+use Rattle.wc_model.proofs.Common.{◌≡◌, ℕ, suc, ◌+◌, Bool, true, List, [], ◌∷◌, ◌++◌, map, Option, Some, None, Result, Ok, Err, ℤ, append_assoc, refl, sym, ap, subst, ◌∙◌, arith, slice_get, slice_set, codes, if◌then◌else◌}
 use Rattle.std.specs.Option.{option_map}
-use Rattle.std.specs.Prelude.{slice_get, slice_set, codes, if◌then◌else◌}
 use Rattle.wc_text_flat.proofs.InstancePlaces.{path_from, instance_number}
 use Rattle.wc_text_flat.proofs.PlaceNumbers.{write_both}
 use Rattle.wc_text_flat.proofs.Sides.{IsBased}
 use Rattle.wc_text_flat.proofs.Values.{bit_of-number}
-use Rattle.wc_text_flat.specs.Contents.{AreContents}
-use Rattle.wc_text_flat.specs.Lowered.{first_place}
-use Rattle.wc_text_flat.specs.NumberBlocks.{field_numbers, is_slot, number_from, with_numbers, given_bit, given_natural, block_called}
-use Rattle.wc_text_flat.specs.NumberOperators.{given}
-use Rattle.wc_model.specs.Language.BlockCalls.{field_at, with_truth, with_dint, with_time, with_moment, with_phase, with_fields, r_trig_contents, sr_contents, rs_contents, ctu_contents, ton_contents, tof_contents, tp_contents, standard_called}
-use Rattle.wc_model.specs.Language.Blocks.{RTrigFields, SrFields, RsFields, CtuFields, TonFields, TofFields, TpFields, r_trig_step, sr_step, rs_step, ctu_step, ton_step, tof_step, tp_step}
-use Rattle.wc_model.specs.Language.Declarations.{Variable, VariableType, Standard, type_named, variable_named}
-use Rattle.wc_model.specs.Language.Frames.{content_number, place_number, slot_kind_of, slot_kinds}
-use Rattle.wc_model.specs.Language.Names.{Name}
-use Rattle.wc_model.specs.Language.Reasons.{Reason}
-use Rattle.wc_model.specs.Language.Scopes.{Scope}
+use Rattle.wc_text_flat.specs.{AreContents, first_place, field_numbers, is_slot, number_from, with_numbers, given_bit, given_natural, block_called, given}
+use Rattle.wc_model.specs.Definitions.{field_at, with_truth, with_dint, with_time, with_moment, with_phase, with_fields, r_trig_contents, sr_contents, rs_contents, ctu_contents, ton_contents, tof_contents, tp_contents, standard_called, RTrigFields, SrFields, RsFields, CtuFields, TonFields, TofFields, TpFields, r_trig_step, sr_step, rs_step, ctu_step, ton_step, tof_step, tp_step, Variable, VariableType, Standard, type_named, variable_named, content_number, place_number, slot_kind_of, slot_kinds, Name, Reason, Scope}
 use Rattle.wc_model.specs.Language.Store.{Location, Path, Content, Plain, Moment, Phase, Store, with_content, standard_fields, variable_places, block_places}
 use Rattle.wc_model.specs.declared.block.StandardBlock.{StandardBlock}
 use Rattle.wc_model.specs.declared.block.StandardBlock.TheVariants.{RTrig, Sr, Rs, Ctu, Ton, Tof, Tp}

@@ -1,34 +1,22 @@
 -- Flat code follows the body that it is: parentheses, jumps, returns, and the lines one after another.
-use Rattle.std.proofs.Common.{◌≡◌, ℕ, suc, ◌+◌, ◌≤◌, ◌<◌, max, Bool, true, false, List, [], ◌∷◌, ◌++◌, length, Option, Some, None, Result, Ok, Err, ℤ, append_assoc, refl, sym, ap, subst, ◌∙◌, arith}
-use Rattle.std.proofs.lemmas.Bool.{lt-ltb}
+use Rattle.wc_model.proofs.Common.{◌≡◌, ℕ, suc, ◌+◌, ◌≤◌, ◌<◌, max, Bool, true, false, List, [], ◌∷◌, ◌++◌, length, Option, Some, None, Result, Ok, Err, ℤ, append_assoc, refl, sym, ap, subst, ◌∙◌, arith, if◌then◌else◌, nat_lt, lt-ltb}
 use Rattle.std.proofs.lemmas.List.{length-append}
 use Rattle.std.specs.Option.{option_map}
-use Rattle.std.specs.Prelude.{if◌then◌else◌, nat_lt}
 use Rattle.wc_text_flat.proofs.CallLines.{answer_given, lowered_after, call_follows}
 use Rattle.wc_text_flat.proofs.Counts.{counted_none, counted_twice, passed_over, ended_over}
 use Rattle.wc_text_flat.proofs.Lines.{operand_number, operand_read, load_follows, load_negated_follows, store_follows, apply_follows, not_follows}
 use Rattle.wc_text_flat.proofs.Sides.{Sides, flat, BodyFollows, AreAlike, state_of, then_counted, OnwardFollows, line_onward, IsCourse, result_in, EffectFollows, onward_effect, by_choice}
 use Rattle.wc_text_flat.proofs.Values.{value_number, ReadsAs, combined_follows, acts_follow}
-use Rattle.wc_text_flat.specs.Contents.{AreContents}
-use Rattle.wc_text_flat.specs.FlatMeaning.{State, Flow, Skips, Ended, Moved, Ran, goes_on, opens, turns, line_runs, counted, followed, ended, runs}
-use Rattle.wc_text_flat.specs.Lowered.{Operand, Number, At, load_line, apply_line, short_line, IsStepLowered, IsOpening, step_length, flat_length, lines_ahead, IsLowered}
-use Rattle.wc_text_flat.specs.NumberOperators.{given, combined, acts}
-use Rattle.wc_model.specs.Text.Limits.{depth}
-use Rattle.wc_model.specs.Language.Meaning.{Outcome, Done, Stuck, Mode, Running, Seeking, Returned, Effect, Goes, Fails, carries, arriving, after, continued, from_value, value_of, step_effect, line_effect, closed, nested_effect, means}
+use Rattle.wc_text_flat.specs.{AreContents, State, Flow, Skips, Ended, Moved, Ran, goes_on, opens, turns, line_runs, counted, followed, ended, runs, Operand, Number, At, load_line, apply_line, short_line, IsStepLowered, IsOpening, step_length, flat_length, lines_ahead, IsLowered, given, combined, acts}
+use Rattle.wc_model.specs.Definitions.{depth, Outcome, Done, Stuck, Mode, Running, Seeking, Returned, Effect, Goes, Fails, carries, arriving, after, continued, from_value, value_of, step_effect, line_effect, closed, nested_effect, means, Name, apply, Reason, Scope, Store, At as AtLine}
 use Rattle.wc_model.specs.Language.Meaning as meaning
-use Rattle.wc_model.specs.Language.Names.{Name}
-use Rattle.wc_model.specs.Language.Operators.{apply}
-use Rattle.wc_model.specs.Language.Reasons.{Reason}
-use Rattle.wc_model.specs.Language.Scopes.{Scope}
-use Rattle.wc_model.specs.Language.Store.{Store}
-use Rattle.wc_model.specs.Language.Traces.{At as AtLine}
 use Rattle.wc_model.specs.Language.Tree.{Word, Term, Step, Load, Store as StoreStep, Apply, Negate, Jump, Call, Return, Lines, End, Alone, Plain, Nested}
 use Rattle.wc_model.specs.declared.code.Code.{Code}
 use Rattle.wc_model.specs.declared.code.Code.TheVariants.{Store as StoreLine, Not, Close, Jump as JumpLine, Return as ReturnLine}
 use Rattle.wc_model.specs.declared.operator.Condition.{Condition}
 use Rattle.wc_model.specs.declared.operator.Operator.{Operator}
 use Rattle.wc_model.specs.declared.value.Value.{Value}
-use Rattle.wc_laws_language.specs.Sound.{is_simple, IsSimple, NestsSimply}
+use Rattle.wc_laws_language.specs.SoundnessLaws.{is_simple, IsSimple, NestsSimply}
 use Rattle.wc_laws_language.proofs.FramePlaces.{one_number}
 
 -- a step that is executed and is neither a jump nor a return

@@ -7,26 +7,16 @@ use Rattle.wc_text_flat.proofs.CallLines.{answer_given}
 use Rattle.wc_text_flat.proofs.Lines.{operand_number, operand_read, load_follows, load_negated_follows, store_follows, apply_follows, not_follows}
 use Rattle.wc_text_flat.proofs.Sides.{Sides, flat, state_of, IsCourse, result_in, by_choice}
 use Rattle.wc_text_flat.proofs.Values.{value_number, ReadsAs, combined_follows, acts_follow}
-use Rattle.wc_text_flat.specs.Contents.{AreContents}
-use Rattle.wc_text_flat.specs.FlatMeaning.{State, Flow, Skips, Ended, goes_on, opens, turns, line_runs}
-use Rattle.wc_text_flat.specs.FlatPaths.{step_sources, sources_of}
-use Rattle.wc_text_flat.specs.Lowered.{Operand, Number, At as AtPlace, load_line, apply_line, short_line, IsStepLowered, IsOpening, step_length, flat_length, IsLowered}
-use Rattle.wc_text_flat.specs.NumberOperators.{given, combined, acts}
-use Rattle.wc_model.specs.Text.Limits.{depth}
-use Rattle.wc_model.specs.Language.Meaning.{Outcome, Done, Stuck, Mode, Running, Seeking, Returned, Effect, Goes, Fails, arriving, after, continued, from_value, value_of, step_effect, line_effect, closed, nested_effect, means}
+use Rattle.wc_text_flat.specs.{AreContents, State, Flow, Skips, Ended, goes_on, opens, turns, line_runs, step_sources, sources_of, Operand, Number, At as AtPlace, load_line, apply_line, short_line, IsStepLowered, IsOpening, step_length, flat_length, IsLowered, given, combined, acts}
+use Rattle.wc_model.specs.Definitions.{depth, Outcome, Done, Stuck, Mode, Running, Seeking, Returned, Effect, Goes, Fails, arriving, after, continued, from_value, value_of, step_effect, line_effect, closed, nested_effect, means, Name, apply, Reason, Store, At as AtLine}
 use Rattle.wc_model.specs.Language.Meaning as meaning
-use Rattle.wc_model.specs.Language.Names.{Name}
-use Rattle.wc_model.specs.Language.Operators.{apply}
-use Rattle.wc_model.specs.Language.Reasons.{Reason}
-use Rattle.wc_model.specs.Language.Store.{Store}
-use Rattle.wc_model.specs.Language.Traces.{At as AtLine}
 use Rattle.wc_model.specs.Language.Tree.{Term, Step, Load, Store as StoreStep, Apply, Negate, Jump, Call, Return, Lines, End, Alone, Plain, Nested}
 use Rattle.wc_model.specs.declared.code.Code.{Code}
 use Rattle.wc_model.specs.declared.code.Code.TheVariants.{Store as StoreLine, Not, Close, Jump as JumpLine, Return as ReturnLine}
 use Rattle.wc_model.specs.declared.operator.Condition.{Condition}
 use Rattle.wc_model.specs.declared.operator.Operator.{Operator}
 use Rattle.wc_model.specs.declared.value.Value.{Value}
-use Rattle.wc_laws_language.specs.Sound.{IsSimple, NestsSimply}
+use Rattle.wc_laws_language.specs.SoundnessLaws.{IsSimple, NestsSimply}
 use Rattle.wc_text_flat.proofs.CallsSeen.{call_seen, call_sources_after}
 use Rattle.wc_text_flat.proofs.SeenSides.{OutcomeSeen, AreSeenAlike, OnwardSeen, EffectSeen, onward_effect_seen, seen_append, entry, line_then, line_seen, passed_unseen, ended_unseen, body_line_runs_none}
 use Rattle.wc_text_flat.specs.FlatSeen.{FlatSeen, FlatSeenCalls, flat_seen, is_body_line, AreSeenAs}

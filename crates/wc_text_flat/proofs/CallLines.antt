@@ -1,31 +1,17 @@
 -- Flat calls follow the calls that they represent.
-use Rattle.std.proofs.Common.{◌≡◌, ℕ, ◌+◌, Bool, true, false, not, List, [], ◌∷◌, ◌++◌, map, length, Option, Some, None, Result, Ok, Err, ℤ, append_assoc, refl, sym, ap, subst, ◌∙◌, arith}
+use Rattle.wc_model.proofs.Common.{◌≡◌, ℕ, ◌+◌, Bool, true, false, not, List, [], ◌∷◌, ◌++◌, map, length, Option, Some, None, Result, Ok, Err, ℤ, append_assoc, refl, sym, ap, subst, ◌∙◌, arith, if◌then◌else◌}
 use Rattle.std.proofs.lemmas.List.{length-append, length-map}
 use Rattle.std.specs.Option.{option_map}
-use Rattle.std.specs.Prelude.{if◌then◌else◌}
 use Rattle.wc_text_flat.proofs.BlockLines.{CalledAs, block_follows, fields_at}
 use Rattle.wc_text_flat.proofs.Counts.{counted_twice, counted_none, passed_over}
 use Rattle.wc_text_flat.proofs.InstancePlaces.{path_from, path_number, no_direct, instance_number}
 use Rattle.wc_text_flat.proofs.Lines.{operand_number, operand_read, truth_operand, WritesAs, write_follows, target_follows}
 use Rattle.wc_text_flat.proofs.Sides.{Sides, flat, IsBased, BodyFollows, AreAlike, state_of, then_counted, OnwardFollows, by_choice}
 use Rattle.wc_text_flat.proofs.Values.{value_number, ReadsAs, AnswersAs, acts_follow}
-use Rattle.wc_text_flat.specs.Contents.{AreContents}
-use Rattle.wc_text_flat.specs.FlatMeaning.{State, Skips, Moved, Ran, goes_on, with_all, writes, turns, returns, line_runs, followed, runs}
-use Rattle.wc_text_flat.specs.Lowered.{Operand, Number, At, IsOperand, argument_line, IsArgument, IsOutput, AreEach, AreArguments, AreOutputs, IsCallLowered, IsUnitBody, IsBodyOf, first_place}
-use Rattle.wc_text_flat.specs.NumberBlocks.{block_called}
-use Rattle.wc_text_flat.specs.NumberOperators.{given, acts}
+use Rattle.wc_text_flat.specs.{AreContents, State, Skips, Moved, Ran, goes_on, with_all, writes, turns, returns, line_runs, followed, runs, Operand, Number, At, IsOperand, argument_line, IsArgument, IsOutput, AreEach, AreArguments, AreOutputs, IsCallLowered, IsUnitBody, IsBodyOf, first_place, block_called, given, acts}
 use Rattle.wc_laws_language.proofs.Longest.{trace_length}
-use Rattle.wc_model.specs.Language.BlockCalls.{standard_called}
-use Rattle.wc_model.specs.Language.Declarations.{VariableType, Elementary, Standard, Block, Member, members_of, is_block, block_named, same_name}
-use Rattle.wc_model.specs.Language.Frames.{place_number, slot_kinds}
-use Rattle.wc_model.specs.Language.Meaning.{Outcome, Done, Stuck, Effect, Goes, Fails, Running, value_of, from_store, input_kind, argument_term, assigned_input, assigned_one, assigned, given_one, given_out, written_to, call_trace, body_outcome, made, called_type, call_effect, step_effect}
+use Rattle.wc_model.specs.Definitions.{standard_called, VariableType, Elementary, Standard, Block, Member, members_of, is_block, block_named, same_name, place_number, slot_kinds, Outcome, Done, Stuck, Effect, Goes, Fails, Running, value_of, from_store, input_kind, argument_term, assigned_input, assigned_one, assigned, given_one, given_out, written_to, call_trace, body_outcome, made, called_type, call_effect, step_effect, Name, Reason, NoSuchPlace, Scope, type_of, writable_place, within, Location, Direct, Path, Content, Store, written, variable_places, block_places, unit_places, program_frame, At as AtLine, StandardBody, Called, Assignment, goes_in, inputs_of, outputs_of, Term, Field, Call, ProgramUnit}
 use Rattle.wc_model.specs.Language.Meaning as meaning
-use Rattle.wc_model.specs.Language.Names.{Name}
-use Rattle.wc_model.specs.Language.Reasons.{Reason, NoSuchPlace}
-use Rattle.wc_model.specs.Language.Scopes.{Scope, type_of, writable_place, within}
-use Rattle.wc_model.specs.Language.Store.{Location, Direct, Path, Content, Store, written, variable_places, block_places, unit_places, program_frame}
-use Rattle.wc_model.specs.Language.Traces.{At as AtLine, StandardBody, Called}
-use Rattle.wc_model.specs.Language.Tree.{Assignment, goes_in, inputs_of, outputs_of, Term, Field, Call, ProgramUnit}
 use Rattle.wc_model.specs.declared.code.Code.{Code}
 use Rattle.wc_model.specs.declared.code.Code.TheVariants.{Call as CallLine, Body}
 use Rattle.wc_model.specs.declared.kind.Kind.TheVariants.{Bool as KindBool, Dint as KindDint, Time as KindTime}

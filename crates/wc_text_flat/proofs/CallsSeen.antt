@@ -7,22 +7,9 @@ use Rattle.wc_text_flat.proofs.CallLines.{argument_follows, output_follows, inst
 use Rattle.wc_text_flat.proofs.Lines.{WritesAs}
 use Rattle.wc_text_flat.proofs.Sides.{Sides, flat, BodyFollows, AreAlike, state_of}
 use Rattle.wc_text_flat.proofs.Values.{value_number, acts_follow}
-use Rattle.wc_text_flat.specs.Contents.{AreContents}
-use Rattle.wc_text_flat.specs.FlatMeaning.{State, Skips, Ran, goes_on, with_all, turns, returns, line_runs}
-use Rattle.wc_text_flat.specs.Lowered.{Operand, Number, At as AtPlace, argument_line, AreArguments, AreOutputs, IsCallLowered, IsUnitBody, IsBodyOf}
-use Rattle.wc_text_flat.specs.NumberBlocks.{block_called}
-use Rattle.wc_text_flat.specs.NumberOperators.{given, acts}
-use Rattle.wc_model.specs.Language.BlockCalls.{standard_called}
-use Rattle.wc_model.specs.Language.Declarations.{VariableType, Elementary, Standard, Block, Member, members_of, block_named}
-use Rattle.wc_model.specs.Language.Frames.{slot_kinds}
-use Rattle.wc_model.specs.Language.Meaning.{Outcome, Done, Stuck, Effect, Goes, Fails, Running, from_store, chosen, assigned_one, assigned, given_one, given_out, call_trace, body_outcome, made, called_type, call_effect, step_effect}
+use Rattle.wc_text_flat.specs.{AreContents, State, Skips, Ran, goes_on, with_all, turns, returns, line_runs, Operand, Number, At as AtPlace, argument_line, AreArguments, AreOutputs, IsCallLowered, IsUnitBody, IsBodyOf, block_called, given, acts}
+use Rattle.wc_model.specs.Definitions.{standard_called, VariableType, Elementary, Standard, Block, Member, members_of, block_named, slot_kinds, Outcome, Done, Stuck, Effect, Goes, Fails, Running, from_store, chosen, assigned_one, assigned, given_one, given_out, call_trace, body_outcome, made, called_type, call_effect, step_effect, Name, Reason, NoSuchPlace, type_of, Store, Item, At, Argument, StandardBody, Called, GivenOut, Assignment, inputs_of, outputs_of, Call, ProgramUnit}
 use Rattle.wc_model.specs.Language.Meaning as meaning
-use Rattle.wc_model.specs.Language.Names.{Name}
-use Rattle.wc_model.specs.Language.Reasons.{Reason, NoSuchPlace}
-use Rattle.wc_model.specs.Language.Scopes.{type_of}
-use Rattle.wc_model.specs.Language.Store.{Store}
-use Rattle.wc_model.specs.Language.Traces.{Item, At, Argument, StandardBody, Called, GivenOut}
-use Rattle.wc_model.specs.Language.Tree.{Assignment, inputs_of, outputs_of, Call, ProgramUnit}
 use Rattle.wc_model.specs.declared.block.StandardBlock.{StandardBlock}
 use Rattle.wc_model.specs.declared.code.Code.{Code}
 use Rattle.wc_model.specs.declared.code.Code.TheVariants.{Call as CallLine, Body}

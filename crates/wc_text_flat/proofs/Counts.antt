@@ -1,8 +1,17 @@
--- Runs with steps before them, and lines that are passed over.
-use Rattle.std.proofs.Common.{◌≡◌, ℕ, suc, ◌+◌, List, [], ◌∷◌, ◌++◌, length, Option, Some, None, refl, ap, ◌∙◌, arith}
-use Rattle.wc_text_flat.proofs.Sides.{then_counted}
-use Rattle.wc_text_flat.specs.FlatMeaning.{State, Skips, Ended, Ran, Here, runs}
+-- Lines that are passed over, what follows the end of a body, and runs with steps before them.
+use Rattle.std.proofs.Common.{zero, suc, [], ◌∷◌, refl, arith, ◌≡◌, ℕ, ◌+◌, List, ◌++◌, length, Option, Some, None, ap, ◌∙◌}
+use Rattle.wc_text_flat.specs.{SkippedLinesAreDropped, EndedBodiesAreOver, State, Skips, Ended, Ran, Here, runs}
 use Rattle.wc_model.specs.declared.code.Code.{Code}
+use Rattle.wc_text_flat.proofs.Sides.{then_counted}
+
+pub skipped_lines_are_dropped : SkippedLinesAreDropped
+skipped_lines_are_dropped here code zero state l = refl
+skipped_lines_are_dropped here [] (suc n) state l = absurd (omega (arith, l))
+skipped_lines_are_dropped here (line ∷ code) (suc n) state l = skipped_lines_are_dropped here code n state (omega (arith, l))
+
+pub ended_bodies_are_over : EndedBodiesAreOver
+ended_bodies_are_over here [] state = refl
+ended_bodies_are_over here (line ∷ code) state = ended_bodies_are_over here code state
 
 -- the same run with another number of steps
 abbrev pub with_steps : Ran → ℕ → Ran

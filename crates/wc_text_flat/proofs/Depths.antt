@@ -1,19 +1,11 @@
 -- The parentheses of lowered code match, and are not too deep.
-use Rattle.std.proofs.Common.{◌≡◌, ℕ, zero, suc, ◌+◌, ◌≤◌, ◌<◌, max, Bool, true, false, List, [], ◌∷◌, ◌++◌, length, Option, Some, None, append_assoc, refl, sym, ap, subst, ◌∙◌, arith}
+use Rattle.wc_model.proofs.Common.{◌≡◌, ℕ, zero, suc, ◌+◌, ◌≤◌, ◌<◌, max, Bool, true, false, List, [], ◌∷◌, ◌++◌, length, Option, Some, None, append_assoc, refl, sym, ap, subst, ◌∙◌, arith, if◌then◌else◌, slice_get, AllByRecursion}
 use Rattle.std.proofs.lemmas.List.{length-append, append-nil}
-use Rattle.std.specs.List.{AllByRecursion}
 use Rattle.std.specs.Option.{option_map}
-use Rattle.std.specs.Prelude.{if◌then◌else◌, slice_get}
 use Rattle.wc_text_flat.proofs.CallLines.{lowered_after}
 use Rattle.wc_text_flat.proofs.Bodies.{lowered_length, step_lowered_length}
-use Rattle.wc_text_flat.specs.Depths.{depth_after, depth_at, IsDepthRight}
-use Rattle.wc_text_flat.specs.Lowered.{Operand, Number, At, load_line, apply_line, short_line, argument_line, AreArguments, AreOutputs, IsUnitBody, IsBodyOf, IsStepLowered, IsOpening, step_length, flat_length, lines_ahead, IsLowered, AreLoweredAfter}
-use Rattle.wc_text_flat.specs.Laws.{LoweredCodeNests}
-use Rattle.wc_model.specs.Language.Declarations.{VariableType, Elementary, Standard, Block, block_named}
-use Rattle.wc_model.specs.Text.Limits.{depth, IsBodyWithinLimits}
-use Rattle.wc_model.specs.Language.Meaning.{carries}
-use Rattle.wc_model.specs.Language.Names.{Name}
-use Rattle.wc_model.specs.Language.Scopes.{Scope, type_of}
+use Rattle.wc_text_flat.specs.{depth_after, depth_at, IsDepthRight, Operand, Number, At, load_line, apply_line, short_line, argument_line, AreArguments, AreOutputs, IsUnitBody, IsBodyOf, IsStepLowered, IsOpening, step_length, flat_length, lines_ahead, IsLowered, AreLoweredAfter, LoweredCodeNests}
+use Rattle.wc_model.specs.Definitions.{VariableType, Elementary, Standard, Block, block_named, depth, IsBodyWithinLimits, carries, Name, Scope, type_of}
 use Rattle.wc_model.specs.Language.Tree.{Term, Assignment, inputs_of, outputs_of, Step, Load, Store as StoreStep, Apply, Negate, Jump as JumpStep, Call as CallStep, Return as ReturnStep, Lines, End, Alone, Plain, Nested, ProgramUnit}
 use Rattle.wc_model.specs.declared.code.Code.{Code}
 use Rattle.wc_model.specs.declared.code.Code.TheVariants.{LoadNumber, LoadPlace, Store, ApplyNumber, ApplyPlace, Not, Open, OpenNumber, OpenPlace, Close, Jump, Return, Call, ArgumentNumber, ArgumentPlace, Standard as StandardLine, Body}

@@ -1,27 +1,19 @@
 -- The longest path of flat code is that of the body that it is.
-use Rattle.std.proofs.Common.{◌≡◌, ℕ, suc, ◌+◌, Bool, true, false, cond, ltb, List, [], ◌∷◌, ◌++◌, map, length, Option, Some, None, append_assoc, refl, sym, ap, subst, ◌∙◌, arith}
-use Rattle.std.proofs.lemmas.Bool.{ltb-true, ltb-false}
+use Rattle.wc_model.proofs.Common.{◌≡◌, ℕ, suc, ◌+◌, Bool, true, false, cond, ltb, List, [], ◌∷◌, ◌++◌, map, length, Option, Some, None, append_assoc, refl, sym, ap, subst, ◌∙◌, arith, if◌then◌else◌, slice_index, ltb-true, ltb-false}
 use Rattle.std.proofs.lemmas.List.{length-append, length-map}
 use Rattle.std.specs.Option.{option_map}
-use Rattle.std.specs.Prelude.{if◌then◌else◌, slice_index}
 use Rattle.wc_text_flat.proofs.CallLines.{all_parts, lowered_after}
 use Rattle.wc_text_flat.proofs.Bodies.{regrouped, step_lowered_length, lowered_length}
-use Rattle.wc_text_flat.specs.FlatPaths.{step_sources, sources_of, Worst, no_more, one_more, some_more, worse, from_line, turned, line_worst, worst_from}
-use Rattle.wc_text_flat.specs.Lowered.{Operand, Number, At, load_line, apply_line, short_line, argument_line, AreArguments, AreOutputs, IsUnitBody, IsBodyOf, IsStepLowered, IsOpening, step_length, flat_length, lines_ahead, IsLowered}
+use Rattle.wc_text_flat.specs.{step_sources, sources_of, Worst, no_more, one_more, some_more, worse, from_line, turned, line_worst, worst_from, Operand, Number, At, load_line, apply_line, short_line, argument_line, AreArguments, AreOutputs, IsUnitBody, IsBodyOf, IsStepLowered, IsOpening, step_length, flat_length, lines_ahead, IsLowered}
 use Rattle.wc_laws_language.proofs.Longest.{Found, prefixed, longer, trace_length, call_items, body_items, from_items, chosen, best_step, best_pass, nested_items, best}
-use Rattle.wc_model.specs.Language.Declarations.{VariableType, Elementary, Standard, Block, block_named}
-use Rattle.wc_model.specs.Language.Meaning.{call_trace, carries}
-use Rattle.wc_model.specs.Language.Names.{Name}
-use Rattle.wc_model.specs.Language.Paths.{Way, Onward, Toward, Back, arriving_way}
-use Rattle.wc_model.specs.Language.Scopes.{Scope, type_of}
-use Rattle.wc_model.specs.Language.Traces.{Item, At as AtLine, Argument, StandardBody, Called, GivenOut, own_lines}
+use Rattle.wc_model.specs.Definitions.{VariableType, Elementary, Standard, Block, block_named, call_trace, carries, Name, Way, Onward, Toward, Back, arriving_way, Scope, type_of, Item, At as AtLine, Argument, StandardBody, Called, GivenOut, own_lines}
 use Rattle.wc_model.specs.Language.Tree.{Word, Term, Assignment, inputs_of, outputs_of, Step, Load, Store as StoreStep, Apply, Negate, Jump, Call, Return, Lines, End, Alone, Plain, Nested, ProgramUnit}
 use Rattle.wc_model.specs.declared.code.Code.{Code}
 use Rattle.wc_model.specs.declared.code.Code.TheVariants.{Close}
 use Rattle.wc_model.specs.declared.operator.Condition.{Condition}
 use Rattle.wc_model.specs.declared.operator.Condition.TheVariants.{Always, IfTrue, IfFalse}
 use Rattle.wc_model.specs.declared.operator.Operator.{Operator}
-use Rattle.wc_laws_language.specs.Sound.{is_simple, IsSimple, NestsSimply}
+use Rattle.wc_laws_language.specs.SoundnessLaws.{is_simple, IsSimple, NestsSimply}
 use Rattle.wc_laws_language.proofs.FramePlaces.{one_number}
 
 -- the lines of items that are joined; of arguments, and of a called block's items

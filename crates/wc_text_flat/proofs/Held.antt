@@ -1,21 +1,13 @@
 -- Numbers that are held stay held, and a call of an earlier unit is its run.
-use Rattle.std.proofs.Common.{◌≡◌, ℕ, zero, suc, ◌<◌, List, [], Option, Some, ap, subst, ◌∙◌, sym, arith, ◌⊎◌, inl, inr, ⊎_elim}
-use Rattle.std.proofs.Math.Nat.{eq-or-lt_of_le}
+use Rattle.wc_model.proofs.Common.{◌≡◌, ℕ, zero, suc, ◌<◌, List, [], Option, Some, ap, subst, ◌∙◌, sym, arith, ◌⊎◌, inl, inr, ⊎_elim, reverse, eq-or-lt_of_le}
 use Rattle.std.proofs.lemmas.List.{append-nil}
-use Rattle.std.specs.Prelude.{reverse}
 use Rattle.wc_text_flat.proofs.Programs.{this_unit, earlier_unit}
 use Rattle.wc_text_flat.proofs.Texts.{Newest, newest, ImageWritten, image_of_program, flat_code_means_the_text}
-use Rattle.wc_text_flat.specs.Contents.{frame_of_text, AreContents, with_image_numbers}
-use Rattle.wc_text_flat.specs.FlatMeaning.{Ran, calls_below, unit_runs, program_runs}
-use Rattle.wc_text_flat.specs.Laws.{RunsAlike, HeldNumbersStayHeld, CallsAreRuns}
-use Rattle.wc_model.specs.Language.Frames.{slot_kinds}
-use Rattle.wc_model.specs.Language.Meaning.{Outcome, Done, Stuck}
-use Rattle.wc_model.specs.Language.Scans.{initial_of, scan_of, with_image}
-use Rattle.wc_model.specs.Language.Store.{Location, Content, Store}
+use Rattle.wc_text_flat.specs.{frame_of_text, AreContents, with_image_numbers, Ran, calls_below, unit_runs, program_runs, RunsAlike, HeldNumbersStayHeld, CallsAreRuns}
+use Rattle.wc_model.specs.Definitions.{slot_kinds, Outcome, Done, Stuck, initial_of, scan_of, with_image, Location, Content, Store}
 use Rattle.wc_laws_language.proofs.Programs.{Any}
 use Rattle.wc_laws_language.proofs.Spelled.{spelled_text_nests, some_text_ends}
-use Rattle.wc_laws_language.specs.Sound.{EndsWell}
-use Rattle.wc_laws_language.specs.Typing.{SameSlots}
+use Rattle.wc_laws_language.specs.{EndsWell, SameSlots}
 
 -- an outcome that ends well and is followed leaves numbers that are held
 pub left_held : (frame : List (Location × Content)) (first : Store) (o : Outcome) (run : Option Ran) → EndsWell Any first o → RunsAlike frame o run → (ran : Ran) × (run ≡ Some ran) × ((store : Store) × SameSlots first store × AreContents frame store ran.numbers)

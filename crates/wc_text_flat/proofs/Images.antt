@@ -1,15 +1,9 @@
 -- The numbers of a frame at first, and with a process image.
-use Rattle.std.proofs.Common.{◌≡◌, ℕ, suc, ◌+◌, ◌≤◌, Bool, true, false, cond, List, [], ◌∷◌, ◌++◌, map, length, drop, Option, Some, None, ℤ, refl, sym, ap, ◌∙◌, arith}
+use Rattle.wc_model.proofs.Common.{◌≡◌, ℕ, suc, ◌+◌, ◌≤◌, Bool, true, false, cond, List, [], ◌∷◌, ◌++◌, map, length, drop, Option, Some, None, ℤ, refl, sym, ap, ◌∙◌, arith, if◌then◌else◌, reverse, slice_get, position_from}
 use Rattle.std.proofs.lemmas.List.{length-append, length-map, length-drop}
-use Rattle.std.specs.List.{position_from}
 use Rattle.std.specs.Option.{option_map}
-use Rattle.std.specs.Prelude.{if◌then◌else◌, reverse, slice_get}
-use Rattle.wc_text_flat.specs.Contents.{frame_of_reversed, AreContents, image_numbers, with_image_numbers}
-use Rattle.wc_text_flat.specs.Laws.{FirstNumbersAreContents}
-use Rattle.wc_model.specs.Language.Frames.{content_number, place_number, first_numbers, slot_kind_of, slot_kinds}
-use Rattle.wc_model.specs.Language.Scans.{image_contents, overlaid, with_image, initial_of_reversed}
-use Rattle.wc_model.specs.Language.Store.{Location, Content, Store, same_place, store_of, program_frame}
-use Rattle.wc_model.specs.Language.Tree.{ProgramUnit}
+use Rattle.wc_text_flat.specs.{frame_of_reversed, AreContents, image_numbers, with_image_numbers, FirstNumbersAreContents}
+use Rattle.wc_model.specs.Definitions.{content_number, place_number, first_numbers, slot_kind_of, slot_kinds, image_contents, overlaid, with_image, initial_of_reversed, Location, Content, Store, same_place, store_of, program_frame, ProgramUnit}
 use Rattle.wc_model.specs.declared.image.Image.{Image}
 use Rattle.wc_laws_language.proofs.FramePlaces.{one_number}
 

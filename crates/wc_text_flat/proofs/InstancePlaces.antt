@@ -1,16 +1,8 @@
 -- The places of an instance are one after another in its unit's frame, in the order of its block.
-use Rattle.std.proofs.Common.{◌≡◌, ℕ, ◌+◌, Bool, true, false, ◌&&◌, cond, List, [], ◌∷◌, ◌++◌, map, length, Option, Some, None, refl, sym, ap, ◌∙◌, arith}
-use Rattle.std.specs.List.{flat_map, position_from}
+use Rattle.wc_model.proofs.Common.{◌≡◌, ℕ, ◌+◌, Bool, true, false, ◌&&◌, cond, List, [], ◌∷◌, ◌++◌, map, length, Option, Some, None, refl, sym, ap, ◌∙◌, arith, find, if◌then◌else◌, flat_map, position_from}
 use Rattle.std.specs.Option.{option_map}
-use Rattle.std.specs.Prelude.{find, if◌then◌else◌}
 use Rattle.wc_text_flat.specs.Lowered.{size_of, places_before, first_of_all, first_place}
-use Rattle.wc_model.specs.Language.Declarations.{Variable, same_name, variables_of, variable_named, is_block}
-use Rattle.wc_model.specs.Language.DirectVariables.{DirectVariable, direct_variables, kind_of_direct}
-use Rattle.wc_model.specs.Language.Frames.{frame_of, place_number}
-use Rattle.wc_model.specs.Language.Names.{Name}
-use Rattle.wc_model.specs.Language.Scopes.{Scope}
-use Rattle.wc_model.specs.Language.Store.{Location, Direct, Path, Content, same_path, same_place, zero_of, below, unit_places, program_frame}
-use Rattle.wc_model.specs.Language.Tree.{ProgramUnit}
+use Rattle.wc_model.specs.Definitions.{Variable, same_name, variables_of, variable_named, is_block, DirectVariable, direct_variables, kind_of_direct, frame_of, place_number, Name, Scope, Location, Direct, Path, Content, same_path, same_place, zero_of, below, unit_places, program_frame, ProgramUnit}
 use Rattle.wc_laws_language.proofs.Places.{Some-same, places_of}
 use Rattle.wc_laws_language.proofs.Tests.{same_name-refl}
 use Rattle.wc_laws_language.proofs.FramePlaces.{one_number}

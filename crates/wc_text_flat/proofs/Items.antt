@@ -1,17 +1,6 @@
 -- The items that are seen are those of the trace.
-use Rattle.std.proofs.Common.{◌≡◌, ℕ, Bool, true, false, List, [], ◌∷◌, ◌++◌, map, Option, Some, None, Result, Ok, Err, refl, sym, ap, ◌∙◌}
-use Rattle.std.proofs.lemmas.List.{map-append}
-use Rattle.std.specs.Prelude.{reverse}
-use Rattle.wc_model.specs.Language.BlockCalls.{standard_called}
-use Rattle.wc_model.specs.Language.Declarations.{VariableType, Elementary, Standard, Block, Member, same_name, members_of}
-use Rattle.wc_model.specs.Language.Meaning.{Outcome, Done, Stuck, Mode, Running, Seeking, Returned, Effect, Goes, Fails, Context, Calls, arriving, after, continued, alongside, given, from_value, from_store, chosen, acts, value_of, written_to, stored, set_where, store_effect, next, assigned_one, assigned, given_one, given_out, call_trace, body_outcome, made, called_type, call_effect, step_effect, line_effect, closed, nested_effect, means, called}
-use Rattle.wc_model.specs.Language.Names.{Name}
-use Rattle.wc_model.specs.Language.Operators.{apply, negated}
-use Rattle.wc_model.specs.Language.Reasons.{Reason, NoSuchPlace}
-use Rattle.wc_model.specs.Language.Scans.{first_of_reversed, with_image}
-use Rattle.wc_model.specs.Language.Scopes.{type_of}
-use Rattle.wc_model.specs.Language.Store.{Store}
-use Rattle.wc_model.specs.Language.Traces.{Item, At, Argument, StandardBody, Called, GivenOut}
+use Rattle.wc_model.proofs.Common.{◌≡◌, ℕ, Bool, true, false, List, [], ◌∷◌, ◌++◌, map, Option, Some, None, Result, Ok, Err, refl, sym, ap, ◌∙◌, reverse, map-append}
+use Rattle.wc_model.specs.Definitions.{standard_called, VariableType, Elementary, Standard, Block, Member, same_name, members_of, Outcome, Done, Stuck, Mode, Running, Seeking, Returned, Effect, Goes, Fails, Context, Calls, arriving, after, continued, alongside, given, from_value, from_store, chosen, acts, value_of, written_to, stored, set_where, store_effect, next, assigned_one, assigned, given_one, given_out, call_trace, body_outcome, made, called_type, call_effect, step_effect, line_effect, closed, nested_effect, means, called, Name, apply, negated, Reason, NoSuchPlace, first_of_reversed, with_image, type_of, Store, Item, At, Argument, StandardBody, Called, GivenOut}
 use Rattle.wc_model.specs.Language.Tree.{Term, Assignment, inputs_of, outputs_of, Step, Load, Store as StoreStep, Apply, Negate, Jump, Call, Return, Lines, End, Alone, Plain, Nested, ProgramUnit, Text}
 use Rattle.wc_model.specs.declared.image.Image.{Image}
 use Rattle.wc_model.specs.declared.operator.Condition.{Condition}

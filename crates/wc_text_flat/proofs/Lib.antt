@@ -15,7 +15,6 @@ pub mod WithinBounds
 pub mod FlatPaths
 pub mod UnitPaths
 pub mod Depths
-pub mod Skipping
 pub mod Shortness
 pub mod Outputs
 pub mod Items

@@ -5,18 +5,10 @@ use Rattle.std.specs.Prelude.{slice_get, slice_set, if◌then◌else◌}
 use Rattle.wc_text_flat.proofs.PlaceNumbers.{write_both}
 use Rattle.wc_text_flat.proofs.Sides.{Sides, flat, AreAlike, state_of, LineFollows}
 use Rattle.wc_text_flat.proofs.Values.{value_number, ReadsAs, combined_follows, flipped_follows}
-use Rattle.wc_text_flat.specs.Contents.{AreContents}
-use Rattle.wc_text_flat.specs.FlatMeaning.{State, Moved, goes_on, with_result, with_all, is_named, kind_at, may_hold, number_held, overwrites, writes, loads, applies, line_runs}
-use Rattle.wc_text_flat.specs.Lowered.{Operand, Number, At, IsPlaceOf, IsOperand, load_line, apply_line}
-use Rattle.wc_text_flat.specs.NumberOperators.{given, flipped, combined}
-use Rattle.wc_model.specs.Language.Frames.{content_number, place_number, slot_kind_of, slot_kinds}
-use Rattle.wc_model.specs.Language.Meaning.{Goes, Running, as_truth, takes_truth, alongside, value_of, written_to, from_value, from_store, next, store_effect, step_effect}
+use Rattle.wc_text_flat.specs.{AreContents, State, Moved, goes_on, with_result, with_all, is_named, kind_at, may_hold, number_held, overwrites, writes, loads, applies, line_runs, Operand, Number, At, IsPlaceOf, IsOperand, load_line, apply_line, given, flipped, combined}
+use Rattle.wc_model.specs.Definitions.{content_number, place_number, slot_kind_of, slot_kinds, Goes, Running, as_truth, takes_truth, alongside, value_of, written_to, from_value, from_store, next, store_effect, step_effect, apply, negated, Reason, NoSuchPlace, WrongKind, Scope, readable_place, writable_place, within, At as AtLine}
 use Rattle.wc_model.specs.Language.Meaning as meaning
-use Rattle.wc_model.specs.Language.Operators.{apply, negated}
-use Rattle.wc_model.specs.Language.Reasons.{Reason, NoSuchPlace, WrongKind}
-use Rattle.wc_model.specs.Language.Scopes.{Scope, readable_place, writable_place, within}
 use Rattle.wc_model.specs.Language.Store.{Location, Content, Plain, Moment, Phase, Store, with_content, value_at, same_kind, written}
-use Rattle.wc_model.specs.Language.Traces.{At as AtLine}
 use Rattle.wc_model.specs.Language.Tree.{Term, Constant, Address, Variable as NameOf, Field, Load, Store as StoreStep, Apply, Negate}
 use Rattle.wc_model.specs.declared.code.Code.{Code}
 use Rattle.wc_model.specs.declared.code.Code.TheVariants.{Store as StoreLine, Not}

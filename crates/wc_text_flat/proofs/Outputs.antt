@@ -1,23 +1,13 @@
 -- The outputs of a store are numbers of its program's frame.
-use Rattle.std.proofs.Common.{◌≡◌, ℕ, zero, suc, ◌+◌, ◌<◌, true, false, List, [], ◌∷◌, Option, Some, None, ℤ, pos, refl, sym, subst, ◌∙◌, arith}
+use Rattle.wc_model.proofs.Common.{◌≡◌, ℕ, zero, suc, ◌+◌, ◌<◌, true, false, List, [], ◌∷◌, Option, Some, None, ℤ, pos, refl, sym, subst, ◌∙◌, arith, reverse, slice_get, Result, Ok, Err, list_any}
 use Rattle.std.proofs.lemmas.List.{append-nil}
 use Rattle.std.specs.Option.{option_map}
-use Rattle.std.specs.List.{list_any}
-use Rattle.std.specs.Prelude.{reverse, slice_get}
 use Rattle.wc_text_flat.proofs.Texts.{Newest, newest}
-use Rattle.wc_text_flat.specs.Contents.{frame_of_reversed, AreContents}
-use Rattle.wc_text_flat.specs.Laws.{OutputsAreNumbers}
-use Rattle.wc_model.specs.Language.DirectVariables.{OutputBit, OutputWord, direct_variables}
-use Rattle.wc_model.specs.Language.Frames.{content_number, place_number}
-use Rattle.wc_model.specs.Language.Scans.{initial_of_reversed, bit_of, word_of}
-use Rattle.wc_model.specs.Language.Scopes.{Scope}
+use Rattle.wc_text_flat.specs.{frame_of_reversed, AreContents, OutputsAreNumbers}
+use Rattle.wc_model.specs.Definitions.{OutputBit, OutputWord, direct_variables, content_number, place_number, initial_of_reversed, bit_of, word_of, Scope, ProgramUnit, NoSuchPlace, Reason}
 use Rattle.wc_model.specs.Language.Store.{Direct, Content, Plain, Moment, Phase, Store, same_direct, value_at, initial_store, program_frame}
-use Rattle.wc_model.specs.Language.Tree.{ProgramUnit}
 use Rattle.wc_model.specs.declared.kind.SlotKind.TheVariants.{Bool as SlotBool, Dint as SlotDint}
 use Rattle.wc_model.specs.declared.value.Value.TheVariants.{Bool as Truth, Dint}
-use Rattle.wc_model.specs.Language.Reasons.{NoSuchPlace}
-use Rattle.std.proofs.Common.{Result, Ok, Err}
-use Rattle.wc_model.specs.Language.Reasons.{Reason}
 use Rattle.wc_model.specs.declared.value.Value.{Value}
 use Rattle.wc_laws_language.proofs.Places.{FitsScope-same}
 use Rattle.wc_laws_language.proofs.Programs.{first_store_fits}

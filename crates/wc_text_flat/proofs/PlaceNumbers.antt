@@ -1,11 +1,8 @@
 -- The numbers of places in a frame, and what is written there.
-use Rattle.std.proofs.Common.{◌≡◌, ℕ, zero, suc, ◌<◌, Bool, true, false, List, [], ◌∷◌, length, Some, ℤ, refl, sym, ap, ◌∙◌, arith}
-use Rattle.std.proofs.lemmas.List.{length-set}
+use Rattle.wc_model.proofs.Common.{◌≡◌, ℕ, zero, suc, ◌<◌, Bool, true, false, List, [], ◌∷◌, length, Some, ℤ, refl, sym, ap, ◌∙◌, arith, slice_get, slice_set, if◌then◌else◌, length-set}
 use Rattle.std.specs.Option.{option_map}
-use Rattle.std.specs.Prelude.{slice_get, slice_set, if◌then◌else◌}
 use Rattle.wc_text_flat.specs.Contents.{AreContents}
-use Rattle.wc_model.specs.Language.Frames.{content_number, place_number, slot_kind_of, slot_kinds}
-use Rattle.wc_model.specs.Language.Store.{Location, Content, Store, same_place, with_content}
+use Rattle.wc_model.specs.Definitions.{content_number, place_number, slot_kind_of, slot_kinds, Location, Content, Store, same_place, with_content}
 use Rattle.wc_laws_language.proofs.FramePlaces.{one_number, one_place, number_within, same_place-refl}
 use Rattle.wc_laws_language.proofs.Tests.{same_place-sound}
 

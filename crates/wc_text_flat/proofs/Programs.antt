@@ -1,27 +1,17 @@
 -- Flat codes follow the units of a text, through all depths of calls.
-use Rattle.std.proofs.Common.{◌≡◌, ℕ, zero, suc, ◌≤◌, ◌<◌, Bool, true, false, List, [], ◌∷◌, ◌++◌, length, Option, Some, None, ℤ, append_assoc, refl, sym, ap, subst, ◌∙◌, arith}
-use Rattle.std.proofs.lemmas.Bool.{eq-eqb, eqb-true}
+use Rattle.wc_model.proofs.Common.{◌≡◌, ℕ, zero, suc, ◌≤◌, ◌<◌, Bool, true, false, List, [], ◌∷◌, ◌++◌, length, Option, Some, None, ℤ, append_assoc, refl, sym, ap, subst, ◌∙◌, arith, eq-eqb, eqb-true}
 use Rattle.std.proofs.lemmas.List.{length-append}
 use Rattle.std.specs.Prelude.{◌==◌, if◌then◌else◌, reverse, slice_get}
 use Rattle.wc_text_flat.proofs.Bodies.{lines_follow}
 use Rattle.wc_text_flat.proofs.Sides.{Sides, IsBased, BodyFollows, AreAlike}
-use Rattle.wc_text_flat.specs.Contents.{AreContents}
-use Rattle.wc_text_flat.specs.FlatMeaning.{Calls, Skips, Ran, body_runs, calls_below}
-use Rattle.wc_text_flat.specs.Lowered.{IsLowered, AreLoweredAfter}
-use Rattle.wc_model.specs.Language.Declarations.{same_name, is_block, block_named}
-use Rattle.wc_model.specs.Text.Limits.{depth}
-use Rattle.wc_model.specs.Language.Frames.{slot_kinds}
+use Rattle.wc_text_flat.specs.{AreContents, Calls, Skips, Ran, body_runs, calls_below, IsLowered, AreLoweredAfter}
+use Rattle.wc_model.specs.Definitions.{same_name, is_block, block_named, depth, slot_kinds, Outcome, Running, body_means, called, Name, Scope, Location, Content, Store, ProgramUnit}
 use Rattle.wc_model.specs.Language.Meaning as meaning
-use Rattle.wc_model.specs.Language.Meaning.{Outcome, Running, body_means, called}
-use Rattle.wc_model.specs.Language.Names.{Name}
-use Rattle.wc_model.specs.Language.Scopes.{Scope}
-use Rattle.wc_model.specs.Language.Store.{Location, Content, Store}
-use Rattle.wc_model.specs.Language.Tree.{ProgramUnit}
 use Rattle.wc_model.specs.declared.code.Code.{Code}
 use Rattle.wc_model.specs.declared.kind.SlotKind.{SlotKind}
 use Rattle.wc_laws_language.proofs.Places.{Some-same}
 use Rattle.wc_laws_language.proofs.Texts.{turned}
-use Rattle.wc_laws_language.specs.Sound.{NestsSimply}
+use Rattle.wc_laws_language.specs.SoundnessLaws.{NestsSimply}
 
 -- the bodies of these units nest simply, and not too deep
 abbrev pub NestWell : List ProgramUnit → Type 0

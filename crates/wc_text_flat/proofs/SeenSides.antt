@@ -1,13 +1,8 @@
 -- When what is seen of flat code is what is seen of the tree: the relations, and one line.
 use Rattle.std.proofs.Common.{◌≡◌, ℕ, suc, ◌+◌, true, List, [], ◌∷◌, ◌++◌, map, length, Option, Some, ℤ, refl, ap, ◌∙◌, arith}
 use Rattle.wc_text_flat.proofs.Sides.{Sides, flat, IsBased, AreAlike, state_of, LineFollows, IsCourse, result_in}
-use Rattle.wc_text_flat.specs.Contents.{AreContents}
-use Rattle.wc_text_flat.specs.FlatMeaning.{State, Flow, Skips, Ended, Moved, Here, line_runs}
-use Rattle.wc_model.specs.Language.Declarations.{block_named}
-use Rattle.wc_model.specs.Language.Meaning.{Outcome, Done, Stuck, Running, Seeking, Returned, Effect, Goes, Fails}
-use Rattle.wc_model.specs.Language.Names.{Name}
-use Rattle.wc_model.specs.Language.Store.{Location, Content, Store}
-use Rattle.wc_model.specs.Language.Tree.{Lines, ProgramUnit}
+use Rattle.wc_text_flat.specs.{AreContents, State, Flow, Skips, Ended, Moved, Here, line_runs}
+use Rattle.wc_model.specs.Definitions.{block_named, Outcome, Done, Stuck, Running, Seeking, Returned, Effect, Goes, Fails, Name, Location, Content, Store, Lines, ProgramUnit}
 use Rattle.wc_model.specs.declared.code.Code.{Code}
 use Rattle.wc_model.specs.declared.code.Code.TheVariants.{LoadNumber, LoadPlace, Store as StoreLine, ApplyNumber, ApplyPlace, Not, Open, OpenNumber, OpenPlace, Close, Jump, Return, Call, ArgumentNumber, ArgumentPlace, Standard, Body}
 use Rattle.wc_text_flat.specs.FlatSeen.{FlatSeen, FlatSeenCalls, deeper, number_written, seen_moved, flat_seen_line, flat_seen_from, flat_seen, is_body_line, AreSeenAs}

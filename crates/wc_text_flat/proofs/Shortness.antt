@@ -1,17 +1,10 @@
 -- The flat lines of a unit are no more than the bytes of its text.
-use Rattle.std.proofs.Common.{◌≡◌, ℕ, zero, suc, ◌+◌, ◌≤◌, Bool, List, [], ◌∷◌, ◌++◌, map, length, Some, refl, ap, ◌∙◌, arith}
+use Rattle.wc_model.proofs.Common.{◌≡◌, ℕ, zero, suc, ◌+◌, ◌≤◌, Bool, List, [], ◌∷◌, ◌++◌, map, length, Some, refl, ap, ◌∙◌, arith, length-filter_both}
 use Rattle.std.proofs.lemmas.List.{length-append, length-map}
-use Rattle.wc_text_flat.specs.Lowered.{step_length, flat_length}
-use Rattle.wc_model.specs.Text.Grammar.{InBody, InParentheses, Setting, instruction, lines, IsOperatorOf, IsOn, bracketed, symbol, call_list, argument, unit_of, line_ends}
-use Rattle.wc_model.specs.Text.Languages.{Sequence, one, each, separated, ◌then◌}
-use Rattle.wc_model.specs.Text.Marks.{Mark, Comma, IsNamed, is_line_end}
-use Rattle.wc_model.specs.Text.Tokens.{Token, Cuts, AtEnd, Nothing, Skipped, Taken}
-use Rattle.std.proofs.lemmas.List.Filters.{length-filter_both}
+use Rattle.wc_text_flat.specs.{step_length, flat_length, AreLoweredAfter, FlatCodeIsShort}
+use Rattle.wc_model.specs.Definitions.{InBody, InParentheses, Setting, instruction, lines, IsOperatorOf, IsOn, bracketed, symbol, call_list, argument, unit_of, line_ends, Sequence, one, each, separated, ◌then◌, Mark, Comma, IsNamed, is_line_end, Token, Cuts, AtEnd, Nothing, Skipped, Taken, mark_of_token}
 use Rattle.std.specs.Prelude.{filter, not, slice_get}
 use Rattle.wc_text_flat.proofs.Bodies.{lowered_length}
-use Rattle.wc_text_flat.specs.Lowered.{AreLoweredAfter}
-use Rattle.wc_text_flat.specs.Laws.{FlatCodeIsShort}
-use Rattle.wc_model.specs.Text.Reading.{mark_of_token}
 use Rattle.wc_model.specs.declared.code.Code.{Code}
 use Rattle.wc_model.specs.Language.Tree.{ProgramUnit, Step, Load, Store as StoreStep, Apply, Negate, Jump, Call, Return, Lines, End, Alone, Plain, Nested, Assignment}
 

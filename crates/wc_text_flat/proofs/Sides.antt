@@ -2,18 +2,8 @@
 use Rattle.std.proofs.Common.{◌≡◌, ℕ, ◌+◌, Bool, true, false, List, [], ◌∷◌, ◌++◌, length, Option, Some, Result, Ok, Err, ℤ, refl, sym, ap, ◌∙◌}
 use Rattle.std.specs.Option.{option_map}
 use Rattle.wc_text_flat.proofs.Values.{value_number}
-use Rattle.wc_text_flat.specs.Contents.{AreContents}
-use Rattle.wc_text_flat.specs.FlatMeaning.{State, Flow, Skips, Ended, Ran, Calls, Here, goes_on, line_runs, counted, followed, runs}
-use Rattle.wc_text_flat.specs.Lowered.{lines_ahead}
-use Rattle.wc_text_flat.specs.NumberOperators.{given}
-use Rattle.wc_model.specs.Language.Declarations.{block_named}
-use Rattle.wc_model.specs.Language.Frames.{frame_of, place_number, slot_kinds}
-use Rattle.wc_model.specs.Language.Meaning.{Outcome, Done, Stuck, Mode, Running, Seeking, Returned, Effect, Goes, Fails, Context, chosen}
-use Rattle.wc_model.specs.Language.Names.{Name}
-use Rattle.wc_model.specs.Language.Reasons.{Reason}
-use Rattle.wc_model.specs.Language.Scopes.{Scope, within}
-use Rattle.wc_model.specs.Language.Store.{Location, Content, Store}
-use Rattle.wc_model.specs.Language.Tree.{Lines, ProgramUnit}
+use Rattle.wc_text_flat.specs.{AreContents, State, Flow, Skips, Ended, Ran, Calls, Here, goes_on, line_runs, counted, followed, runs, lines_ahead, given}
+use Rattle.wc_model.specs.Definitions.{block_named, frame_of, place_number, slot_kinds, Outcome, Done, Stuck, Mode, Running, Seeking, Returned, Effect, Goes, Fails, Context, chosen, Name, Reason, Scope, within, Location, Content, Store, Lines, ProgramUnit}
 use Rattle.wc_model.specs.declared.code.Code.{Code}
 use Rattle.wc_model.specs.declared.value.Value.{Value}
 

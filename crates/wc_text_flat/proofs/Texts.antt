@@ -1,24 +1,11 @@
 -- Flat codes mean what their text means.
-use Rattle.std.proofs.Common.{◌≡◌, ℕ, suc, ◌+◌, Bool, true, false, List, [], ◌∷◌, ◌++◌, length, Option, Some, ℤ, refl, sym, ap, subst, ◌∙◌, arith}
+use Rattle.wc_model.proofs.Common.{◌≡◌, ℕ, suc, ◌+◌, Bool, true, false, List, [], ◌∷◌, ◌++◌, length, Option, Some, ℤ, refl, sym, ap, subst, ◌∙◌, arith, if◌then◌else◌, pred, reverse, slice_get, AllByRecursion}
 use Rattle.std.proofs.lemmas.List.{length-reverse, append-nil}
-use Rattle.std.specs.List.{AllByRecursion}
-use Rattle.std.specs.Prelude.{if◌then◌else◌, pred, reverse, slice_get}
 use Rattle.wc_text_flat.proofs.Images.{image_written}
 use Rattle.wc_text_flat.proofs.Programs.{NestWell, AreCodesOf, body_follows, calls_follow, codes_of, codes_length}
 use Rattle.wc_text_flat.proofs.Sides.{IsBased, BodyFollows}
-use Rattle.wc_text_flat.specs.Contents.{frame_of_reversed, AreContents, with_image_numbers}
-use Rattle.wc_text_flat.specs.FlatMeaning.{Ran, body_runs, calls_below, program_runs}
-use Rattle.wc_text_flat.specs.Laws.{RunsAlike, FlatCodeMeansTheText, FlatCodeScansTheText}
-use Rattle.wc_model.specs.Language.BodyRules.{text_body_checks}
-use Rattle.wc_model.specs.Language.Declarations.{is_block}
-use Rattle.wc_model.specs.Language.Frames.{place_number, slot_kinds}
-use Rattle.wc_model.specs.Text.Grammar.{IsProgramLast}
-use Rattle.wc_model.specs.Text.Limits.{IsBodyWithinLimits}
-use Rattle.wc_model.specs.Language.Meaning.{Outcome, Done, Stuck, program_means, called}
-use Rattle.wc_model.specs.Language.Scans.{initial_of_reversed, first_of_reversed, with_image}
-use Rattle.wc_model.specs.Language.Scopes.{Scope, within}
-use Rattle.wc_model.specs.Language.Store.{Location, Direct, Path, Content, Store, initial_store, program_frame, unit_places}
-use Rattle.wc_model.specs.Language.Tree.{ProgramUnit}
+use Rattle.wc_text_flat.specs.{frame_of_reversed, AreContents, with_image_numbers, Ran, body_runs, calls_below, program_runs, RunsAlike, FlatCodeMeansTheText, FlatCodeScansTheText}
+use Rattle.wc_model.specs.Definitions.{text_body_checks, is_block, place_number, slot_kinds, IsProgramLast, IsBodyWithinLimits, Outcome, Done, Stuck, program_means, called, initial_of_reversed, first_of_reversed, with_image, Scope, within, Location, Direct, Path, Content, Store, initial_store, program_frame, unit_places, ProgramUnit}
 use Rattle.wc_model.specs.declared.code.Code.{Code}
 use Rattle.wc_model.specs.declared.image.Image.{Image}
 use Rattle.wc_model.specs.declared.source.UnitKind.{UnitKind}
@@ -27,9 +14,7 @@ use Rattle.wc_laws_language.proofs.Places.{SameSlots-trans, FitsScope-same}
 use Rattle.wc_laws_language.proofs.Programs.{Any, program_ends, first_store_fits, image-keeps}
 use Rattle.wc_laws_language.proofs.Spelled.{spelled_text_nests}
 use Rattle.wc_laws_language.proofs.Texts.{none_broken, turned, units_clean}
-use Rattle.wc_laws_language.specs.SoundnessLaws.{UnitsNestSimply}
-use Rattle.wc_laws_language.specs.Sound.{AreClean, EndsWell}
-use Rattle.wc_laws_language.specs.Typing.{SameSlots}
+use Rattle.wc_laws_language.specs.{UnitsNestSimply, AreClean, EndsWell, SameSlots}
 
 -- what ends well and is followed runs alike
 pub alike : (frame : List (Location × Content)) (old : Store) (o : Outcome) (run : Option Ran) → EndsWell Any old o → BodyFollows frame o run → RunsAlike frame o run

@@ -1,29 +1,19 @@
 -- What is seen of flat codes is what is seen of their text.
-use Rattle.std.proofs.Common.{◌≡◌, ℕ, suc, false, List, [], ◌∷◌, ◌++◌, length, ℤ, refl, sym, ap, subst, ◌∙◌, arith}
+use Rattle.wc_model.proofs.Common.{◌≡◌, ℕ, suc, false, List, [], ◌∷◌, ◌++◌, length, ℤ, refl, sym, ap, subst, ◌∙◌, arith, pred, reverse, slice_get}
 use Rattle.std.proofs.lemmas.List.{length-reverse, append-nil}
-use Rattle.std.specs.Prelude.{pred, reverse, slice_get}
 use Rattle.wc_text_flat.proofs.Programs.{NestWell, AreCodesOf, calls_follow, codes_of, codes_length}
 use Rattle.wc_text_flat.proofs.Texts.{program_based, all_nest_well, Newest, newest, ImageWritten, image_of_program}
-use Rattle.wc_text_flat.specs.Contents.{frame_of_reversed, AreContents, with_image_numbers}
-use Rattle.wc_text_flat.specs.FlatMeaning.{calls_below}
-use Rattle.wc_model.specs.Language.BodyRules.{text_body_checks}
-use Rattle.wc_model.specs.Language.Declarations.{is_block}
-use Rattle.wc_model.specs.Language.Frames.{slot_kinds}
-use Rattle.wc_model.specs.Language.Meaning.{Outcome, Done, Stuck, program_means}
-use Rattle.wc_model.specs.Language.Scans.{initial_of_reversed, with_image}
-use Rattle.wc_model.specs.Language.Store.{Location, Content, Store, initial_store, program_frame}
-use Rattle.wc_model.specs.Language.Tree.{ProgramUnit}
+use Rattle.wc_text_flat.specs.{frame_of_reversed, AreContents, with_image_numbers, calls_below, FlatCodeIsSeenAsTheText, sources_of_text}
+use Rattle.wc_model.specs.Definitions.{text_body_checks, is_block, slot_kinds, Outcome, Done, Stuck, program_means, initial_of_reversed, with_image, Location, Content, Store, initial_store, program_frame, ProgramUnit}
 use Rattle.wc_model.specs.declared.code.Code.{Code}
 use Rattle.wc_laws_language.proofs.Places.{FitsScope-same}
 use Rattle.wc_laws_language.proofs.Programs.{Any, program_ends, first_store_fits}
 use Rattle.wc_laws_language.proofs.Spelled.{spelled_text_nests}
 use Rattle.wc_laws_language.proofs.Texts.{none_broken, units_clean}
-use Rattle.wc_laws_language.specs.Sound.{AreClean, EndsWell}
-use Rattle.wc_laws_language.specs.Typing.{SameSlots}
+use Rattle.wc_laws_language.specs.{AreClean, EndsWell, SameSlots}
 use Rattle.wc_text_flat.proofs.ProgramsSeen.{AreSourcesOf, body_seen, calls_seen, sources_are}
 use Rattle.wc_text_flat.proofs.SeenSides.{OutcomeSeen}
 use Rattle.wc_text_flat.specs.FlatSeen.{FlatSeen, AreSeenAs, flat_seen_body, flat_seen_below, flat_seen_of_program}
-use Rattle.wc_text_flat.specs.SeenLaws.{FlatCodeIsSeenAsTheText, sources_of_text}
 use Rattle.wc_text_flat.specs.Seen.{Seen, seen_of_program, seen_of_reversed}
 
 -- what ends well is seen alike

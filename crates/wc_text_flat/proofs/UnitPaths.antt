@@ -1,25 +1,13 @@
 -- The bounds of flat codes are the lengths of their units' longest paths, and their lines are those of the worst paths.
-use Rattle.std.proofs.Common.{◌≡◌, ℕ, zero, suc, ◌+◌, ◌<◌, Bool, true, false, List, [], ◌∷◌, map, length, Option, Some, None, refl, sym, ap, subst, ◌∙◌, arith}
-use Rattle.std.specs.Prelude.{if◌then◌else◌, slice_get, slice_index}
+use Rattle.wc_model.proofs.Common.{◌≡◌, ℕ, zero, suc, ◌+◌, ◌<◌, Bool, true, false, List, [], ◌∷◌, map, length, Option, Some, None, refl, sym, ap, subst, ◌∙◌, arith, if◌then◌else◌, slice_get, slice_index}
 use Rattle.wc_text_flat.proofs.FlatPaths.{MeasuredAs, BlocksMeasured, lines_measured}
-use Rattle.wc_text_flat.specs.FlatPaths.{sources_of, Worst, worst_of}
-use Rattle.wc_text_flat.specs.Lowered.{IsLowered, AreLoweredAfter}
-use Rattle.wc_text_flat.specs.Laws.{FlatCodeHasTheWorstPath}
+use Rattle.wc_text_flat.specs.{sources_of, Worst, worst_of, IsLowered, AreLoweredAfter, FlatCodeHasTheWorstPath}
 use Rattle.wc_laws_language.proofs.Longest.{Found, best_block, best_path, computed_is_worst, computed_lines, longest_of_worst}
-use Rattle.wc_model.specs.Language.Checks.{positions_after}
-use Rattle.wc_model.specs.Language.Declarations.{same_name, is_block, block_named}
-use Rattle.wc_model.specs.Language.Frames.{scope_of_position}
-use Rattle.wc_model.specs.Language.Names.{Name}
-use Rattle.wc_model.specs.Language.Paths.{Onward, IsLongest}
-use Rattle.wc_model.specs.Language.Scopes.{Scope}
-use Rattle.wc_model.specs.Language.Traces.{Item}
-use Rattle.wc_model.specs.Language.Tree.{ProgramUnit}
-use Rattle.wc_model.specs.Language.WorstPaths.{AreWorstLines}
+use Rattle.wc_model.specs.Definitions.{positions_after, same_name, is_block, block_named, scope_of_position, Name, Onward, IsLongest, Scope, Item, ProgramUnit, AreWorstLines}
 use Rattle.wc_model.specs.declared.code.Code.{Code}
 use Rattle.wc_laws_language.proofs.Places.{Some-same}
 use Rattle.wc_laws_language.proofs.Spelled.{spelled_text_nests}
-use Rattle.wc_laws_language.specs.SoundnessLaws.{UnitsNestSimply}
-use Rattle.wc_laws_language.specs.Sound.{NestsSimply}
+use Rattle.wc_laws_language.specs.SoundnessLaws.{UnitsNestSimply, NestsSimply}
 
 -- the worst path of a unit whose blocks are known
 pub unit_measured : (bounds : List ℕ) (before : List ProgramUnit) (unit : ProgramUnit) → BlocksMeasured bounds before (best_block before) → NestsSimply unit.body → (code : List Code) → IsLowered (record { before = before; unit = unit }) unit.body code → MeasuredAs (best_path (record { before = before; unit = unit })) (worst_of bounds code (sources_of unit.body))

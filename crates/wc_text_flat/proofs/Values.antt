@@ -2,12 +2,9 @@
 use Rattle.std.proofs.Common.{◌≡◌, Bool, true, false, Option, Some, None, Result, Ok, Err, ℤ, ◌-ℤ◌, ◌*ℤ◌, refl}
 use Rattle.std.specs.Option.{option_map}
 use Rattle.wc_text_flat.specs.NumberOperators.{bit_of, flipped, combined, acts}
-use Rattle.wc_model.specs.Language.Frames.{bit_number, content_number}
+use Rattle.wc_model.specs.Definitions.{bit_number, content_number, quotient, on_truths, on_numbers, on_dints, apply, negated, Reason, wrap}
 use Rattle.wc_model.specs.Language.Meaning as meaning
-use Rattle.wc_model.specs.Language.Operators.{quotient, on_truths, on_numbers, on_dints, apply, negated}
-use Rattle.wc_model.specs.Language.Reasons.{Reason}
 use Rattle.wc_model.specs.Language.Store.{Plain}
-use Rattle.wc_model.specs.Language.Values.{wrap}
 use Rattle.wc_model.specs.declared.operator.Condition.{Condition}
 use Rattle.wc_model.specs.declared.operator.Condition.TheVariants.{Always, IfTrue, IfFalse}
 use Rattle.wc_model.specs.declared.operator.Operator.{Operator}

@@ -1,23 +1,13 @@
 -- Lowered code keeps within its bounds.
-use Rattle.std.proofs.Common.{◌≡◌, ℕ, zero, suc, ◌+◌, ◌≤◌, ◌<◌, Bool, true, false, List, [], ◌∷◌, ◌++◌, map, length, Option, Some, None, append_assoc, refl, sym, ap, subst, ◌∙◌, arith}
+use Rattle.wc_model.proofs.Common.{◌≡◌, ℕ, zero, suc, ◌+◌, ◌≤◌, ◌<◌, Bool, true, false, List, [], ◌∷◌, ◌++◌, map, length, Option, Some, None, append_assoc, refl, sym, ap, subst, ◌∙◌, arith, find, if◌then◌else◌, slice_get}
 use Rattle.std.proofs.lemmas.List.{length-append, length-map}
 use Rattle.std.specs.Option.{option_map}
-use Rattle.std.specs.Prelude.{find, if◌then◌else◌, slice_get}
 use Rattle.wc_text_flat.proofs.Bodies.{lowered_length}
 use Rattle.wc_text_flat.proofs.CallLines.{lowered_after}
 use Rattle.wc_text_flat.proofs.InstancePlaces.{all_places}
 use Rattle.wc_text_flat.proofs.Programs.{found_before}
-use Rattle.wc_text_flat.specs.Bounds.{frame_sizes, IsWithin}
-use Rattle.wc_text_flat.specs.Lowered.{Operand, Number, At, IsPlaceOf, IsOperand, argument_line, load_line, apply_line, short_line, AreArguments, AreOutputs, IsUnitBody, IsBodyOf, IsStepLowered, IsOpening, size_of, places_before, first_of_all, first_place, step_length, flat_length, lines_ahead, IsLowered, AreLoweredAfter}
-use Rattle.wc_text_flat.specs.Laws.{LoweredCodeKeepsWithin}
-use Rattle.wc_model.specs.Language.Checks.{positions_after}
-use Rattle.wc_model.specs.Language.Declarations.{Variable, VariableType, Elementary, Standard, Block, same_name, variables_of, variable_named, is_block, block_named}
-use Rattle.wc_model.specs.Language.DirectVariables.{direct_variables, kind_of_direct}
-use Rattle.wc_model.specs.Language.Frames.{frame_of, scope_of_position}
-use Rattle.wc_model.specs.Language.Meaning.{carries}
-use Rattle.wc_model.specs.Language.Names.{Name}
-use Rattle.wc_model.specs.Language.Scopes.{Scope, type_of, readable_place, writable_place}
-use Rattle.wc_model.specs.Language.Store.{Location, Direct, Path, Content, zero_of, below, variable_places, block_places, unit_places, program_frame, standard_fields}
+use Rattle.wc_text_flat.specs.{frame_sizes, IsWithin, Operand, Number, At, IsPlaceOf, IsOperand, argument_line, load_line, apply_line, short_line, AreArguments, AreOutputs, IsUnitBody, IsBodyOf, IsStepLowered, IsOpening, size_of, places_before, first_of_all, first_place, step_length, flat_length, lines_ahead, IsLowered, AreLoweredAfter, LoweredCodeKeepsWithin}
+use Rattle.wc_model.specs.Definitions.{positions_after, Variable, VariableType, Elementary, Standard, Block, same_name, variables_of, variable_named, is_block, block_named, direct_variables, kind_of_direct, frame_of, scope_of_position, carries, Name, Scope, type_of, readable_place, writable_place, Location, Direct, Path, Content, zero_of, below, variable_places, block_places, unit_places, program_frame, standard_fields}
 use Rattle.wc_model.specs.Language.Tree.{Term, Constant, Address, Variable as NameOf, Field, Assignment, inputs_of, outputs_of, Step, Load, Store as StoreStep, Apply, Negate, Jump, Call, Return, Lines, End, Alone, Plain, Nested, ProgramUnit}
 use Rattle.wc_model.specs.declared.code.Code.{Code}
 use Rattle.wc_model.specs.declared.code.Code.TheVariants.{Close}

@@ -1,23 +1,12 @@
 -- Flat code and the text that it is: statements.
 use Rattle.std.specs.Prelude.{◌≡◌, ℕ, suc, ◌+◌, ◌<◌, ◌≤◌, List, drop, reverse, length, Option, Some, None, option_map, ℤ, slice_get, slice_index, pos}
-use Rattle.wc_text_flat.specs.Bounds.{frame_sizes, IsWithin}
+use Rattle.wc_text_flat.specs.Bounds.{frame_sizes, IsWithin, IsDepthRight}
 use Rattle.wc_text_flat.specs.Contents.{frame_of_text, AreContents, with_image_numbers}
-use Rattle.wc_text_flat.specs.Depths.{IsDepthRight}
 use Rattle.wc_text_flat.specs.FlatMeaning.{State, Skips, Ended, Ran, Here, ended, runs, calls_below, unit_runs, program_runs}
 use Rattle.wc_text_flat.specs.FlatPaths.{sources_of, worst_of}
 use Rattle.wc_text_flat.specs.Lowered.{AreLowered}
-use Rattle.wc_model.specs.Language.DirectVariables.{OutputBit, OutputWord}
-use Rattle.wc_model.specs.Language.Faults.{body_fault}
-use Rattle.wc_model.specs.Language.Frames.{content_number, first_numbers, scopes_of, slot_kinds}
-use Rattle.wc_model.specs.Language.Meaning.{Outcome, Done, Stuck, program_means}
-use Rattle.wc_model.specs.Language.Paths.{IsLongest}
-use Rattle.wc_model.specs.Text.Reading.{IsRead}
-use Rattle.wc_model.specs.Language.Scans.{first_of_reversed, initial_of, scan_of, bit_of, word_of}
-use Rattle.wc_model.specs.Language.Scopes.{Scope}
+use Rattle.wc_model.specs.Definitions.{OutputBit, OutputWord, body_fault, content_number, first_numbers, scopes_of, slot_kinds, Outcome, Done, Stuck, program_means, IsLongest, IsRead, first_of_reversed, initial_of, scan_of, bit_of, word_of, Scope, most_bytes, Text, AreWorstLines}
 use Rattle.wc_model.specs.Language.Store.{Location, Direct, Content, Plain, Store, value_at}
-use Rattle.wc_model.specs.Text.Tokens.{most_bytes}
-use Rattle.wc_model.specs.Language.Tree.{Text}
-use Rattle.wc_model.specs.Language.WorstPaths.{AreWorstLines}
 use Rattle.wc_model.specs.declared.code.Code.{Code}
 use Rattle.wc_model.specs.declared.image.Image.{Image}
 use Rattle.wc_model.specs.declared.kind.SlotKind.{SlotKind}

@@ -1,11 +1,6 @@
 -- When flat lines are the lowered body of a unit (the profile's own).
 use Rattle.std.specs.Prelude.{◌≡◌, ℕ, ◌+◌, Bool, List, [], ◌∷◌, ◌++◌, length, Option, Some, None, option_map, if◌then◌else◌, ℤ, pos, ◌-ℤ◌}
-use Rattle.wc_model.specs.Language.Declarations.{Variable, VariableType, Elementary, Standard as StandardType, Block, same_name, type_named, variables_of, is_block, block_named}
-use Rattle.wc_model.specs.Language.DirectVariables.{direct_variables}
-use Rattle.wc_model.specs.Language.Frames.{content_number, frame_of, place_number}
-use Rattle.wc_model.specs.Language.Meaning.{carries}
-use Rattle.wc_model.specs.Language.Names.{Name}
-use Rattle.wc_model.specs.Language.Scopes.{Scope, type_of, readable_place, writable_place}
+use Rattle.wc_model.specs.Definitions.{Variable, VariableType, Elementary, Standard as StandardType, Block, same_name, type_named, variables_of, is_block, block_named, direct_variables, content_number, frame_of, place_number, carries, Name, Scope, type_of, readable_place, writable_place}
 use Rattle.wc_model.specs.Language.Store.{Location, Path, Plain as PlainContent, block_places, variable_places}
 use Rattle.wc_model.specs.Language.Tree.{Term, Constant, Address, Variable as NameOf, Field, Assignment, inputs_of, outputs_of, Step, Load, Store as StoreStep, Apply, Negate, Jump as JumpStep, Call as CallStep, Return as ReturnStep, Lines, End, Alone, Plain, Nested, ProgramUnit, Text}
 use Rattle.wc_model.specs.declared.code.Code.{Code}

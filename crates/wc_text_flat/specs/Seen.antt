@@ -1,15 +1,7 @@
 -- What a scan executes, item by item, with the result and the store after each: the trace with what can be seen at each of its
 -- items. (The profile's own; what the lines do is IEC 61131-3:2003, 3.2.)
 use Rattle.std.specs.Prelude.{ℕ, true, false, List, [], ◌∷◌, ◌++◌, map, reverse, Option, Some, None, Result, Ok, Err}
-use Rattle.wc_model.specs.Language.BlockCalls.{standard_called}
-use Rattle.wc_model.specs.Language.Declarations.{VariableType, Elementary, Standard, Block, Member, same_name, members_of}
-use Rattle.wc_model.specs.Language.Meaning.{Outcome, Done, Stuck, Mode, Running, Seeking, Returned, Effect, Goes, Fails, Context, arriving, value_of, acts, assigned_one, assigned, body_outcome, given_one, step_effect, line_effect, closed, nested_effect, means, called}
-use Rattle.wc_model.specs.Language.Names.{Name}
-use Rattle.wc_model.specs.Language.Reasons.{Reason}
-use Rattle.wc_model.specs.Language.Scans.{with_image}
-use Rattle.wc_model.specs.Language.Scopes.{type_of}
-use Rattle.wc_model.specs.Language.Store.{Store}
-use Rattle.wc_model.specs.Language.Traces.{Item, At, Argument, StandardBody, Called, GivenOut}
+use Rattle.wc_model.specs.Definitions.{standard_called, VariableType, Elementary, Standard, Block, Member, same_name, members_of, Outcome, Done, Stuck, Mode, Running, Seeking, Returned, Effect, Goes, Fails, Context, arriving, value_of, acts, assigned_one, assigned, body_outcome, given_one, step_effect, line_effect, closed, nested_effect, means, called, Name, Reason, with_image, type_of, Store, Item, At, Argument, StandardBody, Called, GivenOut}
 use Rattle.wc_model.specs.Language.Tree.{Term, Assignment, inputs_of, outputs_of, Step, Load, Store as StoreStep, Apply, Negate, Jump, Call, Return, Lines, End, Alone, Plain, Nested, ProgramUnit, Text}
 use Rattle.wc_model.specs.declared.image.Image.{Image}
 use Rattle.wc_model.specs.declared.operator.Operator.{Operator}

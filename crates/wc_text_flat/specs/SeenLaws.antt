@@ -3,13 +3,7 @@ use Rattle.std.specs.Prelude.{◌≡◌, ℕ, List, map, None, ℤ}
 use Rattle.wc_text_flat.specs.Contents.{frame_of_text, AreContents, with_image_numbers}
 use Rattle.wc_text_flat.specs.FlatPaths.{sources_of}
 use Rattle.wc_text_flat.specs.Lowered.{AreLowered}
-use Rattle.wc_model.specs.Language.Faults.{body_fault}
-use Rattle.wc_model.specs.Language.Frames.{slot_kinds}
-use Rattle.wc_model.specs.Language.Meaning.{Outcome, Done, Stuck}
-use Rattle.wc_model.specs.Language.Scans.{initial_of, scan_of}
-use Rattle.wc_model.specs.Language.Store.{Store}
-use Rattle.wc_model.specs.Language.Tree.{Text}
-use Rattle.wc_model.specs.Text.Reading.{IsRead}
+use Rattle.wc_model.specs.Definitions.{body_fault, slot_kinds, Outcome, Done, Stuck, initial_of, scan_of, Store, Text, IsRead}
 use Rattle.wc_model.specs.declared.code.Code.{Code}
 use Rattle.wc_model.specs.declared.image.Image.{Image}
 use Rattle.wc_laws_language.specs.Typing.{SameSlots}

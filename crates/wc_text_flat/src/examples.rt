@@ -1,7 +1,6 @@
 ghost use Rattle.wc_text_flat.specs.Lowered.{IsLowered};
-ghost use Rattle.wc_text_flat.specs.LoweredExample.{lowered_scope, lowered_body, lowered_code};
+ghost use Rattle.wc_text_flat.specs.Examples.{lowered_scope, lowered_body, lowered_code, jump_runs, jump_ran, parenthesis_runs, parenthesis_ran, timer_runs, timer_ran, call_runs, call_ran, stray_runs, double_runs, moment_runs, unopened_runs};
 ghost use Rattle.std.specs.Prelude.{◌≡◌, Some, None};
-ghost use Rattle.wc_text_flat.specs.Examples.{jump_runs, jump_ran, parenthesis_runs, parenthesis_ran, timer_runs, timer_ran, call_runs, call_ran, stray_runs, double_runs, moment_runs, unopened_runs};
 
 /// A jump passes over the lines between.
 pub fn jump_passes_over()

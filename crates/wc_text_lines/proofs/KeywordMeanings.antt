@@ -1,14 +1,12 @@
 -- What a reserved word represents is found in the tables of the grammar.
 use Rattle.std.proofs.Common.{◌≡◌, Bool, true, false, List, [], ◌∷◌, Option, Some, if◌then◌else◌, true≢false, refl, sym, ◌∙◌}
-use Rattle.std.specs.Prelude.{option_and_then}
-use Rattle.std.specs.List.{list_all}
+use Rattle.wc_model.proofs.Common.{option_and_then, list_all}
 use Rattle.wc_built_in.proofs.WordTables.{AreRead, found_in_part, same_name_turned, is_allowed_in}
 use Rattle.wc_built_in.specs.Keywords.{keywords}
 use Rattle.wc_built_in.specs.declared.keyword.Keyword.{Keyword}
 use Rattle.wc_laws_grammar.specs.Words.{found, operations, section_words, unit_kinds}
 use Rattle.wc_text_lines.specs.Meanings.{operation_for, section_for, unit_for}
-use Rattle.wc_model.specs.Language.Declarations.{named_in, same_name}
-use Rattle.wc_model.specs.Language.Names.{Name}
+use Rattle.wc_model.specs.Definitions.{named_in, same_name, Name}
 
 -- both ways to look a name up
 found_is : {X : Type 0} (rows : List (Name × X)) (name : Name) → named_in rows name ≡ found rows name

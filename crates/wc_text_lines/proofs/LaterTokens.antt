@@ -1,13 +1,10 @@
 -- A later token of a line, if it is none of those that have a case of their own.
 use Rattle.std.proofs.Common.{◌≡◌, ℕ, Bool, List, refl}
-use Rattle.wc_laws_grammar.specs.LineMoves.{AtValue, StartedLine, Formal, Listed, Named, OfArgument, OfOpening, OfStep, OperandOf, at_bracketed, at_list, at_operand, at_operated, after_name, line_move}
-use Rattle.wc_laws_grammar.specs.Words.{Applies}
+use Rattle.wc_laws_grammar.specs.{AtValue, StartedLine, Formal, Listed, Named, OfArgument, OfOpening, OfStep, OperandOf, at_bracketed, at_list, at_operand, at_operated, after_name, line_move, Applies}
 use Rattle.wc_lexer.specs.Views.{shape_view}
 use Rattle.wc_lexer.specs.declared.shape.Shape.{Shape}
 use Rattle.wc_lexer.specs.declared.shape.Shape.TheVariants.{LineEnd, Opening, Point}
-use Rattle.wc_model.specs.Language.Names.{Name}
-use Rattle.wc_model.specs.Text.Grammar.{Setting}
-use Rattle.wc_model.specs.Text.Reading.{symbol_of}
+use Rattle.wc_model.specs.Definitions.{Name, Setting, symbol_of}
 use Rattle.wc_model.specs.declared.operator.Operator.{Operator}
 
 -- after a deferrable operator, other than its bracket

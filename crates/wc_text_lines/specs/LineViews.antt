@@ -4,8 +4,7 @@ use Rattle.wc_laws_grammar.specs.LineMoves as lines
 use Rattle.wc_laws_grammar.specs.Words.{step_of}
 use Rattle.wc_lexer.specs.declared.shape.Token.{Token}
 use Rattle.wc_model.specs.Language.Tree as tree
-use Rattle.wc_model.specs.Language.Views.{assignment_view, name_view, term_view, word_view}
-use Rattle.wc_model.specs.Text.Grammar.{Setting}
+use Rattle.wc_model.specs.Definitions.{assignment_view, name_view, term_view, word_view, Setting}
 use Rattle.wc_text_lines.specs.Words.{operating_view, symbol_view}
 use Rattle.wc_text_lines.specs.declared.line_state.StartedLine.{StartedLine}
 use Rattle.wc_text_lines.specs.declared.line_state.Formal.{Formal}

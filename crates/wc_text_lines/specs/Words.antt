@@ -3,8 +3,7 @@ use Rattle.std.specs.Prelude.{List, map}
 use Rattle.wc_laws_grammar.specs.Words as words
 use Rattle.wc_lexer.specs.Views.{shape_view, token_view}
 use Rattle.wc_lexer.specs.declared.shape.Token.{Token}
-use Rattle.wc_model.specs.Text.Marks.{Symbol, Mark}
-use Rattle.wc_model.specs.Text.Reading.{symbol_of, mark_of_token}
+use Rattle.wc_model.specs.Definitions.{Symbol, Mark, symbol_of, mark_of_token}
 use Rattle.wc_text_lines.specs.declared.operators.Operating.{Operating}
 use Rattle.wc_text_lines.specs.declared.operators.Operating.TheVariants.{Loads, Stores, Applies}
 use Rattle.wc_text_lines.specs.declared.operators.Operation.{Operation}

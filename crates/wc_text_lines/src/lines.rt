@@ -1,10 +1,8 @@
 ghost use Rattle.std.specs.Prelude.{◌≡◌, ℕ, Bool, false, IfOk, Option, option_map};
 ghost use Rattle.wc_laws_grammar.specs.LineMoves as lines;
 ghost use Rattle.wc_laws_grammar.specs.Words as words;
-ghost use Rattle.wc_model.specs.Text.Grammar.{Setting, InBody, InParentheses};
-ghost use Rattle.wc_model.specs.Language.Names.{name_of};
+ghost use Rattle.wc_model.specs.Definitions.{Setting, InBody, InParentheses, name_of, word_view};
 ghost use Rattle.wc_model.specs.Language.Tree as tree;
-ghost use Rattle.wc_model.specs.Language.Views.{word_view};
 ghost use Rattle.wc_text_lines.specs.LineViews.{LeadsTo, started_view, in_line_view, line_state_view};
 ghost use Rattle.wc_text_lines.specs.Words.{operating_view, operation_view, symbol_view};
 

@@ -1,9 +1,7 @@
 ghost use Rattle.std.specs.Prelude.{◌≡◌};
 ghost use Rattle.wc_laws_grammar.specs.Words as words;
 ghost use Rattle.wc_text_lines.specs.Meanings.{section_for, unit_for};
-ghost use Rattle.wc_model.specs.Language.Declarations.{same_name};
-ghost use Rattle.wc_model.specs.Language.Names.{name_of};
-ghost use Rattle.wc_model.specs.Text.Keywords.{end_var, end_word};
+ghost use Rattle.wc_model.specs.Definitions.{same_name, name_of, end_var, end_word};
 
 use wc_built_in::{END_FUNCTION_BLOCK, END_PROGRAM, END_VAR, FALSE, Keyword, TRUE, keyword_named};
 use wc_lexer::Token;

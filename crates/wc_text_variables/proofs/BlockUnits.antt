@@ -1,16 +1,9 @@
 -- The block to which a name leads from a unit of a text is a unit of the text.
-use Rattle.std.proofs.Common.{◌≡◌, ℕ, zero, suc, Bool, true, false, List, [], ◌∷◌, map, length, Option, Some, None, sym, subst, refl}
-use Rattle.std.specs.Prelude.{if◌then◌else◌, slice_get}
+use Rattle.wc_model.proofs.Common.{◌≡◌, ℕ, zero, suc, Bool, true, false, List, [], ◌∷◌, map, length, Option, Some, None, sym, subst, refl, if◌then◌else◌, slice_get}
 use Rattle.wc_cost.proofs.TextUnits.{unit_at}
 use Rattle.wc_laws_language.proofs.Places.{Some-same}
-use Rattle.wc_model.specs.Language.Checks.{positions_after}
-use Rattle.wc_model.specs.Language.Declarations.{block_named, is_block, same_name}
-use Rattle.wc_model.specs.Language.Frames.{scope_of_position}
-use Rattle.wc_model.specs.Language.Names.{Name}
-use Rattle.wc_model.specs.Language.Scopes.{Scope}
-use Rattle.wc_model.specs.Language.Tree.{ProgramUnit, Text}
-use Rattle.wc_names.specs.Numbered.{IsUnit}
-use Rattle.wc_names.specs.RepresentsText.{onto}
+use Rattle.wc_model.specs.Definitions.{positions_after, block_named, is_block, same_name, scope_of_position, Name, Scope, ProgramUnit, Text}
+use Rattle.wc_names.specs.{IsUnit, onto}
 
 -- what follows a unit and those before it in a text
 split : (before units : List ProgramUnit) (k : ℕ) (scope : Scope) → slice_get (map scope_of_position (positions_after before units)) k ≡ Some scope

@@ -1,23 +1,15 @@
 -- What a path leads to in a text, by numbers.
-use Rattle.std.proofs.Common.{◌≡◌, ℕ, Bool, Bor, List, map, true, false, Option, Some, None, refl, sym, ap, ◌∙◌}
-use Rattle.std.proofs.lemmas.Simd.{map-map}
+use Rattle.wc_model.proofs.Common.{◌≡◌, ℕ, Bool, Bor, List, map, true, false, Option, Some, None, refl, sym, ap, ◌∙◌, map-map}
 use Rattle.std.specs.Prelude.{if◌then◌else◌, ◌&&◌, option_and_then, reverse, slice_get, not}
 use Rattle.std.specs.Option.{is_none, option_map}
 use Rattle.wc_built_in.specs.Fields.{field_seen, is_named, member_seen, named_seen, value_kind}
 use Rattle.wc_built_in.specs.declared.fields.StandardField.{StandardField}
 use Rattle.wc_text_flat.proofs.Images.{first_of_reversed}
-use Rattle.wc_model.specs.Language.CarriedPlaces.{frame_of_text}
-use Rattle.wc_model.specs.Language.Declarations.{Member}
-use Rattle.wc_model.specs.Language.DirectVariables.{DirectVariable, variable_at}
-use Rattle.wc_model.specs.Language.Frames.{place_number, slot_kind_of, slot_kinds}
-use Rattle.wc_model.specs.Language.Names.{name_of}
-use Rattle.wc_model.specs.Language.Scans.{initial_of}
+use Rattle.wc_model.specs.Definitions.{frame_of_text, Member, DirectVariable, variable_at, place_number, slot_kind_of, slot_kinds, name_of, initial_of, Text}
 use Rattle.wc_model.specs.Language.Store.{Location, Direct, Path, Content, Plain, Moment, Phase}
-use Rattle.wc_model.specs.Language.Tree.{Text}
 use Rattle.wc_model.specs.declared.kind.Kind.{Kind}
 use Rattle.wc_model.specs.declared.value.Value.TheVariants.{Bool as Truth, Dint, Time}
-use Rattle.wc_text_variables.specs.Numbered.{variable_at_location, variable_named, numbered_variable}
-use Rattle.wc_text_variables.specs.Names.{if_readable, is_address, is_hidden, is_value, parts_in}
+use Rattle.wc_text_variables.specs.Names.{variable_at_location, variable_named, numbered_variable, if_readable, is_address, is_hidden, is_value, parts_in}
 use Rattle.wc_text_variables.specs.declared.variables.NamedVariable.{NamedVariable}
 
 -- a field that texts see is a member, and another one is not

@@ -1,20 +1,13 @@
 -- What a name means has a value of its kind in a store of the text, and a number.
-use Rattle.std.proofs.Common.{◌≡◌, ℕ, ◌+◌, List, [], ◌∷◌, Bool, true, false, cond, Option, Some, None, Result, Ok, Err, refl, ap, ◌∙◌}
+use Rattle.wc_model.proofs.Common.{◌≡◌, ℕ, ◌+◌, List, [], ◌∷◌, Bool, true, false, cond, Option, Some, None, Result, Ok, Err, refl, ap, ◌∙◌, position_from}
 use Rattle.std.specs.Prelude.{◌&&◌, if◌then◌else◌, not, reverse, is_some, option_and_then, option_map}
-use Rattle.std.specs.List.{position_from}
 use Rattle.wc_text_flat.specs.Contents.{number_in}
-use Rattle.wc_model.specs.Language.CarriedPlaces.{frame_of_reversed, frame_of_text}
-use Rattle.wc_model.specs.Language.Frames.{content_number, place_number}
-use Rattle.wc_model.specs.Language.Reasons.{Reason, NoSuchPlace}
-use Rattle.wc_model.specs.Language.Scans.{initial_of, initial_of_reversed}
-use Rattle.wc_model.specs.Language.Scopes.{kind_of}
+use Rattle.wc_model.specs.Definitions.{frame_of_reversed, frame_of_text, content_number, place_number, Reason, NoSuchPlace, initial_of, initial_of_reversed, kind_of, ProgramUnit, Text}
 use Rattle.wc_model.specs.Language.Store.{Location, Content, Plain, Moment, Phase, Store, program_frame, same_place, store_of}
-use Rattle.wc_model.specs.Language.Tree.{ProgramUnit, Text}
 use Rattle.wc_model.specs.declared.value.Value.{Value}
 use Rattle.wc_laws_language.proofs.Places.{value_there}
 use Rattle.wc_laws_language.specs.Typing.{SameSlots, slot_of}
-use Rattle.wc_text_variables.specs.Numbered.{variable_at_location, variable_named, numbered_variable}
-use Rattle.wc_text_variables.specs.Names.{if_readable, is_hidden, is_value, is_readable, named_location, place_named}
+use Rattle.wc_text_variables.specs.Names.{variable_at_location, variable_named, numbered_variable, if_readable, is_hidden, is_value, is_readable, named_location, place_named}
 use Rattle.wc_text_variables.specs.declared.variables.NamedVariable.{NamedVariable}
 
 -- a place with a value holds it

@@ -2,11 +2,7 @@
 use Rattle.std.proofs.Common.{◌≡◌, ℕ, Bool, false, List, [], ◌∷◌, Option, Some, None, refl, sym, ap, length}
 use Rattle.std.specs.Prelude.{option_and_then, option_map}
 use Rattle.wc_cost.proofs.WholeTexts.{Last}
-use Rattle.wc_model.specs.Language.Declarations.{VariableType, Elementary, Standard, Block, block_named}
-use Rattle.wc_model.specs.Language.Names.{Name}
-use Rattle.wc_model.specs.Language.Scopes.{Scope, type_of}
-use Rattle.wc_model.specs.Language.Store.{Path}
-use Rattle.wc_model.specs.Language.Tree.{ProgramUnit, Text}
+use Rattle.wc_model.specs.Definitions.{VariableType, Elementary, Standard, Block, block_named, Name, Scope, type_of, Path, ProgramUnit, Text}
 use Rattle.wc_names.specs.Numbered.{IsUnit, numbered_type}
 use Rattle.wc_names.specs.declared.declared_type.DeclaredType.{DeclaredType}
 use Rattle.wc_names.specs.declared.declared_type.DeclaredType.TheVariants as numbered

@@ -1,15 +1,10 @@
--- What the name of a variable means in a text, as a person writes it for a program's variables. (The profile's own.)
-use Rattle.std.specs.Prelude.{ℕ, ◌==◌, Bool, true, false, not, ◌&&◌, List, [], ◌∷◌, map, reverse, Option, Some, None, option_map, option_and_then, if◌then◌else◌}
+-- What the name of a variable means in a text, as a person writes it for a program's variables, also by the number of its place. (The profile's own.)
+use Rattle.std.specs.Prelude.{ℕ, ◌==◌, Bool, true, false, not, ◌&&◌, List, [], ◌∷◌, map, reverse, Option, Some, None, option_map, option_and_then, if◌then◌else◌, is_none}
 use Rattle.std.specs.List.{slice_split}
-use Rattle.std.specs.Option.{is_none}
-use Rattle.wc_model.specs.Language.Declarations.{VariableType, Standard, Block, block_named, member_named, standard_members}
-use Rattle.wc_model.specs.Language.DirectVariables.{variable_at}
-use Rattle.wc_model.specs.Language.Names.{Name, name_of}
-use Rattle.wc_model.specs.Language.Scans.{initial_of}
-use Rattle.wc_model.specs.Language.Scopes.{type_of}
+use Rattle.wc_model.specs.Definitions.{VariableType, Standard, Block, block_named, member_named, standard_members, variable_at, Name, name_of, initial_of, type_of, kind_of, ProgramUnit, Text, frame_of_text, place_number}
 use Rattle.wc_model.specs.Language.Store.{Location, Direct, Path, Content, Plain}
-use Rattle.wc_model.specs.Language.Tree.{ProgramUnit, Text}
 use Rattle.wc_model.specs.declared.block.StandardBlock.{StandardBlock}
+use Rattle.wc_text_variables.specs.declared.variables.NamedVariable.{NamedVariable}
 
 -- the parts of a name are between its dots
 abbrev pub parts_in : List ℕ → List (List ℕ)
@@ -58,3 +53,15 @@ if_readable text place = if is_readable text place then Some place else None
 
 abbrev pub named_location : Text → List ℕ → Option Location
 named_location text name = option_and_then (if_readable text) (place_named name)
+
+-- a value by its kind, and the number of its place
+abbrev pub numbered_variable : Option Content → Option ℕ → Option NamedVariable
+numbered_variable (Some (Plain value)) (Some n) = Some (record { place = record { 0 = n }; kind = kind_of value })
+numbered_variable content number = None
+
+abbrev pub variable_at_location : Text → Location → Option NamedVariable
+variable_at_location text place = numbered_variable (initial_of text place) (place_number (frame_of_text text) place)
+
+-- what a name means in a text, by the number of its place
+abbrev pub variable_named : Text → List ℕ → Option NamedVariable
+variable_named text name = option_and_then (variable_at_location text) (named_location text name)

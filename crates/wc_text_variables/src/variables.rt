@@ -1,13 +1,7 @@
-ghost use Rattle.std.specs.Prelude.{◌≡◌, IfOk, IsOkUnless, drop, map, option_and_then, slice_get};
-ghost use Rattle.std.specs.Option.{is_none};
+ghost use Rattle.std.specs.Prelude.{◌≡◌, IfOk, IsOkUnless, drop, map, option_and_then, slice_get, is_none};
 ghost use Rattle.wc_built_in.specs.Fields.{is_named, value_kind};
-ghost use Rattle.wc_model.specs.Language.Declarations.{member_named, standard_members};
-ghost use Rattle.wc_model.specs.Language.Frames.{location_of};
-ghost use Rattle.wc_model.specs.Language.Names.{name_of};
-ghost use Rattle.wc_model.specs.Language.Store.{Path as Named};
-ghost use Rattle.wc_model.specs.Language.Views.{text_view};
-ghost use Rattle.wc_text_variables.specs.Names.{is_address, is_hidden, is_hidden_field, parts_in};
-ghost use Rattle.wc_text_variables.specs.Numbered.{variable_at_location, variable_named};
+ghost use Rattle.wc_model.specs.Definitions.{member_named, standard_members, location_of, name_of, Path as Named, text_view};
+ghost use Rattle.wc_text_variables.specs.Names.{is_address, is_hidden, is_hidden_field, parts_in, variable_at_location, variable_named};
 
 use std::alloc::{AllocError, Global};
 use wc_built_in::field_named;

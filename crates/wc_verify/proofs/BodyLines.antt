@@ -1,16 +1,10 @@
 -- The lines of the code as lines of a body, and the number of them that carry a label.
 use Rattle.std.proofs.Common.{◌≡◌, ℕ, ◌+◌, ◌≤◌, Bool, true, false, List, [], Option, Some, None, option_map, add-zero, zero-add, arith, refl, sym, ap, ◌∙◌}
-use Rattle.wc_model.specs.Language.Kinds.{BodyLine, label_of, lines_of}
-use Rattle.wc_model.specs.Language.Meaning.{carries}
-use Rattle.wc_model.specs.Language.Names.{Name}
-use Rattle.wc_model.specs.Language.Scopes.{Scope}
-use Rattle.wc_model.specs.Language.Tree.{Word, Lines}
-use Rattle.wc_model.specs.Language.Views.{label_view, line_view, word_view}
+use Rattle.wc_model.specs.Definitions.{BodyLine, label_of, lines_of, carries, Name, Scope, Word, Lines, label_view, line_view, word_view}
 use Rattle.wc_model.specs.declared.tree.Instr.{Instr, out-Instr}
 use Rattle.wc_model.specs.declared.tree.Instr.TheOpen.{Instr-F}
 use Rattle.wc_model.specs.declared.tree.Line.{Line}
-use Rattle.wc_verify.specs.Instructions.{instr_line, opened_line}
-use Rattle.wc_verify.specs.Rows.{carriers, counted_row, one_more, row_at, row_named}
+use Rattle.wc_verify.specs.{instr_line, opened_line, carriers, counted_row, one_more, row_at, row_named}
 use Rattle.wc_verify.specs.declared.labels.Row.{Row}
 use Rattle.wc_verify.specs.declared.edges.Way.TheVariants.{Unseen}
 use Rattle.wc_verify.proofs.InstrLines.{lines_put, view_instr, view_none}

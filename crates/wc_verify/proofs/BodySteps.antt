@@ -1,26 +1,14 @@
 -- What is kept of a body after a line, from what is kept before it.
 use Rattle.std.proofs.Common.{◌≡◌, ℕ, suc, ◌-◌, nat_lt, Bool, true, false, List, [], ◌∷◌, ◌++◌, Option, Some, None, Result, Ok, Err, option_map, arith, refl, sym, ap, ◌∙◌}
-use Rattle.std.proofs.lemmas.Bool.{lt-ltb}
-use Rattle.std.specs.List.{list_any}
+use Rattle.wc_model.proofs.Common.{lt-ltb, list_any}
 use Rattle.std.specs.Prelude.{◌||◌, OnOk, if◌then◌else◌}
-use Rattle.wc_model.specs.Language.BodyRules.{is_ahead, label_rules, line_rules}
-use Rattle.wc_model.specs.Language.Checks.{Check, first_broken}
-use Rattle.wc_model.specs.Language.Validation.{Validates}
-use Rattle.wc_model.specs.Language.Kinds.{BodyLine, AloneLine, jumps_to, kind_after, kind_at, kinds_from_jumps, kinds_from_label, known_kinds, label_of, leaves, lines_of}
-use Rattle.wc_model.specs.Language.Meaning.{carries}
-use Rattle.wc_model.specs.Language.Names.{Name}
-use Rattle.wc_model.specs.Language.Scopes.{Scope}
-use Rattle.wc_model.specs.Language.Tree.{Word, Lines}
-use Rattle.wc_model.specs.Language.Views.{label_view, line_view, word_view}
+use Rattle.wc_model.specs.Definitions.{is_ahead, label_rules, line_rules, Check, first_broken, Validates, BodyLine, AloneLine, jumps_to, kind_after, kind_at, kinds_from_jumps, kinds_from_label, known_kinds, label_of, leaves, lines_of, carries, Name, Scope, Word, Lines, label_view, line_view, word_view}
 use Rattle.wc_model.specs.declared.fault.Fault.{Fault}
 use Rattle.wc_model.specs.declared.fault.Fault.TheVariants.{Refused, Memory}
 use Rattle.wc_model.specs.declared.kind.Kind.{Kind}
 use Rattle.wc_model.specs.declared.tree.Instr.{Instr}
 use Rattle.wc_model.specs.declared.tree.Line.{Line}
-use Rattle.wc_verify.specs.Bodies.{CountsLines, GetsTo, GoesTo, HandsOn, IsAt, asked_of, way_after}
-use Rattle.wc_verify.specs.Instructions.{GoesOn, instr_line}
-use Rattle.wc_verify.specs.Rows.{carriers, entered_row, jumped_row, one_more, row_at, row_named, way_to}
-use Rattle.wc_verify.specs.Edges.{joined_edges, kind_of_way, labelled_way, way_of, with_way}
+use Rattle.wc_verify.specs.{CountsLines, GetsTo, GoesTo, HandsOn, IsAt, asked_of, way_after, carriers, entered_row, jumped_row, one_more, row_at, row_named, way_to, joined_edges, kind_of_way, labelled_way, way_of, with_way, GoesOn, instr_line}
 use Rattle.wc_verify.specs.declared.labels.Row.{Row}
 use Rattle.wc_verify.specs.declared.edges.Way.{Way}
 use Rattle.wc_verify.specs.declared.edges.Way.TheVariants.{Unseen, Agreed}

@@ -1,12 +1,7 @@
 -- What is found of the bodies of a text, unit by unit.
-use Rattle.std.proofs.Common.{◌≡◌, ℕ, zero, suc, ◌+◌, List, [], ◌∷◌, ◌++◌, map, Some, drop, add-one, refl, ap, ◌∙◌}
-use Rattle.std.specs.List.{flat_map}
-use Rattle.std.specs.Prelude.{slice_get}
-use Rattle.wc_model.specs.Language.BodyRules.{body_rules}
+use Rattle.wc_model.proofs.Common.{◌≡◌, ℕ, zero, suc, ◌+◌, List, [], ◌∷◌, ◌++◌, map, Some, drop, add-one, refl, ap, ◌∙◌, slice_get, flat_map}
+use Rattle.wc_model.specs.Definitions.{body_rules, body_fault, scope_of_position, scopes_of, ProgramUnit, Text}
 use Rattle.wc_model.specs.Language.Checks.{Check, Position, first_broken, positions_after}
-use Rattle.wc_model.specs.Language.Faults.{body_fault}
-use Rattle.wc_model.specs.Language.Frames.{scope_of_position, scopes_of}
-use Rattle.wc_model.specs.Language.Tree.{ProgramUnit, Text}
 
 -- where a list from an index on begins
 first_there : {X : Type 0} (xs : List X) (i : ℕ) (y : X) (ys : List X) → drop i xs ≡ y ∷ ys → slice_get xs i ≡ Some y

@@ -1,27 +1,16 @@
 -- What is found of the arguments of a call.
-use Rattle.std.proofs.Common.{◌≡◌, ℕ, Bool, true, false, not, List, [], ◌∷◌, ◌++◌, Option, Some, None, Result, Ok, Err, length, append_assoc, refl, sym, ap, ◌∙◌}
-use Rattle.std.proofs.lemmas.List.Folds.{list_any-append}
-use Rattle.std.specs.List.{flat_map, list_any}
+use Rattle.wc_model.proofs.Common.{◌≡◌, ℕ, Bool, true, false, not, List, [], ◌∷◌, ◌++◌, Option, Some, None, Result, Ok, Err, length, append_assoc, refl, sym, ap, ◌∙◌, list_any-append, flat_map, list_any}
 use Rattle.std.specs.Prelude.{◌||◌, option_and_then, option_map, is_some, OnOk}
-use Rattle.wc_model.specs.Language.BodyRules.{actual_checks, argument_checks, condition_checks, formal_named, is_instance, is_of, members_called, suits_output}
+use Rattle.wc_model.specs.Definitions.{actual_checks, argument_checks, condition_checks, formal_named, is_instance, is_of, members_called, suits_output, is_among, Member, VariableType, Elementary, Standard, Block, block_named, members_of, same_name, elementary_kind, is_kind, term_kind, Name, Scope, Assignment, ProgramUnit, Term}
 use Rattle.wc_model.specs.Language.Checks.{Check, Position, asks, first_broken, positions_after, positions_of}
-use Rattle.wc_model.specs.Language.DeclarationRules.{is_among}
-use Rattle.wc_model.specs.Language.Declarations.{Member, VariableType, Elementary, Standard, Block, block_named, members_of, same_name}
-use Rattle.wc_model.specs.Language.Kinds.{elementary_kind, is_kind, term_kind}
-use Rattle.wc_model.specs.Language.Names.{Name}
-use Rattle.wc_model.specs.Language.Scopes.{Scope}
-use Rattle.wc_model.specs.Language.Tree.{Assignment, ProgramUnit, Term}
 use Rattle.wc_model.specs.declared.kind.Kind.{Kind}
 use Rattle.wc_model.specs.declared.operator.Condition.{Condition}
-use Rattle.wc_names.specs.Numbered.{number_within, numbered_formal, numbered_type}
+use Rattle.wc_names.specs.{number_within, numbered_formal, numbered_type, same_name_laws}
 use Rattle.wc_names.specs.declared.declared_type.DeclaredType.{DeclaredType}
 use Rattle.wc_names.specs.declared.declared_type.DeclaredType.TheVariants as numbered
 use Rattle.wc_names.specs.declared.formal.Formal.{Formal}
 use Rattle.wc_names.specs.declared.kept.Tables.{Tables}
-use Rattle.wc_verify.specs.Calls.{HoldsNames, is_numbered_instance}
-use Rattle.wc_names.specs.Keys.{same_name_laws}
-use Rattle.wc_verify.specs.Seeing.{IsScope}
-use Rattle.wc_verify.specs.Found.{Finds}
+use Rattle.wc_verify.specs.Seeing.{HoldsNames, is_numbered_instance, IsScope, Finds}
 
 -- an input or output that is found is a member of its kind
 pub record IsFormal (o : Option Member) (kind : Kind) : Type 0 where

@@ -1,12 +1,7 @@
 -- What the code's instructions represent as lines of a body, and what is found of lines inside a parenthesis.
 use Rattle.std.proofs.Common.{◌≡◌, ℕ, ◌+◌, ◌<◌, length, drop, get_or, Bor, Vec, Global, Bool, false, List, [], ◌∷◌, ◌++◌, map, Option, Some, None, Result, Ok, Err, option_map, append_assoc, refl, sym, ap, subst, ◌∙◌, rules}
-use Rattle.wc_model.specs.Language.BodyRules.{inside_rules, line_rules}
-use Rattle.wc_model.specs.Language.Checks.{Check, first_broken}
-use Rattle.wc_model.specs.Language.Kinds.{BodyLine, AloneLine, PlainLine, NestedLine, kind_after, kind_following, lines_of}
-use Rattle.wc_model.specs.Language.Names.{name_of}
-use Rattle.wc_model.specs.Language.Scopes.{Scope}
+use Rattle.wc_model.specs.Definitions.{inside_rules, line_rules, Check, first_broken, BodyLine, AloneLine, PlainLine, NestedLine, kind_after, kind_following, lines_of, name_of, Scope, assignment_view, instruction_view, label_view, line_step_view, line_view, lines_view, term_view, word_view}
 use Rattle.wc_model.specs.Language.Tree.{Word, Step, Load, Store, Apply, Negate, Jump, Call, Return, Lines}
-use Rattle.wc_model.specs.Language.Views.{assignment_view, instruction_view, label_view, line_step_view, line_view, lines_view, term_view, word_view}
 use Rattle.wc_model.specs.declared.fault.Fault.{Fault}
 use Rattle.wc_model.specs.declared.fault.Fault.TheVariants.{Refused, Memory}
 use Rattle.wc_model.specs.declared.kind.Kind.{Kind}

@@ -1,13 +1,10 @@
 -- What is next to a name once a row is kept.
-use Rattle.std.proofs.Common.{◌≡◌, Bool, true, false, List, [], ◌∷◌, Option, Some, cond, refl, sym, ap, ◌∙◌}
-use Rattle.std.specs.Map.{lookup}
-use Rattle.std.specs.Prelude.{if◌then◌else◌}
+use Rattle.wc_model.proofs.Common.{◌≡◌, Bool, true, false, List, [], ◌∷◌, Option, Some, cond, refl, sym, ap, ◌∙◌, if◌then◌else◌, lookup}
 use Rattle.indexmap.specs.IndexMap.{insert_entry}
-use Rattle.wc_model.specs.Language.Declarations.{named_in, same_name}
-use Rattle.wc_model.specs.Language.Names.{Name}
+use Rattle.wc_model.specs.Definitions.{named_in, same_name, Name}
 use Rattle.wc_names.specs.Keys.{name_of_key, same_key, same_name_laws}
 use Rattle.wc_laws_language.proofs.Tests.{same_name-sound}
-use Rattle.wc_verify.specs.Rows.{named_rows, row_of}
+use Rattle.wc_verify.specs.Bodies.{named_rows, row_of}
 use Rattle.wc_names.specs.declared.key.Key.{Key}
 use Rattle.wc_verify.specs.declared.labels.Row.{Row}
 

@@ -3,10 +3,8 @@ pub mod BodySteps
 pub mod BodyUnits
 pub mod Calling
 pub mod Found
-pub mod Going
 pub mod InstrLines
 pub mod KindsAlong
 pub mod LabelRows
 pub mod Nesting
 pub mod Seeing
-pub mod EdgesIn

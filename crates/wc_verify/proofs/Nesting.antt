@@ -1,17 +1,11 @@
 -- What is found of an opening line, the lines inside and the `)`.
 use Rattle.std.proofs.Common.{◌≡◌, ℕ, List, ◌++◌, Option, Ok, Err, append_assoc, ap, ◌∙◌}
-use Rattle.wc_model.specs.Language.BodyRules.{closing_checks, inside_rules, line_rules, opening_checks}
-use Rattle.wc_model.specs.Language.Checks.{Check, first_broken}
-use Rattle.wc_model.specs.Language.Kinds.{BodyLine, NestedLine, kind_following, opening_kind}
-use Rattle.wc_model.specs.Language.Scopes.{Scope}
-use Rattle.wc_model.specs.Language.Tree.{Word, Term, Lines, End}
+use Rattle.wc_model.specs.Definitions.{closing_checks, inside_rules, line_rules, opening_checks, Check, first_broken, BodyLine, NestedLine, kind_following, opening_kind, Scope, Word, Term, Lines, End, Validates}
 use Rattle.wc_model.specs.declared.fault.Fault.{Fault}
 use Rattle.wc_model.specs.declared.fault.Fault.TheVariants.{Refused, Memory}
 use Rattle.wc_model.specs.declared.kind.Kind.{Kind}
 use Rattle.wc_model.specs.declared.operator.Operator.{Operator}
-use Rattle.wc_model.specs.Language.Validation.{Validates}
-use Rattle.wc_verify.specs.Found.{first_at}
-use Rattle.wc_verify.specs.Instructions.{GoesInside, GoesOn}
+use Rattle.wc_verify.specs.{first_at, GoesInside, GoesOn}
 
 module _ (scope : Scope) (label : Option Word) (line : ℕ) (operator : Operator) (term : Option Term) (inside : Lines) (close : ℕ) (following : List BodyLine) (kind : Option Kind) (more : List Check) where
   -- the whole line

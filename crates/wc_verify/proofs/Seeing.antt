@@ -1,10 +1,7 @@
 -- What the tables say of an operand.
 use Rattle.std.proofs.Common.{◌≡◌, Bool, true, Option, Some, None, refl}
 use Rattle.std.specs.Prelude.{is_some, option_map}
-use Rattle.wc_model.specs.Language.BodyRules.{is_readable, is_writable}
-use Rattle.wc_model.specs.Language.Kinds.{elementary_kind, term_kind}
-use Rattle.wc_model.specs.Language.Scopes.{Scope, Entity, entity_of}
-use Rattle.wc_model.specs.Language.Tree.{Term}
+use Rattle.wc_model.specs.Definitions.{is_readable, is_writable, elementary_kind, term_kind, Scope, Entity, entity_of, Term}
 use Rattle.wc_model.specs.declared.kind.Kind.{Kind}
 use Rattle.wc_names.specs.Numbered.{numbered_entity}
 use Rattle.wc_names.specs.declared.entity.Entity.{Entity as FoundEntity}

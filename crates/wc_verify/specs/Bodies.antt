@@ -1,19 +1,97 @@
--- What is kept from line to line of a body, and how far it is checked. (No rule of the language.)
-use Rattle.std.specs.Prelude.{◌≡◌, List, ◌++◌, Option, Some, Result, Ok, Err, if◌then◌else◌}
-use Rattle.std.specs.List.{flat_map}
-use Rattle.wc_model.specs.Language.BodyRules.{line_rules, rules_at_position}
-use Rattle.wc_model.specs.Language.Checks.{Check, first_broken, positions_after}
-use Rattle.wc_model.specs.Language.Kinds.{BodyLine, kind_after, kinds_from_above, known_kinds, leaves}
-use Rattle.wc_model.specs.Language.Names.{Name}
-use Rattle.wc_model.specs.Language.Scopes.{Scope}
+-- What the incoming paths of a line agree on, what is kept from line to line of a body next to its labels, and how far it is checked. (No rule of the language.)
+use Rattle.std.specs.Prelude.{List, [], ◌∷◌, Option, Some, None, if◌then◌else◌, ℕ, zero, suc, ◌+◌, ◌-◌, Bool, true, false, map, ◌≡◌, ◌++◌, Result, Ok, Err}
+use Rattle.std.specs.List.{list_all, list_any, flat_map}
+use Rattle.wc_model.specs.Definitions.{same_result, BodyLine, kinds_from_jumps, known_kinds, label_of, kind_after, kinds_from_above, leaves, Word, named_in, same_name, carries, Name, Scope, line_rules, rules_at_position, Check, first_broken, positions_after}
+use Rattle.wc_model.specs.declared.kind.Kind.{Kind}
+use Rattle.wc_names.specs.Keys.{name_of_key}
+use Rattle.wc_names.specs.declared.key.Key.{Key}
 use Rattle.wc_model.specs.declared.fault.Fault.{Fault}
 use Rattle.wc_model.specs.declared.fault.Fault.TheVariants.{Refused, Memory}
-use Rattle.wc_model.specs.declared.kind.Kind.{Kind}
-use Rattle.wc_verify.specs.Rows.{carriers, row_at, row_named}
-use Rattle.wc_verify.specs.Edges.{way_of}
-use Rattle.wc_verify.specs.declared.labels.Row.{Row}
 use Rattle.wc_verify.specs.declared.edges.Way.{Way}
-use Rattle.wc_verify.specs.declared.edges.Way.TheVariants.{Unseen, Agreed}
+use Rattle.wc_verify.specs.declared.edges.Way.TheVariants.{Unseen, Agreed, Different}
+use Rattle.wc_verify.specs.declared.labels.Row.{Row}
+
+-- the incoming paths, as they are kept
+abbrev pub way_of : List (Option Kind) → Way
+way_of [] = Unseen
+way_of (way ∷ edges) = if list_all (same_result way) edges then Agreed way else Different
+
+-- the kind that they bring
+abbrev pub kind_of_way : Way → Option Kind
+kind_of_way Unseen = None
+kind_of_way (Agreed kind) = kind
+kind_of_way Different = None
+
+-- one more
+abbrev pub with_way : Option Kind → Way → Way
+with_way kind Unseen = Agreed kind
+with_way kind (Agreed other) = if same_result kind other then Agreed kind else Different
+with_way kind Different = Different
+
+-- those of two lists
+abbrev pub joined_edges : Way → Way → Way
+joined_edges Unseen others = others
+joined_edges (Agreed kind) others = with_way kind others
+joined_edges Different others = Different
+
+-- what a line with no instruction passes on: with no label it is not a line of the body
+abbrev pub labelled_way : Option Word → Way → Option Kind → Way
+labelled_way None above kind = above
+labelled_way (Some word) above kind = Agreed kind
+
+-- the rows by the names of their keys
+abbrev pub named_rows : {X : Type 0} → List (Key × X) → List (Name × X)
+named_rows entries = map (λ entry. (name_of_key entry.0, entry.1)) entries
+
+-- a row; a label of which nothing is known has an empty one
+abbrev pub row_of : Option Row → Row
+row_of None = record { ahead = 0; given = false; way = Unseen }
+row_of (Some row) = row
+
+abbrev pub row_named : List (Name × Row) → Name → Row
+row_named rows name = row_of (named_in rows name)
+
+-- the number of the lines that carry the label
+abbrev pub one_more : Bool → ℕ → ℕ
+one_more true n = suc n
+one_more false n = n
+
+abbrev pub carriers : Name → List BodyLine → ℕ
+carriers name [] = zero
+carriers name (line ∷ lines) = one_more (carries (label_of line) name) (carriers name lines)
+
+-- what is known of a label between the lines before, newest first, and those that are left
+abbrev pub row_at : Scope → List BodyLine → List BodyLine → Name → Row
+row_at scope before left name = record {
+  ahead = carriers name left;
+  given = list_any (λ line. carries (label_of line) name) before;
+  way = way_of (kinds_from_jumps name (known_kinds scope before));
+}
+
+-- a row once one more line is counted that may carry its label
+abbrev pub counted_row : Bool → Row → Row
+counted_row true row = record { ahead = row.ahead + 1; given = row.given; way = row.way }
+counted_row false row = row
+
+-- a row once a line is entered that may carry its label
+abbrev pub entered_row : Bool → Row → Row
+entered_row true row = record { ahead = row.ahead - 1; given = true; way = Unseen }
+entered_row false row = row
+
+-- a row once a line is left, with this kind of result, that may jump to its label
+abbrev pub jumped_row : Bool → Option Kind → Row → Row
+jumped_row true kind row = record { ahead = row.ahead; given = row.given; way = with_way kind row.way }
+jumped_row false kind row = row
+
+-- what the jumps to the label of a line agree on
+abbrev pub way_to : Option Word → List (Name × Row) → Way
+way_to None rows = Unseen
+way_to (Some word) rows = (row_named rows word.name).way
+
+-- the name is the target of a jump
+abbrev pub is_target : Option Name → Name → Bool
+is_target None name = false
+is_target (Some target) name = same_name target name
 
 -- the rows count the lines that are left
 abbrev pub CountsLines : List (Name × Row) → List BodyLine → Type 0

@@ -1,8 +1,7 @@
 -- What a verified text holds in its fields. (No rule of the language.)
 use Rattle.std.specs.Prelude.{◌≡◌, None}
 use Rattle.wc_names.specs.RepresentsText.{AreTables}
-use Rattle.wc_model.specs.Language.Faults.{body_fault, declaration_fault}
-use Rattle.wc_model.specs.Language.Views.{text_view}
+use Rattle.wc_model.specs.Definitions.{body_fault, declaration_fault, text_view}
 use Rattle.wc_verify.specs.CheckedTexts.{CheckedText, WasRead}
 use Rattle.wc_verify.specs.declared.checked.Checked.TheInside.{Inside as CheckedFields}
 

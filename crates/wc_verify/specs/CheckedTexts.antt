@@ -1,9 +1,7 @@
 -- A text that breaks no rule on bodies, with its tables. (No rule of the language.)
 use Rattle.std.specs.Prelude.{◌≡◌, ℕ, List, None}
 use Rattle.wc_names.specs.RepresentsText.{AreTables}
-use Rattle.wc_model.specs.Language.Faults.{declaration_fault}
-use Rattle.wc_model.specs.Language.Tree.{Text}
-use Rattle.wc_model.specs.Text.Reading.{IsRead}
+use Rattle.wc_model.specs.Definitions.{declaration_fault, Text, IsRead}
 use Rattle.wc_model.specs.declared.source.Source.{Source}
 use Rattle.wc_names.specs.declared.kept.Tables.{Tables}
 

@@ -1,12 +1,7 @@
 -- What an instruction represents as a line of a body. (No rule of the language.)
 use Rattle.std.specs.Prelude.{◌≡◌, ℕ, Bool, List, ◌++◌, map, Option, Some, None, option_map, Result, Ok, Err}
-use Rattle.wc_model.specs.Language.BodyRules.{inside_rules, is_ahead, line_rules}
-use Rattle.wc_model.specs.Language.Checks.{Check, first_broken}
-use Rattle.wc_model.specs.Language.Kinds.{BodyLine, AloneLine, PlainLine, NestedLine, kind_after, kind_following}
-use Rattle.wc_model.specs.Language.Names.{Name, name_of}
-use Rattle.wc_model.specs.Language.Scopes.{Scope}
+use Rattle.wc_model.specs.Definitions.{inside_rules, is_ahead, line_rules, Check, first_broken, BodyLine, AloneLine, PlainLine, NestedLine, kind_after, kind_following, Name, name_of, Scope, assignment_view, lines_view, term_view}
 use Rattle.wc_model.specs.Language.Tree.{Word, Step, Load, Store, Apply, Negate, Jump, Call, Return, Lines, Alone, Plain, Nested}
-use Rattle.wc_model.specs.Language.Views.{assignment_view, lines_view, term_view}
 use Rattle.wc_model.specs.declared.fault.Fault.{Fault}
 use Rattle.wc_model.specs.declared.fault.Fault.TheVariants.{Refused, Memory}
 use Rattle.wc_model.specs.declared.kind.Kind.{Kind}

@@ -1,17 +1,8 @@
 ghost use Rattle.std.specs.Prelude.{◌≡◌, ◌++◌, List, Option, OnOk, option_map};
-ghost use Rattle.wc_model.specs.Language.BodyRules.{body_rules};
-ghost use Rattle.wc_model.specs.Language.Checks.{Check, first_broken};
-ghost use Rattle.wc_model.specs.Language.Validation.{Validates};
-ghost use Rattle.wc_model.specs.Language.Kinds.{BodyLine, jumps_to, lines_of};
-ghost use Rattle.wc_model.specs.Language.Names.{Name, name_of};
-ghost use Rattle.wc_model.specs.Language.Scopes.{Scope};
-ghost use Rattle.wc_model.specs.Language.Tree.{Lines, Word as LabelWord};
-ghost use Rattle.wc_model.specs.Language.Views.{line_view, lines_view, word_view};
-ghost use Rattle.wc_verify.specs.Bodies.{CountsLines, GoesTo, HandsOn, IsAt};
+ghost use Rattle.wc_model.specs.Definitions.{body_rules, Check, first_broken, Validates, BodyLine, jumps_to, lines_of, Name, name_of, Scope, Lines, Word as LabelWord, line_view, lines_view, word_view};
+ghost use Rattle.wc_verify.specs.Bodies.{CountsLines, GoesTo, HandsOn, IsAt, jumped_row, row_named, labelled_way};
 ghost use Rattle.wc_verify.specs.Instructions.{AsksAhead, instr_line};
-ghost use Rattle.wc_verify.specs.Rows.{jumped_row, row_named};
 ghost use Rattle.wc_verify.specs.Seeing.{IsScope};
-ghost use Rattle.wc_verify.specs.Edges.{labelled_way};
 
 use crate::edges::Way;
 use crate::inside::validate_instr;

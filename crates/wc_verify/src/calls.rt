@@ -1,18 +1,7 @@
-ghost use Rattle.std.specs.Prelude.{◌≡◌, ◌<◌, ◌∷◌, ◌++◌, List, Some, IfErr, OnOk, length, map};
-ghost use Rattle.std.specs.List.{flat_map};
-ghost use Rattle.wc_model.specs.Language.BodyRules.{actual_checks, argument_checks, call_checks, suits_input};
-ghost use Rattle.wc_model.specs.Language.Checks.{Check, first_broken, positions_of};
-ghost use Rattle.wc_model.specs.Language.Declarations.{Member, VariableType, members_of};
-ghost use Rattle.wc_model.specs.Language.Kinds.{elementary_kind};
-ghost use Rattle.wc_model.specs.Language.Names.{name_of};
-ghost use Rattle.wc_model.specs.Language.Scopes.{Scope};
-ghost use Rattle.wc_model.specs.Language.Tree.{Assignment};
-ghost use Rattle.wc_model.specs.Language.Views.{assignment_view, term_view};
-ghost use Rattle.wc_model.specs.Language.Validation.{Validates};
+ghost use Rattle.std.specs.Prelude.{◌≡◌, ◌<◌, ◌∷◌, ◌++◌, List, Some, IfErr, OnOk, length, map, flat_map};
+ghost use Rattle.wc_model.specs.Definitions.{actual_checks, argument_checks, call_checks, suits_input, Check, first_broken, positions_of, Member, VariableType, members_of, elementary_kind, name_of, Scope, Assignment, assignment_view, term_view, Validates};
 ghost use Rattle.wc_names.specs.Numbered.{numbered_type};
-ghost use Rattle.wc_verify.specs.Found.{Finds};
-ghost use Rattle.wc_verify.specs.Calls.{HoldsNames, is_numbered_instance};
-ghost use Rattle.wc_verify.specs.Seeing.{IsScope, IsSeen};
+ghost use Rattle.wc_verify.specs.Seeing.{Finds, HoldsNames, is_numbered_instance, IsScope, IsSeen};
 
 use crate::refusals::{
     first_of, is_of_kind, refusal, refuse, unless, validate_condition, validate_reading,

@@ -1,6 +1,5 @@
 ghost use Rattle.std.specs.Prelude.{◌≡◌, None};
-ghost use Rattle.wc_model.specs.Language.Faults.{body_fault, declaration_fault};
-ghost use Rattle.wc_model.specs.Language.Views.{text_view};
+ghost use Rattle.wc_model.specs.Definitions.{body_fault, declaration_fault, text_view};
 ghost use Rattle.wc_names.specs.RepresentsText.{AreTables};
 ghost use Rattle.wc_verify.specs.CheckedTexts.{WasRead};
 
@@ -19,8 +18,8 @@ impl<'a> Model for Checked<'a> {
     ghost use Rattle.std.specs.Coded.{codes};
     ghost use Rattle.std.specs.Prelude.{[]};
     ghost use Rattle.wc_model.specs.contracts.tree.Line as line;
-    ghost use Rattle.wc_verify.specs.CheckedTexts.{CheckedText};
     ghost use Rattle.wc_verify.specs.CheckedInside.{checked_view, IsCheckedSound};
+    ghost use Rattle.wc_verify.specs.CheckedTexts.{CheckedText};
     ghost use mir.Syntax;
 
     ghost Value = { CheckedText };

@@ -1,5 +1,5 @@
 ghost use Rattle.std.specs.Prelude.{◌≡◌};
-ghost use Rattle.wc_verify.specs.Edges.{joined_edges, kind_of_way, with_way};
+ghost use Rattle.wc_verify.specs.Bodies.{joined_edges, kind_of_way, with_way};
 
 use wc_built_in::same_result;
 use wc_model::Kind;

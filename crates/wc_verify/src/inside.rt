@@ -1,9 +1,5 @@
 ghost use Rattle.std.specs.Prelude.{◌≡◌, List, Option, option_map};
-ghost use Rattle.wc_model.specs.Language.Checks.{Check};
-ghost use Rattle.wc_model.specs.Language.Kinds.{BodyLine, NestedLine, opening_kind};
-ghost use Rattle.wc_model.specs.Language.Scopes.{Scope};
-ghost use Rattle.wc_model.specs.Language.Tree.{Word, Lines, Term, End};
-ghost use Rattle.wc_model.specs.Language.Views.{line_view, lines_view, term_view};
+ghost use Rattle.wc_model.specs.Definitions.{Check, BodyLine, NestedLine, opening_kind, Scope, Word, Lines, Term, End, line_view, lines_view, term_view};
 ghost use Rattle.wc_verify.specs.Instructions.{GoesInside, GoesOn, SaysAhead, instr_line};
 ghost use Rattle.wc_verify.specs.Seeing.{IsScope, IsSeenIfAny};
 

@@ -1,12 +1,6 @@
 ghost use Rattle.std.specs.Prelude.{◌≡◌, ◌++◌, List, Option, map, Some, if◌then◌else◌};
-ghost use Rattle.wc_model.specs.Language.BodyRules.{line_rules};
-ghost use Rattle.wc_model.specs.Language.Checks.{Check, first_broken};
-ghost use Rattle.wc_model.specs.Language.Kinds.{BodyLine, PlainLine, kind_after};
-ghost use Rattle.wc_model.specs.Language.Names.{name_of};
-ghost use Rattle.wc_model.specs.Language.Scopes.{Scope};
+ghost use Rattle.wc_model.specs.Definitions.{line_rules, Check, first_broken, BodyLine, PlainLine, kind_after, name_of, Scope, assignment_view, term_view, Validates};
 ghost use Rattle.wc_model.specs.Language.Tree.{Word, Load, Store, Apply, Jump, Call};
-ghost use Rattle.wc_model.specs.Language.Views.{assignment_view, term_view};
-ghost use Rattle.wc_model.specs.Language.Validation.{Validates};
 ghost use Rattle.wc_verify.specs.Instructions.{GoesOn, StepGoesOn, step_ahead};
 ghost use Rattle.wc_verify.specs.Seeing.{IsScope};
 

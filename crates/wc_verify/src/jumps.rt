@@ -1,9 +1,7 @@
 ghost use Rattle.std.specs.Prelude.{◌≡◌, Bool, List, Option, OnOk, IsOkUnless, option_map};
-ghost use Rattle.wc_model.specs.Language.Kinds.{BodyLine, jumps_to, leaves, step_leaves};
-ghost use Rattle.wc_model.specs.Language.Names.{Name, name_of};
-ghost use Rattle.wc_model.specs.Language.Tree.{Word, Return};
+ghost use Rattle.wc_model.specs.Definitions.{BodyLine, jumps_to, leaves, step_leaves, Name, name_of, Word, Return};
 ghost use Rattle.wc_verify.specs.Instructions.{AsksAhead, SaysAhead, instr_line};
-ghost use Rattle.wc_verify.specs.Rows.{is_target, jumped_row, row_named};
+ghost use Rattle.wc_verify.specs.Bodies.{is_target, jumped_row, row_named};
 
 use crate::edges::with_way;
 use crate::labels::{Labels, Row};

@@ -1,17 +1,8 @@
 ghost use Rattle.std.specs.Prelude.{◌≡◌, [], List, Some, OnOk, IsOkUnless, if◌then◌else◌, ◌<◌, IfOk, option_map, ◌++◌, Option};
-ghost use Rattle.wc_model.specs.Language.Declarations.{same_name};
-ghost use Rattle.wc_model.specs.Language.Names.{Name, name_of};
-ghost use Rattle.wc_verify.specs.Rows.{named_rows, row_named, counted_row, row_at, entered_row, way_to};
+ghost use Rattle.wc_model.specs.Definitions.{same_name, Name, name_of, lines_of, BodyLine, label_of, carries, Scope, lines_view, word_view, label_rules, Check, first_broken, Validates};
+ghost use Rattle.wc_verify.specs.Bodies.{named_rows, row_named, counted_row, row_at, entered_row, way_to, joined_edges, kind_of_way};
 ghost use Rattle.wc_verify.specs.declared.labels.Row.{Row};
-ghost use Rattle.wc_model.specs.Language.Kinds.{lines_of, BodyLine, label_of};
-ghost use Rattle.wc_model.specs.Language.Meaning.{carries};
-ghost use Rattle.wc_model.specs.Language.Scopes.{Scope};
-ghost use Rattle.wc_model.specs.Language.Views.{lines_view, word_view};
 ghost use Rattle.std.specs.List.{list_any};
-ghost use Rattle.wc_model.specs.Language.BodyRules.{label_rules};
-ghost use Rattle.wc_model.specs.Language.Checks.{Check, first_broken};
-ghost use Rattle.wc_model.specs.Language.Validation.{Validates};
-ghost use Rattle.wc_verify.specs.Edges.{joined_edges, kind_of_way};
 
 use crate::edges::{Way, joined_edges, kind_of};
 use crate::refusals::refusal;

@@ -1,13 +1,6 @@
 ghost use Rattle.std.specs.Prelude.{◌≡◌, ℕ, [], ◌∷◌, IfErr, Option};
-ghost use Rattle.wc_model.specs.Language.BodyRules.{condition_checks, divisor_checks, is_of, takes, reading_checks, result_checks, suits_result, suits_target, truth_checks, writing_checks};
-ghost use Rattle.wc_model.specs.Language.Checks.{Refusal, asks};
-ghost use Rattle.wc_model.specs.Language.Kinds.{is_kind};
-ghost use Rattle.wc_model.specs.Language.Scopes.{Scope};
-ghost use Rattle.wc_model.specs.Language.Tree.{Term};
-ghost use Rattle.wc_model.specs.Language.Views.{term_view};
-ghost use Rattle.wc_model.specs.Language.Validation.{Validates};
-ghost use Rattle.wc_verify.specs.Found.{Finds, first_at};
-ghost use Rattle.wc_verify.specs.Seeing.{IsSeen};
+ghost use Rattle.wc_model.specs.Definitions.{condition_checks, divisor_checks, is_of, takes, reading_checks, result_checks, suits_result, suits_target, truth_checks, writing_checks, Refusal, asks, is_kind, Scope, Term, term_view, Validates};
+ghost use Rattle.wc_verify.specs.Seeing.{Finds, first_at, IsSeen};
 
 use crate::seen::Seen;
 use wc_built_in::{divides, is_bit_literal, is_bool, is_divisor, is_kind, takes, takes_truth};

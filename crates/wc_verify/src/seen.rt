@@ -1,5 +1,4 @@
-ghost use Rattle.wc_model.specs.Language.Scopes.{Scope};
-ghost use Rattle.wc_model.specs.Language.Views.{term_view};
+ghost use Rattle.wc_model.specs.Definitions.{Scope, term_view};
 ghost use Rattle.wc_verify.specs.Seeing.{IsScope, IsSeen};
 
 use wc_model::{Kind, Operand};

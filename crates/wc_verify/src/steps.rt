@@ -1,10 +1,6 @@
 ghost use Rattle.std.specs.Prelude.{◌≡◌, Option, is_some, if◌then◌else◌};
-ghost use Rattle.wc_model.specs.Language.BodyRules.{apply_checks, closing_checks, is_bool, is_no_instance, load_checks, opening_checks, opening_operand_checks, store_checks};
-ghost use Rattle.wc_model.specs.Language.Scopes.{Scope};
-ghost use Rattle.wc_model.specs.Language.Tree.{Term};
-ghost use Rattle.wc_model.specs.Language.Views.{term_view};
-ghost use Rattle.wc_verify.specs.Found.{Finds};
-ghost use Rattle.wc_verify.specs.Seeing.{IsSeen, IsSeenIfAny};
+ghost use Rattle.wc_model.specs.Definitions.{apply_checks, closing_checks, is_bool, is_no_instance, load_checks, opening_checks, opening_operand_checks, store_checks, Scope, Term, term_view};
+ghost use Rattle.wc_verify.specs.Seeing.{Finds, IsSeen, IsSeenIfAny};
 
 use crate::refusals::{
     first_of, suits_result, suits_target, unless, validate_divisor, validate_reading,

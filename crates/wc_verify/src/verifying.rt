@@ -1,7 +1,5 @@
 ghost use Rattle.std.specs.Prelude.{◌≡◌, None, IfOk};
-ghost use Rattle.wc_model.specs.Language.Faults.{body_fault};
-ghost use Rattle.wc_model.specs.Language.Validation.{Validates};
-ghost use Rattle.wc_model.specs.Language.Views.{text_view};
+ghost use Rattle.wc_model.specs.Definitions.{body_fault, Validates, text_view};
 ghost use Rattle.wc_names.specs.RepresentsText.{AreTables};
 ghost use Rattle.wc_verify.specs.CheckedTexts.{AreGiven, WasRead};
 

@@ -1,20 +1,11 @@
 -- The lines of a variable inside an instance are those that it has in the instance's own unit, after one name more.
-use Rattle.std.proofs.Common.{◌≡◌, ℕ, Bool, true, false, List, [], ◌∷◌, ◌++◌, map, length, Option, Some, None, option_map, refl, sym, ap, ◌∙◌, append_assoc}
-use Rattle.std.proofs.lemmas.List.Folds.{flat_map-map, list_all-map}
-use Rattle.std.specs.List.{flat_map, list_all}
-use Rattle.std.specs.Prelude.{if◌then◌else◌, option_and_then}
-use Rattle.wc_model.specs.Language.Carried.{Lead, ToField, lead_by, lead_from, same_lead}
-use Rattle.wc_model.specs.Language.Declarations.{VariableType, Elementary, Standard, Block, block_named}
-use Rattle.wc_model.specs.Language.Names.{Name, name_of}
-use Rattle.wc_model.specs.Language.Scopes.{Scope, type_of}
-use Rattle.wc_model.specs.Language.Store.{Content, standard_fields}
-use Rattle.wc_model.specs.Language.Tree.{ProgramUnit, Text}
+use Rattle.wc_model.proofs.Common.{◌≡◌, ℕ, Bool, true, false, List, [], ◌∷◌, ◌++◌, map, length, Option, Some, None, option_map, refl, sym, ap, ◌∙◌, append_assoc, if◌then◌else◌, option_and_then, flat_map-map, list_all-map, flat_map, list_all}
+use Rattle.wc_model.specs.Definitions.{Lead, ToField, lead_by, lead_from, same_lead, VariableType, Elementary, Standard, Block, block_named, Name, name_of, Scope, type_of, Content, standard_fields, ProgramUnit, Text}
 use Rattle.wc_names.specs.Numbered.{numbered_type}
 use Rattle.wc_names.specs.declared.declared_type.DeclaredType.TheVariants as numbered
 use Rattle.wc_laws_language.proofs.Carrying.{is_field}
-use Rattle.wc_view_changes.specs.ChangeReport.{pass_text, path_text, unit_of_type}
+use Rattle.wc_view_changes.specs.{pass_text, path_text, unit_of_type, IsSide, kept_between, line_between, numbered_side, side_after, side_found, side_lead, unit_numbered}
 use Rattle.wc_view_changes.specs.Shown.{Shape, Plain, Instance, Shown, inside, names_of, paths_at, paths_of}
-use Rattle.wc_view_changes.specs.Sides.{IsSide, kept_between, line_between, numbered_side, side_after, side_found, side_lead, unit_numbered}
 use Rattle.wc_view_changes.specs.declared.describing.Pass.{Pass}
 use Rattle.wc_view_changes.proofs.Leads.{lead_is, never_field, not_field}
 use Rattle.wc_text_variables.proofs.BlockUnits.{block_unit}

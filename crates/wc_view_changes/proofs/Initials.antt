@@ -1,13 +1,7 @@
 -- The first value that is written after a name: that of the first declaration that has it.
-use Rattle.std.proofs.Common.{◌≡◌, Bool, true, false, ◌||◌, List, [], ◌∷◌, map, Option, Some, refl, ap, ◌∙◌, cond}
-use Rattle.std.proofs.lemmas.List.Folds.{find-append}
+use Rattle.wc_model.proofs.Common.{◌≡◌, Bool, true, false, ◌||◌, List, [], ◌∷◌, map, Option, Some, refl, ap, ◌∙◌, cond, option_and_then, find-append, option_or}
 use Rattle.std.specs.List.{find, flat_map, list_any}
-use Rattle.std.specs.Option.{option_or}
-use Rattle.std.specs.Prelude.{option_and_then}
-use Rattle.wc_model.specs.Language.Declarations.{Variable, declared_by, same_name}
-use Rattle.wc_model.specs.Language.Names.{Name, name_of}
-use Rattle.wc_model.specs.Language.Tree.{Word as NamedWord}
-use Rattle.wc_model.specs.Language.Views.{declaration_view, word_view}
+use Rattle.wc_model.specs.Definitions.{Variable, declared_by, same_name, Name, name_of, Word as NamedWord, declaration_view, word_view}
 use Rattle.wc_model.specs.declared.operand.Word.{Word}
 use Rattle.wc_model.specs.declared.source.Decl.{Decl}
 use Rattle.wc_model.specs.declared.source.Initial.{Initial}

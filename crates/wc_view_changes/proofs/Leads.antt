@@ -1,24 +1,13 @@
 -- Where names lead in the other text, step by step alongside the one that is gone through.
-use Rattle.std.proofs.Common.{◌≡◌, Bool, true, false, ◌&&◌, List, [], ◌∷◌, map, length, Option, Some, None, option_map, refl, sym, ap, subst, ◌∙◌}
-use Rattle.std.proofs.Math.Bool.{and_self, and-true}
-use Rattle.std.proofs.lemmas.List.Folds.{list_all-map}
-use Rattle.std.specs.List.{list_all, list_any}
-use Rattle.std.specs.Prelude.{if◌then◌else◌, option_and_then}
-use Rattle.wc_model.specs.Language.Carried.{Lead, ToPlace, ToField, lead_by, lead_from, same_block, same_lead}
-use Rattle.wc_model.specs.Language.Declarations.{Variable, VariableType, Elementary, Standard, Block, block_named, type_named, variable_named}
-use Rattle.wc_model.specs.Language.Names.{Name}
-use Rattle.wc_model.specs.Language.Scopes.{Scope, type_of}
-use Rattle.wc_model.specs.Language.Store.{Content, standard_fields}
-use Rattle.wc_model.specs.Language.Tree.{ProgramUnit}
+use Rattle.wc_model.proofs.Common.{◌≡◌, Bool, true, false, ◌&&◌, List, [], ◌∷◌, map, length, Option, Some, None, option_map, refl, sym, ap, subst, ◌∙◌, if◌then◌else◌, option_and_then, and_self, and-true, list_all-map, list_all, list_any}
+use Rattle.wc_model.specs.Definitions.{Lead, ToPlace, ToField, lead_by, lead_from, same_block, same_lead, Variable, VariableType, Elementary, Standard, Block, block_named, type_named, variable_named, Name, Scope, type_of, Content, standard_fields, ProgramUnit}
 use Rattle.wc_model.specs.declared.block.StandardBlock.{StandardBlock}
 use Rattle.wc_model.specs.declared.block.StandardBlock.TheVariants.{RTrig}
 use Rattle.wc_model.specs.declared.kind.Kind.{Kind}
 use Rattle.wc_names.specs.Numbered.{numbered_type}
 use Rattle.wc_names.specs.declared.declared_type.DeclaredType.TheVariants as numbered
 use Rattle.wc_laws_language.proofs.Carrying.{at_once, is_field, one_block}
-use Rattle.wc_view_changes.specs.Shapes.{has_shape}
-use Rattle.wc_view_changes.specs.Shown.{Plain, Instance}
-use Rattle.wc_view_changes.specs.Sides.{numbered_side, side_lead}
+use Rattle.wc_view_changes.specs.{has_shape, Plain, Instance, numbered_side, side_lead}
 
 -- what a name and those after it lead to, by the type of the name
 pub lead_is : (name : Name) (names : List Name) (scope : Scope) → lead_from (name ∷ names) scope.before scope.unit ≡ lead_by (lead_from names) scope.before (type_of scope name) names

@@ -1,15 +1,8 @@
 -- A unit whose instances have no place has no variable to report.
 use Rattle.std.proofs.Common.{◌≡◌, ◌+◌, Bool, true, false, List, [], ◌∷◌, ◌++◌, map, length, Option, Some, None, refl, sym, ap, ◌∙◌, arith, find, subst, length-append}
-use Rattle.std.proofs.lemmas.List.{length-map}
-use Rattle.std.specs.List.{flat_map}
-use Rattle.std.specs.Prelude.{if◌then◌else◌}
+use Rattle.wc_model.proofs.Common.{if◌then◌else◌, length-map, flat_map}
 use Rattle.wc_laws_language.proofs.Places.{Some-same}
-use Rattle.wc_model.specs.Language.Declarations.{Variable, VariableType, Elementary, Standard, Block, is_block, same_name, type_named, variable_named, variables_of}
-use Rattle.wc_model.specs.Language.Frames.{frame_of}
-use Rattle.wc_model.specs.Language.Names.{Name, name_of}
-use Rattle.wc_model.specs.Language.Scopes.{Scope}
-use Rattle.wc_model.specs.Language.Store.{Content, Path, below, block_places, places_declared, program_frame, unit_places, variable_places}
-use Rattle.wc_model.specs.Language.Views.{unit_view}
+use Rattle.wc_model.specs.Definitions.{Variable, VariableType, Elementary, Standard, Block, is_block, same_name, type_named, variable_named, variables_of, frame_of, Name, name_of, Scope, Content, Path, below, block_places, places_declared, program_frame, unit_places, variable_places, unit_view}
 use Rattle.wc_model.specs.declared.block.StandardBlock.TheVariants.{RTrig}
 use Rattle.wc_model.specs.declared.source.Initial.{Initial}
 use Rattle.wc_model.specs.declared.source.Unit.{Unit as CodeUnit}

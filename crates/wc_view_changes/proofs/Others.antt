@@ -1,16 +1,6 @@
 -- What has a name in the other text, by the number of its type.
-use Rattle.std.proofs.Common.{◌≡◌, ℕ, zero, suc, true, false, ◌≤◌, List, [], ◌∷◌, map, length, Option, Some, None, option_map, refl, sym, ap, ◌∙◌, arith}
-use Rattle.std.proofs.lemmas.List.{length-map}
-use Rattle.std.proofs.lemmas.Option.{slice_get-map, slice_get_past}
-use Rattle.std.specs.Prelude.{option_and_then, slice_get}
-use Rattle.wc_model.specs.Language.Checks.{positions_after}
-use Rattle.wc_model.specs.Language.Declarations.{VariableType, Block, block_named}
-use Rattle.wc_model.specs.Language.Frames.{scope_of_position}
-use Rattle.wc_model.specs.Language.Names.{Name}
-use Rattle.wc_model.specs.Language.Scopes.{Scope, type_of}
-use Rattle.wc_model.specs.Language.Store.{Content, first_content}
-use Rattle.wc_model.specs.Language.Tree.{ProgramUnit, Text}
-use Rattle.wc_model.specs.Language.Views.{text_view, unit_view}
+use Rattle.wc_model.proofs.Common.{◌≡◌, ℕ, zero, suc, true, false, ◌≤◌, List, [], ◌∷◌, map, length, Option, Some, None, option_map, refl, sym, ap, ◌∙◌, arith, option_and_then, slice_get, length-map, slice_get-map, slice_get_past}
+use Rattle.wc_model.specs.Definitions.{positions_after, VariableType, Block, block_named, scope_of_position, Name, Scope, type_of, Content, first_content, ProgramUnit, Text, text_view, unit_view}
 use Rattle.wc_model.specs.declared.kind.Kind.{Kind}
 use Rattle.wc_model.specs.declared.source.Source.{Source}
 use Rattle.wc_model.specs.declared.source.Unit.{Unit as CodeUnit}
@@ -19,10 +9,7 @@ use Rattle.wc_names.specs.declared.declared_type.DeclaredType.{DeclaredType}
 use Rattle.wc_names.specs.declared.declared_type.DeclaredType.TheVariants as numbered
 use Rattle.wc_laws_language.proofs.Places.{Some-same}
 use Rattle.wc_laws_language.proofs.Steps.{is_kind-sound}
-use Rattle.wc_view_changes.specs.ChangeReport.{Found, found_of, has_line, initial_of}
-use Rattle.wc_view_changes.specs.Shapes.{has_shape}
-use Rattle.wc_view_changes.specs.Shown.{Plain}
-use Rattle.wc_view_changes.specs.Sides.{IsSide, found_numbered, line_numbered, numbered_side, side_found, side_initial}
+use Rattle.wc_view_changes.specs.{Found, found_of, has_line, initial_of, has_shape, Plain, IsSide, found_numbered, line_numbered, numbered_side, side_found, side_initial}
 use Rattle.wc_text_variables.proofs.BlockUnits.{block_unit}
 
 -- the unit of a number is at that number in the text

@@ -1,18 +1,11 @@
 -- Units among those of a text: what precedes one, and the block to which a name leads.
-use Rattle.std.proofs.Common.{◌≡◌, ℕ, suc, ◌+◌, ◌<◌, Bool, true, false, List, [], ◌∷◌, map, length, Option, Some, None, refl, sym, ap, subst, ◌∙◌, arith}
-use Rattle.std.proofs.lemmas.List.{length-map}
-use Rattle.std.specs.Prelude.{if◌then◌else◌, slice_get}
+use Rattle.wc_model.proofs.Common.{◌≡◌, ℕ, suc, ◌+◌, ◌<◌, Bool, true, false, List, [], ◌∷◌, map, length, Option, Some, None, refl, sym, ap, subst, ◌∙◌, arith, if◌then◌else◌, slice_get, length-map}
 use Rattle.wc_cost.proofs.TextUnits.{unit_at}
 use Rattle.wc_laws_language.proofs.Places.{Some-same}
-use Rattle.wc_model.specs.Language.Declarations.{block_named, is_block, same_name}
-use Rattle.wc_model.specs.Language.Names.{Name, name_of}
-use Rattle.wc_model.specs.Language.Scopes.{Scope}
-use Rattle.wc_model.specs.Language.Tree.{ProgramUnit, Text}
-use Rattle.wc_model.specs.Language.Views.{text_view, unit_view}
+use Rattle.wc_model.specs.Definitions.{block_named, is_block, same_name, Name, name_of, Scope, ProgramUnit, Text, text_view, unit_view}
 use Rattle.wc_model.specs.declared.source.Source.{Source}
 use Rattle.wc_model.specs.declared.source.Unit.{Unit as CodeUnit}
-use Rattle.wc_names.specs.Numbered.{IsUnit}
-use Rattle.wc_names.specs.RepresentsText.{AreTables, onto}
+use Rattle.wc_names.specs.{IsUnit, AreTables, onto}
 use Rattle.wc_names.specs.declared.kept.Tables.{Tables}
 use Rattle.wc_view_changes.specs.Shown.{Shown, declared_of, seen, shown_all, shown_from, shown_in}
 use Rattle.wc_view_changes.specs.Sides.{IsAt}

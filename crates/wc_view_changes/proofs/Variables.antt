@@ -1,16 +1,7 @@
 -- The lines of one declared name, by the type that it has.
 use Rattle.std.proofs.Common.{◌≡◌, ℕ, ◌<◌, ◌≤◌, Bool, false, List, [], ◌∷◌, ◌++◌, map, length, take, Option, Some, None, sym, ap, subst, ◌∙◌, arith, is_some, append-nil}
-use Rattle.std.proofs.Math.Bool.{and-true}
-use Rattle.std.proofs.lemmas.List.{take_all}
-use Rattle.std.specs.List.{flat_map}
-use Rattle.std.specs.Prelude.{option_and_then}
-use Rattle.wc_model.specs.Language.Declarations.{VariableType, Elementary, Standard, Block, block_named}
-use Rattle.wc_model.specs.Language.Frames.{frame_of}
-use Rattle.wc_model.specs.Language.Names.{Name, name_of}
-use Rattle.wc_model.specs.Language.Scopes.{Scope, type_of}
-use Rattle.wc_model.specs.Language.Store.{Content, first_content}
-use Rattle.wc_model.specs.Language.Tree.{ProgramUnit}
-use Rattle.wc_model.specs.Language.Views.{unit_view}
+use Rattle.wc_model.proofs.Common.{option_and_then, and-true, take_all, flat_map}
+use Rattle.wc_model.specs.Definitions.{VariableType, Elementary, Standard, Block, block_named, frame_of, Name, name_of, Scope, type_of, Content, first_content, ProgramUnit, unit_view}
 use Rattle.wc_model.specs.declared.block.StandardBlock.{StandardBlock}
 use Rattle.wc_model.specs.declared.kind.Kind.{Kind}
 use Rattle.wc_model.specs.declared.source.Initial.{Initial}
@@ -19,10 +10,7 @@ use Rattle.wc_model.specs.declared.source.Unit.{Unit as CodeUnit}
 use Rattle.wc_names.specs.Numbered.{numbered_type}
 use Rattle.wc_names.specs.declared.declared_type.DeclaredType.TheVariants as numbered
 use Rattle.wc_names.proofs.Places.{TypeCase, of_block, of_elementary, of_standard, type_case}
-use Rattle.wc_view_changes.specs.ChangeReport.{pass_text}
-use Rattle.wc_view_changes.specs.Shapes.{has_shape}
-use Rattle.wc_view_changes.specs.Shown.{Plain, Instance, Declared, declared_of, inside, seen, shown_by, shown_from, shown_in}
-use Rattle.wc_view_changes.specs.Sides.{IsAt, line_between, lines_between, numbered_side, side_after, side_found, variable_lines}
+use Rattle.wc_view_changes.specs.{pass_text, has_shape, Plain, Instance, Declared, declared_of, inside, seen, shown_by, shown_from, shown_in, IsAt, line_between, lines_between, numbered_side, side_after, side_found, variable_lines}
 use Rattle.wc_view_changes.specs.declared.describing.Pass.{Pass}
 use Rattle.wc_view_changes.proofs.Between.{lines_inside}
 use Rattle.wc_view_changes.proofs.Leads.{plain_kept, standard_kept}

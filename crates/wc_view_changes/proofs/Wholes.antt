@@ -1,24 +1,16 @@
 -- The lines of a whole text, from its program on.
 use Rattle.std.proofs.Common.{◌≡◌, ℕ, suc, ◌-◌, ◌≤◌, List, [], ◌∷◌, ◌++◌, map, length, reverse, Option, Some, None, refl, sym, ap, ◌∙◌, arith, append_assoc}
-use Rattle.std.proofs.lemmas.Grind.{reverse_onto, flat_map-append}
+use Rattle.wc_model.proofs.Common.{reverse_onto, flat_map-append, flat_map-map, flat_map, list_all, SomeIff}
 use Rattle.std.proofs.lemmas.List.{append-nil, length-reverse, reverse-reverse}
-use Rattle.std.proofs.lemmas.List.Folds.{flat_map-map}
-use Rattle.std.specs.List.{flat_map, list_all}
-use Rattle.std.specs.Option.{SomeIff}
 use Rattle.wc_cost.proofs.TextUnits.{unit_at}
-use Rattle.wc_model.specs.Language.Carried.{path_lead, same_lead}
-use Rattle.wc_model.specs.Language.Names.{Name, name_of}
-use Rattle.wc_model.specs.Language.Scopes.{Scope, type_of}
-use Rattle.wc_model.specs.Language.Tree.{ProgramUnit, Text}
-use Rattle.wc_model.specs.Language.Views.{text_view, unit_view}
+use Rattle.wc_model.specs.Definitions.{path_lead, same_lead, Name, name_of, Scope, type_of, ProgramUnit, Text, text_view, unit_view}
 use Rattle.wc_model.specs.declared.operand.Word.{Word}
 use Rattle.wc_model.specs.declared.source.Decl.{Decl}
 use Rattle.wc_model.specs.declared.source.Source.{Source}
 use Rattle.wc_model.specs.declared.source.Unit.{Unit as CodeUnit}
 use Rattle.wc_names.specs.RepresentsText.{onto}
-use Rattle.wc_view_changes.specs.ChangeReport.{found_in, is_kept, line_alongside, lines_alongside, pass_text, path_text, program_of}
+use Rattle.wc_view_changes.specs.{found_in, is_kept, line_alongside, lines_alongside, pass_text, path_text, program_of, IsAt, IsSide, kept_between, line_between, lines_between, side_lead, variable_lines}
 use Rattle.wc_view_changes.specs.Shown.{Declared, Shown, declared_in, declared_of, names_of, paths_of, seen, shown_by, shown_from, shown_in}
-use Rattle.wc_view_changes.specs.Sides.{IsAt, IsSide, kept_between, line_between, lines_between, side_lead, variable_lines}
 use Rattle.wc_view_changes.specs.declared.describing.Pass.{Pass}
 use Rattle.wc_view_changes.proofs.Units.{map_onto}
 

@@ -4,13 +4,8 @@ use Rattle.std.specs.Prelude.{ℕ, Bool, true, false, List, [], ◌∷◌, ◌++
 use Rattle.std.specs.Fmt.{signed_decimal}
 use Rattle.std.specs.List.{flat_map, list_all}
 use Rattle.std.specs.Ordering.{int_eq}
-use Rattle.wc_model.specs.Language.Carried.{keeps}
-use Rattle.wc_model.specs.Language.Declarations.{VariableType, Elementary, Standard, Block, block_named, variable_named}
-use Rattle.wc_model.specs.Language.Names.{Name}
-use Rattle.wc_model.specs.Language.Scopes.{Scope, type_of}
+use Rattle.wc_model.specs.Definitions.{keeps, VariableType, Elementary, Standard, Block, block_named, variable_named, Name, Scope, type_of, ProgramUnit, Text, text_view}
 use Rattle.wc_model.specs.Language.Store.{Content, Path, Plain as Held, first_content}
-use Rattle.wc_model.specs.Language.Tree.{ProgramUnit, Text}
-use Rattle.wc_model.specs.Language.Views.{text_view}
 use Rattle.wc_model.specs.declared.block.StandardBlock.{StandardBlock}
 use Rattle.wc_model.specs.declared.block.StandardBlock.TheVariants.{RTrig, Sr, Rs, Ctu, Ton, Tof, Tp}
 use Rattle.wc_model.specs.declared.kind.Kind.{Kind}

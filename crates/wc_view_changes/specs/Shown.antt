@@ -1,18 +1,21 @@
--- The variables of a program through all depths of its instances, in the order of declaration: defined over the code's own
--- tree, which keeps each name as it is spelled, while the view of a text folds letter case. (The profile's own.)
-use Rattle.std.specs.Prelude.{ℕ, true, false, List, [], ◌∷◌, ◌++◌, map, reverse, Option, Some, None}
-use Rattle.std.specs.List.{flat_map}
-use Rattle.wc_model.specs.Language.Declarations.{VariableType, Elementary, Standard, Block, same_name}
-use Rattle.wc_model.specs.Language.Names.{Name, name_of}
-use Rattle.wc_model.specs.Language.Scopes.{Scope, type_of}
-use Rattle.wc_model.specs.Language.Store.{Content, first_content, standard_fields}
-use Rattle.wc_model.specs.Language.Views.{unit_view}
+-- The variables of a program through all depths of its instances, in the order of declaration, and what the code's values represent of
+-- them. (No rule of the language.)
+use Rattle.wc_model.specs.Language.Store as store
+use Rattle.wc_model.specs.declared.fault.Fault.TheVariants as fault
+use Rattle.wc_view_changes.specs.declared.shape.Shape.TheVariants as shape
+use Rattle.wc_names.specs.declared.declared_type.DeclaredType.TheVariants as numbered
+use Rattle.std.specs.Prelude.{ℕ, true, false, List, [], ◌∷◌, ◌++◌, map, reverse, Option, Some, None, ◌≡◌, Bool, Result, OnOk, IsOkUnless, flat_map}
+use Rattle.std.proofs.Common.{Vec, Global}
+use Rattle.wc_model.specs.Definitions.{VariableType, Elementary, Standard, Block, same_name, Name, name_of, Scope, type_of, Content, first_content, standard_fields, unit_view, same_block, is_kind}
 use Rattle.wc_model.specs.declared.block.StandardBlock.{StandardBlock}
 use Rattle.wc_model.specs.declared.kind.Kind.{Kind}
 use Rattle.wc_model.specs.declared.source.Decl.{Decl}
 use Rattle.wc_model.specs.declared.source.Initial.{Initial}
 use Rattle.wc_model.specs.declared.source.Source.{Source}
 use Rattle.wc_model.specs.declared.source.Unit.{Unit as CodeUnit}
+use Rattle.wc_model.specs.declared.fault.Fault.{Fault}
+use Rattle.wc_names.specs.declared.declared_type.DeclaredType.{DeclaredType}
+use Rattle.wc_view_changes.specs.declared.shape.Shape.{Shape as CodeShape}
 
 -- what is in a frame under one name: a plain variable of a kind with what it holds at first, or a standard block's instance
 pub data Shape : Type 0 where
@@ -79,3 +82,18 @@ paths_at (Instance block) names = map (λ field. names ++ field.0 ∷ []) (stand
 
 abbrev pub paths_of : Shown → List (List Name)
 paths_of s = paths_at s.shape (names_of s)
+
+-- a form
+abbrev pub shape_view : CodeShape → Shape
+shape_view (shape.Plain kind value) = Plain kind (store.Plain value)
+shape_view (shape.Instance block) = Instance block
+
+-- a variable of this type has this form
+abbrev pub has_shape : Option DeclaredType → Shape → Bool
+has_shape (Some (numbered.Elementary k)) (Plain kind content) = is_kind k kind
+has_shape (Some (numbered.Standard b)) (Instance block) = same_block b block
+has_shape type shape = false
+
+-- these bytes are put at the end of a text, or memory for them is refused
+abbrev pub Puts : {A : Type 0} → Vec ℕ Global → Vec ℕ Global → Result A Fault → List ℕ → Type 0
+Puts old new result bytes = OnOk result (new.items ≡ old.items ++ bytes) × IsOkUnless result fault.Memory

@@ -1,18 +1,12 @@
 -- A unit of a text next to the unit of another text at which the same names have led, as both are gone
 -- through. (No rule of the language.)
-use Rattle.std.specs.Prelude.{◌≡◌, ℕ, Bool, true, false, List, ◌∷◌, ◌++◌, length, Option, Some, None, MatchOption, option_and_then, option_map, slice_get}
+use Rattle.std.specs.Prelude.{◌≡◌, ℕ, Bool, true, false, List, ◌∷◌, ◌++◌, length, Option, Some, None, MatchOption, option_and_then, option_map, slice_get, IsNone, IsSomeAnd}
 use Rattle.std.specs.List.{flat_map, list_all}
-use Rattle.std.specs.Option.{IsNone, IsSomeAnd}
-use Rattle.wc_model.specs.Language.Carried.{Lead, lead_from, same_lead}
-use Rattle.wc_model.specs.Language.Names.{Name, name_of}
-use Rattle.wc_model.specs.Language.Scopes.{Scope, type_of}
-use Rattle.wc_model.specs.Language.Store.{first_content}
-use Rattle.wc_model.specs.Language.Tree.{Text}
+use Rattle.wc_model.specs.Definitions.{Lead, lead_from, same_lead, Name, name_of, Scope, type_of, first_content, Text}
 use Rattle.wc_model.specs.declared.source.Initial.{Initial}
 use Rattle.wc_model.specs.declared.source.Source.{Source}
 use Rattle.wc_model.specs.declared.source.Unit.{Unit as CodeUnit}
-use Rattle.wc_names.specs.Numbered.{IsUnit, numbered_type}
-use Rattle.wc_names.specs.RepresentsText.{onto}
+use Rattle.wc_names.specs.{IsUnit, numbered_type, onto}
 use Rattle.wc_names.specs.declared.declared_type.DeclaredType.{DeclaredType}
 use Rattle.wc_names.specs.declared.declared_type.DeclaredType.TheVariants as numbered
 use Rattle.wc_view_changes.specs.ChangeReport.{Found, block_text, found_from, initial_of, kind_text, pass_text, path_text, unit_of_type}

@@ -1,12 +1,9 @@
 ghost use Rattle.std.specs.Prelude.{◌≡◌, ◌++◌, ◌∷◌, [], List, Option, OnOk, IsOkUnless, option_and_then, option_map};
-ghost use Rattle.wc_model.specs.Language.Names.{name_of};
-ghost use Rattle.wc_model.specs.Language.Scopes.{Scope};
-ghost use Rattle.wc_model.specs.Language.Views.{text_view};
+ghost use Rattle.wc_model.specs.Definitions.{name_of, Scope, text_view};
 ghost use Rattle.wc_model.specs.declared.source.Initial.{Initial};
 ghost use Rattle.wc_model.specs.declared.source.Unit.{Unit as CodeUnit};
 ghost use Rattle.wc_view_changes.specs.ChangeReport.{note_on, pass_text};
-ghost use Rattle.wc_view_changes.specs.Shapes.{shape_view, has_shape};
-ghost use Rattle.wc_view_changes.specs.Shown.{declared_in, declared_of};
+ghost use Rattle.wc_view_changes.specs.Shown.{shape_view, has_shape, declared_in, declared_of};
 ghost use Rattle.wc_view_changes.specs.Sides.{IsAt, IsSide, lines_between, numbered_side, side_found, variable_lines};
 
 use crate::lines::{put_first, put_kept, put_lost, put_note};

@@ -3,12 +3,11 @@ ghost use Rattle.std.specs.Fmt.{signed_decimal};
 ghost use Rattle.wc_model.specs.Language.Store.{Plain};
 ghost use Rattle.wc_view_changes.specs.ChangeReport.{content_text, line_text, lost_text, note_on, note_text};
 ghost use Rattle.wc_view_changes.specs.ChangeReport as texts;
-ghost use Rattle.wc_model.specs.Language.Frames.{content_number};
-ghost use Rattle.wc_model.specs.Language.Scopes.{kind_of};
+ghost use Rattle.wc_model.specs.Definitions.{content_number, kind_of};
 ghost use Rattle.wc_model.specs.declared.kind.Kind.{Kind};
 ghost use Rattle.wc_model.specs.declared.value.Value.{Value};
 ghost use Rattle.wc_view_changes.specs.Shown as shown;
-ghost use Rattle.wc_view_changes.specs.Shapes.{Puts, shape_view};
+ghost use Rattle.wc_view_changes.specs.Shown.{Puts, shape_view};
 
 use crate::shape::{Shape, block_text, kind_text, shape_type};
 use wc_model::{Fault, Kind, Value, put_bytes};

@@ -1,15 +1,11 @@
 ghost use Rattle.std.specs.Prelude.{◌≡◌, ℕ, Option, [], ◌∷◌, option_map};
 ghost use Rattle.std.specs.List.{list_any};
-ghost use Rattle.wc_model.specs.Language.Declarations.{same_name};
-ghost use Rattle.wc_model.specs.Language.Names.{Name, name_of};
-ghost use Rattle.wc_model.specs.Language.Scopes.{Scope};
-ghost use Rattle.wc_model.specs.Language.Store.{first_content};
+ghost use Rattle.wc_model.specs.Definitions.{same_name, Name, name_of, Scope, first_content, text_view, unit_view};
 ghost use Rattle.wc_model.specs.Language.Store as store;
-ghost use Rattle.wc_model.specs.Language.Views.{text_view, unit_view};
 ghost use Rattle.wc_model.specs.declared.source.Initial.{Initial};
 ghost use Rattle.wc_view_changes.specs.ChangeReport.{initial_of};
 ghost use Rattle.wc_view_changes.specs.ChangeReport as texts;
-ghost use Rattle.wc_view_changes.specs.Shapes.{shape_view, has_shape};
+ghost use Rattle.wc_view_changes.specs.Shown.{shape_view, has_shape};
 ghost use Rattle.wc_view_changes.specs.Sides.{IsSide, line_numbered, numbered_side, side_found, side_initial, unit_numbered};
 
 use wc_model::{Decl, Kind, StandardBlock, Unit, Value, is_word};

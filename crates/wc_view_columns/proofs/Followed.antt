@@ -1,20 +1,15 @@
 -- The requests that bytes complete, with their answers.
-use Rattle.std.proofs.Common.{◌≡◌, ℕ, ◌+◌, Bool, false, true, List, [], ◌∷◌, ◌++◌, Some, drop, map, sym, ap, ◌∙◌, subst, arith}
-use Rattle.std.proofs.lemmas.List.{map-append}
-use Rattle.std.proofs.lemmas.List.Elements.{All-push}
-use Rattle.std.specs.Option.{option_to_list}
+use Rattle.wc_model.proofs.Common.{◌≡◌, ℕ, ◌+◌, Bool, false, true, List, [], ◌∷◌, ◌++◌, Some, drop, map, sym, ap, ◌∙◌, subst, arith, map-append, All-push, option_to_list}
 use Rattle.std.specs.Prelude.{option_map}
 use Rattle.wc_model.specs.Instrument.Answers.{command_of}
 use Rattle.wc_sma.specs.Seen.{command_view}
 use Rattle.wc_sma.specs.declared.command.Command.{Command}
 use Rattle.wc_sma.specs.declared.command.Command.TheVariants.{TakeTare, Zero}
-use Rattle.wc_view_columns.specs.Followed.{AreAnswered, AreCounted, HasFollowed, IsMarked, after_answer, is_refusal, made_by, marked_by}
+use Rattle.wc_view_columns.specs.{AreAnswered, AreCounted, HasFollowed, IsMarked, after_answer, is_refusal, made_by, marked_by, AreBoth, counted, AreTogether, nothing}
 use Rattle.wc_view_columns.proofs.Totals.{one_together}
-use Rattle.wc_view_columns.specs.Happened.{AreBoth, counted}
-use Rattle.wc_view_columns.specs.Rows.{AreTogether, nothing}
 use Rattle.wc_view_columns.specs.declared.events.Events.{Events}
 use Rattle.wc_view_columns.specs.declared.events.Request.{Request}
-use Rattle.wc_view_decode.specs.Found.{IsFirstAnswer}
+use Rattle.wc_view_decode.specs.AnswerBytes.{IsFirstAnswer}
 
 -- one request more
 one_made : (ms : ℕ) (command : Command) (refused : Bool) (r : Request) (made : List Events) (old : Events) (total : ℕ) → AreTogether made old

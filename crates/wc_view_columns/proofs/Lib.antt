@@ -1,6 +1,5 @@
 mod Followed
 mod Joined
-mod Lines
 mod Parts
 mod Rows
 mod Settled

@@ -1,9 +1,7 @@
 -- Rows of one number and of the next one, in rows whose numbers do not fall.
 use Rattle.std.proofs.Common.{◌≡◌, ℕ, ◌+◌, ◌-◌, ◌*◌, ◌/◌, ◌^◌, ◌≤◌, ◌||◌, Bool, true, false, cond, nat_lt, List, [], ◌∷◌, ◌++◌, filter, refl, sym, ap, ◌∙◌, arith, le_trans, div-mul-le_self}
 use Rattle.std.proofs.lemmas.Bool.{true≢false}
-use Rattle.std.proofs.lemmas.Bool.Decides.{nat_tests}
-use Rattle.std.proofs.lemmas.List.Elements.{filter_agree}
-use Rattle.std.proofs.lemmas.Nat.{le-div, pow_pos, shr-shr}
+use Rattle.wc_model.proofs.Common.{nat_tests, filter_agree, le-div, pow_pos, shr-shr}
 use Rattle.std.specs.Prelude.{◌==◌}
 use Rattle.wc_view_columns.specs.Rows.{AreFrom, Row, column_number, rows_before, rows_of}
 

@@ -1,18 +1,12 @@
 -- Columns of rows: as wide again, and with one row more.
 use Rattle.std.proofs.Common.{◌≡◌, ℕ, zero, suc, ◌+◌, ◌-◌, ◌*◌, ◌/◌, ◌^◌, ◌<◌, ◌≤◌, ◌⊎◌, inl, inr, Bool, true, false, cond, nat_lt, max, List, [], ◌∷◌, ◌++◌, Option, Some, None, filter, length, get_or, replicate, set, refl, sym, ap, ◌∙◌, subst, arith, append_assoc, append-nil, length-append, length-set, le_of_eq, le_trans}
-use Rattle.std.proofs.Math.Nat.{zero-div}
-use Rattle.std.proofs.lemmas.Bool.{cases_eq, cases_lt, eq-eqb, le-ltb, lt-ltb, ne_eqb}
-use Rattle.std.proofs.lemmas.List.{get_or-append_right, get_or-replicate, get_or-set_other, get_or-set_same, get_or_append_left, length-replicate, map-append, replicate_more}
-use Rattle.std.proofs.lemmas.List.Elements.{filter-append}
-use Rattle.std.specs.List.{last_or}
-use Rattle.std.specs.Option.{option_to_list}
+use Rattle.wc_model.proofs.Common.{zero-div, cases_eq, cases_lt, eq-eqb, le-ltb, lt-ltb, ne_eqb, get_or-append_right, get_or-replicate, get_or-set_other, get_or-set_same, get_or_append_left, length-replicate, map-append, replicate_more, filter-append, last_or, option_to_list}
 use Rattle.std.specs.Prelude.{◌==◌}
 use Rattle.wc_view_columns.proofs.Parts.{before_next, before_two, later, of_two, wider}
 use Rattle.wc_view_columns.proofs.Settled.{left_once, settled}
 use Rattle.wc_view_columns.proofs.Totals.{both_together, last_or-append, none_together, one_together}
-use Rattle.wc_view_columns.specs.Happened.{AreBoth}
+use Rattle.wc_view_columns.specs.Rows.{AreBoth, AreFrom, AreHalved, AreJoined, AreTogether, IsColumnOf, IsPairOf, Row, column_count, column_number, events_of, held_of, holding, left_by, rows_before, rows_of}
 use Rattle.wc_view_columns.specs.Held.{Held, IsStateOf}
-use Rattle.wc_view_columns.specs.Rows.{AreFrom, AreHalved, AreJoined, AreTogether, IsColumnOf, IsPairOf, Row, column_count, column_number, events_of, held_of, holding, left_by, rows_before, rows_of}
 use Rattle.wc_view_columns.specs.declared.line.Column.{Column}
 use Rattle.wc_view_columns.specs.declared.state.State.{State}
 

@@ -1,15 +1,7 @@
 -- What is known of rows is the same if what one of them left is taken once more after it.
-use Rattle.std.proofs.Common.{◌≡◌, ℕ, ◌-◌, ◌||◌, Bool, ℤ, List, [], ◌∷◌, ◌++◌, Option, Some, None, map, max, refl, sym, ap, ◌∙◌, subst, arith, append_assoc}
-use Rattle.std.proofs.lemmas.Int.{int_max_is, int_min_is, ints}
-use Rattle.std.proofs.lemmas.List.{map-append}
-use Rattle.std.proofs.lemmas.List.Elements.{filter_map-append}
-use Rattle.std.proofs.lemmas.List.Folds.{list_any-append}
-use Rattle.std.specs.Int.{bit_at, int_max, int_min}
-use Rattle.std.specs.List.{cons_option, filter_map, fold, last_or, list_any}
-use Rattle.std.specs.Option.{option_to_list}
+use Rattle.wc_model.proofs.Common.{◌≡◌, ℕ, ◌-◌, ◌||◌, Bool, ℤ, List, [], ◌∷◌, ◌++◌, Option, Some, None, map, max, refl, sym, ap, ◌∙◌, subst, arith, append_assoc, int_max_is, int_min_is, ints, map-append, filter_map-append, list_any-append, bit_at, int_max, int_min, cons_option, filter_map, fold, last_or, list_any, option_to_list}
 use Rattle.wc_view_columns.proofs.Totals.{last_or-append}
-use Rattle.wc_view_columns.specs.Held.{AreBitsOf, Held, IsStateOf}
-use Rattle.wc_view_columns.specs.Spans.{span_of}
+use Rattle.wc_view_columns.specs.Held.{AreBitsOf, Held, IsStateOf, span_of}
 use Rattle.wc_view_columns.specs.declared.bits.Bits.{Bits}
 use Rattle.wc_view_columns.specs.declared.span.Span.{Span}
 use Rattle.wc_view_columns.specs.declared.state.State.{State}

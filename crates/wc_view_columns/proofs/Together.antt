@@ -1,18 +1,9 @@
 -- What held after some rows and after later ones.
 use Rattle.std.proofs.Common.{◌≡◌, ◌+◌, ◌-◌, ◌/◌, ◌%◌, ◌^◌, ◌<◌, ◌≤◌, ◌||◌, ℕ, Bool, false, ℤ, List, [], ◌∷◌, ◌++◌, Option, Some, None, map, sym, ap, ◌∙◌, subst, arith, pow_mono}
-use Rattle.std.proofs.lemmas.List.{map-append}
-use Rattle.std.proofs.lemmas.List.Elements.{filter_map-append}
-use Rattle.std.proofs.lemmas.List.Folds.{list_any-append}
-use Rattle.std.proofs.lemmas.List.Sums.{fold-append}
-use Rattle.std.proofs.lemmas.Nat.{div_below, pow_pos}
-use Rattle.std.proofs.lemmas.Nat.Bits.{bit_at-lt, bit_at_ones, bit_at_or, bit_at_xor}
-use Rattle.std.specs.Int.{bit_at}
+use Rattle.wc_model.proofs.Common.{map-append, filter_map-append, list_any-append, fold-append, div_below, pow_pos, bit_at-lt, bit_at_ones, bit_at_or, bit_at_xor, bit_at, filter_map, fold, last_or, list_any, option_to_list}
 use Rattle.std.specs.Int.Bits.{bit_or, bit_xor}
-use Rattle.std.specs.List.{filter_map, fold, last_or, list_any}
-use Rattle.std.specs.Option.{option_to_list}
 use Rattle.std.specs.Prelude.{max}
-use Rattle.wc_view_columns.specs.Held.{AreBitsOf, Held}
-use Rattle.wc_view_columns.specs.Spans.{span_of}
+use Rattle.wc_view_columns.specs.Held.{AreBitsOf, Held, span_of}
 use Rattle.wc_view_columns.specs.declared.bits.Bits.{Bits}
 use Rattle.wc_view_columns.specs.declared.span.Span.{Span}
 

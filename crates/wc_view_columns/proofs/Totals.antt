@@ -1,12 +1,8 @@
 -- What happened at rows and at later ones.
 use Rattle.std.proofs.Common.{◌≡◌, ℕ, ◌+◌, List, [], ◌∷◌, ◌++◌, Option, Some, None, fold, map, max, sum_by, refl, sym, ap, ◌∙◌, arith}
-use Rattle.std.proofs.lemmas.List.Elements.{filter_map-append}
-use Rattle.std.proofs.lemmas.List.Sums.{sum_by-append}
-use Rattle.std.specs.List.{cons_option, filter_map, last_or}
-use Rattle.std.specs.Option.{option_or}
+use Rattle.wc_model.proofs.Common.{filter_map-append, sum_by-append, cons_option, filter_map, last_or, option_or}
 use Rattle.wc_view_columns.proofs.Together.{greatest_of}
-use Rattle.wc_view_columns.specs.Happened.{AreBoth, counted}
-use Rattle.wc_view_columns.specs.Rows.{AreTogether, nothing}
+use Rattle.wc_view_columns.specs.Rows.{AreBoth, counted, AreTogether, nothing}
 use Rattle.wc_view_columns.specs.declared.events.Events.{Events}
 
 -- a count of both, and with that of one more

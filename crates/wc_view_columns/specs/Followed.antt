@@ -7,12 +7,10 @@ use Rattle.wc_sma.specs.declared.command.Command.{Command}
 use Rattle.wc_sma.specs.declared.command.Command.TheVariants.{Zero, TakeTare, Clear}
 use Rattle.wc_sma.specs.declared.letters.Status.{Status}
 use Rattle.wc_sma.specs.declared.letters.Status.TheVariants.{ZeroRefused, TareRefused}
-use Rattle.wc_view_columns.specs.Happened.{counted}
-use Rattle.wc_view_columns.specs.Rows.{AreTogether, nothing}
+use Rattle.wc_view_columns.specs.Rows.{counted, AreTogether, nothing}
 use Rattle.wc_view_columns.specs.declared.events.Events.{Events}
 use Rattle.wc_view_columns.specs.declared.events.Request.{Request}
-use Rattle.wc_view_decode.specs.AnswerBytes.{answer_bytes}
-use Rattle.wc_view_decode.specs.Found.{IsFirstAnswer}
+use Rattle.wc_view_decode.specs.AnswerBytes.{answer_bytes, IsFirstAnswer}
 use Rattle.wc_view_decode.specs.declared.answer.Answer.{Answer}
 use Rattle.wc_view_decode.specs.declared.answer.Answer.TheVariants.{Weight, NotUnderstood}
 

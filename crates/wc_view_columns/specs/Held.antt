@@ -1,15 +1,19 @@
--- What held after the rows of some time. (The profile's own.)
-use Rattle.std.specs.Prelude.{◌≡◌, ℕ, ◌-◌, ◌<◌, Bool, not, ℤ, pos, List, Option, Some, None, map, max, get_or, if◌then◌else◌}
-use Rattle.std.specs.Int.{bit_at}
-use Rattle.std.specs.List.{filter_map, fold, last_or, list_any}
-use Rattle.wc_view_columns.specs.Spans.{span_of}
-use Rattle.wc_view_columns.specs.declared.bits.Bits.{Bits}
-use Rattle.wc_view_columns.specs.declared.span.Span.{Span}
-use Rattle.wc_view_columns.specs.declared.state.State.{State}
+-- What held after the rows of some time, with the least, the greatest and the last of the numbers that came in it. (The profile's own.)
 use Rattle.wc_model.specs.Instrument.Indication as indication
-use Rattle.wc_model.specs.Instrument.Plates.{PlateData}
-use Rattle.wc_model.specs.Instrument.WeighingHistories.{History}
+use Rattle.std.specs.Prelude.{ℤ, List, [], ◌∷◌, Option, Some, None, ◌≡◌, ℕ, ◌-◌, ◌<◌, Bool, not, pos, map, max, get_or, if◌then◌else◌}
+use Rattle.std.specs.Int.{int_max, int_min, bit_at}
+use Rattle.std.specs.List.{fold, filter_map, last_or, list_any}
+use Rattle.wc_model.specs.Definitions.{PlateData, History}
 use Rattle.wc_model.specs.declared.image.Outputs.{Outputs}
+use Rattle.wc_view_columns.specs.declared.span.Span.{Span}
+use Rattle.wc_view_columns.specs.declared.bits.Bits.{Bits}
+use Rattle.wc_view_columns.specs.declared.state.State.{State}
+
+-- those of some numbers, if there is one
+abbrev pub span_of : List ℤ → Option Span
+span_of [] = None
+span_of (number ∷ numbers) =
+    Some (record { least = fold int_min number numbers; greatest = fold int_max number numbers; last = fold (λ _ next. next) number numbers })
 
 -- what holds after a row: the weights that are valid, the net weight only while a tare is active, the image, and the numbers of
 -- the variables that are drawn, if they have one

@@ -1,11 +1,10 @@
 ghost use Rattle.std.specs.Prelude.{◌≡◌, ◌+◌, ◌≤◌, ℕ, [], ◌∷◌, ◌++◌, List, drop, length, max};
 ghost use Rattle.wc_model.specs.Instrument.Requests.{requests_in};
-ghost use Rattle.wc_sma.specs.Representation.{HasRead};
+ghost use Rattle.wc_sma.specs.Feeding.{HasRead};
 ghost use Rattle.wc_view_columns.specs.Followed.{AreCounted, HasFollowed, IsMarked, after_answer, is_refusal};
-ghost use Rattle.wc_view_columns.specs.Happened.{AreBoth, counted};
-ghost use Rattle.wc_view_columns.specs.Rows.{nothing};
+ghost use Rattle.wc_view_columns.specs.Rows.{AreBoth, counted, nothing};
 ghost use Rattle.wc_view_columns.specs.declared.events.Request.{Request};
-ghost use Rattle.wc_view_decode.specs.Found.{IsFirstAnswer};
+ghost use Rattle.wc_view_decode.specs.AnswerBytes.{IsFirstAnswer};
 
 use wc_sma::{Command, RequestReader, Status};
 use wc_view_decode::{Answer, answer_length, first_answer};

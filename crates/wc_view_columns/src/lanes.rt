@@ -1,8 +1,7 @@
 ghost use Rattle.std.specs.Prelude.{◌≡◌, ◌++◌, [], ◌∷◌, not, filter, IfOk, List, Some, None};
-ghost use Rattle.wc_view_columns.specs.Columns.{AreOf, HasHappened, HasHeld, IsLevelOf, IsOfAll, IsWholeOf, level_of};
-ghost use Rattle.wc_view_columns.specs.Happened.{AreBoth};
+ghost use Rattle.wc_view_columns.specs.Columns.{AreOf, HasHappened, HasHeld, IsLevelOf, IsOfAll, IsWholeOf, level_of, all_lanes, is_shown};
+ghost use Rattle.wc_view_columns.specs.Rows.{AreBoth};
 ghost use Rattle.wc_view_columns.specs.Held.{Held, IsStateOf};
-ghost use Rattle.wc_view_columns.specs.Lanes.{all_lanes, is_shown};
 ghost use Rattle.wc_view_columns.specs.declared.line.Column.{Column};
 ghost use Rattle.wc_view_columns.specs.declared.events.Events.{Events};
 

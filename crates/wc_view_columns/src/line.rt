@@ -1,7 +1,6 @@
 ghost use Rattle.std.specs.Prelude.{◌≡◌, ◌<◌, ◌≤◌, ◌++◌, List, vec_capacity, vec_len};
-ghost use Rattle.wc_view_columns.specs.Happened.{AreBoth};
+ghost use Rattle.wc_view_columns.specs.Rows.{AreBoth, holding};
 ghost use Rattle.wc_view_columns.specs.Held.{Held, IsStateOf};
-ghost use Rattle.wc_view_columns.specs.Rows.{holding};
 
 use crate::events::Events;
 use crate::state::State;

@@ -1,7 +1,6 @@
-ghost use Rattle.std.specs.Prelude.{◌≡◌, ℤ, List, ◌++◌, None, Some, int_lt};
+ghost use Rattle.std.specs.Prelude.{◌≡◌, ℤ, List, ◌++◌, None, Some, int_lt, option_to_list};
 ghost use Rattle.std.specs.Int.{int_max, int_min};
-ghost use Rattle.std.specs.Option.{option_to_list};
-ghost use Rattle.wc_view_columns.specs.Spans.{span_of};
+ghost use Rattle.wc_view_columns.specs.Held.{span_of};
 
 /// The least, the greatest and the last of some numbers.
 #[derive(Clone, Copy, PartialEq, Eq)]

@@ -1,12 +1,9 @@
-ghost use Rattle.std.specs.Prelude.{◌≡◌, ◌<◌, ℕ, ℤ, pos, List, [], ◌∷◌, ◌++◌, Option, Some, None, get_or, if◌then◌else◌};
-ghost use Rattle.std.specs.Option.{option_to_list};
-ghost use Rattle.wc_view_columns.specs.Held.{Held, IsStateOf, held_at};
-ghost use Rattle.wc_view_columns.specs.Spans.{span_of};
+ghost use Rattle.std.specs.Prelude.{◌≡◌, ◌<◌, ℕ, ℤ, pos, List, [], ◌∷◌, ◌++◌, Option, Some, None, get_or, if◌then◌else◌, option_to_list};
+ghost use Rattle.wc_view_columns.specs.Held.{Held, IsStateOf, held_at, span_of};
 ghost use Rattle.wc_view_columns.specs.declared.span.Span.{Span};
 ghost use Rattle.wc_indicator.specs.Kept.{RepresentsHistory, Reports};
 ghost use Rattle.wc_model.specs.Instrument.Indication as indication;
-ghost use Rattle.wc_model.specs.Instrument.Plates.{PlateData};
-ghost use Rattle.wc_model.specs.Instrument.WeighingHistories.{History};
+ghost use Rattle.wc_model.specs.Definitions.{PlateData, History};
 
 use crate::bits::Bits;
 use crate::span::{Span, join};

@@ -1,8 +1,5 @@
 -- The places of an answer's fields.
-use Rattle.std.proofs.Common.{◌≡◌, ◌+◌, ◌-◌, ◌==◌, ◌&&◌, ℕ, Bool, true, List, [], ◌∷◌, ◌++◌, length, get_or, take, drop, refl, sym, ◌∙◌, ap, subst, arith}
-use Rattle.std.proofs.lemmas.Bool.{and_parts, eqb-true}
-use Rattle.std.proofs.lemmas.List.{length-drop, length-take-le, take-append-drop}
-use Rattle.std.specs.List.{list_all}
+use Rattle.wc_model.proofs.Common.{◌≡◌, ◌+◌, ◌-◌, ◌==◌, ◌&&◌, ℕ, Bool, true, List, [], ◌∷◌, ◌++◌, length, get_or, take, drop, refl, sym, ◌∙◌, ap, subst, arith, and_parts, eqb-true, length-drop, length-take-le, take-append-drop, list_all}
 use Rattle.wc_view_decode.specs.AnswerBytes.{IsAnswer, is_framed, is_weight_byte, reading_bytes}
 use Rattle.wc_view_decode.specs.declared.answer.Answer.TheVariants.{Weight}
 use Rattle.wc_view_decode.specs.declared.answer.Reading.{Reading}

@@ -1,9 +1,6 @@
 -- The bytes of answers are bytes.
-use Rattle.std.proofs.Common.{◌≡◌, ◌<◌, ◌+◌, ℕ, zero, suc, Bool, true, false, List, [], ◌∷◌, ◌++◌, arith, lit<}
+use Rattle.wc_model.proofs.Common.{◌≡◌, ◌<◌, ◌+◌, ℕ, zero, suc, Bool, true, false, List, [], ◌∷◌, ◌++◌, arith, lit<, and_parts, common_steps, AllByRecursion, list_all}
 use Rattle.hex.specs.Hex.{IsBytes}
-use Rattle.std.proofs.lemmas.Bool.{and_parts}
-use Rattle.std.proofs.lemmas.Grind.{common_steps}
-use Rattle.std.specs.List.{AllByRecursion, list_all}
 use Rattle.wc_view_decode.proofs.Takings.{both}
 use Rattle.wc_view_decode.specs.AnswerBytes.{AreAllAnswers, IsAnswer, answer_bytes, bytes_of_answers, is_weight_byte}
 use Rattle.wc_view_decode.specs.declared.answer.Answer.{Answer}

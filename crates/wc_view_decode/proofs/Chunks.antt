@@ -1,14 +1,8 @@
 -- A report that is read, decoded and written chunk by chunk.
-use Rattle.std.proofs.Common.{◌≡◌, ℕ, List, [], ◌++◌, Option, Result, Ok, Err, refl, sym, ap, ◌∙◌, subst}
-use Rattle.std.proofs.KnownBytes.{Appends-nil, Appends-trans, Consumes-kept, Consumes-nil, Consumes-trans}
+use Rattle.wc_model.proofs.Common.{◌≡◌, ℕ, List, [], ◌++◌, Option, Result, Ok, Err, refl, sym, ap, ◌∙◌, subst, Appends-nil, Appends-trans, Consumes-kept, Consumes-nil, Consumes-trans, Appends, Consumes, IsAtEnd, Keeps, IsErr, IsErrAnd}
 use Rattle.std.proofs.lemmas.List.{append_assoc, append-nil}
-use Rattle.std.specs.Io.KnownBytes.{Appends, Consumes, IsAtEnd, Keeps}
-use Rattle.std.specs.Result.{IsErr, IsErrAnd}
 use Rattle.wc_view_decode.proofs.Standings.{end_prefix, prefix_written}
-use Rattle.wc_view_decode.specs.Decoding.{Decodes, DecodesAll, DecodesPrefix}
-use Rattle.wc_view_decode.specs.Formats.{heading}
-use Rattle.wc_view_decode.specs.Running.{DecodesChunk, DecodesRest, Ends, GoesOn, WritesText}
-use Rattle.wc_view_decode.specs.Representation.{Represents}
+use Rattle.wc_view_decode.specs.{Decodes, DecodesAll, DecodesPrefix, heading, DecodesChunk, DecodesRest, Ends, GoesOn, WritesText, Represents}
 use Rattle.wc_view_decode.specs.declared.decoder.Decoder.{Decoder}
 use Rattle.wc_view_decode.specs.declared.format.DecodeFault.{DecodeFault}
 use Rattle.wc_view_decode.specs.declared.format.DecodeFormat.{DecodeFormat}

@@ -4,12 +4,9 @@ use Rattle.hex.specs.Hex.{IsBytes}
 use Rattle.wc_view_decode.proofs.ByteLists.{answers_are_bytes}
 use Rattle.wc_view_decode.proofs.CutLines.{answer_fields}
 use Rattle.wc_view_decode.proofs.Digits.{decimal_is_field, hex_is_field}
-use Rattle.wc_model.specs.Run.Hex.{hex_of_bytes}
-use Rattle.wc_view_decode.specs.Fields.{CutsField}
-use Rattle.wc_view_decode.specs.AnswerBytes.{AreAllAnswers, bytes_of_answers}
-use Rattle.wc_view_decode.specs.Lines.{AreContentOf, InRange, IsContentOf, LineContent, AnswersContent, RefusalContent, ScanContent, content_text}
+use Rattle.wc_model.specs.Definitions.{hex_of_bytes, AnswerLine, line_text}
+use Rattle.wc_view_decode.specs.{CutsField, AreContentOf, InRange, IsContentOf, LineContent, AnswersContent, RefusalContent, ScanContent, content_text, AreAllAnswers, bytes_of_answers}
 use Rattle.wc_view_decode.specs.declared.answer.Answer.{Answer}
-use Rattle.wc_model.specs.Say.Report.{AnswerLine, line_text}
 
 -- the line is that of this moment and these bytes if it is any
 abbrev pub IsOnlyRow : List ℕ → ℕ → List ℕ → Type 0

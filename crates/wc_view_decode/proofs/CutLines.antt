@@ -3,10 +3,8 @@ use Rattle.std.proofs.Common.{◌≡◌, ◌≤◌, ℕ, ℤ, List, [], ◌∷�
 use Rattle.std.proofs.lemmas.List.{append_assoc}
 use Rattle.std.specs.Fmt.{signed_decimal}
 use Rattle.wc_view_decode.proofs.Digits.{signed_is_field}
-use Rattle.wc_view_decode.specs.Fields.{AreFieldBytes, CutsField, words_text}
-use Rattle.wc_view_decode.specs.Lines.{AreWords, RefusalContent, ScanContent, content_text}
-use Rattle.wc_model.specs.Run.Hex.{hex_of_bytes, hex_of_word}
-use Rattle.wc_model.specs.Say.Report.{AnswerLine, line_text}
+use Rattle.wc_view_decode.specs.Lines.{AreFieldBytes, CutsField, words_text, AreWords, RefusalContent, ScanContent, content_text}
+use Rattle.wc_model.specs.Definitions.{hex_of_bytes, hex_of_word, AnswerLine, line_text}
 use mir.Syntax.{w32}
 
 -- what a field is read as

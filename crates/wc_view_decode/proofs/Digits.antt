@@ -2,20 +2,12 @@
 use Rattle.std.proofs.Common.{◌≡◌, ◌<◌, ◌≤◌, ◌+◌, ◌/◌, ◌%◌, ◌^◌, ℕ, zero, suc, ℤ, pos, negsuc, true, false, cond, nat_lt, rules, List, [], ◌∷◌, ◌++◌, length, Result, Ok, Err, refl, sym, ap, subst, ◌∙◌, arith}
 use Rattle.hex.proofs.HexLemmas.{decode_sized-encode_lower}
 use Rattle.hex.specs.Hex.{IsBytes, decode_sized}
-use Rattle.std.proofs.lemmas.Bool.Decides.{nat_tests}
-use Rattle.std.proofs.lemmas.Fmt.{decimal_is_IsNumeral}
-use Rattle.std.proofs.lemmas.Str.Parse.{digit_from_value}
-use Rattle.std.specs.Char.{digit_char}
-use Rattle.std.specs.Fmt.{signed_decimal}
-use Rattle.std.specs.Int.{from_be_bytes}
-use Rattle.std.specs.List.{prefix_len}
-use Rattle.std.specs.Prelude.{decimal}
+use Rattle.wc_model.proofs.Common.{decimal, nat_tests, decimal_is_IsNumeral, digit_from_value, digit_char, signed_decimal, from_be_bytes, prefix_len, AllDigits}
 use Rattle.std.specs.Result.{MatchResult, result_unwrap_or}
-use Rattle.std.specs.Str.Parse.{AllDigits}
 use Rattle.wc_diag_texts.specs.Numbers.{is_refusal}
-use Rattle.wc_view_decode.specs.Fields.{AreFieldBytes}
+use Rattle.wc_view_decode.specs.Lines.{AreFieldBytes}
 use Rattle.wc_model.specs.Run.Hex.{hex_of_bytes, hex_of_word}
-use Rattle.wc_report.proofs.WrittenDigits.{digits_same}
+use Rattle.wc_report.proofs.Digits.{digits_same}
 use lib.Signed.{mag}
 use mir.Syntax.{w16}
 

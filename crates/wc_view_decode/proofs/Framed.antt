@@ -1,12 +1,9 @@
 -- What twenty bytes are, by what is in the places of an answer's fields.
 use Rattle.std.proofs.Common.{◌≡◌, ◌+◌, ◌↔◌, ℕ, Bool, true, false, List, [], ◌∷◌, ◌++◌, length, get_or, take, drop, sym, ◌∙◌, ap, subst, arith, length-append, Option, Some, None}
-use Rattle.std.proofs.Math.Seq.{take-append_seam}
+use Rattle.wc_model.proofs.Common.{take-append_seam, take-append-drop, list_all}
 use Rattle.std.proofs.lemmas.Bool.{true≢false}
-use Rattle.std.proofs.lemmas.List.{take-append-drop}
 use Rattle.wc_view_decode.proofs.AnswerFields.{fields_of, frame_of, rebuilt, same_reading, unit_length, weight_of_frame}
-use Rattle.std.specs.List.{list_all}
-use Rattle.wc_view_decode.specs.AnswerBytes.{IsAnswer, answer_bytes, is_framed, is_weight_byte, reading_bytes}
-use Rattle.wc_view_decode.specs.Found.{IsAnswerOf, IsFirstAnswer}
+use Rattle.wc_view_decode.specs.AnswerBytes.{IsAnswer, answer_bytes, is_framed, is_weight_byte, reading_bytes, IsAnswerOf, IsFirstAnswer}
 use Rattle.wc_view_decode.specs.declared.answer.Answer.{Answer}
 use Rattle.wc_view_decode.specs.declared.answer.Answer.TheVariants.{Weight, NotUnderstood}
 use Rattle.wc_view_decode.specs.declared.answer.Reading.{Reading}

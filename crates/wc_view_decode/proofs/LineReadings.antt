@@ -1,24 +1,15 @@
 -- The answers of the line, as they are read.
 use Rattle.std.proofs.Common.{◌≡◌, ◌<◌, ◌≤◌, ◌+◌, ◌-◌, ◌/◌, ◌%◌, ◌^◌, ◌&&◌, ℕ, zero, suc, ℤ, Bool, true, false, cond, List, [], ◌∷◌, ◌++◌, length, decimal, Option, Some, None, refl, ap, ◌∙◌, arith, length-append}
-use Rattle.std.proofs.lemmas.Fmt.{decimal_is_IsNumeral}
-use Rattle.std.proofs.lemmas.Grind.{common_steps}
-use Rattle.std.proofs.lemmas.List.Folds.{list_all-append}
-use Rattle.std.proofs.lemmas.Str.Parse.{digit_from_value}
-use Rattle.std.specs.Int.{is_negative}
-use Rattle.std.specs.List.{list_all}
+use Rattle.wc_model.proofs.Common.{decimal_is_IsNumeral, common_steps, list_all-append, digit_from_value, is_negative, list_all, AllDigits}
 use Rattle.std.specs.Prelude.{replicate, unsigned_abs}
-use Rattle.std.specs.Str.Parse.{AllDigits}
 use Rattle.wc_view_decode.proofs.AnswerFields.{unit_length}
-use Rattle.wc_view_decode.specs.AnswerBytes.{AreAllAnswers, IsAnswer, answer_bytes, bytes_of_answers, is_weight_byte, reading_bytes}
-use Rattle.wc_view_decode.specs.LineAnswers.{AnswersAreRead, AreAnswersTo, IsReadingOf}
+use Rattle.wc_view_decode.specs.AnswerBytes.{AreAllAnswers, IsAnswer, answer_bytes, bytes_of_answers, is_weight_byte, reading_bytes, AnswersAreRead, AreAnswersTo, IsReadingOf}
 use Rattle.wc_view_decode.specs.declared.answer.Answer.{Answer}
 use Rattle.wc_view_decode.specs.declared.answer.Answer.TheVariants.{Weight, NotUnderstood}
 use Rattle.wc_view_decode.specs.declared.answer.Reading.{Reading}
 use Rattle.wc_laws_instrument.proofs.Answers.{IsShort, length_answer, short_weight}
 use Rattle.wc_model.specs.Instrument.Answers as line_answers
-use Rattle.wc_model.specs.Instrument.Indication.{is_stable}
-use Rattle.wc_model.specs.Instrument.Plates.{PlateData, IsPlate}
-use Rattle.wc_model.specs.Instrument.WeighingHistories.{History, SetZero, SetTare, ClearTare}
+use Rattle.wc_model.specs.Definitions.{is_stable, PlateData, IsPlate, History, SetZero, SetTare, ClearTare}
 use Rattle.wc_sma.proofs.AnswerLetters.{letters_are_answers}
 use Rattle.wc_sma.specs.Letters.{unit_letters}
 

@@ -1,7 +1,6 @@
 -- Texts that are put together part by part.
-use Rattle.std.proofs.Common.{◌≡◌, ◌+◌, ℕ, suc, ℤ, List, [], ◌∷◌, ◌++◌, length, get_or, refl, sym, ap, ◌∙◌, arith, rules}
+use Rattle.wc_model.proofs.Common.{◌≡◌, ◌+◌, ℕ, suc, ℤ, List, [], ◌∷◌, ◌++◌, length, get_or, refl, sym, ap, ◌∙◌, arith, rules, signed_decimal}
 use Rattle.std.proofs.lemmas.List.{append_assoc, append-nil}
-use Rattle.std.specs.Fmt.{signed_decimal}
 use Rattle.wc_view_decode.specs.Formats.{bit_text, bits_text, named_words, none_text, of_bits}
 use Rattle.wc_view_decode.specs.declared.format.DecodeFormat.{DecodeFormat}
 

@@ -1,12 +1,8 @@
 -- Answers one after the other.
-use Rattle.std.proofs.Common.{◌≡◌, ◌+◌, ◌<◌, ℕ, List, [], ◌∷◌, ◌++◌, length, drop, refl, sym, ◌∙◌, ap, arith, length-append, Some, None, true, false, ◌==◌}
-use Rattle.std.proofs.lemmas.Bool.{eqb-true}
-use Rattle.std.proofs.lemmas.Grind.{flat_map-append}
+use Rattle.wc_model.proofs.Common.{◌≡◌, ◌+◌, ◌<◌, ℕ, List, [], ◌∷◌, ◌++◌, length, drop, refl, sym, ◌∙◌, ap, arith, length-append, Some, None, true, false, ◌==◌, eqb-true, flat_map-append, drop-append_seam}
 use Rattle.std.proofs.lemmas.List.{append_assoc, append-nil}
 use Rattle.wc_view_decode.proofs.Takings.{both}
-use Rattle.std.proofs.Math.Seq.{drop-append_seam}
-use Rattle.wc_view_decode.specs.AnswerBytes.{AreAllAnswers, IsAnswer, answer_bytes, bytes_of_answers}
-use Rattle.wc_view_decode.specs.Found.{AreAnswersOf, IsFirstAnswer}
+use Rattle.wc_view_decode.specs.AnswerBytes.{AreAllAnswers, IsAnswer, answer_bytes, bytes_of_answers, AreAnswersOf, IsFirstAnswer}
 use Rattle.wc_view_decode.specs.declared.answer.Answer.{Answer}
 use Rattle.wc_view_decode.specs.declared.answer.Answer.TheVariants.{Weight, NotUnderstood}
 

@@ -1,21 +1,11 @@
 -- How a decoder goes on from where it is.
 use Rattle.std.proofs.Common.{◌≡◌, ◌<◌, ◌≤◌, ◌+◌, ℕ, Bool, true, false, ◌==◌, List, [], ◌∷◌, ◌++◌, length, take, if◌then◌else◌, refl, sym, ap, ◌∙◌, subst, arith, length-append}
-use Rattle.std.proofs.Math.Seq.{take-append_seam, take-length}
-use Rattle.std.proofs.lemmas.Grind.{flat_map-append}
+use Rattle.wc_model.proofs.Common.{codes, decimal, take-append_seam, take-length, flat_map-append, ne_eqb, position_or_len}
 use Rattle.std.proofs.lemmas.List.{append_assoc, append-nil}
-use Rattle.std.proofs.lemmas.Bool.{ne_eqb}
 use Rattle.wc_view_decode.proofs.Takings.{both}
-use Rattle.std.specs.List.{position_or_len}
-use Rattle.std.specs.Prelude.{codes, decimal}
-use Rattle.wc_view_decode.specs.AnswerBytes.{bytes_of_answers}
-use Rattle.wc_model.specs.Run.Hex.{hex_of_bytes, hex_of_word}
-use Rattle.wc_model.specs.Say.Report.{spaced_numbers}
-use Rattle.wc_view_decode.specs.Decoding.{AreDecoded, Decodes, DecodesPrefix, IsDecodedLine, Reports, longest_line, without_end}
-use Rattle.wc_view_decode.specs.Formats.{closing, heading, opening, passed_byte, passed_on, unknown}
-use Rattle.wc_view_decode.specs.Lines.{LineContent, AnswersContent, RefusalContent, ScanContent, content_text}
-use Rattle.wc_view_decode.specs.Representation.{HasNoEnd, IsInState}
+use Rattle.wc_view_decode.specs.{bytes_of_answers, AreDecoded, Decodes, DecodesPrefix, IsDecodedLine, Reports, longest_line, without_end, closing, heading, opening, passed_byte, passed_on, unknown, LineContent, AnswersContent, RefusalContent, ScanContent, content_text, HasNoEnd, IsInState}
+use Rattle.wc_model.specs.Definitions.{hex_of_bytes, hex_of_word, spaced_numbers, onto_first_line, whole_lines}
 use Rattle.wc_view_decode.specs.declared.format.DecodeFormat.{DecodeFormat}
-use Rattle.wc_model.specs.Run.JobSections.{onto_first_line, whole_lines}
 
 -- a byte that is not a line feed
 no_end : (byte : ℕ) → ¬ (byte ≡ 10) → (byte == 10) ≡ false

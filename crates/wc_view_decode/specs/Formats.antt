@@ -1,15 +1,13 @@
 -- What is written for a line of a report: for people, or a row of a table. (The forms are the profile's own.)
 use Rattle.std.proofs.Common.{Vec, Global}
-use Rattle.std.specs.Prelude.{◌≡◌, ℕ, zero, suc, ◌/◌, ◌%◌, ◌^◌, ◌==◌, ◌&&◌, nat_le, not, Bool, ℤ, List, [], ◌∷◌, ◌++◌, codes, decimal, if◌then◌else◌, Result, OnOk, IsOkUnless}
+use Rattle.std.specs.Prelude.{◌≡◌, ℕ, zero, suc, ◌/◌, ◌%◌, ◌^◌, ◌==◌, ◌&&◌, nat_le, not, Bool, ℤ, List, [], ◌∷◌, ◌++◌, codes, decimal, if◌then◌else◌, Result, OnOk, IsOkUnless, flat_map}
 use Rattle.std.specs.Fmt.{signed_decimal}
-use Rattle.std.specs.List.{flat_map}
 use Rattle.wc_view_decode.specs.AnswerTexts.{answer_text}
 use Rattle.wc_view_decode.specs.Lines.{LineContent, AnswersContent, RefusalContent, ScanContent}
 use Rattle.wc_view_decode.specs.declared.answer.Answer.{Answer}
 use Rattle.wc_view_decode.specs.declared.format.DecodeFormat.{DecodeFormat}
 use Rattle.wc_view_decode.specs.declared.format.DecodeFormat.TheVariants.{Text, Table}
-use Rattle.wc_model.specs.Run.Hex.{hex_of_bytes}
-use Rattle.wc_model.specs.Say.Job.{refused_text}
+use Rattle.wc_model.specs.Definitions.{hex_of_bytes, refused_text}
 use Rattle.wc_model.specs.declared.fault.Fault.{Fault}
 use Rattle.wc_model.specs.declared.fault.Fault.TheVariants as fault
 use Rattle.wc_model.specs.declared.image.Outputs.{Outputs}

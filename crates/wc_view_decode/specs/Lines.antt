@@ -1,18 +1,34 @@
--- The lines of a report, and what each says. (The form is the profile's own.)
-use Rattle.std.specs.Prelude.{◌≡◌, ℕ, ◌^◌, ◌<◌, true, List, [], ◌∷◌, length, Option, Some, None, FitsSigned, ℤ, Result, IfOk, IsOkUnless, option_map}
+-- The lines of a report with their fields, and what each says. (The form is the profile's own.)
+use Rattle.wc_model.specs.declared.fault.Fault.TheVariants as fault
+use Rattle.std.specs.Prelude.{◌≡◌, ℕ, ◌<◌, ◌≤◌, ℤ, List, [], ◌∷◌, ◌++◌, ◌^◌, true, length, Option, Some, None, FitsSigned, Result, IfOk, IsOkUnless, option_map}
+use Rattle.std.specs.Fmt.{signed_decimal}
+use Rattle.std.specs.List.{AllByRecursion}
 use mir.Syntax.{w32}
+use Rattle.wc_diag_texts.specs.Numbers.{is_refusal}
+use Rattle.wc_model.specs.Definitions.{refused_text, AnswerLine, ScanLine, line_text}
+use Rattle.wc_model.specs.declared.fault.Fault.{Fault}
+use Rattle.wc_model.specs.declared.image.Outputs.{Outputs}
 use Rattle.wc_view_decode.specs.AnswerBytes.{AreAllAnswers, bytes_of_answers}
 use Rattle.wc_view_decode.specs.declared.answer.Answer.{Answer}
 use Rattle.wc_view_decode.specs.declared.answer.ReportEntry.{ReportEntry}
 use Rattle.wc_view_decode.specs.declared.answer.ReportEntry.TheVariants.{Scan, Answers, Refusal}
 use Rattle.wc_view_decode.specs.declared.answer.RefusalRow.{RefusalRow}
 use Rattle.wc_view_decode.specs.declared.answer.ScanRow.{ScanRow}
-use Rattle.wc_diag_texts.specs.Numbers.{is_refusal}
-use Rattle.wc_model.specs.Say.Job.{refused_text}
-use Rattle.wc_model.specs.Say.Report.{AnswerLine, ScanLine, line_text}
-use Rattle.wc_model.specs.declared.fault.Fault.{Fault}
-use Rattle.wc_model.specs.declared.fault.Fault.TheVariants as fault
-use Rattle.wc_model.specs.declared.image.Outputs.{Outputs}
+
+-- no byte of a field is a space or below
+abbrev pub AreFieldBytes : List ℕ → Type 0
+AreFieldBytes bytes = AllByRecursion (λ byte. 32 < byte) bytes
+
+-- the first field is cut off, and the byte that ends it
+abbrev pub CutsField : (text field rest : List ℕ) → Type 0
+CutsField text field rest =
+    (bytes more : List ℕ) (end : ℕ) → AreFieldBytes bytes → end ≤ 32 → text ≡ bytes ++ end ∷ more → (field ≡ bytes) × (rest ≡ more)
+
+-- the words at the end of a line
+abbrev pub words_text : List ℤ → List ℕ
+words_text [] = []
+words_text (z ∷ []) = signed_decimal z ++ 10 ∷ []
+words_text (z ∷ next ∷ words) = signed_decimal z ++ 32 ∷ words_text (next ∷ words)
 
 -- what a line says: a scan, the answers to a row, or the refusal at the report's end
 pub data LineContent : Type 0 where

@@ -1,7 +1,7 @@
 ghost use Rattle.std.specs.Prelude.{◌≡◌, ◌<◌, ◌∷◌, [], false, length, IsOkUnless};
 ghost use Rattle.wc_view_decode.specs.Decoding.{longest_line};
 ghost use Rattle.wc_view_decode.specs.Formats.{Puts, closing, is_shown, opening, passed_on, unknown};
-ghost use Rattle.wc_view_decode.specs.Representation.{Finishes, PutsLine, TakesBytes};
+ghost use Rattle.wc_view_decode.specs.Running.{Finishes, PutsLine, TakesBytes};
 
 use crate::entry_formats::put_entry;
 use crate::format::DecodeFormat;

@@ -1,9 +1,7 @@
 // Answers in the bytes of a row.
 ghost use Rattle.std.specs.Prelude.{◌≡◌, length, option_map, IfOk, IsOkUnless};
 ghost use Rattle.std.specs.List.{list_all};
-ghost use Rattle.wc_view_decode.specs.AnswerBytes.{IsAnswer, answer_bytes, is_framed, is_weight_byte};
-ghost use Rattle.wc_view_decode.specs.Found.{AreAnswersOf, IsAnswerOf, IsFirstAnswer};
-ghost use Rattle.wc_view_decode.specs.LineAnswers.{AnswersAreRead};
+ghost use Rattle.wc_view_decode.specs.AnswerBytes.{IsAnswer, answer_bytes, is_framed, is_weight_byte, AreAnswersOf, IsAnswerOf, IsFirstAnswer, AnswersAreRead};
 
 use crate::answer::{Answer, Reading};
 use std::alloc::Global;

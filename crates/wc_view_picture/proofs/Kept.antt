@@ -2,22 +2,15 @@
 use Rattle.std.proofs.Common.{◌≡◌, ℕ, Bor, List, [], ◌∷◌, ◌++◌, Option, Result, Ok, Err, length, refl, sym, ap, subst, ◌∙◌}
 use Rattle.std.specs.Prelude.{ℤ, ◌<◌, Some, None, OnOk, get_or, is_some, option_map}
 use Rattle.wc_indicator.specs.Kept.{IndicatorState, RepresentsHistory}
-use Rattle.wc_model.specs.Instrument.Plates.{PlateData}
-use Rattle.wc_model.specs.Instrument.WeighingHistories.{History}
+use Rattle.wc_model.specs.Definitions.{PlateData, History, Past, history_of, line_bytes, Logic, ReportLine, answer_line}
 use Rattle.wc_model.specs.Run.ProcessImage.{inputs_of, inputs_with}
-use Rattle.wc_model.specs.Run.Rows.{Past, history_of, line_bytes}
-use Rattle.wc_model.specs.Say.ProgramReport.{Logic}
-use Rattle.wc_model.specs.Say.Report.{ReportLine, answer_line}
 use Rattle.wc_model.specs.declared.image.Outputs.{Outputs}
 use Rattle.wc_record.specs.Views.{head_data_view}
-use Rattle.wc_run.specs.Logics.{lines_of_row, logic_after}
-use Rattle.wc_run.specs.Observing.{IsShown, lines_of_scan, row_of}
+use Rattle.wc_run.specs.{lines_of_row, logic_after, IsShown, lines_of_scan, row_of}
 use Rattle.wc_run.specs.declared.row_seen.RowSeen.{RowSeen}
-use Rattle.wc_sma.specs.Representation.{HasRead}
-use Rattle.wc_view_columns.specs.Happened.{counted}
+use Rattle.wc_sma.specs.Feeding.{HasRead}
+use Rattle.wc_view_columns.specs.{counted, AreFrom, Row, row_at}
 use Rattle.wc_view_columns.specs.Held.{Held, IsStateOf, held_at}
-use Rattle.wc_view_columns.specs.Rows.{AreFrom, Row}
-use Rattle.wc_view_columns.specs.TimeLines.{row_at}
 use Rattle.wc_view_columns.specs.declared.line.Column.{Column}
 use Rattle.wc_view_picture.specs.declared.view.ScanSteps.{ScanSteps}
 use Rattle.wc_view_picture.specs.Seen.{AreNamesOf, AreRowsOf, HasHappened, HasSeen, IsTimeOf, list_of, most_after, numbers_after, most_at, most_of, most_with, outputs_after, outputs_with, replaced_at}

@@ -1,21 +1,15 @@
 -- How a run ends of whose bytes nothing is said, if no line of a refusal is written.
-use Rattle.std.proofs.Common.{◌≡◌, ℕ, List, Option, Ok, Err, Some, None, Result, ap, arith, refl, subst, sym}
-use Rattle.std.specs.Prelude.{IfSome}
+use Rattle.wc_model.proofs.Common.{◌≡◌, ℕ, List, Option, Ok, Err, Some, None, Result, ap, arith, refl, subst, sym, IfSome}
 use Rattle.wc_controller.proofs.EndedRuns.{run_ended}
-use Rattle.wc_endings.specs.Endings.{EndsAfter, EndsAfterFault, ReportsFailures, ReportsWriteFaults, ending_of, fault_ending, raised, status_of}
-use Rattle.wc_controller.specs.Files.{Observed}
-use Rattle.wc_controller.specs.InputRuns.{RunsAs, RunsUpTo}
-use Rattle.wc_controller.specs.InputStates.{InputStates}
+use Rattle.wc_controller.specs.{EndsAfter, EndsAfterFault, ReportsFailures, ReportsWriteFaults, ending_of, fault_ending, raised, status_of, Observed, RunsAs, RunsUpTo, InputStates}
 use Rattle.wc_job.specs.declared.input.Input.{Input}
-use Rattle.wc_endings.specs.declared.ending.Stopped.{Stopped}
-use Rattle.wc_model.specs.Run.Log.{Record}
+use Rattle.wc_controller.specs.declared.ending.Stopped.{Stopped}
+use Rattle.wc_model.specs.Definitions.{Record, Logic}
 use Rattle.wc_run.specs.declared.fault.RunFault.{RunFault}
 use Rattle.wc_run.specs.declared.fault.RunFault.TheVariants.{Refused, Read, Write, Memory}
-use Rattle.wc_model.specs.Say.ProgramReport.{Logic}
-use Rattle.wc_view_picture.specs.Runs.{IsUnknownOf, unsaid}
-use Rattle.wc_view_picture.specs.Seen.{HasRefused}
+use Rattle.wc_view_picture.specs.Seen.{IsUnknownOf, unsaid, HasRefused}
 use Rattle.wc_view_picture.specs.declared.picture.Picture.{Picture}
-use Rattle.wc_view_watch.specs.Unknown.{IsFirstUnknown}
+use Rattle.wc_view_watch.specs.Plans.{IsFirstUnknown}
 use Rattle.wc_view_watch.specs.declared.names.UnknownName.{UnknownName}
 
 unwritten_fault : (at : Input) (why : RunFault) → EndsAfterFault at why (fault_ending at why) None None

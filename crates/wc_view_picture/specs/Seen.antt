@@ -1,27 +1,19 @@
--- What a picture has seen of a run: its rows, in the columns of their time. (The profile's own.)
+-- What a picture has seen of a run, of whose bytes nothing is said: its rows, in the columns of their time. (The profile's own.)
 use Rattle.std.specs.Prelude.{◌≡◌, ⊤, ℕ, ℤ, Bool, true, pos, List, [], ◌∷◌, ◌++◌, Option, Some, None, length, max, option_map}
-use Rattle.wc_model.specs.Instrument.Plates.{PlateData}
-use Rattle.wc_model.specs.Instrument.Requests.{requests_in}
+use Rattle.wc_model.specs.Definitions.{PlateData, requests_in, RowData, Counts, Bytes, Inputs, Scan, Change, LogRow, Past, answer_of_row, history_of, line_bytes, Logic, ReportLine, AnswerLine, ScanLine}
 use Rattle.wc_model.specs.Run.ProcessImage.{inputs_of}
-use Rattle.wc_model.specs.Run.Rows.{RowData, Counts, Bytes, Inputs, Scan, Change, LogRow, Past, answer_of_row, history_of, line_bytes}
-use Rattle.wc_model.specs.Say.ProgramReport.{Logic}
-use Rattle.wc_model.specs.Say.Report.{ReportLine, AnswerLine, ScanLine}
 use Rattle.wc_model.specs.declared.image.Outputs.{Outputs}
-use Rattle.wc_run.specs.Logics.{lines_of_row, logic_after}
-use Rattle.wc_sma.specs.Representation.{HasRead}
-use Rattle.wc_view_columns.specs.Followed.{HasFollowed}
-use Rattle.wc_view_columns.specs.Happened.{counted}
-use Rattle.wc_view_columns.specs.Held.{held_at}
-use Rattle.wc_view_columns.specs.Rows.{AreFrom, Row, nothing}
-use Rattle.wc_view_columns.specs.TimeLines.{IsTimeLineOf}
+use Rattle.wc_run.specs.{lines_of_row, logic_after, text_in_all, silent_plan}
+use Rattle.wc_sma.specs.Feeding.{HasRead}
+use Rattle.wc_view_columns.specs.{HasFollowed, counted, AreFrom, Row, nothing, held_at, IsTimeLineOf}
 use Rattle.wc_view_columns.specs.declared.events.Events.{Events}
 use Rattle.wc_view_columns.specs.declared.line.TimeLine.{TimeLine}
+use Rattle.wc_view_watch.specs.{numbers_of, begins_with as names_begin, IsFirstUnknown, FitLogic, HasRefused as names_refused}
+use Rattle.wc_view_watch.specs.declared.watched_names.WatchedNames.{WatchedNames}
+use Rattle.wc_controller.specs.{Observed, Writer}
+use Rattle.wc_view_watch.specs.declared.names.UnknownName.{UnknownName}
 use Rattle.wc_view_picture.specs.declared.view.ScanSteps.{ScanSteps}
 use Rattle.wc_view_picture.specs.declared.picture.Picture.{Picture}
-use Rattle.wc_view_watch.specs.Plans.{numbers_of}
-use Rattle.wc_view_watch.specs.Unknown.{begins_with as names_begin}
-use Rattle.wc_view_watch.specs.Watching.{FitLogic, HasRefused as names_refused}
-use Rattle.wc_view_watch.specs.declared.watched_names.WatchedNames.{WatchedNames}
 
 -- outputs none of which is set
 abbrev pub no_outputs : Outputs
@@ -158,3 +150,16 @@ pub record HasSeen (picture : Picture) (plate : PlateData) (logic : Option Logic
   pub count : picture.rows ≡ counted (length past)
   pub names : AreNamesOf (list_of picture) picture.names (logic_after plate logic past)
   pub line : (rows : List Row) × AreRowsOf (list_of picture) plate logic past rows × IsTimeOf rows picture.line
+
+-- it begins if no name of the list is unknown
+abbrev pub drawn : Option (List ℕ) → Observed
+drawn list = record { written = text_in_all silent_plan; begins = begins_with list }
+
+-- a writer of which only the failed calls are counted
+abbrev pub unsaid : ℕ → Writer
+unsaid failures = record { taken = None; failures = failures }
+
+-- this is the first name of the list that the logic has not, if there is a list
+abbrev pub IsUnknownOf : Option (List ℕ) → Option Logic → UnknownName → Type 0
+IsUnknownOf None logic name = ⊥
+IsUnknownOf (Some list) logic name = IsFirstUnknown list logic name

@@ -1,12 +1,7 @@
 ghost use Rattle.std.specs.Prelude.{◌≡◌, ◌<◌, ◌∷◌, ◌++◌, ℕ, List, None, OnOk, Option, get_or, is_some, option_map};
-ghost use Rattle.wc_model.specs.Instrument.Plates.{PlateData};
-ghost use Rattle.wc_model.specs.Run.Rows.{Past, line_bytes};
-ghost use Rattle.wc_model.specs.Say.ProgramReport.{Logic};
-ghost use Rattle.wc_model.specs.Say.Report.{answer_line};
-ghost use Rattle.wc_run.specs.Logics.{logic_after};
-ghost use Rattle.wc_run.specs.Observing.{IsShown, lines_of_scan, row_of};
-ghost use Rattle.wc_run.specs.Representation.{Represents};
-ghost use Rattle.wc_sma.specs.Representation.{HasRead};
+ghost use Rattle.wc_model.specs.Definitions.{PlateData, Past, line_bytes, Logic, answer_line};
+ghost use Rattle.wc_run.specs.{logic_after, IsShown, lines_of_scan, row_of, Represents};
+ghost use Rattle.wc_sma.specs.Feeding.{HasRead};
 ghost use Rattle.wc_view_picture.specs.Seen.{AreNamesOf, HasHappened, HasSeen, IsNew, list_of, most_at, most_of, most_with, numbers_after, replaced_at};
 
 use crate::drawing::draw;

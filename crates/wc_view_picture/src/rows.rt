@@ -1,12 +1,9 @@
 ghost use Rattle.std.specs.Prelude.{◌≡◌, ◌∷◌, ◌++◌, [], ℕ, List, OnOk, Option, is_some, option_map};
-ghost use Rattle.wc_model.specs.Run.ProcessImage.{inputs_with};
-ghost use Rattle.wc_model.specs.Say.ProgramReport.{Logic};
-ghost use Rattle.wc_model.specs.Say.Report.{answer_line};
+ghost use Rattle.wc_model.specs.Definitions.{inputs_with, Logic, answer_line};
 ghost use Rattle.wc_record.specs.Views.{head_data_view};
 ghost use Rattle.wc_run.specs.Observing.{lines_of_scan};
 ghost use Rattle.wc_view_columns.specs.Held.{Held, IsStateOf};
-ghost use Rattle.wc_view_columns.specs.Rows.{Row};
-ghost use Rattle.wc_view_columns.specs.TimeLines.{row_at};
+ghost use Rattle.wc_view_columns.specs.{Row, row_at};
 ghost use Rattle.wc_view_picture.specs.Seen.{IsTimeOf, change_of, most_of, most_with, outputs_with, scan_in};
 
 use crate::view::ScanSteps;

@@ -1,10 +1,7 @@
 ghost use Rattle.std.specs.Prelude.{◌≡◌, IfErr, IfOk, option_map};
-ghost use Rattle.wc_controller.specs.InputRuns.{RunsAs};
-ghost use Rattle.wc_controller.specs.TakenLogs.{OfPrograms};
-ghost use Rattle.wc_controller.specs.WrittenRuns.{EndsUnwritten};
-ghost use Rattle.wc_endings.specs.Endings.{IsAt};
+ghost use Rattle.wc_controller.specs.{RunsAs, OfPrograms, EndsUnwritten, IsAt};
 ghost use Rattle.wc_record.specs.Reported.{fields_reported};
-ghost use Rattle.wc_view_picture.specs.Runs.{IsUnknownOf, drawn, unsaid};
+ghost use Rattle.wc_view_picture.specs.Seen.{IsUnknownOf, drawn, unsaid};
 
 use crate::picture::Picture;
 use std::alloc::Global;

@@ -1,8 +1,7 @@
 -- Bits of the places of a frame, the last places first.
-use Rattle.std.proofs.Common.{◌≡◌, ℕ, suc, ◌+◌, ◌-◌, ◌*◌, ◌^◌, ◌<◌, ◌≤◌, arith, refl, subst, subst₂}
-use Rattle.std.proofs.Math.Nat.{pow-suc}
+use Rattle.wc_model.proofs.Common.{◌≡◌, ℕ, suc, ◌+◌, ◌-◌, ◌*◌, ◌^◌, ◌<◌, ◌≤◌, arith, refl, subst, subst₂, pow-suc}
 use Rattle.wc_machine.specs.Machines.{MachineState}
-use Rattle.wc_view_trace.specs.Images.{HasBits, IsBit}
+use Rattle.wc_view_trace.specs.Members.{HasBits, IsBit}
 
 pub one_more_bit : (machine : MachineState) (first count passed bits bit place : ℕ) → place ≡ first + (count - passed - 1) → passed < count → IsBit machine place bit
     → HasBits machine (first + (count - passed)) passed bits → HasBits machine (first + (count - (passed + 1))) (passed + 1) (bits * 2 + bit)

@@ -1,32 +1,18 @@
 -- What a row adds to what was traced so far.
 use Rattle.std.proofs.Common.{inl, inr, ◌≡◌, refl, ap, sym, subst, ◌∙◌, ℕ, Bool, true, false, List, [], ◌∷◌, ◌++◌, Option, Some, None, Result, Ok, Err, OnOk}
-use Rattle.std.proofs.KnownBytes.{Appends-trans, Appends-nil}
-use Rattle.std.proofs.lemmas.List.Elements.{filter-append}
-use Rattle.std.specs.Io.KnownBytes.{Appends}
+use Rattle.wc_model.proofs.Common.{Appends-trans, Appends-nil, filter-append, Appends}
 use Rattle.std.specs.Prelude.{IfSome, filter, is_some, option_map}
 use Rattle.wc_machine.specs.Machines.{MachineState, RepresentsText}
 use Rattle.wc_machine.specs.declared.seen.SeenLine.{SeenLine}
-use Rattle.wc_model.specs.Instrument.Plates.{PlateData}
-use Rattle.wc_model.specs.Language.Tree.{Text}
-use Rattle.wc_model.specs.Language.Views.{text_view}
-use Rattle.wc_model.specs.Run.Log.{LogRefusal}
-use Rattle.wc_model.specs.Run.Rows.{Bytes, Change, Counts, Inputs, LogRow, Past, RowData, Scan, answer_of_row}
-use Rattle.wc_model.specs.Say.ProgramReport.{Logic, change_to, logic_following, programs}
-use Rattle.wc_model.specs.Say.Report.{ReportLine, ScanLine, answer_line, is_scan_line, state_with}
-use Rattle.wc_open_scale.specs.Representation.{IsRunning}
+use Rattle.wc_model.specs.Definitions.{PlateData, Text, text_view, LogRefusal, Bytes, Change, Counts, Inputs, LogRow, Past, RowData, Scan, answer_of_row, Logic, change_to, logic_following, programs, ReportLine, ScanLine, answer_line, is_scan_line, state_with}
+use Rattle.wc_run.specs.{IsRunning, Writes, logic_after, AreItems, IsLookedAt, IsShown, Start, bytes_of, items_of, lines_of_scan, loaded_of, logic_of, onto, refusal_of, row_of, start_of, line_of_record, Represents, program_of}
 use Rattle.wc_run.proofs.Lines.{answer_dropped}
-use Rattle.wc_run.specs.Doing.{Writes}
-use Rattle.wc_run.specs.Logics.{logic_after}
-use Rattle.wc_run.specs.Observing.{AreItems, IsLookedAt, IsShown, Start, bytes_of, items_of, lines_of_scan, loaded_of, logic_of, onto, refusal_of, row_of, start_of}
-use Rattle.wc_run.specs.Outputs.{line_of_record}
-use Rattle.wc_run.specs.Representation.{Represents, program_of}
 use Rattle.wc_run.specs.declared.fault.RunFault.{RunFault}
 use Rattle.wc_run.specs.declared.program.Program.{Program}
 use Rattle.wc_run.specs.declared.row_seen.RowSeen.{RowSeen}
 use Rattle.wc_run.specs.declared.row_seen.ScanSeen.{ScanSeen}
 use Rattle.wc_run.specs.declared.scale.Scale.{Scale}
-use Rattle.wc_view_trace.specs.Choosing.{IsChosen}
-use Rattle.wc_view_trace.specs.Traces.{HasTraced, IsEndOf, IsScanIn, IsShownScan, ShowsScan, Texts, TracesEnd, TracesRow, TracesScans, Tracing, counted_on, counted_with, is_changed, is_changed_with, scans_of_row, scans_so_far, texts_after, texts_with}
+use Rattle.wc_view_trace.specs.Traces.{IsChosen, HasTraced, IsEndOf, IsScanIn, IsShownScan, ShowsScan, Texts, TracesEnd, TracesRow, TracesScans, Tracing, counted_on, counted_with, is_changed, is_changed_with, scans_of_row, scans_so_far, texts_after, texts_with}
 use Rattle.wc_view_trace.specs.Tracers.{FitsNext, FitsRunning, Follows, IsFresh, IsLegendFor, IsSame, IsShownAs, IsTracing, Looks, PutsItems, PutsScan, ShowsAs, Turns, tracing_of}
 use Rattle.wc_view_trace.specs.declared.tracing.TraceFormat.{TraceFormat}
 use Rattle.wc_view_trace.specs.declared.tracing.TraceFormat.TheVariants as format

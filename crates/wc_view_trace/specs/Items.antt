@@ -7,8 +7,7 @@ use Rattle.wc_model.specs.declared.code.Code.{Code}
 use Rattle.wc_model.specs.declared.code.Code.TheVariants.{ArgumentNumber, ArgumentPlace, Call, Standard}
 use Rattle.wc_model.specs.declared.kind.Kind.{Kind}
 use Rattle.wc_view_trace.specs.Members.{name_member, number_member, value_if_any, value_member}
-use Rattle.wc_view_trace_rows.specs.Legends.{name_of}
-use Rattle.wc_view_trace_rows.specs.Rows.{Output, outputs_of}
+use Rattle.wc_view_trace_rows.specs.{name_of, Output, outputs_of}
 use Rattle.wc_view_trace_rows.specs.declared.item.Item.{Item}
 use Rattle.wc_view_trace_rows.specs.declared.legend.Legend.{Legend}
 use Rattle.wc_view_trace_rows.specs.declared.notes.Note.{Note}

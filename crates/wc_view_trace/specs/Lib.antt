@@ -1,8 +1,5 @@
-pub mod Adds
-pub mod Choosing
-pub mod Images
-pub mod Items
 pub mod Members
-pub mod Scans
 pub mod Traces
+pub mod Items
+pub mod Scans
 pub mod Tracers

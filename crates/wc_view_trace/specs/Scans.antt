@@ -1,6 +1,5 @@
 -- The object of a scan. (RFC 8259; its members are the profile's own.)
-use Rattle.std.specs.Prelude.{◌≡◌, ℕ, Bool, List, [], ◌∷◌, ◌++◌, codes, length, if◌then◌else◌}
-use Rattle.std.specs.List.{flat_map}
+use Rattle.std.specs.Prelude.{◌≡◌, ℕ, Bool, List, [], ◌∷◌, ◌++◌, codes, length, if◌then◌else◌, flat_map}
 use Rattle.json.specs.Lex as lex
 use Rattle.json.specs.Print.{print}
 use Rattle.json.specs.Token as json
@@ -9,9 +8,8 @@ use Rattle.wc_machine.specs.Machines.{MachineState, text_of}
 use Rattle.wc_machine.specs.declared.seen.SeenLine.{SeenLine}
 use Rattle.wc_model.specs.Language.Paths.{IsProgramBound}
 use Rattle.wc_model.specs.declared.image.Outputs.{Outputs}
-use Rattle.wc_view_trace.specs.Images.{Image, IsImage, image_tokens}
+use Rattle.wc_view_trace.specs.Members.{Image, IsImage, image_tokens, integers_member, number_member}
 use Rattle.wc_view_trace.specs.Items.{item_tokens}
-use Rattle.wc_view_trace.specs.Members.{integers_member, number_member}
 use Rattle.wc_view_trace_rows.specs.Scans.{AreItems}
 use Rattle.wc_view_trace_rows.specs.declared.item.Item.{Item}
 use Rattle.wc_view_trace_rows.specs.declared.legend.Legend.{Legend}

@@ -3,17 +3,11 @@ use Rattle.std.specs.Prelude.{◌≡◌, ⊤, ℕ, Bool, true, false, List, [], 
 use Rattle.std.specs.Io.KnownBytes.{Appends}
 use Rattle.wc_machine.specs.Machines.{MachineState}
 use Rattle.wc_machine.specs.declared.seen.SeenLine.{SeenLine}
-use Rattle.wc_model.specs.Instrument.Plates.{PlateData}
-use Rattle.wc_model.specs.Language.Tree.{Text}
-use Rattle.wc_model.specs.Language.Views.{text_view}
-use Rattle.wc_model.specs.Run.Rows.{Change, Past, RowData}
-use Rattle.wc_model.specs.Say.ProgramReport.{Logic}
-use Rattle.wc_run.specs.Logics.{logic_after}
-use Rattle.wc_run.specs.Observing.{Start, items_of}
+use Rattle.wc_model.specs.Definitions.{PlateData, Text, text_view, Change, Past, RowData, Logic}
+use Rattle.wc_run.specs.{logic_after, Start, items_of}
 use Rattle.wc_run.specs.declared.program.Program.{Program}
 use Rattle.wc_run.specs.declared.row_seen.ScanSeen.{ScanSeen}
-use Rattle.wc_view_trace.specs.Choosing.{IsChosen}
-use Rattle.wc_view_trace.specs.Traces.{Tracing, TracesRows, counted_on, is_changed, scans_so_far, texts_after}
+use Rattle.wc_view_trace.specs.Traces.{IsChosen, Tracing, TracesRows, counted_on, is_changed, scans_so_far, texts_after}
 use Rattle.wc_view_trace.specs.declared.tracing.TraceFormat.{TraceFormat}
 use Rattle.wc_view_trace.specs.declared.tracing.TraceFormat.TheVariants as format
 use Rattle.wc_view_trace.specs.declared.tracer.Tracer.{Tracer}

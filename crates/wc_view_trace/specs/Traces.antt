@@ -1,24 +1,25 @@
 -- What `trace` writes of a run: of each scan that is chosen its items, in the format asked for. (The profile's own.)
-use Rattle.std.specs.Prelude.{◌≡◌, ◌⊎◌, ℕ, ◌+◌, ◌-◌, ◌^◌, ◌==◌, Bool, true, false, List, [], ◌∷◌, ◌++◌, filter, min, Option, Some, None, if◌then◌else◌}
-use Rattle.std.specs.Io.KnownBytes.{Appends}
-use Rattle.wc_machine.specs.Machines.{MachineState, RepresentsText}
-use Rattle.wc_model.specs.Instrument.Plates.{PlateData}
-use Rattle.wc_model.specs.Run.Log.{LogRefusal}
-use Rattle.wc_model.specs.Run.Rows.{Change, LogRow, Past, RowData}
-use Rattle.wc_model.specs.Say.ProgramReport.{Logic, logic_following}
-use Rattle.wc_model.specs.Say.Report.{ReportLine, ScanLine, is_scan_line}
-use Rattle.wc_run.specs.Logics.{lines_of_row}
-use Rattle.wc_run.specs.Observing.{AreItems, Start, onto}
-use Rattle.wc_view_trace.specs.Choosing.{IsChosen}
-use Rattle.wc_view_trace.specs.declared.tracing.Chosen.{Chosen}
-use Rattle.wc_view_trace.specs.declared.tracing.TraceFormat.{TraceFormat}
 use Rattle.wc_view_trace.specs.declared.tracing.TraceFormat.TheVariants as format
 use Rattle.wc_view_trace.specs.Scans as objects
-use Rattle.wc_view_trace_rows.specs.Legends.{IsLegendOf}
 use Rattle.wc_view_trace_rows.specs.Scans as rows
-use Rattle.wc_view_trace_rows.specs.Steps.{none_chosen}
+use Rattle.std.specs.Prelude.{◌≡◌, ◌≤◌, ℕ, Option, IfSome, ◌⊎◌, ◌+◌, ◌-◌, ◌^◌, ◌==◌, Bool, true, false, List, [], ◌∷◌, ◌++◌, filter, min, Some, None, if◌then◌else◌}
+use Rattle.std.specs.Io.KnownBytes.{Appends}
+use Rattle.wc_machine.specs.Machines.{MachineState, RepresentsText}
+use Rattle.wc_model.specs.Definitions.{PlateData, LogRefusal, Change, LogRow, Past, RowData, Logic, logic_following, ReportLine, ScanLine, is_scan_line}
+use Rattle.wc_run.specs.{lines_of_row, AreItems, Start, onto}
+use Rattle.wc_view_trace.specs.declared.tracing.Chosen.{Chosen}
+use Rattle.wc_view_trace.specs.declared.tracing.TraceFormat.{TraceFormat}
+use Rattle.wc_view_trace_rows.specs.{IsLegendOf, none_chosen}
 use Rattle.wc_view_trace_rows.specs.declared.legend.Legend.{Legend}
 use Rattle.wc_view_trace_rows.specs.declared.shown_scan.ShownScan.{ShownScan}
+
+-- a moment is between two, if they are given
+abbrev pub IsBetween : Option ℕ → Option ℕ → ℕ → Type 0
+IsBetween from to ms = IfSome from (λ first. first ≤ ms) × IfSome to (λ last. ms ≤ last)
+
+-- the scan of that number and moment meets each condition that is given
+abbrev pub IsChosen : Chosen → ℕ → ℕ → Type 0
+IsChosen chosen number ms = IfSome chosen.at (λ at. ms ≡ at) × (IfSome chosen.scan (λ scan. number ≡ scan) × IsBetween chosen.from chosen.to ms)
 
 -- which scans are shown, and in which format
 pub record Tracing : Type 0 where

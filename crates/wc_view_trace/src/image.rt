@@ -1,5 +1,5 @@
 ghost use Rattle.std.specs.Prelude.{◌≡◌, ◌≤◌, OnOk};
-ghost use Rattle.wc_view_trace.specs.Images.{HasBits, IsBit, IsWeight, WritesImage};
+ghost use Rattle.wc_view_trace.specs.Members.{HasBits, IsBit, IsWeight, WritesImage};
 
 use crate::members::{write_integers, write_number};
 use json::Writer;

@@ -1,5 +1,5 @@
 ghost use Rattle.std.specs.Prelude.{◌≡◌, ◌∷◌, [], OnOk};
-ghost use Rattle.wc_view_trace.specs.Adds.{Adds};
+ghost use Rattle.wc_view_trace.specs.Members.{Adds};
 ghost use Rattle.wc_view_trace.specs.Items.{done_by, item_tokens, noted_member, output_members, outputs_if_last, written_members};
 ghost use Rattle.wc_view_trace.specs.Scans.{WritesArray, WritesItems};
 ghost use Rattle.wc_view_trace_rows.specs.Rows.{outputs_of};

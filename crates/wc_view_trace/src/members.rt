@@ -1,6 +1,5 @@
 ghost use Rattle.std.specs.Prelude.{◌≡◌, ◌∷◌, [], map};
-ghost use Rattle.wc_view_trace.specs.Adds.{Adds};
-ghost use Rattle.wc_view_trace.specs.Members.{integer_token, integers_member, name_member, name_text, number_member, token_of_value, value_if_any};
+ghost use Rattle.wc_view_trace.specs.Members.{Adds, integer_token, integers_member, name_member, name_text, number_member, token_of_value, value_if_any};
 
 use json::Writer;
 use std::alloc::{AllocError, Global};

@@ -1,7 +1,7 @@
 ghost use Rattle.std.specs.Prelude.{◌≡◌, ◌++◌, ◌∷◌, [], IfOk, IsOkUnless, OnOk};
 ghost use Rattle.json.specs.Lex.{tokens};
 ghost use Rattle.json.specs.Print.{print};
-ghost use Rattle.wc_view_trace.specs.Adds.{Adds};
+ghost use Rattle.wc_view_trace.specs.Members.{Adds};
 ghost use Rattle.wc_view_trace.specs.Scans.{IsEndObject, IsScanObject, PutsEnd, PutsScan, WritesScan, end_tokens, head_tokens, program_of, tail_tokens};
 
 use crate::image::write_image;

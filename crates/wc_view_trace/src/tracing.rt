@@ -1,9 +1,7 @@
 ghost use Rattle.std.specs.Prelude.{◌≡◌, true, false};
-ghost use Rattle.wc_controller.specs.InputRuns.{RunsUnsaid};
-ghost use Rattle.wc_controller.specs.WrittenRuns.{EndsSaying};
+ghost use Rattle.wc_controller.specs.{RunsUnsaid, EndsSaying};
 ghost use Rattle.wc_record.specs.Reported.{fields_reported};
-ghost use Rattle.wc_view_trace.specs.Choosing.{IsChosen};
-ghost use Rattle.wc_view_trace.specs.Traces.{HasTraced, tracing};
+ghost use Rattle.wc_view_trace.specs.Traces.{IsChosen, HasTraced, tracing};
 
 use crate::tracer::Tracer;
 use std::alloc::Global;

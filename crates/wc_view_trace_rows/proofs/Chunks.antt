@@ -1,12 +1,9 @@
 -- What is put of a text, byte by byte, and a text that is cut.
-use Rattle.std.proofs.Common.{◌≡◌, ◌∙◌, ℕ, zero, suc, ◌+◌, ◌-◌, ◌<◌, ◌≤◌, Bool, false, List, [], ◌∷◌, ◌++◌, cond, length, get_or, take, drop, sym, ap, subst, arith}
+use Rattle.wc_model.proofs.Common.{◌≡◌, ◌∙◌, ℕ, zero, suc, ◌+◌, ◌-◌, ◌<◌, ◌≤◌, Bool, false, List, [], ◌∷◌, ◌++◌, cond, length, get_or, take, drop, sym, ap, subst, arith, lt-leb}
 use Rattle.std.specs.Prelude.{◌==◌, ◌&&◌, nat_le}
-use Rattle.std.proofs.lemmas.Bool.{lt-leb}
 use Rattle.std.proofs.lemmas.List.{append_assoc, drop_more, drop-take, take-append-drop, take-take}
-use Rattle.wc_diag_texts.specs.Plain.{characters}
-use Rattle.wc_view_trace_rows.specs.Columns.{first_columns, fitted}
-use Rattle.wc_diag_texts.specs.Acting.{acting_length}
-use Rattle.wc_view_trace_rows.specs.Shown.{shown_bytes, shown_first, single_spaces}
+use Rattle.wc_diag_texts.specs.Plain.{characters, acting_length}
+use Rattle.wc_view_trace_rows.specs.{first_columns, fitted, shown_bytes, shown_first, single_spaces}
 
 -- a byte of a character that is shown already
 pub passed : (is_text : Bool) (n next i : ℕ) (bytes : List ℕ) → 0 < n → next ≡ n - 1 → i < length bytes → shown_bytes is_text next (drop (i + 1) bytes) ≡ shown_bytes is_text n (drop i bytes)

@@ -1,10 +1,7 @@
 -- A text without the white space at its ends.
-use Rattle.std.proofs.Common.{◌≡◌, ◌∙◌, ℕ, zero, suc, ◌-◌, ◌<◌, ◌≤◌, false, List, [], ◌∷◌, cond, length, get_or, take, drop, refl, sym, ap, arith}
+use Rattle.wc_model.proofs.Common.{◌≡◌, ◌∙◌, ℕ, zero, suc, ◌-◌, ◌<◌, ◌≤◌, false, List, [], ◌∷◌, cond, length, get_or, take, drop, refl, sym, ap, arith, length-take, is_ascii_whitespace, IsAsciiWhitespaceBelow, IsAsciiWhitespaceFrom, IsTrimAscii}
 use native.Mathlib.Numerals.{unary_clauses}
-use Rattle.std.proofs.lemmas.List.{length-take}
-use Rattle.std.specs.Char.{is_ascii_whitespace}
-use Rattle.std.specs.Str.{IsAsciiWhitespaceBelow, IsAsciiWhitespaceFrom, IsTrimAscii}
-use Rattle.wc_view_trace_rows.specs.Shown.{between_words, from_word, up_to_word, with_word}
+use Rattle.wc_view_trace_rows.specs.Columns.{between_words, from_word, up_to_word, with_word}
 
 from_word_is : (n : ℕ) (text : List ℕ) → IsAsciiWhitespaceBelow text n → (n < length text → is_ascii_whitespace (get_or text n 0) ≡ false) → from_word text ≡ drop n text
 from_word_is zero [] below stops = refl

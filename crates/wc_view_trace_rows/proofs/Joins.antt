@@ -2,8 +2,7 @@
 use Rattle.std.proofs.Common.{◌≡◌, ◌∙◌, ℕ, List, [], ◌∷◌, ◌++◌, Bool, false, cond, length, take, drop, refl, sym, ap, Option, Some, None}
 use Rattle.std.proofs.lemmas.List.{append_assoc, drop_at, take-append-drop, take_at}
 use Rattle.std.specs.Prelude.{option_map}
-use Rattle.wc_view_trace_rows.specs.Columns.{fitted, gap, line_shown, with_cell}
-use Rattle.wc_view_trace_rows.specs.Shown.{between_words, shown}
+use Rattle.wc_view_trace_rows.specs.{fitted, gap, line_shown, with_cell, between_words, shown}
 
 -- two parts, or three
 pub two_parts : {X : Type 0} (old a b first all : List X) → first ≡ old ++ a → all ≡ first ++ b → all ≡ old ++ (a ++ b)

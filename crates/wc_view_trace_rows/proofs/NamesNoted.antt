@@ -1,20 +1,12 @@
 -- Names that are noted one after the other.
-use Rattle.std.proofs.Common.{◌≡◌, ℕ, zero, suc, ◌-◌, ◌≤◌, None, subst, rules, ◌&&◌, Bool, true, false, List, [], ◌∷◌, ◌++◌, length, drop, take, map, refl, sym, ap, ◌∙◌, arith, Result}
-use Rattle.std.proofs.lemmas.Bool.{le-leb, leb-true}
+use Rattle.wc_model.proofs.Common.{◌≡◌, ℕ, zero, suc, ◌-◌, ◌≤◌, None, subst, rules, ◌&&◌, Bool, true, false, List, [], ◌∷◌, ◌++◌, length, drop, take, map, refl, sym, ap, ◌∙◌, arith, Result, nat_le, slice_range, if◌then◌else◌, le-leb, leb-true, All-push, drop-append_seam, to_ascii_lowercase}
 use Rattle.std.proofs.lemmas.List.{take-append-le, take_all, length-append, drop-append-le, length-drop, map-append}
-use Rattle.std.proofs.lemmas.List.Elements.{All-push}
-use Rattle.std.proofs.Math.Seq.{drop-append_seam}
-use Rattle.std.specs.Prelude.{nat_le, slice_range, if◌then◌else◌}
-use Rattle.std.specs.Char.{to_ascii_lowercase}
-use Rattle.wc_model.specs.Language.Kinds.{BodyLine, PlainLine}
-use Rattle.wc_model.specs.Language.Tree.{Call}
-use Rattle.wc_model.specs.Language.Views.{assignment_view}
+use Rattle.wc_model.specs.Definitions.{BodyLine, PlainLine, Call, assignment_view, name_of}
 use Rattle.wc_model.specs.declared.fault.Fault.{Fault}
 use Rattle.wc_model.specs.declared.tree.Instr as made
 use Rattle.wc_model.specs.declared.tree.Instr.{Instr}
 use Rattle.wc_model.specs.declared.tree.Line.{the_lemmas}
 use Rattle.wc_verify.specs.Instructions.{instr_line}
-use Rattle.wc_model.specs.Language.Names.{name_of}
 use Rattle.wc_view_trace_rows.specs.Named.{Adds, dotted, line_named, named_as, note_named}
 use Rattle.wc_view_trace_rows.specs.Notes.{AreWithin, part_of}
 use Rattle.wc_view_trace_rows.specs.declared.notes.Note.{Note}

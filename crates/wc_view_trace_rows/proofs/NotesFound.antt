@@ -1,6 +1,5 @@
 -- The notes of a line among notes that are in the order of their lines.
-use Rattle.std.proofs.Common.{◌≡◌, ◌∙◌, ℕ, zero, suc, ◌+◌, ◌<◌, ◌≤◌, Bool, true, false, List, [], ◌∷◌, cond, length, get_or, refl, sym, ap, arith, Some, None, drop}
-use Rattle.std.proofs.lemmas.Bool.{eqb-false, ne_eqb}
+use Rattle.wc_model.proofs.Common.{◌≡◌, ◌∙◌, ℕ, zero, suc, ◌+◌, ◌<◌, ◌≤◌, Bool, true, false, List, [], ◌∷◌, cond, length, get_or, refl, sym, ap, arith, Some, None, drop, eqb-false, ne_eqb}
 use Rattle.std.specs.Prelude.{◌==◌, filter, slice_get}
 use Rattle.wc_view_trace_rows.specs.Notes.{AreInOrder, note_among, of_line}
 use Rattle.wc_view_trace_rows.specs.declared.notes.Note.{Note}

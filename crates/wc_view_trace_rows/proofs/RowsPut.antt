@@ -1,16 +1,11 @@
 -- The rows of the items of a scan, one after another.
-use Rattle.std.proofs.Common.{◌≡◌, ◌∙◌, ℕ, ◌+◌, ◌<◌, ◌≤◌, List, [], ◌∷◌, ◌++◌, get_or, length, take, refl, sym, ap, subst}
+use Rattle.wc_model.proofs.Common.{◌≡◌, ◌∙◌, ℕ, ◌+◌, ◌<◌, ◌≤◌, List, [], ◌∷◌, ◌++◌, get_or, length, take, refl, sym, ap, subst, flat_map}
 use Rattle.std.proofs.lemmas.List.{append-nil, append_assoc, flat_map_more, take_all, take_more}
-use Rattle.std.specs.List.{flat_map}
 use Rattle.wc_machine.specs.Machines.{MachineState, text_of}
 use Rattle.wc_machine.specs.declared.seen.SeenLine.{SeenLine}
 use Rattle.wc_model.specs.Language.Paths.{IsProgramBound}
 use Rattle.wc_view_trace_rows.proofs.Joins.{three_parts}
-use Rattle.wc_view_trace_rows.specs.Items.{AreLastCalls}
-use Rattle.wc_view_trace_rows.specs.Levels.{levels_after, levels_view}
-use Rattle.wc_view_trace_rows.specs.Rows.{row_of}
-use Rattle.wc_view_trace_rows.specs.Scans.{AreItems, AreItemsFrom, AreRows, IsItem, PutsScan}
-use Rattle.wc_view_trace_rows.specs.Steps.{heading, steps_line}
+use Rattle.wc_view_trace_rows.specs.{AreLastCalls, levels_after, levels_view, row_of, AreItems, AreItemsFrom, AreRows, IsItem, PutsScan, heading, steps_line}
 use Rattle.wc_view_trace_rows.specs.declared.item.Item.{Item}
 use Rattle.wc_view_trace_rows.specs.declared.items.Items.{Items}
 use Rattle.wc_view_trace_rows.specs.declared.items.LastCalls.{LastCalls}

@@ -1,15 +1,9 @@
 -- A line is shown with no character on which a terminal would act.
-use Rattle.std.proofs.Common.{◌≡◌, ℕ, zero, suc, ◌-◌, ◌<◌, ◌≤◌, ◌⊎◌, inl, inr, Bool, true, false, List, [], ◌∷◌, ◌++◌, cond, get_or, refl, sym, subst, arith}
-use Rattle.std.proofs.lemmas.Bool.{cases_lt}
-use Rattle.std.proofs.lemmas.Bool.Decides.{nat_tests}
+use Rattle.wc_model.proofs.Common.{◌≡◌, ℕ, zero, suc, ◌-◌, ◌<◌, ◌≤◌, ◌⊎◌, inl, inr, Bool, true, false, List, [], ◌∷◌, ◌++◌, cond, get_or, refl, sym, subst, arith, cases_lt, nat_tests, is_utf8}
 use Rattle.std.specs.Prelude.{◌==◌, ◌&&◌, nat_le}
-use Rattle.std.specs.Str.{is_utf8}
 use Rattle.wc_diag_texts.proofs.ActingBytes.{ascii_not, no_fourth, no_second, no_third, plain_first}
-use Rattle.wc_diag_texts.specs.Plain.{characters}
-use Rattle.wc_view_trace_rows.specs.Columns.{first_columns, fitted}
-use Rattle.wc_view_trace_rows.specs.Safe.{IsSafe, ShownLinesAreSafe}
-use Rattle.wc_diag_texts.specs.Acting.{acting_by, acting_length, continues}
-use Rattle.wc_view_trace_rows.specs.Shown.{between_words, is_control, shown, shown_byte, shown_bytes, shown_first, single_spaces}
+use Rattle.wc_diag_texts.specs.Plain.{characters, acting_by, acting_length, continues}
+use Rattle.wc_view_trace_rows.specs.{first_columns, fitted, IsSafe, ShownLinesAreSafe, between_words, is_control, shown, shown_byte, shown_bytes, shown_first, single_spaces}
 
 -- as long as the first ones, from one on, are above ASCII they are those of the other text
 abbrev AreAs : ℕ → ℕ → List ℕ → List ℕ → Type 0

@@ -5,9 +5,7 @@ use Rattle.std.specs.Int.{w32}
 use Rattle.wc_text_flat.specs.Contents.{frame_of_text, number_in}
 use Rattle.wc_machine.specs.Machines.{MachineState, RepresentsText}
 use Rattle.wc_machine.specs.declared.seen.SeenLine.{SeenLine}
-use Rattle.wc_model.specs.Language.Frames.{place_number}
-use Rattle.wc_model.specs.Language.Store.{Location, Store}
-use Rattle.wc_model.specs.Language.Tree.{Text}
+use Rattle.wc_model.specs.Definitions.{place_number, Location, Store, Text}
 use Rattle.wc_model.specs.declared.block.StandardBlock.{StandardBlock}
 use Rattle.wc_model.specs.declared.code.Code.{Code}
 use Rattle.wc_model.specs.declared.code.Code.TheVariants.{Standard}

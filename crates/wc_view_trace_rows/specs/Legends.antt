@@ -2,9 +2,7 @@
 use Rattle.std.specs.Prelude.{◌≡◌, ℕ, zero, suc, ◌+◌, ◌-◌, ◌==◌, List, [], ◌∷◌, Option, option_and_then, slice_get, if◌then◌else◌}
 use Rattle.std.specs.Option.{option_map_or, option_zip}
 use Rattle.wc_built_in.specs.Fields.{value_kind}
-use Rattle.wc_model.specs.Language.CarriedPlaces.{frame_of_text}
-use Rattle.wc_model.specs.Language.Frames.{slot_kinds}
-use Rattle.wc_model.specs.Language.Tree.{Text}
+use Rattle.wc_model.specs.Definitions.{frame_of_text, slot_kinds, Text}
 use Rattle.wc_model.specs.declared.kind.Kind.{Kind}
 use Rattle.wc_view_trace_rows.specs.Named.{notes_named, text_named}
 use Rattle.wc_view_trace_rows.specs.Notes.{note_among, part_of}

@@ -1,11 +1,9 @@
 -- The row of an item. (The profile's own; literals and the outputs of standard blocks are those of IEC 61131-3:2003, 2.2 and 2.5.2.3.)
-use Rattle.std.specs.Prelude.{ℕ, zero, suc, Bool, true, false, List, [], ◌∷◌, ◌++◌, map, codes, Option, Some, None, is_some, option_map, ℤ, pos, if◌then◌else◌}
+use Rattle.std.specs.Prelude.{ℕ, zero, suc, Bool, true, false, List, [], ◌∷◌, ◌++◌, map, codes, Option, Some, None, is_some, option_map, ℤ, pos, if◌then◌else◌, flat_map, zip}
 use Rattle.std.specs.Char.{to_ascii_uppercase}
-use Rattle.std.specs.List.{flat_map, zip}
 use Rattle.std.specs.Option.{option_map_or}
 use Rattle.wc_view_changes.specs.ChangeReport.{content_text}
-use Rattle.wc_model.specs.Language.Declarations.{Member, standard_members}
-use Rattle.wc_model.specs.Language.Kinds.{elementary_kind}
+use Rattle.wc_model.specs.Definitions.{Member, standard_members, elementary_kind}
 use Rattle.wc_model.specs.Language.Store.{Plain}
 use Rattle.wc_model.specs.declared.block.StandardBlock.{StandardBlock}
 use Rattle.wc_model.specs.declared.code.Code.{Code}

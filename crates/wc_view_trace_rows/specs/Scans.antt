@@ -1,6 +1,5 @@
--- The rows of a scan. (The profile's own.)
-use Rattle.std.specs.Prelude.{◌≡◌, ⊤, ℕ, ◌+◌, ◌==◌, nat_lt, ◌&&◌, Bool, true, false, List, [], ◌∷◌, ◌++◌, length, Option, Some, None, ℤ}
-use Rattle.std.specs.List.{flat_map}
+-- The rows of a scan, with what is said before and after them, and of a run of which no scan is shown. (The profile's own.)
+use Rattle.std.specs.Prelude.{ℕ, zero, suc, Bool, List, ◌++◌, codes, decimal, if◌then◌else◌, ◌≡◌, ⊤, ◌+◌, ◌==◌, nat_lt, ◌&&◌, true, false, [], ◌∷◌, length, Option, Some, None, ℤ, flat_map}
 use Rattle.wc_machine.specs.Machines.{MachineState, text_of}
 use Rattle.wc_machine.specs.declared.seen.SeenLine.{SeenLine}
 use Rattle.wc_model.specs.Language.Paths.{IsProgramBound}
@@ -8,10 +7,23 @@ use Rattle.wc_model.specs.declared.block.StandardBlock.{StandardBlock}
 use Rattle.wc_view_trace_rows.specs.Items.{IsNumberAt, block_of, last_call, up_to_most}
 use Rattle.wc_view_trace_rows.specs.Levels.{Level, level_left, levels_after, said_of}
 use Rattle.wc_view_trace_rows.specs.Rows.{Output, outputs_of, row_of}
-use Rattle.wc_view_trace_rows.specs.Steps.{heading, steps_line}
 use Rattle.wc_view_trace_rows.specs.declared.item.Item.{Item}
 use Rattle.wc_view_trace_rows.specs.declared.legend.Legend.{Legend}
 use Rattle.wc_view_trace_rows.specs.declared.shown_scan.ShownScan.{ShownScan}
+
+-- `scan 3 at 300 ms`, and whether the next program has taken the place of the first
+abbrev pub heading : ℕ → ℕ → Bool → List ℕ
+heading number ms is_changed =
+    codes "scan " ++ (decimal number ++ (codes " at " ++ (decimal ms ++ (if is_changed then codes " ms, next program\n" else codes " ms\n"))))
+
+-- `steps 12 of at most 20`
+abbrev pub steps_line : ℕ → ℕ → List ℕ
+steps_line steps bound = codes "steps " ++ (decimal steps ++ (codes " of at most " ++ (decimal bound ++ codes "\n")))
+
+-- none of the scans of a run was chosen
+abbrev pub none_chosen : ℕ → List ℕ
+none_chosen zero = codes "the log has no scan\n"
+none_chosen (suc n) = codes "none of " ++ (decimal (suc n) ++ codes " scans is chosen\n")
 
 -- these are the numbers of the first two of these outputs of an instance that begins there
 abbrev pub AreNumbers : MachineState → ℕ → List Output → Option ℤ → Option ℤ → Type 0

@@ -1,6 +1,6 @@
 ghost use Rattle.std.specs.Prelude.{◌≡◌, ◌-◌, drop, length, decimal};
 ghost use Rattle.wc_view_trace_rows.specs.Columns.{prefix, gap, spaces};
-ghost use Rattle.wc_view_changes.specs.Shapes.{Puts};
+ghost use Rattle.wc_view_changes.specs.Shown.{Puts};
 
 use crate::shown::{bytes_from, put_line};
 use wc_diag_texts::characters;

@@ -2,7 +2,7 @@ ghost use Rattle.std.specs.Prelude.{◌≡◌, ◌≤◌, ◌++◌, ◌∷◌, [
 ghost use Rattle.wc_view_trace_rows.specs.Columns.{result_column, with_cell, written_column};
 ghost use Rattle.wc_view_trace_rows.specs.Rows.{has_written, is_argument, is_part, output_text, output_view, outputs_shown, result_cell, row_of, written_cell, written_text};
 ghost use Rattle.wc_view_trace_rows.specs.Scans.{AreRows, PutsScan};
-ghost use Rattle.wc_view_changes.specs.Shapes.{Puts};
+ghost use Rattle.wc_view_changes.specs.Shown.{Puts};
 
 use crate::columns::{RESULT, put_gap, put_place};
 use crate::item::Item;

@@ -1,9 +1,7 @@
 ghost use Rattle.std.specs.Prelude.{◌≡◌, ◌≤◌, ◌+◌, ◌*◌, ◌-◌, ◌++◌, ◌∷◌, [], IsOkUnless, OnOk, drop, length, take};
 ghost use Rattle.std.specs.Str.{is_utf8};
-ghost use Rattle.wc_view_trace_rows.specs.Columns.{first_columns, fitted, line_shown};
-ghost use Rattle.wc_view_trace_rows.specs.Safe.{ShownLinesAreSafe};
-ghost use Rattle.wc_view_trace_rows.specs.Shown.{shown, shown_first, single_spaces};
-ghost use Rattle.wc_view_changes.specs.Shapes.{Puts};
+ghost use Rattle.wc_view_trace_rows.specs.Columns.{first_columns, fitted, line_shown, ShownLinesAreSafe, shown, shown_first, single_spaces};
+ghost use Rattle.wc_view_changes.specs.Shown.{Puts};
 
 use wc_diag_texts::{characters, hidden_length};
 use wc_model::{Fault, put_bytes};

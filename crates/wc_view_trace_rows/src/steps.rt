@@ -1,6 +1,6 @@
 ghost use Rattle.std.specs.Prelude.{◌≡◌, ◌++◌, IsOkUnless, OnOk, decimal};
-ghost use Rattle.wc_view_trace_rows.specs.Steps.{heading, none_chosen, steps_line};
-ghost use Rattle.wc_view_changes.specs.Shapes.{Puts};
+ghost use Rattle.wc_view_trace_rows.specs.Scans.{heading, none_chosen, steps_line};
+ghost use Rattle.wc_view_changes.specs.Shown.{Puts};
 
 use wc_model::{Fault, put_bytes};
 use wc_report::put_number;

@@ -1,18 +1,12 @@
 -- The names of a list by their numbers, and where each is.
-use Rattle.std.proofs.Common.{◌≡◌, ℕ, suc, ◌+◌, ◌<◌, ◌≤◌, List, [], ◌∷◌, ◌++◌, Bool, true, false, cond, length, map, take, drop, Option, Some, None, refl, sym, ap, ◌∙◌, arith, length-append, Vec, Global}
-use Rattle.std.proofs.lemmas.Grind.{flat_map-append}
+use Rattle.wc_model.proofs.Common.{◌≡◌, ℕ, suc, ◌+◌, ◌<◌, ◌≤◌, List, [], ◌∷◌, ◌++◌, Bool, true, false, cond, length, map, take, drop, Option, Some, None, refl, sym, ap, ◌∙◌, arith, length-append, Vec, Global, flat_map-append, get_or_from_slice_get, slice_get-map, slice_get_within, flat_map, onto_first, position_from}
 use Rattle.std.proofs.lemmas.List.{append_assoc, flat_map_more, take-append-drop, take_all, take_more}
-use Rattle.std.proofs.lemmas.Option.{get_or_from_slice_get, slice_get-map, slice_get_within}
-use Rattle.std.specs.List.{flat_map, onto_first, position_from}
 use Rattle.std.specs.Prelude.{◌==◌, ◌||◌, ℤ, get_or, is_some, not, option_and_then, option_map, slice_get}
 use Rattle.wc_model.specs.Language.Tree.{Text}
 use Rattle.wc_names.proofs.Lists.{from_index, got_some}
 use Rattle.wc_text_variables.proofs.Readings.{known}
-use Rattle.wc_text_variables.specs.Numbered.{variable_named}
-use Rattle.wc_text_variables.specs.Names.{named_location}
-use Rattle.wc_view_watch.specs.Unknown.{is_unknown, with_commas}
-use Rattle.wc_view_watch.specs.Values.{names_in}
-use Rattle.wc_view_watch.specs.Watching.{AreLookedUp}
+use Rattle.wc_text_variables.specs.Names.{variable_named, named_location}
+use Rattle.wc_view_watch.specs.{is_unknown, with_commas, names_in, AreLookedUp}
 use Rattle.wc_text_variables.specs.declared.variables.NamedVariable.{NamedVariable}
 use Rattle.wc_view_watch.specs.declared.watched_names.WatchedNames.{WatchedNames}
 

@@ -2,20 +2,12 @@
 use Rattle.std.proofs.Common.{◌≡◌, ◌≤◌, ◌+◌, ℕ, Bool, List, [], length, Option, Some, None, refl, sym, ap, subst, ◌∙◌, arith}
 use Rattle.std.specs.Prelude.{IfSome, option_map, reverse, slice_get}
 use Rattle.wc_controller.proofs.Allowing.{known_more, on_known}
-use Rattle.wc_controller.specs.InputStates.{Reader, observed_by}
-use Rattle.wc_controller.specs.TakenLogs.{OfLogic, OfPrograms}
-use Rattle.wc_model.specs.Instrument.Plates.{PlateData}
-use Rattle.wc_model.specs.Language.Tree.{Text}
-use Rattle.wc_model.specs.Run.Rows.{Past}
-use Rattle.wc_model.specs.Say.ProgramReport.{Logic, first_logic}
-use Rattle.wc_run.specs.Logics.{logic_after}
-use Rattle.wc_run.specs.Observing.{onto, text_in_all}
+use Rattle.wc_controller.specs.TakenLogs.{Reader, observed_by, OfLogic, OfPrograms}
+use Rattle.wc_model.specs.Definitions.{PlateData, Text, Past, Logic, first_logic}
+use Rattle.wc_run.specs.{logic_after, onto, text_in_all}
 use Rattle.wc_view_watch.proofs.LookUps.{start_more, start_within}
 use Rattle.wc_view_watch.proofs.Rows.{past_again}
-use Rattle.wc_view_watch.specs.Values.{names_in}
-use Rattle.wc_view_watch.specs.Plans.{end_text, last_values, scans_so_far, watch_observed, watch_plan}
-use Rattle.wc_view_watch.specs.Unknown.{IsFirstUnknown, begins_with}
-use Rattle.wc_view_watch.specs.Watching.{FitLogic, HasSeen, KeepsLast, KeepsValues}
+use Rattle.wc_view_watch.specs.{names_in, IsFirstUnknown, begins_with, end_text, last_values, scans_so_far, watch_observed, watch_plan, FitLogic, HasSeen, KeepsLast, KeepsValues}
 use Rattle.wc_view_watch.specs.declared.watched_names.WatchedNames.{WatchedNames}
 use Rattle.wc_view_watch.specs.declared.names.UnknownName.{UnknownName}
 use Rattle.wc_view_watch.specs.declared.watcher.Watcher.{Watcher}

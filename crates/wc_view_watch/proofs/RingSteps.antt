@@ -1,8 +1,7 @@
 -- The last n texts, one more at a time.
 use Rattle.std.proofs.Common.{◌≡◌, ◌<◌, ◌≤◌, ℕ, zero, suc, ◌+◌, ◌-◌, List, [], ◌∷◌, ◌++◌, drop, length, map, take, replicate, sym, ap, ◌∙◌, arith, append-nil, length-append, set, length-set, inl, inr, min, ◌⊎◌}
-use Rattle.std.proofs.lemmas.Grind.{flat_map-append}
+use Rattle.wc_model.proofs.Common.{flat_map-append, flat_map}
 use Rattle.std.proofs.lemmas.List.{append_assoc, drop-append-le, drop-drop, drop-map, drop-set-lt, drop_all, length-map, length-replicate, take-map, take_all, take_more_set}
-use Rattle.std.specs.List.{flat_map}
 use Rattle.wc_model.specs.Instrument.WeighingHistories.{last_items}
 use Rattle.wc_names.proofs.Lists.{from_index_or}
 use Rattle.wc_view_watch.specs.Ring.{HoldsLast, in_order}

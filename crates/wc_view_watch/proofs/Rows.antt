@@ -1,25 +1,14 @@
 -- What is written of a row, and what is seen of it.
-use Rattle.std.proofs.Common.{◌≡◌, ℕ, Bool, true, ◌&&◌, List, [], ◌∷◌, ◌++◌, Option, Some, None, refl, sym, ap, subst, ◌∙◌, append-nil}
+use Rattle.wc_model.proofs.Common.{◌≡◌, ℕ, Bool, true, ◌&&◌, List, [], ◌∷◌, ◌++◌, Option, Some, None, refl, sym, ap, subst, ◌∙◌, append-nil, flat_map, list_any}
 use Rattle.std.proofs.lemmas.List.{append_assoc, reverse-append}
-use Rattle.std.specs.List.{flat_map, list_any}
 use Rattle.std.specs.Prelude.{filter, map, reverse, unwrap_or, if◌then◌else◌}
 use Rattle.wc_machine.specs.Machines.{MachineState, RepresentsText}
-use Rattle.wc_model.specs.Instrument.Plates.{PlateData}
-use Rattle.wc_model.specs.Language.Store.{Store}
-use Rattle.wc_model.specs.Language.Tree.{Text}
-use Rattle.wc_model.specs.Run.Rows.{Change, LogRow, Past, RowData}
-use Rattle.wc_model.specs.Say.ProgramReport.{Logic, change_to, logic_following, programs}
-use Rattle.wc_model.specs.Say.Report.{ReportLine, answer_line, is_answer_line, is_scan_line, line_text, report_text, state_with}
+use Rattle.wc_model.specs.Definitions.{PlateData, Store, Text, Change, LogRow, Past, RowData, Logic, change_to, logic_following, programs, ReportLine, answer_line, is_answer_line, is_scan_line, line_text, report_text, state_with}
 use Rattle.wc_record.specs.declared.last_scans.Record.{Record}
-use Rattle.wc_run.specs.Logics.{logic_after}
-use Rattle.wc_run.specs.Observing.{IsShown, lines_of_scan, onto, row_of}
-use Rattle.wc_run.specs.Outputs.{line_of_record}
+use Rattle.wc_run.specs.{logic_after, IsShown, lines_of_scan, onto, row_of, line_of_record}
 use Rattle.wc_run.specs.declared.row_seen.RowSeen.{RowSeen}
 use Rattle.wc_run.specs.declared.row_seen.ScanSeen.{ScanSeen}
-use Rattle.wc_view_watch.specs.Plans.{is_written, last_values, line_with_values, row_text, scans_of_row, scans_so_far, values_of, written_now}
-use Rattle.wc_view_watch.specs.Ring.{RingState}
-use Rattle.wc_view_watch.specs.Values.{values_line}
-use Rattle.wc_view_watch.specs.Watching.{AreLookedUp, FitLogic, KeepsLast, RunsLogic}
+use Rattle.wc_view_watch.specs.{is_written, last_values, line_with_values, row_text, scans_of_row, scans_so_far, values_of, written_now, values_line, RingState, AreLookedUp, FitLogic, KeepsLast, RunsLogic}
 use Rattle.wc_view_watch.specs.declared.watched_names.WatchedNames.{WatchedNames}
 
 -- the line of a scan, and that of its values

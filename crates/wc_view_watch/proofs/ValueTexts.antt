@@ -1,13 +1,11 @@
 -- The text of a value that is watched.
-use Rattle.std.proofs.Common.{◌≡◌, ℕ, List, [], ◌∷◌, ◌++◌, false, Option, Some, None, refl, sym, ap, ◌∙◌}
-use Rattle.std.specs.Prelude.{is_some}
+use Rattle.wc_model.proofs.Common.{◌≡◌, ℕ, List, [], ◌∷◌, ◌++◌, false, Option, Some, None, refl, sym, ap, ◌∙◌, is_some}
 use Rattle.wc_view_changes.specs.ChangeReport.{content_text}
 use Rattle.wc_model.specs.Language.Store.{Location, Content, Plain, Store}
 use Rattle.wc_model.specs.Language.Tree.{Text}
 use Rattle.wc_text_variables.proofs.Readings.{Reads, known}
-use Rattle.wc_text_variables.specs.Numbered.{variable_named}
-use Rattle.wc_text_variables.specs.Names.{named_location}
-use Rattle.wc_view_watch.specs.Values.{text_at, value_text}
+use Rattle.wc_text_variables.specs.Names.{variable_named, named_location}
+use Rattle.wc_view_watch.specs.Plans.{text_at, value_text}
 use Rattle.wc_text_variables.specs.declared.variables.NamedVariable.{NamedVariable}
 
 -- what is written of a value that is there

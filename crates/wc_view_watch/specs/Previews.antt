@@ -3,10 +3,7 @@
 use Rattle.std.specs.Prelude.{◌≡◌, ⊤, ℕ, ◌++◌, Bool, List}
 use Rattle.wc_view_changes.specs.ChangeReport.{change_report}
 use Rattle.wc_controller.specs.Files.{AnswersFile}
-use Rattle.wc_model.specs.Language.Tree.{Text}
-use Rattle.wc_model.specs.Language.Views.{text_view}
-use Rattle.wc_model.specs.Say.Job.{AnswersProgram, JobAnswer}
-use Rattle.wc_model.specs.Say.UnitReport.{IsUnitReport}
+use Rattle.wc_model.specs.Definitions.{Text, text_view, AnswersProgram, JobAnswer, IsUnitReport}
 use Rattle.wc_model.specs.declared.source.Source.{Source}
 use Rattle.wc_run.specs.declared.fault.RunFault.{RunFault}
 use Rattle.wc_run.specs.declared.fault.RunFault.TheVariants.{Write, Memory}

@@ -2,21 +2,16 @@
 use Rattle.std.specs.Prelude.{◌≡◌, ℕ, Bool, true, List, [], ◌∷◌, map, Option, Some, None, IfSome, MatchOption, option_map, if◌then◌else◌}
 use Rattle.std.specs.Option.{IsNone, IsSomeAnd}
 use Rattle.wc_machine.specs.Machines.{MachineState}
-use Rattle.wc_model.specs.Instrument.Plates.{PlateData}
-use Rattle.wc_model.specs.Language.Tree.{Text}
-use Rattle.wc_model.specs.Run.Rows.{Past}
-use Rattle.wc_model.specs.Say.ProgramReport.{Logic}
+use Rattle.wc_model.specs.Definitions.{PlateData, Text, Past, Logic}
 use Rattle.wc_run.specs.Logics.{logic_after}
 use Rattle.wc_run.specs.Observing.{IsShown, row_of}
-use Rattle.wc_open_scale.specs.Representation.{IsRunning}
+use Rattle.wc_run.specs.OpenScales.{IsRunning}
 use Rattle.wc_run.specs.Representation.{Represents, program_of}
 use Rattle.wc_run.specs.declared.row_seen.RowSeen.{RowSeen}
 use Rattle.wc_run.specs.declared.scale.Scale.{Scale}
-use Rattle.wc_text_variables.specs.Numbered.{variable_named}
-use Rattle.wc_view_watch.specs.Plans.{last_values, scans_so_far}
+use Rattle.wc_text_variables.specs.Names.{variable_named}
+use Rattle.wc_view_watch.specs.Plans.{last_values, scans_so_far, IsFirstUnknown, names_in}
 use Rattle.wc_view_watch.specs.Ring.{RingState, HoldsLast}
-use Rattle.wc_view_watch.specs.Unknown.{IsFirstUnknown}
-use Rattle.wc_view_watch.specs.Values.{names_in}
 use Rattle.wc_view_watch.specs.declared.last_values.LastValues.{LastValues}
 use Rattle.wc_view_watch.specs.declared.names.UnknownName.{UnknownName}
 use Rattle.wc_view_watch.specs.declared.watched_names.WatchedNames.{WatchedNames}

@@ -1,9 +1,7 @@
 ghost use Rattle.std.specs.Prelude.{◌≡◌, List, ℕ, IfOk, IsOkUnless, None, OnOk, Option, Some};
 ghost use Rattle.wc_machine.specs.Machines.{RepresentsText};
-ghost use Rattle.wc_model.specs.Language.Store.{Store as Contents};
-ghost use Rattle.wc_model.specs.Language.Tree.{Text};
-ghost use Rattle.wc_view_watch.specs.Plans.{differ};
-ghost use Rattle.wc_view_watch.specs.Values.{values_in};
+ghost use Rattle.wc_model.specs.Definitions.{Store as Contents, Text};
+ghost use Rattle.wc_view_watch.specs.Plans.{differ, values_in};
 ghost use Rattle.wc_view_watch.specs.Watching.{AreLookedUp, kept_values};
 
 use crate::watched_names::WatchedNames;

@@ -1,7 +1,7 @@
 ghost use Rattle.std.specs.Prelude.{◌≡◌, ◌+◌, ◌≤◌, IfOk, IsOkUnless, length, map};
 ghost use Rattle.wc_model.specs.Language.Views.{text_view};
-ghost use Rattle.wc_text_variables.specs.Numbered.{variable_named};
-ghost use Rattle.wc_view_watch.specs.Values.{names_in};
+ghost use Rattle.wc_text_variables.specs.Names.{variable_named};
+ghost use Rattle.wc_view_watch.specs.Plans.{names_in};
 
 use std::alloc::Global;
 use wc_cost::Loaded;

@@ -1,7 +1,7 @@
 ghost use Rattle.std.specs.Prelude.{◌≡◌, ◌+◌, IfErr, IfOk, IfSome, IsOkUnless};
 ghost use Rattle.wc_controller.specs.Blames.{Blames, RefusesProgram, RefusesText, StopsFor};
-ghost use Rattle.wc_endings.specs.Endings.{EndsAs, IsAt, IsReadFaultAt, StopsAt, ReportsFailures, ReportsReadEndings, ReportsReadFaults, ReportsWriteFaults, WritesUpTo, raised};
-ghost use Rattle.wc_job.specs.Reads.{TakesAtMost};
+ghost use Rattle.wc_controller.specs.Endings.{EndsAs, IsAt, IsReadFaultAt, StopsAt, ReportsFailures, ReportsReadEndings, ReportsReadFaults, ReportsWriteFaults, WritesUpTo, raised};
+ghost use Rattle.wc_job.specs.Views.{TakesAtMost};
 ghost use Rattle.wc_model.specs.Run.JobSections.{longest_job};
 ghost use Rattle.wc_view_watch.specs.Previews.{AnswersNew, AnswersPreview, IsOfWriting, IsPreview};
 

@@ -1,17 +1,9 @@
 ghost use Rattle.std.specs.Prelude.{◌≡◌, ◌<◌, ◌^◌, ◌++◌, ◌∷◌, ◌||◌, List, ℕ, IfErr, IfOk, IfSome, IsOkUnless, None, OnOk, Option, Some, get_or, is_some, length, map, option_and_then, option_copied, option_map, slice_get, true, unwrap_or};
 ghost use Rattle.wc_machine.specs.Machines.{RepresentsText};
-ghost use Rattle.wc_model.specs.Language.Store.{Store as Contents};
-ghost use Rattle.wc_model.specs.Language.Tree.{Text};
-ghost use Rattle.wc_model.specs.Language.Views.{text_view};
-ghost use Rattle.wc_model.specs.Instrument.Plates.{PlateData};
-ghost use Rattle.wc_model.specs.Run.Rows.{Past};
-ghost use Rattle.wc_model.specs.Say.ProgramReport.{Logic, first_logic};
-ghost use Rattle.wc_run.specs.Logics.{logic_after, text_of_next};
-ghost use Rattle.wc_run.specs.Observing.{RefusesToBegin, loaded_of, logic_of, row_of};
-ghost use Rattle.wc_text_variables.specs.Numbered.{variable_named};
-ghost use Rattle.wc_view_watch.specs.Unknown.{IsUnknown, begins_with};
-ghost use Rattle.wc_view_watch.specs.Plans.{numbers_of};
-ghost use Rattle.wc_view_watch.specs.Values.{numbers_in, value_text, values_in, values_line};
+ghost use Rattle.wc_model.specs.Definitions.{Store as Contents, Text, text_view, PlateData, Past, Logic, first_logic};
+ghost use Rattle.wc_run.specs.{logic_after, text_of_next, RefusesToBegin, loaded_of, logic_of, row_of};
+ghost use Rattle.wc_text_variables.specs.Names.{variable_named};
+ghost use Rattle.wc_view_watch.specs.Plans.{IsUnknown, begins_with, numbers_in, value_text, values_in, values_line, numbers_of};
 ghost use Rattle.wc_view_watch.specs.Watching.{AreLookedUp, FitLogic, HasRefused, RunsLogic};
 
 use crate::names::{UnknownName, all_watched, names_of};

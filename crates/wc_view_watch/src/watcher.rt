@@ -1,7 +1,6 @@
 ghost use Rattle.std.specs.Prelude.{◌≡◌, ◌≤◌, ◌++◌, ◌∷◌, List, [], ℕ, IfOk, IfSome, IsOkUnless, None, OnOk, Option, Some, option_copied};
 ghost use Rattle.wc_model.specs.Say.ProgramReport.{Logic};
-ghost use Rattle.wc_run.specs.Observing.{row_of};
-ghost use Rattle.wc_run.specs.Outputs.{line_of_record};
+ghost use Rattle.wc_run.specs.Observing.{row_of, line_of_record};
 ghost use Rattle.wc_view_watch.specs.Plans.{end_text, is_written, last_values, line_with_values, row_text, scans_so_far, values_of, written_now};
 ghost use Rattle.wc_view_watch.specs.Watching.{FitLogic, IsNew, KeepsLast, KeepsValues, OfRow, RunsLogic, WatchesAs};
 
@@ -190,8 +189,7 @@ impl<'n> Watcher<'n> {
 
 impl<W: ByteOut> Observer<SlotStore, W> for Watcher<'_> {
     ghost use Rattle.std.specs.Prelude.{◌≡◌, ⊤, false};
-    ghost use Rattle.wc_view_watch.specs.Plans.{watch_plan};
-    ghost use Rattle.wc_view_watch.specs.Unknown.{begins_with};
+    ghost use Rattle.wc_view_watch.specs.Plans.{watch_plan, begins_with};
     ghost use Rattle.wc_view_watch.specs.Watching.{HasSeen, HasRefused, IsNew};
 
     ghost settings = { λ _. tt };

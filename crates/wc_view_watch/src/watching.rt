@@ -1,11 +1,7 @@
 ghost use Rattle.std.specs.Prelude.{◌≡◌, ◌≤◌, ◌+◌, true, false, length, IfErr, IfOk, IfSome};
-ghost use Rattle.wc_endings.specs.Endings.{IsAt};
-ghost use Rattle.wc_controller.specs.InputRuns.{RunsAs, TakesInputs};
-ghost use Rattle.wc_controller.specs.InputStates.{writer_of};
-ghost use Rattle.wc_controller.specs.TakenLogs.{OfPrograms};
+ghost use Rattle.wc_controller.specs.{IsAt, RunsAs, TakesInputs, writer_of, OfPrograms};
 ghost use Rattle.wc_record.specs.Reported.{fields_reported};
-ghost use Rattle.wc_view_watch.specs.Plans.{watch_observed};
-ghost use Rattle.wc_view_watch.specs.Unknown.{IsFirstUnknown};
+ghost use Rattle.wc_view_watch.specs.Plans.{watch_observed, IsFirstUnknown};
 
 use crate::names::{UnknownName, within};
 use crate::watcher::Watcher;

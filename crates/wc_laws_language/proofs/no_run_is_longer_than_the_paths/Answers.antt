@@ -1,10 +1,7 @@
 use Rattle.std.proofs.Common.{ℕ, ◌≤◌, arith}
 use Rattle.wc_laws_language.proofs.TracesArePaths.{TraceIs, program_trace_is_path}
 use Rattle.wc_laws_language.proofs.no_run_is_longer_than_the_paths.Goals as goal
-use Rattle.wc_model.specs.Language.Meaning.{Outcome, Done, Stuck, program_means}
-use Rattle.wc_model.specs.Language.Paths.{IsPath, IsLongest}
-use Rattle.wc_model.specs.Language.Scans.{steps_of}
-use Rattle.wc_model.specs.Language.Scopes.{Scope}
+use Rattle.wc_model.specs.Definitions.{Outcome, Done, Stuck, program_means, IsPath, IsLongest, steps_of, Scope}
 
 -- by how the run ends
 by_outcome : (scope : Scope) (n : ℕ) → IsLongest scope n → (o : Outcome) → TraceIs (IsPath scope) o → steps_of o ≤ n

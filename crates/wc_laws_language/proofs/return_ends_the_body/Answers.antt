@@ -1,4 +1,4 @@
-use Rattle.wc_laws_language.proofs.Returning.{return_ends}
+use Rattle.wc_laws_language.proofs.Jumping.{return_ends}
 use Rattle.wc_laws_language.proofs.return_ends_the_body.Goals as goal
 
 pub returns : goal.returns

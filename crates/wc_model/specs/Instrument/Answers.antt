@@ -1,8 +1,7 @@
 -- The line's answers: twenty bytes for a weight, and what each command does. The fields, the letters and their order are
 -- the profile's own.
-use Rattle.std.specs.Prelude.{ℕ, zero, suc, ◌+◌, ◌-◌, ◌/◌, ◌%◌, ◌^◌, not, List, [], ◌∷◌, ◌++◌, length, replicate, codes, decimal, ℤ, unsigned_abs, Option, Some, None, is_some, if◌then◌else◌}
+use Rattle.std.specs.Prelude.{ℕ, zero, suc, ◌+◌, ◌-◌, ◌/◌, ◌%◌, ◌^◌, not, List, [], ◌∷◌, ◌++◌, length, replicate, codes, decimal, ℤ, unsigned_abs, Option, Some, None, is_some, if◌then◌else◌, bytes_eq}
 use Rattle.std.specs.Int.{is_negative}
-use Rattle.std.specs.Str.{bytes_eq}
 use Rattle.wc_model.specs.Instrument.Plates.{PlateData}
 use Rattle.wc_model.specs.Instrument.WeighingHistories.{SetZero, SetTare, ClearTare, History}
 use Rattle.wc_model.specs.Instrument.Indication.{has_sample, is_over, is_under, is_valid, is_stable, is_centre_of_zero, is_tare_active, tare_value, shown, zero_refusal, tare_refusal}

@@ -1,8 +1,7 @@
 -- The plate that a table of keys gives, or the number of the first rule that the table breaks. The keys and the numbers
 -- are the profile's own.
-use Rattle.std.specs.Prelude.{ℕ, ◌*◌, ◌^◌, Bool, ◌&&◌, not, List, [], ◌∷◌, codes, find, ℤ, pos, ◌*ℤ◌, int_le, int_div, int_rem, unsigned_abs, Option, Some, None, Result, Ok, Err, if◌then◌else◌, option_and_then, option_map}
+use Rattle.std.specs.Prelude.{ℕ, ◌*◌, ◌^◌, Bool, ◌&&◌, not, List, [], ◌∷◌, codes, find, ℤ, pos, ◌*ℤ◌, int_le, int_div, int_rem, unsigned_abs, Option, Some, None, Result, Ok, Err, if◌then◌else◌, option_and_then, option_map, bytes_eq}
 use Rattle.std.specs.List.{list_all, list_any}
-use Rattle.std.specs.Str.{bytes_eq}
 use Rattle.wc_model.specs.Instrument.Plates.{PlateData, grams, kilograms, tonnes, grams_of, allowed_intervals, least_sample, greatest_sample}
 
 -- the value of a key

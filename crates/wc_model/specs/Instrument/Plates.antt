@@ -1,7 +1,6 @@
 -- The plate of an instrument: class III, single range, e = d (OIML R 76-1:2006, 3.1.2 and 3.2). The keys, the ranges
 -- of the counts and of the window are the profile's own.
-use Rattle.std.specs.Prelude.{◌≡◌, ℕ, ◌*◌, ◌^◌, ◌≤◌, ◌||◌, ◌==◌, List, [], ◌∷◌, Contains, codes, ℤ, pos, negsuc, ◌≤ℤ◌, if◌then◌else◌}
-use Rattle.std.specs.Str.{bytes_eq}
+use Rattle.std.specs.Prelude.{◌≡◌, ℕ, ◌*◌, ◌^◌, ◌≤◌, ◌||◌, ◌==◌, List, [], ◌∷◌, Contains, codes, ℤ, pos, negsuc, ◌≤ℤ◌, if◌then◌else◌, bytes_eq}
 
 -- What is written on an instrument. `unit` is the line's three bytes, `decimals` the digits after the point, `max` and
 -- `e` the greatest load and the scale interval in units of the last decimal, `n` the number of intervals, `zero_counts`

@@ -1,7 +1,5 @@
 -- What the names of a unit represent (IEC 61131-3:2003, 2.4.3 and 2.5.2). Units that come before are given newest first.
-use Rattle.std.specs.Prelude.{ℕ, Bool, true, false, List, [], ◌∷◌, map, Option, Some, None, find, codes, if◌then◌else◌}
-use Rattle.std.specs.List.{flat_map}
-use Rattle.std.specs.Str.{bytes_eq}
+use Rattle.std.specs.Prelude.{ℕ, Bool, true, false, List, [], ◌∷◌, map, Option, Some, None, find, codes, if◌then◌else◌, flat_map, bytes_eq}
 use Rattle.wc_model.specs.Language.Names.{Name}
 use Rattle.wc_model.specs.Language.Tree.{Declaration, ProgramUnit}
 use Rattle.wc_model.specs.Text.Keywords.{block_word, kind_word}

@@ -1,6 +1,5 @@
 -- Places, what they hold, and the store as a map from places (IEC 61131-3:2003, 2.4.1 and 2.5.2.1).
-use Rattle.std.specs.Prelude.{ℕ, ◌==◌, Bool, true, false, ◌&&◌, List, [], ◌∷◌, ◌++◌, map, Option, Some, None, Result, Ok, Err, pos, negsuc, if◌then◌else◌, codes}
-use Rattle.std.specs.List.{flat_map}
+use Rattle.std.specs.Prelude.{ℕ, ◌==◌, Bool, true, false, ◌&&◌, List, [], ◌∷◌, ◌++◌, map, Option, Some, None, Result, Ok, Err, pos, negsuc, if◌then◌else◌, codes, flat_map}
 use Rattle.wc_model.specs.Language.Declarations.{VariableType, Elementary, Standard, Block, same_name, type_named, variables_of}
 use Rattle.wc_model.specs.Language.DirectVariables.{DirectVariable, InputBit, StatusBit, Weight, OutputBit, OutputWord, direct_variables, kind_of_direct}
 use Rattle.wc_model.specs.Language.Names.{Name}

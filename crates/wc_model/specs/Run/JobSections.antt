@@ -1,8 +1,7 @@
 -- The sections of a job: a plate, a program text, if there is one the text of the next program, and a log, each under its
 -- heading. The form is the profile's own.
-use Rattle.std.specs.Prelude.{ℕ, Bool, ◌||◌, ◌==◌, nat_lt, List, [], ◌∷◌, ◌++◌, length, codes, Option, Some, None, Result, Ok, Err, if◌then◌else◌}
+use Rattle.std.specs.Prelude.{ℕ, Bool, ◌||◌, ◌==◌, nat_lt, List, [], ◌∷◌, ◌++◌, length, codes, Option, Some, None, Result, Ok, Err, if◌then◌else◌, bytes_eq}
 use Rattle.std.specs.List.{concat}
-use Rattle.std.specs.Str.{bytes_eq}
 
 -- a byte before the first of some lines
 abbrev pub onto_first_line : ℕ → List (List ℕ) → List (List ℕ)

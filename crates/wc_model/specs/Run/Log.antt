@@ -1,10 +1,9 @@
 -- The log: its rows up to the first that is refused, and that refusal. The form of the rows, the order of the checks
 -- and their numbers are the profile's own. A record is the list of its fields, as reading the CSV text gives them.
-use Rattle.std.specs.Prelude.{ℕ, suc, ◌-◌, Bool, true, false, ◌&&◌, ◌==◌, nat_le, nat_lt, List, [], ◌∷◌, length, map, codes, ℤ, pos, neg_ℤ, int_le, Option, Some, None, option_map, Result, Ok, Err, if◌then◌else◌}
+use Rattle.std.specs.Prelude.{ℕ, suc, ◌-◌, Bool, true, false, ◌&&◌, ◌==◌, nat_le, nat_lt, List, [], ◌∷◌, length, map, codes, ℤ, pos, neg_ℤ, int_le, Option, Some, None, option_map, Result, Ok, Err, if◌then◌else◌, bytes_eq}
 use Rattle.std.specs.Char.{is_ascii_digit}
 use Rattle.std.specs.Int.Digits.{number_from_digits}
 use Rattle.std.specs.List.{list_all}
-use Rattle.std.specs.Str.{bytes_eq}
 use Rattle.wc_model.specs.Instrument.Plates.{least_sample, greatest_sample}
 use Rattle.wc_model.specs.Run.Hex.{bytes_of_hex}
 use Rattle.wc_model.specs.Run.Rows.{RowData, Counts, Bytes, Inputs, Scan, Change, LogRow}

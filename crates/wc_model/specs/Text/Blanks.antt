@@ -1,7 +1,6 @@
 -- What is between tokens: spaces, tabs, a CR directly before LF, and comments (IEC 61131-3:2003, 2.1.4 and 2.1.5).
 -- That a comment may hold any other bytes, and no comment, is the profile's own.
-use Rattle.std.specs.Prelude.{◌≡◌, ℕ, Bool, ◌||◌, List, [], ◌∷◌, ◌++◌, IsTrue, if◌then◌else◌, codes}
-use Rattle.std.specs.Bool.{nat_eq}
+use Rattle.std.specs.Prelude.{◌≡◌, ℕ, Bool, ◌||◌, List, [], ◌∷◌, ◌++◌, IsTrue, if◌then◌else◌, codes, nat_eq}
 use Rattle.std.specs.List.{starts_with}
 use Rattle.wc_model.specs.Text.Characters.{begins, is_line_feed}
 

@@ -1,6 +1,5 @@
 -- Durations (IEC 61131-3:2003, 2.2.3.1). The limits on digits and on the sum are the profile's own.
-use Rattle.std.specs.Prelude.{ℕ, ◌+◌, ◌-◌, ◌*◌, ◌/◌, ◌%◌, ◌^◌, Bool, true, false, not, ◌&&◌, ◌||◌, ◌==◌, List, [], ◌∷◌, ◌++◌, length, map, take, drop, find, zip, sum_by, count_by, codes, bytes_eq, ℤ, pos, neg_ℤ, Option, None, is_some, if◌then◌else◌}
-use Rattle.std.specs.Bool.{nat_lt, nat_le}
+use Rattle.std.specs.Prelude.{ℕ, ◌+◌, ◌-◌, ◌*◌, ◌/◌, ◌%◌, ◌^◌, Bool, true, false, not, ◌&&◌, ◌||◌, ◌==◌, List, [], ◌∷◌, ◌++◌, length, map, take, drop, find, zip, sum_by, count_by, codes, bytes_eq, ℤ, pos, neg_ℤ, Option, None, is_some, if◌then◌else◌, nat_lt, nat_le}
 use Rattle.std.specs.Char.{is_ascii_alphabetic, is_ascii_digit}
 use Rattle.std.specs.List.{list_any, list_all, before_first, after_first}
 use Rattle.std.specs.Option.{option_map_or}

@@ -1,7 +1,6 @@
 -- The grammar of the Instruction List profile (IEC 61131-3:2003, annex B.1 and 3.2.1, tables 51 and 52): for each part of
 -- the tree of a text, the token lists that spell it. Where line ends are skipped is the profile's own.
-use Rattle.std.specs.Prelude.{◌≡◌, ◌≢◌, ℕ, Bool, List, [], ◌∷◌, flat_map, Option, Some, None, ◌⊎◌}
-use Rattle.std.specs.Bool.{⊤}
+use Rattle.std.specs.Prelude.{◌≡◌, ◌≢◌, ℕ, Bool, List, [], ◌∷◌, flat_map, Option, Some, None, ◌⊎◌, ⊤}
 use Rattle.wc_model.specs.Language.Names.{Name, name_of}
 use Rattle.wc_model.specs.Language.Tree.{Word, Term, Constant, Address, Variable, Field, Assignment, Step, Load, Store, Apply, Negate, Jump, Call, Return, Lines, End, Alone, Plain, Nested, Declaration, ProgramUnit, Text}
 use Rattle.wc_model.specs.Text.Marks.{Symbol, Identifier, Whole, Duration, Truth, Ampersand, AmpersandN, OpeningBracket, ClosingBracket, Comma, Colon, Semicolon, Point, Assign, Arrow, LineEnd, Mark, is_line_end, IsSymbol, IsNamed, IsWord, IsAddress}

@@ -1,6 +1,5 @@
 -- What a lexeme says, or the number of its fault (IEC 61131-3:2003, 2.1 and 2.2).
-use Rattle.std.specs.Prelude.{ℕ, ◌||◌, Bool, true, false, ◌&&◌, List, [], ◌∷◌, length, find, codes, bytes_eq, ℤ, Option, option_map, Result, Ok, Err, ok_or, if◌then◌else◌}
-use Rattle.std.specs.Bool.{nat_le}
+use Rattle.std.specs.Prelude.{ℕ, ◌||◌, Bool, true, false, ◌&&◌, List, [], ◌∷◌, length, find, codes, bytes_eq, ℤ, Option, option_map, Result, Ok, Err, ok_or, if◌then◌else◌, nat_le}
 use Rattle.std.specs.Char.{is_ascii_digit}
 use Rattle.std.specs.List.{list_any, before_first, after_first}
 use Rattle.wc_model.specs.Text.Characters.{begins, starts_identifier, is_hash, is_percent, is_sign}

@@ -1,8 +1,7 @@
 -- The scale at the pointer is borrowed for one call of `load_of`.
 use Rattle.narbeddo.proofs.Steps.{[], ◌∷◌, ◌++◌, refl, proved, full_share, id⊢, sep, GName, ftrue, flft, flent, named, vptr, fact, tables, sem, Body, lft_new, lft_end, ‵, raw, ◌⊛◌, some, later, prop, ◌$◌, ◌∵◌, !, qed, done, move, keep, use1, use2, use3, split, join, fsplit, pick, show, await, regoal, suffices, frame, group, enter, of_opd, addr, stop, no_more, and_then, returns, alloc_all, pass_all, free_all, look_at, get, through, sets, lands_as, u8, yes, Is, shows, lends_ref, ref_back, mem, ShrSlice, shr_slice_vals, shr_slice_Tells, shr_slice_Lawful, Ptr, RawPtr, block_ptr, lies_at, in_a_block, rawptr_vals, rawptr_Tells, MutRef, plain, shr_slice_of, name_of, nothing, heard, peeks, calls_at, lasts, triple_of, Stays, walk_of, says, stay_dropped, Goes-dropped, ends_at, framed, WpFn}
-use Rattle.wc_scale.specs.LineCalls.{IsStep, Load}
+use Rattle.wc_scale.specs.{IsStep, Load, TakesLoad, RefusesLoad}
 use Rattle.wc_scale.specs.contracts.scale.Scale.{the_row as R}
-use Rattle.wc_scale.specs.Programs.{TakesLoad, RefusesLoad}
 use Rattle.wc_scale.specs.contracts.results.Refusal.{the_row as T}
 use Rattle.wc_scale.proofs.results.Refusal.TheLaws.{the_row_laws as T-laws}
 use Rattle.narbeddo.specs.contracts.changes.narbeddo_load as f

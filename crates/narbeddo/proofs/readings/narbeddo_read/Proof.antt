@@ -1,8 +1,7 @@
 -- The scale at the pointer is borrowed for one call of `reading_of`.
 use Rattle.narbeddo.proofs.Steps.{◌≡◌, [], ◌∷◌, ◌++◌, refl, proved, full_share, id⊢, sep, GName, ftrue, flft, flent, named, vptr, fact, tables, sem, Body, lft_new, lft_end, ‵, raw, ◌⊛◌, some, later, prop, ◌$◌, ◌∵◌, !, qed, done, move, keep, drop, use1, use2, use3, split, join, fsplit, pick, show, await, regoal, suffices, frame, group, enter, of_opd, addr, stop, no_more, and_then, returns, alloc_all, pass_all, free_all, look_at, get, through, sets, lands_as, yes, Is, shows, lends_ref, ref_back, mem, Ptr, RawPtr, block_ptr, lies_at, in_a_block, rawptr_vals, rawptr_Tells, MutRef, plain, nothing, heard, peeks, calls_at, lasts, on_entry, triple_of, Stays, walk_of, says, stay_dropped, Goes-dropped, ends_at, framed, WpFn}
 use Rattle.wc_scale.specs.contracts.scale.Scale.{the_row as R}
-use Rattle.wc_scale.specs.Calls.{ShowsNothing, ReportsReading}
-use Rattle.wc_scale.specs.Representation.{IsClosed}
+use Rattle.wc_scale.specs.{ShowsNothing, ReportsReading, IsClosed}
 use Rattle.wc_scale.specs.contracts.results.Reading.{the_row as T}
 use Rattle.wc_scale.proofs.results.Reading.TheLaws.{the_row_laws as T-laws}
 use Rattle.narbeddo.specs.contracts.readings.narbeddo_read as f

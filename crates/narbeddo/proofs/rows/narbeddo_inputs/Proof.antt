@@ -1,8 +1,7 @@
 -- The scale at the pointer is borrowed for one call of `inputs_of`.
 use Rattle.narbeddo.proofs.Steps.{ℕ, [], ◌∷◌, ◌++◌, refl, w16, w32, proved, full_share, id⊢, sep, GName, ftrue, flft, flent, named, vptr, fact, tables, sem, Body, lft_new, lft_end, ‵, raw, ◌⊛◌, some, later, prop, ◌$◌, ◌∵◌, !, qed, done, move, keep, drop, use1, use2, use3, split, join, fsplit, pick, show, await, regoal, suffices, frame, group, enter, of_opd, addr, stop, no_more, and_then, returns, alloc_all, pass_all, free_all, look_at, get, through, sets, lands_as, u16, u32, yes, Is, shows, lends_ref, ref_back, mem, uint_Makes, uint_vals, uint_Tells, uint_Lawful, Ptr, RawPtr, block_ptr, lies_at, in_a_block, rawptr_vals, rawptr_Tells, MutRef, plain, nothing, owned, heard, peeks, calls_at, lasts, on_entry, triple_of, Stays, walk_of, says, stay_dropped, Goes-dropped, ends_at, framed, WpFn}
-use Rattle.wc_scale.specs.LineCalls.{Inputs, IsStep}
+use Rattle.wc_scale.specs.{Inputs, IsStep, TakesInputs, RefusesInputs}
 use Rattle.wc_scale.specs.contracts.scale.Scale.{the_row as R}
-use Rattle.wc_scale.specs.Calls.{TakesInputs, RefusesInputs}
 use Rattle.narbeddo.specs.contracts.rows.narbeddo_inputs as f
 use Rattle.narbeddo.proofs.rows.narbeddo_inputs.Statement.{statement}
 use Rattle.narbeddo.proofs.rows.narbeddo_inputs.Code as code

@@ -1,8 +1,7 @@
 use Rattle.std.proofs.Common.{◌≡◌, false, drop}
 use Rattle.clap.specs.Words.{App, app_of}
 use Rattle.clap.specs.declared.builder.command.Command.TheViews.{out-Command}
-use Rattle.wc_arguments.specs.CommandLine.{Takes}
-use Rattle.wc_arguments.specs.Table.{with_words}
+use Rattle.wc_arguments.specs.{Takes, with_words}
 use Rattle.wc_arguments.proofs.table.with_words.Given as goal
 
 -- the rows that are left lead to the same command line

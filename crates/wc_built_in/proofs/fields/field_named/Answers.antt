@@ -1,8 +1,6 @@
-use Rattle.std.proofs.Common.{refl, sym, ap, ◌∙◌, arith}
-use Rattle.std.proofs.lemmas.Option.{slice_get_read}
+use Rattle.wc_model.proofs.Common.{refl, sym, ap, ◌∙◌, arith, slice_get_read}
 use Rattle.std.specs.Prelude.{length, option_and_then, slice_get}
-use Rattle.wc_model.specs.Language.Declarations.{same_name}
-use Rattle.wc_model.specs.Language.Names.{name_of}
+use Rattle.wc_model.specs.Definitions.{same_name, name_of}
 use Rattle.wc_built_in.specs.Fields.{named_seen}
 use Rattle.wc_built_in.proofs.FieldTables.{found_by, member_is, number_below, number_is}
 use Rattle.wc_built_in.proofs.fields.field_named.Goals as goal

@@ -1,7 +1,5 @@
-use Rattle.std.proofs.Common.{map, sym, ap, ◌∙◌}
-use Rattle.std.proofs.lemmas.List.{drop_all, drop_more}
-use Rattle.wc_model.specs.Language.Declarations.{named_in}
-use Rattle.wc_model.specs.Language.Names.{name_of}
+use Rattle.wc_model.proofs.Common.{map, sym, ap, ◌∙◌, drop_all, drop_more}
+use Rattle.wc_model.specs.Definitions.{named_in, name_of}
 use Rattle.wc_built_in.specs.Keywords.{keyword_row}
 use Rattle.wc_built_in.proofs.WordTables.{row_at, row_passed}
 use Rattle.wc_built_in.proofs.keywords.keyword_in.Goals as goal

@@ -1,7 +1,6 @@
 use Rattle.std.proofs.Common.{◌≡◌}
 use Rattle.std.specs.Prelude.{drop, map}
-use Rattle.wc_model.specs.Language.Declarations.{named_in}
-use Rattle.wc_model.specs.Language.Names.{name_of}
+use Rattle.wc_model.specs.Definitions.{named_in, name_of}
 use Rattle.wc_built_in.specs.Keywords.{keyword_row}
 use Rattle.wc_built_in.proofs.keywords.keyword_in.Given as goal
 

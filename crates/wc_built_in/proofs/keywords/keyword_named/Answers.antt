@@ -1,10 +1,7 @@
-use Rattle.std.proofs.Common.{◌≡◌, ap, length, map, sym, ◌∙◌}
-use Rattle.std.proofs.lemmas.List.{length-map}
-use Rattle.std.specs.Char.{to_ascii_lowercase}
-use Rattle.wc_model.specs.Language.Declarations.{named_in}
-use Rattle.wc_model.specs.Language.Names.{name_of}
+use Rattle.wc_model.proofs.Common.{◌≡◌, ap, length, map, sym, ◌∙◌, length-map, to_ascii_lowercase}
+use Rattle.wc_model.specs.Definitions.{named_in, name_of}
 use Rattle.wc_built_in.specs.Keywords.{keyword_row, keywords, of_length}
-use Rattle.wc_built_in.proofs.WordLengths.{found_of_length}
+use Rattle.wc_built_in.proofs.WordTables.{found_of_length}
 use Rattle.wc_built_in.proofs.keywords.keyword_named.Goals as goal
 
 pub returns : goal.returns

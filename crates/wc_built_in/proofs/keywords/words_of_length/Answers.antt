@@ -1,6 +1,6 @@
 use Rattle.std.proofs.Common.{ap, arith, ◌∙◌}
 use Rattle.wc_built_in.specs.Keywords.{of_length}
-use Rattle.wc_built_in.proofs.WordLengths.{longer_words_found}
+use Rattle.wc_built_in.proofs.WordTables.{longer_words_found}
 use Rattle.wc_built_in.proofs.keywords.words_of_length.Goals as goal
 
 pub returns-in_default : goal.returns-in_default

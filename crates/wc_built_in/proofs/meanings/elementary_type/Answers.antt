@@ -1,5 +1,4 @@
-use Rattle.std.proofs.Common.{◌∙◌, sym, ap}
-use Rattle.std.specs.Prelude.{option_and_then}
+use Rattle.wc_model.proofs.Common.{◌∙◌, sym, ap, option_and_then}
 use Rattle.wc_built_in.specs.Keywords.{elementary_for}
 use Rattle.wc_model.specs.Language.Names.{name_of}
 use Rattle.wc_built_in.proofs.ReservedWords.{elementary_is}

@@ -1,6 +1,5 @@
-use Rattle.std.proofs.Common.{◌≡◌, Bool, false, Option, Some, None, ◌∙◌, ap}
+use Rattle.wc_model.proofs.Common.{◌≡◌, Bool, false, Option, Some, None, ◌∙◌, ap, MatchOption, option_and_then}
 use Rattle.std.specs.Option.{is_some}
-use Rattle.std.specs.Prelude.{MatchOption, option_and_then}
 use Rattle.wc_built_in.specs.Keywords.{type_for}
 use Rattle.wc_built_in.specs.declared.keyword.Keyword.{Keyword}
 use Rattle.wc_model.specs.Language.Names.{name_of}

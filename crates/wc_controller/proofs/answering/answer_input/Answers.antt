@@ -1,14 +1,10 @@
 use Rattle.std.proofs.Common.{◌∙◌, ap, subst}
 use Rattle.wc_controller.proofs.Allowing.{of_known}
 use Rattle.wc_controller.proofs.answering.answer_input.Goals as goal
-use Rattle.wc_controller.specs.Blames.{StopsForPart}
-use Rattle.wc_controller.specs.Jobs.{Allows}
-use Rattle.wc_endings.specs.Endings.{WritesUpTo, raised}
-use Rattle.wc_model.specs.Run.JobSections.{sections_of}
-use Rattle.wc_model.specs.Say.Job.{AnswersSections}
+use Rattle.wc_controller.specs.{StopsForPart, Allows, WritesUpTo, raised}
+use Rattle.wc_model.specs.Definitions.{sections_of, AnswersSections}
 use Rattle.wc_plate.specs.TomlTable.{table_read}
-use Rattle.wc_record.specs.Reading.{records_of}
-use Rattle.wc_record.specs.Reported.{fields_reported}
+use Rattle.wc_record.specs.{records_of, fields_reported}
 
 pub returns-in-Ok-sections-clause-writes : goal.returns-in-Ok-sections-clause-writes
 returns-in-Ok-sections-clause-writes g c =

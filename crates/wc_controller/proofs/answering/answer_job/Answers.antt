@@ -2,7 +2,7 @@ use Rattle.wc_controller.proofs.Allowing.{on_known}
 use Rattle.wc_controller.proofs.BlamingParts.{blamed_part}
 use Rattle.wc_controller.proofs.Givings.{ends, read_fault_reported}
 use Rattle.wc_controller.proofs.answering.answer_job.Goals as goal
-use Rattle.wc_controller.specs.Jobs.{Allows}
+use Rattle.wc_controller.specs.Files.{Allows}
 use Rattle.wc_record.specs.Reported.{fields_reported}
 use Rattle.wc_model.specs.Run.JobSections.{sections_of}
 

@@ -5,22 +5,12 @@ use Rattle.wc_controller.proofs.BlamingParts.{plate_part, program_part, run_part
 use Rattle.wc_controller.proofs.Givings.{in_memory, logged, unloaded, upto_more}
 use Rattle.wc_controller.proofs.RefusedNames.{none_refused}
 use Rattle.wc_controller.proofs.answering.answer_sections.Goals as goal
-use Rattle.wc_controller.specs.Blames.{RefusesLog, StopsAsPart}
-use Rattle.wc_endings.specs.Endings.{WritesUpTo}
-use Rattle.wc_controller.specs.Files.{AnswersLog, AnswersPrinting}
-use Rattle.wc_controller.specs.Jobs.{AllowsSections}
-use Rattle.wc_controller.specs.TakenLogs.{log_alongside}
+use Rattle.wc_controller.specs.{RefusesLog, StopsAsPart, WritesUpTo, AnswersLog, AnswersPrinting, AllowsSections, log_alongside}
 use Rattle.wc_job.specs.declared.input.Input.TheVariants as input
 use Rattle.wc_job.specs.Views.{sections_view}
-use Rattle.wc_model.specs.Language.Views.{text_view}
-use Rattle.wc_model.specs.Instrument.Plates.{PlateData}
-use Rattle.wc_model.specs.Language.Tree.{Text}
-use Rattle.wc_model.specs.Run.Log.{LogOf, log_of}
-use Rattle.wc_model.specs.Say.Job.{AnswersNext, AnswersPrograms, JobAnswer, loads_program, run_answer}
-use Rattle.wc_record.specs.Reading.{records_of}
-use Rattle.wc_record.specs.Reported.{fields_reported}
-use Rattle.wc_run.specs.Observing.{text_in_all}
-use Rattle.wc_run.specs.Reports.{report_plan}
+use Rattle.wc_model.specs.Definitions.{text_view, PlateData, Text, LogOf, log_of, AnswersNext, AnswersPrograms, JobAnswer, loads_program, run_answer}
+use Rattle.wc_record.specs.{records_of, fields_reported}
+use Rattle.wc_run.specs.{text_in_all, report_plan}
 use Rattle.wc_run.specs.declared.fault.RunFault.TheVariants as fault
 
 -- the answers to a log of an observer that prints its report

@@ -4,8 +4,7 @@ use Rattle.wc_controller.proofs.Givings.{gives, gives_more}
 use Rattle.wc_controller.proofs.Frames.{answers_in_frames}
 use Rattle.wc_controller.proofs.HeadlineRuns.{job_by_headline}
 use Rattle.wc_controller.proofs.answering.job.Goals as goal
-use Rattle.wc_controller.specs.HeadlineRuns.{AnswersByTheHeadline}
-use Rattle.wc_controller.specs.Jobs.{Allows, Gives}
+use Rattle.wc_controller.specs.{AnswersByTheHeadline, Allows, Gives}
 use Rattle.wc_laws_loading.proofs.JobLaws.{one_answer}
 use Rattle.wc_plate.specs.TomlTable.{table_read}
 use Rattle.wc_record.specs.Reading.{records_of}

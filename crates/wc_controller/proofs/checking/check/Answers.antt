@@ -1,9 +1,9 @@
-use Rattle.wc_controller.proofs.OneChecked.{written_alone}
+use Rattle.wc_controller.proofs.Settled.{written_alone}
 use Rattle.wc_controller.proofs.Refusals.{checks_refused}
 use Rattle.wc_controller.proofs.checking.check.Goals as goal
 use Rattle.wc_controller.specs.Checking.{Checks, ChecksAlone}
 use Rattle.wc_run.proofs.HandedOn.{propagated}
-use Rattle.wc_run.specs.Faults.{from_fault}
+use Rattle.wc_run.specs.Doing.{from_fault}
 
 pub returns-in_err-loaded-clause-checks : goal.returns-in_err-loaded-clause-checks
 returns-in_err-loaded-clause-checks g c =

@@ -2,10 +2,8 @@ use Rattle.std.proofs.Common.{Result, subst, Ok, Err}
 use Rattle.wc_controller.proofs.Allowing.{file_not_read, file_read, of_known, too_long_file}
 use Rattle.wc_controller.proofs.Givings.{checked}
 use Rattle.wc_controller.proofs.checking.check_input.Goals as goal
-use Rattle.wc_controller.specs.Checking.{Checks}
-use Rattle.wc_endings.specs.Endings.{WritesUpTo, raised}
-use Rattle.wc_controller.specs.Files.{AnswersCheck, AnswersCheckFile}
-use Rattle.wc_endings.specs.declared.ending.Stopped.{Stopped}
+use Rattle.wc_controller.specs.{Checks, WritesUpTo, raised, AnswersCheck, AnswersCheckFile}
+use Rattle.wc_controller.specs.declared.ending.Stopped.{Stopped}
 use Rattle.wc_run.proofs.HandedOn.{propagated}
 use Rattle.std.specs.Prelude.{IfSome, Some, None}
 

@@ -4,7 +4,7 @@ use Rattle.wc_controller.proofs.Refusals.{is_loaded, not_costed, not_declared, n
 use Rattle.wc_controller.proofs.Settled.{is_small, never_refused, only_refusal}
 use Rattle.wc_controller.proofs.checking.load.Goals as goal
 use Rattle.wc_controller.specs.Loads.{IsRefusedLoad}
-use Rattle.wc_cost.specs.Costs.{IsCosted}
+use Rattle.wc_cost.specs.LoadedTexts.{IsCosted}
 use Rattle.wc_names.specs.declared.kept.Tables.{Tables}
 use Rattle.wc_model.specs.Language.Views.{text_view}
 use Rattle.wc_model.specs.declared.source.Source.{Source}

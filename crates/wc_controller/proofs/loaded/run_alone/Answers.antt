@@ -4,15 +4,10 @@ use Rattle.wc_controller.proofs.Givings.{answered_so, not_started, written_by}
 use Rattle.wc_controller.proofs.RefusedNames.{refused_at_names}
 use Rattle.wc_controller.proofs.WrittenRuns.{not_begun, run_ended, written_at_log}
 use Rattle.wc_controller.proofs.loaded.run_alone.Goals as goal
-use Rattle.wc_endings.specs.Endings.{WritesUpTo, of_no_cause, raised}
-use Rattle.wc_controller.specs.Files.{answer_written}
-use Rattle.wc_controller.specs.InputStates.{observed_by}
-use Rattle.wc_controller.specs.TakenLogs.{log_by}
+use Rattle.wc_controller.specs.{WritesUpTo, of_no_cause, raised, answer_written, observed_by, log_by}
 use Rattle.wc_model.specs.Run.Log.{log_of}
-use Rattle.wc_record.specs.Reading.{records_of}
-use Rattle.wc_record.specs.Reported.{fields_reported}
-use Rattle.wc_run.specs.Doing.{EndsWhole, WritesBy}
-use Rattle.wc_run.specs.Observing.{said_by, start_of, text_in_all}
+use Rattle.wc_record.specs.{records_of, fields_reported}
+use Rattle.wc_run.specs.{EndsWhole, WritesBy, said_by, start_of, text_in_all}
 
 pub returns-in-Err-clause-writes : goal.returns-in-Err-clause-writes
 returns-in-Err-clause-writes g c =

@@ -8,21 +8,11 @@ use Rattle.wc_controller.proofs.Unbegun.{elsewhere, not_by_reader, reader_kept, 
 use Rattle.wc_controller.proofs.WrittenRuns.{end_more, next_logic, not_begun, run_ended, written_at_log}
 use Rattle.wc_controller.proofs.loaded.run_loaded.Goals as goal
 use Rattle.wc_controller.proofs.Blaming.{one_input}
-use Rattle.wc_controller.specs.TakenLogs.{log_alongside, log_by}
-use Rattle.wc_controller.specs.WrittenRuns.{says_of}
-use Rattle.wc_controller.specs.Blames.{RefusesLog, StopsFor}
-use Rattle.wc_endings.specs.Endings.{WritesUpTo, raised, of_no_cause, of_unread_log}
-use Rattle.wc_controller.specs.Files.{AnswersPrinting, answer_written}
-use Rattle.wc_controller.specs.InputStates.{observed_by}
+use Rattle.wc_controller.specs.{log_alongside, log_by, observed_by, says_of, RefusesLog, StopsFor, WritesUpTo, raised, of_no_cause, of_unread_log, AnswersPrinting, answer_written}
 use Rattle.wc_job.specs.declared.input.Input.TheVariants as input
-use Rattle.wc_model.specs.Language.Views.{text_view}
-use Rattle.wc_model.specs.Run.Log.{log_of}
-use Rattle.wc_model.specs.Say.ProgramReport.{first_logic}
-use Rattle.wc_record.specs.Reading.{records_of}
-use Rattle.wc_record.specs.Reported.{fields_reported}
-use Rattle.wc_run.specs.Logics.{text_of_next}
-use Rattle.wc_run.specs.Doing.{EndsWhole, WritesBy}
-use Rattle.wc_run.specs.Observing.{RefusesToBegin, bytes_of, logic_of, said_by, start_with, text_in_all}
+use Rattle.wc_model.specs.Definitions.{text_view, log_of, first_logic}
+use Rattle.wc_record.specs.{records_of, fields_reported}
+use Rattle.wc_run.specs.{text_of_next, EndsWhole, WritesBy, RefusesToBegin, bytes_of, logic_of, said_by, start_with, text_in_all}
 
 pub returns-in-Err-clause-writes : goal.returns-in-Err-clause-writes
 returns-in-Err-clause-writes g c =

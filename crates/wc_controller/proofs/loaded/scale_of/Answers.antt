@@ -1,8 +1,7 @@
 use Rattle.std.proofs.Common.{Some, refl}
 use Rattle.wc_controller.proofs.Allowing.{on_success}
 use Rattle.wc_controller.proofs.loaded.scale_of.Goals as goal
-use Rattle.wc_model.specs.Language.Views.{text_view}
-use Rattle.wc_model.specs.Say.ProgramReport.{first_logic}
+use Rattle.wc_model.specs.Definitions.{text_view, first_logic}
 use Rattle.wc_run.specs.Logics.{text_of_next}
 
 pub returns-clause-represents : goal.returns-clause-represents

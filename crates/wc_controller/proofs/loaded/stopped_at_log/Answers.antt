@@ -1,11 +1,9 @@
-use Rattle.std.proofs.Common.{subst}
-use Rattle.std.specs.Prelude.{IfSome}
+use Rattle.wc_model.proofs.Common.{subst, IfSome}
 use Rattle.wc_controller.proofs.Allowing.{on_both}
 use Rattle.wc_controller.proofs.Blaming.{log_refused}
 use Rattle.wc_controller.proofs.loaded.stopped_at_log.Goals as goal
 use Rattle.wc_controller.specs.TakenLogs.{log_by}
-use Rattle.wc_run.specs.Doing.{WritesBy}
-use Rattle.wc_run.specs.Runs.{ReportsRefused}
+use Rattle.wc_run.specs.{WritesBy, ReportsRefused}
 
 pub returns-in-Err-clause-blames : goal.returns-in-Err-clause-blames
 returns-in-Err-clause-blames c = λ plan plate logic fields known before after writes reports at.

@@ -1,8 +1,6 @@
-use Rattle.std.proofs.Common.{None}
-use Rattle.std.proofs.lemmas.Option.{IfSome_then}
+use Rattle.wc_model.proofs.Common.{None, IfSome_then}
 use Rattle.wc_controller.proofs.log_runs.run.Goals as goal
-use Rattle.wc_model.specs.Run.Log.{log_of}
-use Rattle.wc_model.specs.Say.LogFor.{log_for}
+use Rattle.wc_model.specs.Definitions.{log_of, log_for}
 use Rattle.wc_record.specs.Reading.{records_of}
 use Rattle.wc_run.specs.Observing.{start_of}
 use Rattle.wc_run.proofs.LeftLines.{run_leaves}

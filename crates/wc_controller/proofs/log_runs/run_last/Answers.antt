@@ -1,15 +1,11 @@
-use Rattle.std.proofs.Common.{[], Err, None, Some, sym, subst}
-use Rattle.std.proofs.lemmas.Option.{IfSome_then}
+use Rattle.wc_model.proofs.Common.{[], Err, None, Some, sym, subst, IfSome_then}
 use Rattle.wc_controller.proofs.Allowing.{on_each}
 use Rattle.wc_controller.proofs.log_runs.run_last.Goals as goal
-use Rattle.wc_model.specs.Run.Log.{LogOf, log_of}
-use Rattle.wc_model.specs.Say.LogFor.{log_for}
+use Rattle.wc_model.specs.Definitions.{LogOf, log_of, log_for}
 use Rattle.wc_record.specs.Reading.{records_of}
-use Rattle.wc_run.specs.Observing.{start_of}
+use Rattle.wc_run.specs.{start_of, IsClassified, WritesBy, HoldsScans, last_plan}
 use Rattle.wc_run.proofs.LeftLines.{run_leaves}
 use Rattle.wc_run.proofs.Lines.{none_reported, writes_report}
-use Rattle.wc_run.specs.Doing.{IsClassified, WritesBy}
-use Rattle.wc_run.specs.Reports.{HoldsScans, last_plan}
 
 pub returns-in-Err-clause-line : goal.returns-in-Err-clause-line
 returns-in-Err-clause-line g c =

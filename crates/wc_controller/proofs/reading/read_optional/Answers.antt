@@ -1,10 +1,7 @@
-use Rattle.std.proofs.Common.{[], arith, sym, subst}
-use Rattle.std.proofs.KnownBytes.{Consumes-nil}
+use Rattle.wc_model.proofs.Common.{[], arith, sym, subst, Consumes-nil}
 use Rattle.std.specs.Prelude.{None, Some, Ok, Err}
 use Rattle.wc_controller.proofs.reading.read_optional.Goals as goal
-use Rattle.wc_endings.specs.Endings.{RefusesLength, TakesInput, ReportsReadFaults}
-use Rattle.wc_controller.specs.InputStates.{optional_of}
-use Rattle.wc_controller.specs.TakenLogs.{AreReadOf, failures_of, known_of}
+use Rattle.wc_controller.specs.{RefusesLength, TakesInput, ReportsReadFaults, optional_of, AreReadOf, failures_of, known_of}
 
 pub returns-in-Ok-clause-whole : goal.returns-in-Ok-clause-whole
 returns-in-Ok-clause-whole g c =

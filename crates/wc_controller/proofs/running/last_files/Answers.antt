@@ -1,13 +1,10 @@
 use Rattle.std.proofs.Common.{Some, subst, true}
 use Rattle.wc_controller.proofs.HeadlineRuns.{by_headline}
 use Rattle.wc_controller.proofs.running.last_files.Goals as goal
-use Rattle.wc_controller.specs.Files.{report_observed}
-use Rattle.wc_controller.specs.InputRuns.{RunsAs}
-use Rattle.wc_controller.specs.InputStates.{writer_of}
+use Rattle.wc_controller.specs.{report_observed, RunsAs, writer_of}
 use Rattle.wc_record.specs.Reported.{fields_reported}
 use Rattle.wc_run.proofs.Lines.{whole_written}
-use Rattle.wc_run.specs.Observing.{Written, text_in_all}
-use Rattle.wc_run.specs.Reports.{last_plan}
+use Rattle.wc_run.specs.{Written, text_in_all, last_plan}
 
 pub returns-in-Ok-clause-runs : goal.returns-in-Ok-clause-runs
 returns-in-Ok-clause-runs g c =

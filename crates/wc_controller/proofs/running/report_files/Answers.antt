@@ -3,9 +3,7 @@ use Rattle.wc_controller.proofs.Frames.{answers_in_frames}
 use Rattle.wc_controller.proofs.HeadlineRuns.{by_headline}
 use Rattle.wc_controller.proofs.ShortAnswers.{answers_are_short}
 use Rattle.wc_controller.proofs.running.report_files.Goals as goal
-use Rattle.wc_controller.specs.Files.{report_observed}
-use Rattle.wc_controller.specs.InputRuns.{RunsAs}
-use Rattle.wc_controller.specs.InputStates.{writer_of}
+use Rattle.wc_controller.specs.{report_observed, RunsAs, writer_of}
 use Rattle.wc_record.specs.Reported.{fields_reported}
 use Rattle.wc_run.proofs.Lines.{whole_written}
 use Rattle.wc_run.specs.Observing.{Written}

@@ -4,7 +4,7 @@ use Rattle.wc_controller.proofs.HeadlineRuns.{by_headline}
 use Rattle.wc_controller.proofs.RefusedNames.{stopped_at_names}
 use Rattle.wc_controller.proofs.WrittenRuns.{run_after}
 use Rattle.wc_controller.proofs.running.run_files.Goals as goal
-use Rattle.wc_controller.specs.InputStates.{observed_by, writer_of}
+use Rattle.wc_controller.specs.TakenLogs.{observed_by, writer_of}
 use Rattle.wc_record.specs.Reported.{fields_reported}
 use Rattle.wc_run.specs.Observing.{said_by}
 

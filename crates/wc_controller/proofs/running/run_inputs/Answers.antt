@@ -5,21 +5,10 @@ use Rattle.wc_controller.proofs.Blaming.{one_input}
 use Rattle.wc_controller.proofs.WrittenRuns.{end_more, run_read, start_alone, start_read}
 use Rattle.wc_controller.proofs.RunSteps.{at_line, at_log, at_next, at_plate, at_program, at_text}
 use Rattle.wc_controller.proofs.running.run_inputs.Goals as goal
-use Rattle.wc_controller.specs.Blames.{IsNextUnloaded, IsUnloaded, RefusesLog, StopsFor}
-use Rattle.wc_endings.specs.Endings.{ReportsMemory, WritesUpTo, raised}
-use Rattle.wc_controller.specs.Files.{AnswersPrinting}
-use Rattle.wc_controller.specs.InputRuns.{RunsUpTo}
-use Rattle.wc_controller.specs.InputStates.{InputStates, inputs_of, observed_by, optional_of, reader_of, writer_of}
-use Rattle.wc_controller.specs.TakenLogs.{AreReadOf, OfLogic, OfPrograms, log_alongside, log_by}
-use Rattle.wc_controller.specs.WrittenRuns.{OfRun, OnEnd, says_of}
+use Rattle.wc_controller.specs.{IsNextUnloaded, IsUnloaded, RefusesLog, StopsFor, ReportsMemory, WritesUpTo, raised, AnswersPrinting, RunsUpTo, InputStates, inputs_of, observed_by, optional_of, reader_of, writer_of, AreReadOf, OfLogic, OfPrograms, log_alongside, log_by, OfRun, OnEnd, says_of}
 use Rattle.wc_job.specs.declared.input.Input.TheVariants as input
-use Rattle.wc_model.specs.Language.Loading.{IsLoaded}
-use Rattle.wc_model.specs.Language.Views.{text_view}
-use Rattle.wc_model.specs.Run.Log.{log_of}
-use Rattle.wc_model.specs.Say.Job.{AnswersNext}
-use Rattle.wc_model.specs.Say.ProgramReport.{Logic}
-use Rattle.wc_record.specs.Reading.{records_of}
-use Rattle.wc_record.specs.Reported.{fields_reported}
+use Rattle.wc_model.specs.Definitions.{IsLoaded, text_view, log_of, AnswersNext, Logic}
+use Rattle.wc_record.specs.{records_of, fields_reported}
 use Rattle.wc_run.specs.Observing.{Start, said_by, start_with}
 use Rattle.wc_run.specs.declared.fault.RunFault.TheVariants as fault
 

@@ -1,8 +1,6 @@
-use Rattle.std.proofs.Common.{◌≡◌, ◌+◌, ◌-◌, ℕ, List, drop, subst, ap, ◌∙◌, arith}
-use Rattle.std.proofs.lemmas.List.{length-set}
+use Rattle.wc_model.proofs.Common.{◌≡◌, ◌+◌, ◌-◌, ℕ, List, drop, subst, ap, ◌∙◌, arith, length-set}
 use Rattle.wc_text_flat.specs.FlatPaths.{worst_from}
-use Rattle.wc_cost.specs.LoadedInside.{bounds_of}
-use Rattle.wc_cost.specs.PathLengths.{steps_of}
+use Rattle.wc_cost.specs.{bounds_of, steps_of}
 use Rattle.wc_cost.proofs.WorstLengths.{one_more_way}
 use Rattle.wc_cost.proofs.path_lengths.path_lengths.Goals as goal
 

@@ -1,7 +1,6 @@
 use Rattle.std.proofs.Common.{◌≡◌, ℕ, ◌≤◌, List, drop, length}
 use Rattle.wc_text_flat.specs.FlatPaths.{worst_from}
-use Rattle.wc_cost.specs.LoadedInside.{bounds_of}
-use Rattle.wc_cost.specs.PathLengths.{AreSmall, steps_of}
+use Rattle.wc_cost.specs.{bounds_of, AreSmall, steps_of}
 use Rattle.wc_cost.proofs.path_lengths.path_lengths.Given as goal
 
 -- the paths from the index on are there

@@ -1,6 +1,4 @@
-use Rattle.std.proofs.Common.{◌≡◌, ◌+◌, ◌-◌, ◌++◌, ℕ, List, [], suc, drop, length, Global, Result, Vec, ap, sym, subst, ◌∙◌, append-nil, arith}
-use Rattle.std.proofs.lemmas.List.{drop_all}
-use Rattle.std.specs.Prelude.{IfOk, IsOkUnless, slice_index}
+use Rattle.wc_model.proofs.Common.{◌≡◌, ◌+◌, ◌-◌, ◌++◌, ℕ, List, [], suc, drop, length, Global, Result, Vec, ap, sym, subst, ◌∙◌, append-nil, arith, IfOk, IsOkUnless, slice_index, drop_all}
 use borrow.Author.Tests.{ltb-false}
 use Rattle.wc_text_flat.specs.FlatPaths.{from_line, worst_from, worst_of}
 use Rattle.wc_model.specs.declared.code.Code.{Code}

@@ -1,8 +1,7 @@
 use Rattle.std.proofs.Common.{◌≡◌, ◌-◌, length, Ok, Err, refl, sym, subst, ap, ◌∙◌, rules}
-use Rattle.wc_model.specs.Language.Frames.{first_numbers, slot_kinds}
-use Rattle.wc_model.specs.Language.Views.{text_view}
+use Rattle.wc_model.specs.Definitions.{first_numbers, slot_kinds, text_view}
 use Rattle.wc_names.proofs.HandedOn.{propagated}
-use Rattle.wc_cost.specs.Costs.{IsCosted}
+use Rattle.wc_cost.specs.LoadedTexts.{IsCosted}
 use Rattle.wc_cost.proofs.TextUnits.{read_is_spelled}
 use Rattle.wc_cost.proofs.WholeTexts.{lowered_count, last_unit, of_same, refused}
 use Rattle.wc_cost.proofs.units.cost.Goals as goal

@@ -1,12 +1,9 @@
 use Rattle.std.proofs.Common.{◌≡◌, ◌≤◌, List, length, sym, subst, ap, ◌∙◌, arith}
 use Rattle.wc_text_flat.proofs.Bodies.{lowered_length}
-use Rattle.wc_text_flat.specs.FlatPaths.{sources_of, worst_of}
-use Rattle.wc_text_flat.specs.Lowered.{IsLowered, flat_length}
-use Rattle.wc_model.specs.Language.Tree.{Lines, ProgramUnit}
-use Rattle.wc_model.specs.Language.Views.{lines_view}
+use Rattle.wc_text_flat.specs.{sources_of, worst_of, IsLowered, flat_length}
+use Rattle.wc_model.specs.Definitions.{Lines, ProgramUnit, lines_view}
 use Rattle.wc_model.specs.declared.code.Code.{Code}
-use Rattle.wc_lowering.specs.Lowerable.{IsLowerable}
-use Rattle.wc_cost.specs.LoadedInside.{bounds_of}
+use Rattle.wc_cost.specs.{IsLowerable, bounds_of}
 use Rattle.wc_cost.proofs.units.lower_unit.Goals as goal
 
 pub returns : goal.returns

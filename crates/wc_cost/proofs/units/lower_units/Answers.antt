@@ -1,13 +1,8 @@
-use Rattle.std.proofs.Common.{◌≡◌, ◌+◌, ◌∷◌, [], List, Err, map, drop, refl, sym, subst, ap, ◌∙◌, arith, rules, ◌++◌}
-use Rattle.std.proofs.lemmas.List.{drop_all}
+use Rattle.wc_model.proofs.Common.{◌≡◌, ◌+◌, ◌∷◌, [], List, Err, map, drop, refl, sym, subst, ap, ◌∙◌, arith, rules, ◌++◌, drop_all}
 use Rattle.wc_names.specs.RepresentsText.{AreTables, onto}
-use Rattle.wc_model.specs.Language.Scopes.{Scope}
-use Rattle.wc_model.specs.Language.Tree.{Text}
-use Rattle.wc_model.specs.Language.Views.{text_view, unit_view}
+use Rattle.wc_model.specs.Definitions.{Scope, Text, text_view, unit_view}
 use Rattle.wc_model.specs.declared.source.Unit.{Unit as CodeUnit}
-use Rattle.wc_cost.specs.Faultless.{AreLoaded, IsFaultless, IsMeasured, LoadsUnits, MeasuresUnit}
-use Rattle.wc_cost.specs.LoadedInside.{bounds_of}
-use Rattle.wc_cost.specs.PathLengths.{AreSmall}
+use Rattle.wc_cost.specs.{AreLoaded, IsFaultless, IsMeasured, LoadsUnits, MeasuresUnit, bounds_of, AreSmall}
 use Rattle.wc_cost.specs.declared.units.LoweredUnit.{LoweredUnit}
 use Rattle.wc_names.proofs.HandedOn.{propagated}
 use Rattle.wc_names.proofs.Lists.{from_index}

@@ -1,7 +1,6 @@
 use Rattle.std.proofs.Common.{◌≡◌, List, map, drop, length}
 use Rattle.wc_names.specs.RepresentsText.{AreTables, onto}
-use Rattle.wc_model.specs.Language.Tree.{ProgramUnit}
-use Rattle.wc_model.specs.Language.Views.{unit_view}
+use Rattle.wc_model.specs.Definitions.{ProgramUnit, unit_view}
 use Rattle.wc_cost.proofs.Measured.{AreSoFar}
 use Rattle.wc_cost.specs.Faultless.{IsFaultless}
 use Rattle.wc_cost.proofs.units.lower_units.Given as goal

@@ -1,7 +1,5 @@
 use Rattle.std.proofs.Common.{subst}
-use Rattle.wc_controller.specs.InputRuns.{RunsAs}
-use Rattle.wc_controller.specs.InputStates.{writer_of}
-use Rattle.wc_controller.specs.WrittenRuns.{EndsSaying}
+use Rattle.wc_controller.specs.{RunsAs, writer_of, EndsSaying}
 use Rattle.wc_cut.proofs.CutAgain.{cut_again}
 use Rattle.wc_cut.proofs.LogAgain.{is_log_again}
 use Rattle.wc_cut.proofs.Plans.{observed_is}

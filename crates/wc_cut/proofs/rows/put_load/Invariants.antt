@@ -1,6 +1,6 @@
 use Rattle.std.proofs.Common.{◌≡◌, ◌++◌}
 use Rattle.std.specs.Prelude.{replicate}
-use Rattle.wc_cut.specs.RowTexts.{lines_of}
+use Rattle.wc_cut.specs.Cuts.{lines_of}
 use Rattle.wc_model.specs.Run.Rows.{Counts}
 use Rattle.wc_cut.proofs.rows.put_load.Given as goal
 

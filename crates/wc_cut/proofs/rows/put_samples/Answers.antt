@@ -1,7 +1,7 @@
 use Rattle.std.proofs.Common.{◌≡◌, ◌∙◌, ◌++◌, ap, rules, to_z, of_z, w32, get_or}
 use Rattle.std.specs.Prelude.{pos}
 use Rattle.wc_cut.proofs.RowsSoFar.{one_sample_more}
-use Rattle.wc_cut.specs.RowTexts.{line_of}
+use Rattle.wc_cut.specs.Cuts.{line_of}
 use Rattle.wc_model.specs.Run.Rows.{Counts}
 use Rattle.wc_cut.proofs.rows.put_samples.Goals as goal
 

@@ -1,5 +1,5 @@
 use Rattle.std.proofs.Common.{◌≡◌, ◌++◌, take, map}
-use Rattle.wc_cut.specs.RowTexts.{lines_of}
+use Rattle.wc_cut.specs.Cuts.{lines_of}
 use Rattle.wc_model.specs.Run.Rows.{Counts}
 use Rattle.wc_cut.proofs.rows.put_samples.Given as goal
 

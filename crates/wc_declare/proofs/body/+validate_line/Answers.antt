@@ -1,9 +1,5 @@
-use Rattle.std.proofs.Common.{◌≡◌, ◌+◌, [], ◌++◌, Some, option_map, map, drop, ap, sym, ◌∙◌}
-use Rattle.std.proofs.lemmas.List.{drop_all}
-use Rattle.std.specs.List.{flat_map}
-use Rattle.wc_model.specs.Language.Checks.{first_broken}
-use Rattle.wc_model.specs.Language.DeclarationRules.{body_name_checks, label_checks, operand_checks, term_checks}
-use Rattle.wc_model.specs.Language.Views.{assignment_view, line_view, lines_view, term_view, word_view}
+use Rattle.wc_model.proofs.Common.{◌≡◌, ◌+◌, [], ◌++◌, Some, option_map, map, drop, ap, sym, ◌∙◌, drop_all, flat_map}
+use Rattle.wc_model.specs.Definitions.{first_broken, body_name_checks, label_checks, operand_checks, term_checks, assignment_view, line_view, lines_view, term_view, word_view}
 use Rattle.wc_declare.proofs.Validation.{validates_on, validates_ok, validates_same}
 use Rattle.wc_declare.proofs.LineViews.{apply_at, call_at, defer_at, label_first, load_at, store_at}
 use Rattle.wc_names.proofs.Lists.{from_index}

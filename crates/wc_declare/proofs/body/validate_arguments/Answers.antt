@@ -1,10 +1,5 @@
-use Rattle.std.proofs.Common.{◌≡◌, ◌+◌, [], ◌++◌, List, map, drop, get_or, false, append_assoc, ap, ◌∙◌}
-use Rattle.std.proofs.lemmas.List.{drop_all}
-use Rattle.std.specs.List.{flat_map}
-use Rattle.wc_model.specs.Language.Checks.{Check, first_broken}
-use Rattle.wc_model.specs.Language.DeclarationRules.{term_checks}
-use Rattle.wc_model.specs.Language.Tree.{Assignment, ProgramUnit}
-use Rattle.wc_model.specs.Language.Views.{assignment_view, term_view}
+use Rattle.wc_model.proofs.Common.{◌≡◌, ◌+◌, [], ◌++◌, List, map, drop, get_or, false, append_assoc, ap, ◌∙◌, drop_all, flat_map}
+use Rattle.wc_model.specs.Definitions.{Check, first_broken, term_checks, Assignment, ProgramUnit, assignment_view, term_view}
 use Rattle.wc_model.specs.declared.operand.Operand.TheVariants.{Literal}
 use Rattle.wc_model.specs.declared.operator.Direction.TheVariants.{Into}
 use Rattle.wc_model.specs.declared.tree.Argument.{Argument}

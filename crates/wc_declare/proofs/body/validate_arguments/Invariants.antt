@@ -1,10 +1,5 @@
-use Rattle.std.proofs.Common.{◌≡◌, ◌++◌, List, map, drop}
-use Rattle.std.specs.List.{flat_map}
-use Rattle.wc_model.specs.Language.Checks.{Check, first_broken}
-use Rattle.wc_model.specs.Language.DeclarationRules.{term_checks}
-use Rattle.wc_model.specs.Language.Declarations.{is_block}
-use Rattle.wc_model.specs.Language.Tree.{ProgramUnit}
-use Rattle.wc_model.specs.Language.Views.{assignment_view}
+use Rattle.wc_model.proofs.Common.{◌≡◌, ◌++◌, List, map, drop, flat_map}
+use Rattle.wc_model.specs.Definitions.{Check, first_broken, term_checks, is_block, ProgramUnit, assignment_view}
 use Rattle.wc_declare.proofs.body.validate_arguments.Given as goal
 
 -- what is found first is found in the arguments that are left

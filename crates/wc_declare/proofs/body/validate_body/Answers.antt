@@ -1,8 +1,5 @@
-use Rattle.std.proofs.Common.{◌≡◌, ◌+◌, [], ◌++◌, drop, ap, ◌∙◌}
-use Rattle.std.proofs.lemmas.List.{drop_all}
-use Rattle.wc_model.specs.Language.Checks.{first_broken}
-use Rattle.wc_model.specs.Language.DeclarationRules.{body_name_checks}
-use Rattle.wc_model.specs.Language.Views.{line_view, lines_view}
+use Rattle.wc_model.proofs.Common.{◌≡◌, ◌+◌, [], ◌++◌, drop, ap, ◌∙◌, drop_all}
+use Rattle.wc_model.specs.Definitions.{first_broken, body_name_checks, line_view, lines_view}
 use Rattle.wc_declare.proofs.Validation.{validates_on, validates_ok}
 use Rattle.wc_names.proofs.Lists.{from_index}
 use Rattle.wc_declare.proofs.body.validate_body.Goals as goal

@@ -1,9 +1,5 @@
 use Rattle.std.proofs.Common.{◌≡◌, ◌++◌, List, drop}
-use Rattle.wc_model.specs.Language.Checks.{Check, first_broken}
-use Rattle.wc_model.specs.Language.DeclarationRules.{body_name_checks}
-use Rattle.wc_model.specs.Language.Declarations.{is_block}
-use Rattle.wc_model.specs.Language.Tree.{ProgramUnit}
-use Rattle.wc_model.specs.Language.Views.{lines_view}
+use Rattle.wc_model.specs.Definitions.{Check, first_broken, body_name_checks, is_block, ProgramUnit, lines_view}
 use Rattle.wc_declare.proofs.body.validate_body.Given as goal
 
 -- what is found first is found in the lines that are left

@@ -1,8 +1,5 @@
 use Rattle.std.proofs.Common.{◌≡◌, List, Some, ◌++◌, option_map, refl, ap, ◌∙◌}
-use Rattle.wc_model.specs.Language.Checks.{Check, first_broken}
-use Rattle.wc_model.specs.Language.Tree.{ProgramUnit, Term}
-use Rattle.wc_model.specs.Language.DeclarationRules.{operand_checks, term_checks}
-use Rattle.wc_model.specs.Language.Views.{term_view}
+use Rattle.wc_model.specs.Definitions.{Check, first_broken, ProgramUnit, Term, operand_checks, term_checks, term_view}
 use Rattle.wc_declare.proofs.Validation.{validates_same}
 use Rattle.wc_declare.proofs.body.validate_first.Goals as goal
 

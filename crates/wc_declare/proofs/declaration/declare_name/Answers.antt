@@ -1,6 +1,5 @@
 use Rattle.std.proofs.Common.{◌≡◌, Bool, true, false, not, refl, sym, ◌∙◌}
-use Rattle.wc_model.specs.Language.DeclarationRules.{is_among}
-use Rattle.wc_model.specs.Language.Views.{name_view}
+use Rattle.wc_model.specs.Definitions.{is_among, name_view}
 use Rattle.wc_declare.proofs.declaration.declare_name.Goals as goal
 
 negated : (a b : Bool) → b ≡ true → b ≡ not a → a ≡ false

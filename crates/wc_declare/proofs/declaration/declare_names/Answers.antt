@@ -1,11 +1,6 @@
-use Rattle.std.proofs.Common.{◌≡◌, ℕ, ◌<◌, length, ◌+◌, ◌++◌, [], ◌∷◌, List, map, drop, get_or, ap, sym, subst, ◌∙◌}
+use Rattle.wc_model.proofs.Common.{◌≡◌, ℕ, ◌<◌, length, ◌+◌, ◌++◌, [], ◌∷◌, List, map, drop, get_or, ap, sym, subst, ◌∙◌, flat_map}
 use Rattle.std.proofs.lemmas.List.{drop_all, append-nil}
-use Rattle.std.specs.List.{flat_map}
-use Rattle.wc_model.specs.Language.Checks.{first_broken, positions_after}
-use Rattle.wc_model.specs.Language.DeclarationRules.{is_new, name_of_word, names_are_new, not_reserved}
-use Rattle.wc_model.specs.Language.Names.{Name}
-use Rattle.wc_model.specs.Language.Tree.{Word as Named}
-use Rattle.wc_model.specs.Language.Views.{word_view}
+use Rattle.wc_model.specs.Definitions.{first_broken, positions_after, is_new, name_of_word, names_are_new, not_reserved, Name, Word as Named, word_view}
 use Rattle.wc_model.specs.declared.operand.Word.{Word}
 use Rattle.wc_names.proofs.Lists.{from_index_or}
 use Rattle.wc_declare.proofs.NamesSoFar.{IsAfterRecords, at_first, one_after, name_checks}

@@ -1,11 +1,8 @@
 use Rattle.std.proofs.Common.{◌≡◌, ℕ, ◌<◌, refl, length, ◌+◌, ◌++◌, [], ◌∷◌, List, map, drop, get_or, ap, sym, subst, ◌∙◌, arith}
 use Rattle.std.proofs.lemmas.List.{drop_all, append-nil}
-use Rattle.wc_model.specs.Language.Checks.{asks, first_broken, positions_after}
-use Rattle.wc_model.specs.Language.DeclarationRules.{and_more, has_capacity, capacity_checks}
-use Rattle.wc_model.specs.Language.Tree.{Declaration, Word as Named}
-use Rattle.wc_model.specs.Language.Views.{declaration_view, word_view}
+use Rattle.wc_model.specs.Definitions.{asks, first_broken, positions_after, and_more, has_capacity, capacity_checks, Declaration, Word as Named, declaration_view, word_view}
 use Rattle.wc_model.specs.declared.operand.Word.{Word}
-use Rattle.wc_declare.specs.Rows.{HasTaken, HoldsRows}
+use Rattle.wc_declare.specs.SoFar.{HasTaken, HoldsRows}
 use Rattle.wc_names.specs.declared.declared_type.DeclaredType.{DeclaredType}
 use Rattle.wc_names.specs.declared.unit_table.UnitTable.{UnitTable}
 use Rattle.wc_names.proofs.Lists.{from_index_or}

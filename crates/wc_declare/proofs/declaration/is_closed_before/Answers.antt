@@ -1,8 +1,5 @@
 use Rattle.std.proofs.Common.{length, not, is_some, sym, ap, ◌∙◌, List}
-use Rattle.wc_model.specs.Language.DeclarationRules.{is_among, names_block_of, type_words}
-use Rattle.wc_model.specs.Language.Declarations.{block_named}
-use Rattle.wc_model.specs.Language.Names.{name_of}
-use Rattle.wc_model.specs.Language.Tree.{ProgramUnit}
+use Rattle.wc_model.specs.Definitions.{is_among, names_block_of, type_words, block_named, name_of, ProgramUnit}
 use Rattle.wc_declare.proofs.Typing.{or_second, or_third, some_mapped}
 use Rattle.wc_declare.proofs.declaration.is_closed_before.Goals as goal
 

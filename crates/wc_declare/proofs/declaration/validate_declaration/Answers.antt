@@ -1,8 +1,6 @@
 use Rattle.std.proofs.Common.{◌++◌, length, map, sym, ap, subst, ◌∙◌}
-use Rattle.wc_model.specs.Language.Checks.{first_broken}
-use Rattle.wc_model.specs.Language.DeclarationRules.{and_more, declaration_checks, initial_checks, names_are_new, places_of_type, capacity_checks, type_checks}
-use Rattle.wc_model.specs.Language.Views.{declaration_view, name_view, word_view}
-use Rattle.wc_declare.specs.Rows.{HasTaken}
+use Rattle.wc_model.specs.Definitions.{first_broken, and_more, declaration_checks, initial_checks, names_are_new, places_of_type, capacity_checks, type_checks, declaration_view, name_view, word_view}
+use Rattle.wc_declare.specs.SoFar.{HasTaken}
 use Rattle.wc_names.specs.declared.declared_type.DeclaredType.{DeclaredType}
 use Rattle.wc_declare.proofs.Validation.{validates_on, validates_ok, validates_same, on_ok, chunks}
 use Rattle.wc_names.specs.Spelled.{spelled_in_table, spelled_where}

@@ -1,10 +1,5 @@
-use Rattle.std.proofs.Common.{◌≡◌, ◌+◌, ◌++◌, [], ◌∷◌, map, drop, append_assoc, refl, ap, sym, subst, ◌∙◌}
-use Rattle.std.proofs.lemmas.List.{drop_all}
-use Rattle.std.specs.List.{flat_map}
-use Rattle.wc_model.specs.Language.Checks.{first_broken, positions_after}
-use Rattle.wc_model.specs.Language.DeclarationRules.{declaration_checks, names_declared, taken_by, taken_at_first}
-use Rattle.wc_model.specs.Language.Tree.{Declaration, ProgramUnit}
-use Rattle.wc_model.specs.Language.Views.{declaration_view, unit_view}
+use Rattle.wc_model.proofs.Common.{◌≡◌, ◌+◌, ◌++◌, [], ◌∷◌, map, drop, append_assoc, refl, ap, sym, subst, ◌∙◌, drop_all, flat_map}
+use Rattle.wc_model.specs.Definitions.{first_broken, positions_after, declaration_checks, names_declared, taken_by, taken_at_first, Declaration, ProgramUnit, declaration_view, unit_view}
 use Rattle.wc_declare.proofs.DeclaredSoFar.{Declares, all_declared, asked_of, none_declared, one_declared}
 use Rattle.wc_declare.proofs.Validation.{validates_on, validates_ok}
 use Rattle.wc_names.proofs.Lists.{from_index}

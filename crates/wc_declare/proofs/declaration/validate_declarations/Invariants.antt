@@ -1,11 +1,8 @@
-use Rattle.std.proofs.Common.{List, map, drop}
-use Rattle.wc_model.specs.Language.Tree.{ProgramUnit, Text}
-use Rattle.wc_model.specs.Language.Views.{declaration_view, unit_view}
-use Rattle.std.specs.List.{flat_map}
+use Rattle.wc_model.proofs.Common.{List, map, drop, flat_map}
+use Rattle.wc_model.specs.Definitions.{ProgramUnit, Text, declaration_view, unit_view}
 use Rattle.wc_names.specs.Spelled.{spelled_in, spelled_in_table}
 use Rattle.wc_declare.proofs.SpelledSoFar.{AreSpelledOn}
-use Rattle.wc_declare.specs.Rows.{IsEmptyOf}
-use Rattle.wc_declare.specs.SoFar.{AreUnitsOf}
+use Rattle.wc_declare.specs.SoFar.{IsEmptyOf, AreUnitsOf}
 use Rattle.wc_declare.proofs.DeclaredSoFar.{Declares}
 use Rattle.wc_declare.proofs.declaration.validate_declarations.Given as goal
 

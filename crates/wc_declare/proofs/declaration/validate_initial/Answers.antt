@@ -1,7 +1,5 @@
-use Rattle.std.proofs.Common.{Some, sym, ap, ◌∙◌}
-use Rattle.std.specs.Prelude.{if◌then◌else◌}
-use Rattle.wc_model.specs.Language.Checks.{first_broken}
-use Rattle.wc_model.specs.Language.Views.{declaration_view}
+use Rattle.wc_model.proofs.Common.{Some, sym, ap, ◌∙◌, if◌then◌else◌}
+use Rattle.wc_model.specs.Definitions.{first_broken, declaration_view}
 use Rattle.wc_declare.proofs.Typing.{initial_found}
 use Rattle.wc_declare.proofs.declaration.validate_initial.Goals as goal
 

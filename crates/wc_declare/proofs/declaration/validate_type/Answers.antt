@@ -1,7 +1,5 @@
 use Rattle.std.proofs.Common.{◌∷◌, sym, ◌∙◌}
-use Rattle.wc_model.specs.Language.Checks.{asks}
-use Rattle.wc_model.specs.Language.DeclarationRules.{is_usable_type}
-use Rattle.wc_model.specs.Language.Names.{name_of}
+use Rattle.wc_model.specs.Definitions.{asks, is_usable_type, name_of}
 use Rattle.wc_declare.proofs.Validation.{passed, broken}
 use Rattle.wc_declare.proofs.Typing.{usable_type, unusable_type}
 use Rattle.wc_declare.proofs.declaration.validate_type.Goals as goal

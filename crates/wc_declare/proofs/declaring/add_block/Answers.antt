@@ -1,7 +1,5 @@
 use Rattle.std.proofs.Common.{refl, sym, ◌∙◌}
-use Rattle.wc_model.specs.Language.DeclarationRules.{is_among}
-use Rattle.wc_model.specs.Language.Declarations.{is_block, same_name}
-use Rattle.wc_model.specs.Language.Views.{name_view, unit_view}
+use Rattle.wc_model.specs.Definitions.{is_among, is_block, same_name, name_view, unit_view}
 use Rattle.wc_declare.proofs.UnitsSoFar.{block_added, no_block}
 use Rattle.wc_declare.proofs.declaring.add_block.Goals as goal
 

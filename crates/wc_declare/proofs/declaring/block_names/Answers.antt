@@ -1,9 +1,6 @@
-use Rattle.std.proofs.Common.{◌≡◌, ◌+◌, [], map, drop, ap, sym, ◌∙◌}
-use Rattle.std.proofs.lemmas.List.{drop_all}
+use Rattle.wc_model.proofs.Common.{◌≡◌, ◌+◌, [], map, drop, ap, sym, ◌∙◌, drop_all}
 use Rattle.std.specs.Prelude.{◌||◌, ◌&&◌}
-use Rattle.wc_model.specs.Language.DeclarationRules.{is_among, names_block_of}
-use Rattle.wc_model.specs.Language.Declarations.{is_block, same_name}
-use Rattle.wc_model.specs.Language.Views.{unit_view}
+use Rattle.wc_model.specs.Definitions.{is_among, names_block_of, is_block, same_name, unit_view}
 use Rattle.wc_names.proofs.Lists.{from_index}
 use Rattle.wc_declare.proofs.UnitsSoFar.{block_more, or_end}
 use Rattle.wc_declare.proofs.declaring.block_names.Goals as goal

@@ -1,8 +1,6 @@
 use Rattle.std.proofs.Common.{◌≡◌, map, drop}
 use Rattle.std.specs.Prelude.{◌||◌}
-use Rattle.wc_model.specs.Language.DeclarationRules.{is_among, names_block_of}
-use Rattle.wc_model.specs.Language.Names.{Name}
-use Rattle.wc_model.specs.Language.Views.{unit_view}
+use Rattle.wc_model.specs.Definitions.{is_among, names_block_of, Name, unit_view}
 use Rattle.wc_declare.proofs.declaring.block_names.Given as goal
 
 -- the names so far, with those of the units that are left, are all

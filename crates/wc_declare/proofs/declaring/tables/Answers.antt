@@ -1,10 +1,8 @@
 use Rattle.std.proofs.Common.{[], None, ◌++◌, map, refl, ap, sym, subst, ◌∙◌}
-use Rattle.wc_model.specs.Language.Faults.{declaration_fault}
-use Rattle.wc_model.specs.Language.Views.{text_view}
-use Rattle.wc_names.specs.RepresentsText.{AreUnits, onto}
+use Rattle.wc_model.specs.Definitions.{declaration_fault, text_view}
+use Rattle.wc_names.specs.{AreUnits, onto, spelled_in_table, spelled_of_unit}
 use Rattle.wc_declare.proofs.Validation.{validates_ok, validates_on}
 use Rattle.wc_names.specs.declared.kept.Tables.{Tables}
-use Rattle.wc_names.specs.Spelled.{spelled_in_table, spelled_of_unit}
 use Rattle.wc_declare.proofs.declaring.tables.Goals as goal
 
 pub returns-clause-accepted : goal.returns-clause-accepted

@@ -1,17 +1,11 @@
-use Rattle.std.proofs.Common.{◌≡◌, ◌+◌, ◌++◌, ◌∷◌, [], None, map, drop, ap, refl, sym, subst, ◌∙◌}
-use Rattle.std.proofs.lemmas.List.{drop_all, map-append}
-use Rattle.std.specs.List.{flat_map}
-use Rattle.wc_model.specs.Language.Checks.{first_broken, positions_after}
-use Rattle.wc_model.specs.Language.DeclarationRules.{unit_checks}
-use Rattle.wc_model.specs.Language.Faults.{declaration_fault}
-use Rattle.wc_model.specs.Language.Views.{unit_view}
-use Rattle.wc_names.specs.RepresentsText.{AreUnits, onto}
+use Rattle.wc_model.proofs.Common.{◌≡◌, ◌+◌, ◌++◌, ◌∷◌, [], None, map, drop, ap, refl, sym, subst, ◌∙◌, drop_all, map-append, flat_map}
+use Rattle.wc_model.specs.Definitions.{first_broken, positions_after, unit_checks, declaration_fault, unit_view}
+use Rattle.wc_names.specs.{AreUnits, onto, spelled_in_table, spelled_of_unit}
 use Rattle.wc_declare.specs.SoFar.{AreUnitsOf}
 use Rattle.wc_names.specs.declared.unit_table.UnitTable.{UnitTable}
 use Rattle.wc_declare.proofs.Validation.{validates_on, validates_ok}
 use Rattle.wc_names.proofs.Lists.{from_index}
 use Rattle.wc_declare.proofs.UnitsSoFar.{Reads, none_read, one_read}
-use Rattle.wc_names.specs.Spelled.{spelled_in_table, spelled_of_unit}
 use Rattle.wc_declare.proofs.SpelledSoFar.{named_all, named_on}
 use Rattle.wc_declare.proofs.declaring.validate_units.Goals as goal
 

@@ -1,7 +1,5 @@
-use Rattle.std.proofs.Common.{List, Some, None, option_map, length, sym, ap, ◌∙◌}
-use Rattle.std.specs.Prelude.{if◌then◌else◌}
-use Rattle.wc_model.specs.Language.Names.{name_of}
-use Rattle.wc_model.specs.Language.Tree.{ProgramUnit}
+use Rattle.wc_model.proofs.Common.{List, Some, None, option_map, length, sym, ap, ◌∙◌, if◌then◌else◌}
+use Rattle.wc_model.specs.Definitions.{name_of, ProgramUnit}
 use Rattle.wc_names.specs.declared.unit_table.UnitTable.{UnitTable}
 use Rattle.wc_names.proofs.Lists.{not_past, same_found}
 use Rattle.wc_names.proofs.Places.{block_numbered, block_unnumbered}

@@ -1,5 +1,4 @@
-use Rattle.std.proofs.Common.{◌≡◌, ◌++◌, ◌∷◌, [], not, refl, rules, ap, ◌∙◌}
-use Rattle.std.specs.Prelude.{if◌then◌else◌}
+use Rattle.wc_model.proofs.Common.{◌≡◌, ◌++◌, ◌∷◌, [], not, refl, rules, ap, ◌∙◌, if◌then◌else◌}
 use Rattle.wc_model.specs.Language.Views.{name_view}
 use Rattle.wc_declare.proofs.UnitsSoFar.{units_more}
 use Rattle.wc_declare.proofs.unit.add_unit.Goals as goal

@@ -1,11 +1,6 @@
-use Rattle.std.proofs.Common.{◌≡◌, Bool, [], ◌++◌, map, refl, ap, sym, ◌∙◌, append_assoc}
-use Rattle.std.specs.Prelude.{if◌then◌else◌}
-use Rattle.wc_model.specs.Language.Checks.{first_broken}
-use Rattle.wc_model.specs.Language.DeclarationRules.{body_name_checks, unit_checks, unit_declaration_checks}
-use Rattle.wc_model.specs.Language.Declarations.{is_block}
-use Rattle.wc_model.specs.Language.Views.{lines_view, unit_view}
-use Rattle.wc_model.specs.Language.Tree.{ProgramUnit}
-use Rattle.wc_declare.specs.Rows.{IsEmptyOf}
+use Rattle.wc_model.proofs.Common.{◌≡◌, Bool, [], ◌++◌, map, refl, ap, sym, ◌∙◌, append_assoc, if◌then◌else◌}
+use Rattle.wc_model.specs.Definitions.{first_broken, body_name_checks, unit_checks, unit_declaration_checks, is_block, lines_view, unit_view, ProgramUnit}
+use Rattle.wc_declare.specs.SoFar.{IsEmptyOf}
 use Rattle.wc_names.specs.declared.unit_table.UnitTable.{UnitTable}
 use Rattle.wc_declare.proofs.Validation.{validates_on, validates_ok}
 use Rattle.wc_names.specs.Spelled.{spelled, spelled_of_unit}

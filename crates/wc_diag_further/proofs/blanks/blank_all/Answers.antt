@@ -1,8 +1,5 @@
-use Rattle.std.proofs.Common.{◌≡◌, ◌<◌, ◌+◌, ℕ, List, ◌++◌, drop, get_or, length, map, set, take, arith, refl}
-use Rattle.std.proofs.lemmas.Bool.{ne_eqb}
-use Rattle.std.proofs.lemmas.List.{get_or_default}
-use Rattle.std.proofs.lemmas.List.Edits.{map_over_more}
-use Rattle.wc_diag_further.specs.Mended.{blank_of}
+use Rattle.wc_model.proofs.Common.{◌≡◌, ◌<◌, ◌+◌, ℕ, List, ◌++◌, drop, get_or, length, map, set, take, arith, refl, ne_eqb, get_or_default, map_over_more}
+use Rattle.wc_diag_further.specs.Further.{blank_of}
 use Rattle.wc_diag_further.proofs.blanks.blank_all.Goals as goal
 use Rattle.wc_diag_further.proofs.blanks.blank_all.Goals.{then-byte-eq10, else-byte-eq10}
 

@@ -1,5 +1,5 @@
 use Rattle.std.proofs.Common.{◌≡◌, ◌++◌, drop, map, take}
-use Rattle.wc_diag_further.specs.Mended.{blank_of}
+use Rattle.wc_diag_further.specs.Further.{blank_of}
 use Rattle.wc_diag_further.proofs.blanks.blank_all.Given as goal
 
 abbrev pub invariant-loop-byte : goal.invariant-loop-byte

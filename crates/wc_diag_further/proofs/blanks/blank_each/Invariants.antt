@@ -1,4 +1,4 @@
-use Rattle.wc_diag_further.specs.Mended.{IsMended}
+use Rattle.wc_diag_further.specs.Further.{IsMended}
 use Rattle.wc_diag_further.proofs.blanks.blank_each.Given as goal
 
 abbrev pub invariant-loop-some : goal.invariant-loop-some

@@ -1,5 +1,4 @@
-use Rattle.std.proofs.Common.{◌≡◌, ◌++◌, ◌∷◌, [], refl}
-use Rattle.std.proofs.lemmas.Result.{IfOk-weaker}
+use Rattle.wc_model.proofs.Common.{◌≡◌, ◌++◌, ◌∷◌, [], refl, IfOk-weaker}
 use Rattle.json.specs.Print.{print}
 use Rattle.json.specs.Token.{end_object}
 use Rattle.wc_diag_messages.proofs.OneObject.{object_above}

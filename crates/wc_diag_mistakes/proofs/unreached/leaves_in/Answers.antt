@@ -1,5 +1,4 @@
-use Rattle.std.proofs.Common.{◌≡◌, ◌+◌, ◌-◌, ◌<◌, ℕ, List, false, true, drop, sym, ap, ◌∙◌, arith}
-use Rattle.std.specs.List.{list_any}
+use Rattle.wc_model.proofs.Common.{◌≡◌, ◌+◌, ◌-◌, ◌<◌, ℕ, List, false, true, drop, sym, ap, ◌∙◌, arith, list_any}
 use Rattle.wc_diag_mistakes.proofs.Leaving.{decides, leaves_at, one_more, passes_at, says, undecided}
 use Rattle.wc_lexer.specs.declared.shape.Token.{Token}
 use Rattle.wc_diag_mistakes.proofs.unreached.leaves_in.Goals as goal

@@ -1,5 +1,4 @@
-use Rattle.std.proofs.Common.{◌≡◌, drop, false}
-use Rattle.std.specs.List.{list_any}
+use Rattle.wc_model.proofs.Common.{◌≡◌, drop, false, list_any}
 use Rattle.wc_diag_mistakes.proofs.Leaving.{decides}
 use Rattle.wc_diag_mistakes.proofs.unreached.leaves_in.Given as goal
 

@@ -1,12 +1,7 @@
 use Rattle.std.proofs.Common.{[], ◌++◌, None, Some}
 use Rattle.wc_diag_places.proofs.Breaking.{any_line, refused_at, same_assignment}
 use Rattle.wc_diag_places.proofs.arguments.broken_rule.Goals as goal
-use Rattle.wc_model.specs.Language.BodyRules.{argument_checks}
-use Rattle.wc_model.specs.Language.Checks.{first_broken}
-use Rattle.wc_model.specs.Language.Declarations.{members_of}
-use Rattle.wc_model.specs.Language.Names.{name_of}
-use Rattle.wc_model.specs.Language.Tree.{Assignment}
-use Rattle.wc_model.specs.Language.Views.{term_view}
+use Rattle.wc_model.specs.Definitions.{argument_checks, first_broken, members_of, name_of, Assignment, term_view}
 
 pub returns-in-Ok-clause-rule : goal.returns-in-Ok-clause-rule
 returns-in-Ok-clause-rule c = λ scope type line position is num listed held.

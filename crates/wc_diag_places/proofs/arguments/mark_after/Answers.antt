@@ -1,5 +1,4 @@
-use Rattle.std.proofs.Common.{arith}
-use Rattle.std.proofs.lemmas.Grind.{common_steps}
+use Rattle.wc_model.proofs.Common.{arith, common_steps}
 use Rattle.wc_diag_places.proofs.arguments.mark_after.Goals as goal
 use Rattle.wc_diag_places.specs.Lists.{mark_after}
 

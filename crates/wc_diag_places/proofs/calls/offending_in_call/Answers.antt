@@ -1,9 +1,6 @@
-use Rattle.std.proofs.Common.{◌≡◌, ◌∙◌, false, true, ap, sym}
-use Rattle.std.proofs.lemmas.Result.{IfOk-weaker}
-use Rattle.std.specs.Prelude.{is_some, option_and_then}
+use Rattle.wc_model.proofs.Common.{◌≡◌, ◌∙◌, false, true, ap, sym, is_some, option_and_then, IfOk-weaker}
 use Rattle.wc_diag_places.proofs.calls.offending_in_call.Goals as goal
-use Rattle.wc_model.specs.Language.Names.{name_of}
-use Rattle.wc_model.specs.Language.Scopes.{type_of}
+use Rattle.wc_model.specs.Definitions.{name_of, type_of}
 use Rattle.wc_names.specs.Numbered.{numbered_type}
 
 pub returns-in_default : goal.returns-in_default

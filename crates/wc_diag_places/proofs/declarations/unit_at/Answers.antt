@@ -1,10 +1,7 @@
-use Rattle.std.proofs.Common.{◌-◌, ◌∙◌, ap, sym}
-use Rattle.std.specs.List.{position_or_len}
-use Rattle.std.specs.Prelude.{nat_lt}
+use Rattle.wc_model.proofs.Common.{◌-◌, ◌∙◌, ap, sym, nat_lt, position_or_len}
 use Rattle.wc_diag_places.proofs.Units.{position_mapped}
 use Rattle.wc_diag_places.proofs.declarations.unit_at.Goals as goal
-use Rattle.wc_model.specs.Language.Tree.{ProgramUnit}
-use Rattle.wc_model.specs.Language.Views.{unit_view}
+use Rattle.wc_model.specs.Definitions.{ProgramUnit, unit_view}
 use Rattle.wc_model.specs.declared.source.Unit.{Unit}
 
 pub returns : goal.returns

@@ -1,7 +1,6 @@
 use Rattle.std.proofs.Common.{◌∙◌, ap, map}
 use Rattle.wc_text_lines.specs.Words.{marks_of}
-use Rattle.wc_diag_stops.proofs.Exchanges.{exchanged_marks, exchanged_twice}
-use Rattle.wc_diag_stops.proofs.Stopped.{read_result}
+use Rattle.wc_diag_stops.proofs.Stopped.{exchanged_marks, exchanged_twice, read_result}
 use Rattle.wc_diag_stops.specs.Stopping.{exchanged}
 use Rattle.wc_diag_places.proofs.spanned_source.read_placed.Goals as goal
 

@@ -1,5 +1,4 @@
-use Rattle.std.proofs.Common.{◌≡◌, ◌-◌, ◌∙◌, sym, ap, arith, length, min, take}
-use Rattle.std.proofs.lemmas.Bool.{eqb-false}
+use Rattle.wc_model.proofs.Common.{◌≡◌, ◌-◌, ◌∙◌, sym, ap, arith, length, min, take, eqb-false}
 use Rattle.wc_diag_spans.proofs.LineCuts.{line_kept, return_dropped}
 use Rattle.wc_diag_spans.proofs.lines.without_return.Goals as goal
 

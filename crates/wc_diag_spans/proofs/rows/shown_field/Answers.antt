@@ -1,6 +1,4 @@
-use Rattle.std.proofs.Common.{◌≡◌, ◌∙◌, [], length, take, ap, arith}
-use Rattle.std.proofs.lemmas.List.{length-take, take_min}
-use Rattle.std.specs.Prelude.{unwrap_or}
+use Rattle.wc_model.proofs.Common.{◌≡◌, ◌∙◌, [], length, take, ap, arith, unwrap_or, length-take, take_min}
 use Rattle.wc_diag_spans.proofs.rows.shown_field.Goals as goal
 
 pub returns-in-Some-clause-field : goal.returns-in-Some-clause-field

@@ -1,7 +1,6 @@
 use Rattle.std.proofs.Common.{◌∙◌, IfSome, ap, subst}
 use Rattle.wc_diag_spans.proofs.Meaning.{offending_kept, stopped_kept}
-use Rattle.wc_diag_spans.specs.OffendingTokens.{IsKept}
-use Rattle.wc_diag_spans.specs.Showing.{known_line}
+use Rattle.wc_diag_spans.specs.{IsKept, known_line}
 use Rattle.wc_diag_spans.proofs.searching.find_text.Goals as goal
 
 pub returns-clause-found : goal.returns-clause-found

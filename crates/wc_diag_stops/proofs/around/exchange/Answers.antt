@@ -1,6 +1,4 @@
-use Rattle.std.proofs.Common.{◌≡◌, ◌<◌, ◌+◌, ℕ, List, ◌++◌, drop, get_or, length, map, set, take, arith}
-use Rattle.std.proofs.lemmas.List.{get_or_default}
-use Rattle.std.proofs.lemmas.List.Edits.{map_over_more}
+use Rattle.wc_model.proofs.Common.{◌≡◌, ◌<◌, ◌+◌, ℕ, List, ◌++◌, drop, get_or, length, map, set, take, arith, get_or_default, map_over_more}
 use Rattle.wc_lexer.specs.declared.shape.Token.{Token}
 use Rattle.wc_diag_stops.specs.Stopping.{exchanged}
 use Rattle.wc_diag_stops.proofs.around.exchange.Goals as goal

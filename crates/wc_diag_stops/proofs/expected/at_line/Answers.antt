@@ -1,5 +1,4 @@
-use Rattle.std.proofs.Common.{◌≡◌, ◌==◌, false, length, sym, ap, arith}
-use Rattle.std.proofs.lemmas.Bool.Decides.{nat_tests}
+use Rattle.wc_model.proofs.Common.{◌≡◌, ◌==◌, false, length, sym, ap, arith, nat_tests}
 use Rattle.wc_text_bodies.proofs.Openings.{innermost_of}
 use Rattle.wc_diag_stops.specs.Allowed.{allowed_at_line}
 use Rattle.wc_diag_stops.proofs.expected.at_line.Goals as goal

@@ -1,9 +1,8 @@
-use Rattle.std.proofs.Common.{◌∙◌, ap}
-use Rattle.std.proofs.lemmas.List.{drop_all}
+use Rattle.wc_model.proofs.Common.{◌∙◌, ap, drop_all}
 use Rattle.wc_text_lines.specs.Words.{marks_of}
 use Rattle.wc_reader.specs.TextViews.{reading_view}
-use Rattle.wc_text_short_lines.specs.Walks.{walk}
-use Rattle.wc_diag_stops.proofs.StopSteps.{read_at_end}
+use Rattle.wc_text_bodies.specs.Views.{walk}
+use Rattle.wc_diag_stops.proofs.Stopped.{read_at_end}
 use Rattle.wc_diag_stops.proofs.stops.raised_on.Goals.{in-Ok-at_text_end, in-Err-at_text_end}
 use Rattle.wc_diag_stops.proofs.stops.raised_on.Goals as goal
 

@@ -1,7 +1,7 @@
 use Rattle.std.proofs.Common.{◌≡◌, ◌≤◌, ◌-◌, drop, length}
 use Rattle.wc_text_lines.specs.Words.{marks_of}
 use Rattle.wc_reader.specs.TextViews.{IsStateCounted, reading_view}
-use Rattle.wc_text_short_lines.specs.Walks.{walk}
+use Rattle.wc_text_bodies.specs.Views.{walk}
 use Rattle.wc_diag_stops.proofs.stops.raised_on.Given as goal
 
 abbrev pub invariant-loop-place : goal.invariant-loop-place

@@ -1,7 +1,4 @@
-use Rattle.std.proofs.Common.{◌∙◌, ap, take}
-use Rattle.std.proofs.lemmas.List.{take_min}
-use Rattle.std.proofs.lemmas.Str.Ascii.{trim_ascii_start_is}
-use Rattle.std.specs.List.{prefix_len}
+use Rattle.wc_model.proofs.Common.{◌∙◌, ap, take, take_min, trim_ascii_start_is, prefix_len}
 use Rattle.wc_diag_stops.proofs.words.first_word.Goals as goal
 use Rattle.wc_diag_stops.specs.Words.{is_word_byte}
 

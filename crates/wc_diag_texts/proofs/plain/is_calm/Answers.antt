@@ -1,5 +1,4 @@
-use Rattle.std.proofs.Common.{◌≡◌, ap, drop, false, sym, ◌∙◌}
-use Rattle.std.proofs.lemmas.List.{drop-drop}
+use Rattle.wc_model.proofs.Common.{◌≡◌, ap, drop, false, sym, ◌∙◌, drop-drop}
 use Rattle.wc_diag_texts.proofs.CalmTexts.{calm_on}
 use Rattle.wc_diag_texts.specs.Plain.{is_calm, starts_acting}
 use Rattle.wc_diag_texts.proofs.plain.is_calm.Goals as goal

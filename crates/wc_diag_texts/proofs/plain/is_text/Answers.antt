@@ -1,5 +1,4 @@
-use Rattle.std.proofs.Common.{arith}
-use Rattle.std.proofs.lemmas.Str.{IsUtf8-from_is_utf8, is_utf8-from_IsUtf8}
+use Rattle.wc_model.proofs.Common.{arith, IsUtf8-from_is_utf8, is_utf8-from_IsUtf8}
 use Rattle.wc_diag_texts.proofs.plain.is_text.Goals as goal
 
 pub returns : goal.returns

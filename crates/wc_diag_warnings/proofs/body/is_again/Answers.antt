@@ -1,11 +1,6 @@
-use Rattle.std.proofs.Common.{false, ◌&&◌, nat_eq, ap, ◌∙◌}
-use Rattle.std.specs.List.{list_any}
+use Rattle.wc_model.proofs.Common.{false, ◌&&◌, nat_eq, ap, ◌∙◌, list_any}
 use Rattle.wc_diag_warnings.proofs.Again.{again_is, never_is}
-use Rattle.wc_diag_warnings.specs.Addresses.{stores}
-use Rattle.wc_diag_warnings.specs.Edges.{is_on}
-use Rattle.wc_diag_warnings.specs.Paths.{Store}
-use Rattle.wc_diag_warnings.specs.Seen.{event_view}
-use Rattle.wc_diag_warnings.specs.Warnings.{outputs_in}
+use Rattle.wc_diag_warnings.specs.{stores, is_on, Store, event_view, outputs_in}
 use Rattle.wc_diag_warnings.proofs.body.is_again.Goals as goal
 
 pub returns-in-Some : goal.returns-in-Some

@@ -1,12 +1,7 @@
 use Rattle.std.proofs.Common.{◌≡◌, ◌+◌, ◌∷◌, ◌++◌, drop, get_or, reverse, refl, sym, ap, ◌∙◌, subst, take}
-use Rattle.std.proofs.Math.Bool.{or-false}
-use Rattle.std.proofs.lemmas.List.{drop_more}
-use Rattle.std.specs.List.{list_any}
+use Rattle.wc_model.proofs.Common.{or-false, drop_more, list_any}
 use Rattle.wc_diag_warnings.proofs.EventSteps.{above_step, asked_in, asked_step, found_step, number_is, one_more_before}
-use Rattle.wc_diag_warnings.specs.Addresses.{reads_valid}
-use Rattle.wc_diag_warnings.specs.Paths.{IsFollowed, Start}
-use Rattle.wc_diag_warnings.specs.Seen.{event_view, events_view, warnings_view}
-use Rattle.wc_diag_warnings.specs.Warnings.{caution, outputs_in}
+use Rattle.wc_diag_warnings.specs.{reads_valid, IsFollowed, Start, event_view, events_view, warnings_view, caution, outputs_in}
 use Rattle.wc_diag_warnings.specs.declared.events.Deed.TheVariants.{Begin}
 use Rattle.wc_diag_warnings.specs.declared.events.Event.{Event}
 use Rattle.wc_diag_warnings.proofs.body.warn_body.Goals as goal

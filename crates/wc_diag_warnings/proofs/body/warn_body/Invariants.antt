@@ -1,10 +1,7 @@
 use Rattle.std.proofs.Common.{◌≡◌, ◌||◌, ◌++◌, drop, reverse, take}
 use Rattle.std.specs.List.{flat_map, list_any}
 use Rattle.wc_model.specs.Language.Checks.{positions_after}
-use Rattle.wc_diag_warnings.specs.Addresses.{reads_valid, reads_weight}
-use Rattle.wc_diag_warnings.specs.Paths.{IsFollowed}
-use Rattle.wc_diag_warnings.specs.Seen.{events_view, warnings_view}
-use Rattle.wc_diag_warnings.specs.Warnings.{body_cautions, event_cautions, is_above_reached, outputs_in}
+use Rattle.wc_diag_warnings.specs.{reads_valid, reads_weight, IsFollowed, events_view, warnings_view, body_cautions, event_cautions, is_above_reached, outputs_in}
 use Rattle.wc_diag_warnings.proofs.body.warn_body.Given as goal
 
 -- the events before are looked at: with those of the others these are all warnings

@@ -1,8 +1,7 @@
 use Rattle.std.proofs.Common.{◌≤◌, ◌++◌, length, map, sym, ap, ◌∙◌, subst}
 use Rattle.std.proofs.lemmas.List.{append-nil, drop_all}
-use Rattle.wc_diag_warnings.proofs.DeclaredViews.{declared_views}
-use Rattle.wc_diag_warnings.specs.Seen.{uses_view, variable_view, warnings_view}
-use Rattle.wc_diag_warnings.specs.Warnings.{declared_cautions}
+use Rattle.wc_diag_warnings.proofs.NameSets.{declared_views}
+use Rattle.wc_diag_warnings.specs.{uses_view, variable_view, warnings_view, declared_cautions}
 use Rattle.wc_diag_warnings.proofs.declared.warn_declaration.Goals as goal
 
 pub returns : goal.returns

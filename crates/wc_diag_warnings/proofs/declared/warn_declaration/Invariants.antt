@@ -1,6 +1,5 @@
 use Rattle.std.proofs.Common.{◌≡◌, ◌++◌, map, drop}
-use Rattle.wc_diag_warnings.specs.Seen.{uses_view, variable_view, warnings_view}
-use Rattle.wc_diag_warnings.specs.Warnings.{declared_cautions}
+use Rattle.wc_diag_warnings.specs.{uses_view, variable_view, warnings_view, declared_cautions}
 use Rattle.wc_diag_warnings.proofs.declared.warn_declaration.Given as goal
 
 -- with the names that are left these are all

@@ -1,9 +1,6 @@
-use Rattle.std.proofs.Common.{◌≡◌, ◌++◌, map, drop}
-use Rattle.std.specs.List.{flat_map}
-use Rattle.wc_model.specs.Language.Declarations.{declared_by}
-use Rattle.wc_model.specs.Language.Views.{declaration_view}
-use Rattle.wc_diag_warnings.specs.Seen.{uses_view, warnings_view}
-use Rattle.wc_diag_warnings.specs.Warnings.{declared_cautions}
+use Rattle.wc_model.proofs.Common.{◌≡◌, ◌++◌, map, drop, flat_map}
+use Rattle.wc_model.specs.Definitions.{declared_by, declaration_view}
+use Rattle.wc_diag_warnings.specs.{uses_view, warnings_view, declared_cautions}
 use Rattle.wc_diag_warnings.proofs.declared.warn_declared.Given as goal
 
 -- with the declarations that are left these are all

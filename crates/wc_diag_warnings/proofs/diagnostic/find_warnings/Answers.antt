@@ -1,9 +1,6 @@
-use Rattle.std.proofs.Common.{◌≡◌, ◌+◌, ◌∷◌, ◌++◌, append_assoc, ap, drop, map, sym, ◌∙◌}
-use Rattle.std.proofs.lemmas.List.{drop_more}
-use Rattle.std.specs.List.{flat_map}
+use Rattle.wc_model.proofs.Common.{◌≡◌, ◌+◌, ◌∷◌, ◌++◌, append_assoc, ap, drop, map, sym, ◌∙◌, drop_more, flat_map}
 use Rattle.wc_model.specs.Language.Views.{unit_view}
-use Rattle.wc_diag_warnings.specs.Seen.{warnings_view}
-use Rattle.wc_diag_warnings.specs.Warnings.{unit_cautions}
+use Rattle.wc_diag_warnings.specs.{warnings_view, unit_cautions}
 use Rattle.wc_diag_warnings.proofs.diagnostic.find_warnings.Goals as goal
 
 pub loop-unit-preserved : goal.loop-unit-preserved

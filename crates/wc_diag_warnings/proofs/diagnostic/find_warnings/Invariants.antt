@@ -1,8 +1,6 @@
-use Rattle.std.proofs.Common.{◌≡◌, ◌++◌, map, drop}
-use Rattle.std.specs.List.{flat_map}
+use Rattle.wc_model.proofs.Common.{◌≡◌, ◌++◌, map, drop, flat_map}
 use Rattle.wc_model.specs.Language.Views.{unit_view}
-use Rattle.wc_diag_warnings.specs.Seen.{warnings_view}
-use Rattle.wc_diag_warnings.specs.Warnings.{unit_cautions}
+use Rattle.wc_diag_warnings.specs.{warnings_view, unit_cautions}
 use Rattle.wc_diag_warnings.proofs.diagnostic.find_warnings.Given as goal
 
 -- with the units that are left these are all

@@ -1,10 +1,6 @@
-use Rattle.std.proofs.Common.{◌++◌, ap, ◌∙◌}
-use Rattle.std.proofs.Math.Path.{fun_ext}
-use Rattle.std.proofs.lemmas.Result.{on_ok_weaker}
-use Rattle.wc_model.specs.Language.Declarations.{variables_of}
-use Rattle.wc_model.specs.Language.Views.{unit_view}
-use Rattle.wc_diag_warnings.specs.Seen.{warnings_view}
-use Rattle.wc_diag_warnings.specs.Warnings.{declared_cautions}
+use Rattle.wc_model.proofs.Common.{◌++◌, ap, ◌∙◌, fun_ext, on_ok_weaker}
+use Rattle.wc_model.specs.Definitions.{variables_of, unit_view}
+use Rattle.wc_diag_warnings.specs.{warnings_view, declared_cautions}
 use Rattle.wc_diag_warnings.proofs.diagnostic.warn_names.Goals as goal
 
 pub returns : goal.returns

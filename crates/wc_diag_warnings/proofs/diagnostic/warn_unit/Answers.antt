@@ -1,12 +1,7 @@
-use Rattle.std.proofs.Common.{◌≡◌, List, ◌++◌, ap, ◌∙◌, append_assoc}
-use Rattle.std.proofs.lemmas.Result.{on_ok_weaker}
-use Rattle.wc_model.specs.Language.Declarations.{Variable, variables_of}
-use Rattle.wc_model.specs.Language.Views.{lines_view, unit_view}
+use Rattle.wc_model.proofs.Common.{◌≡◌, List, ◌++◌, ap, ◌∙◌, append_assoc, on_ok_weaker}
+use Rattle.wc_model.specs.Definitions.{Variable, variables_of, lines_view, unit_view}
 use Rattle.wc_model.specs.declared.source.UnitKind.{UnitKind}
-use Rattle.wc_diag_warnings.specs.Events.{Happening, events_of}
-use Rattle.wc_diag_warnings.specs.Seen.{events_view, warnings_view}
-use Rattle.wc_diag_warnings.specs.Uses.{used_in}
-use Rattle.wc_diag_warnings.specs.Warnings.{Caution, body_cautions, declared_cautions}
+use Rattle.wc_diag_warnings.specs.{Happening, events_of, events_view, warnings_view, used_in, Caution, body_cautions, declared_cautions}
 use Rattle.wc_diag_warnings.proofs.diagnostic.warn_unit.Goals as goal
 
 -- what is declared is looked at first, and then the body

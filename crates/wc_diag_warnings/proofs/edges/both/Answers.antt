@@ -1,5 +1,5 @@
 use Rattle.std.proofs.Common.{refl}
-use Rattle.wc_diag_warnings.proofs.Sources.{bit_of_both}
+use Rattle.wc_diag_warnings.proofs.Again.{bit_of_both}
 use Rattle.wc_diag_warnings.specs.Paths.{Start, Store}
 use Rattle.wc_diag_warnings.proofs.edges.both.Goals as goal
 

@@ -1,7 +1,6 @@
 use Rattle.wc_diag_warnings.proofs.Following.{followed_more, not_led}
 use Rattle.wc_names.specs.Keys.{name_of_key}
-use Rattle.wc_diag_warnings.specs.Paths.{is_from, leads}
-use Rattle.wc_diag_warnings.specs.Seen.{event_view}
+use Rattle.wc_diag_warnings.specs.{is_from, leads, event_view}
 use Rattle.wc_diag_warnings.proofs.edges.follow.Goals as goal
 
 pub returns-in_default : goal.returns-in_default

@@ -1,8 +1,5 @@
-use Rattle.std.proofs.Common.{◌||◌, ◌^◌, nat_eq, bit_or, sym, ap, ◌∙◌}
-use Rattle.std.proofs.Math.Bool.{or-false}
-use Rattle.std.proofs.lemmas.Nat.{one_shl}
-use Rattle.std.specs.Int.{bit_at}
-use Rattle.wc_diag_warnings.proofs.Sources.{bit_of_both, bit_of_one}
+use Rattle.wc_model.proofs.Common.{◌||◌, ◌^◌, nat_eq, bit_or, sym, ap, ◌∙◌, or-false, one_shl, bit_at}
+use Rattle.wc_diag_warnings.proofs.Again.{bit_of_both, bit_of_one}
 use Rattle.wc_diag_warnings.specs.Paths.{Start, Store}
 use Rattle.wc_diag_warnings.proofs.edges.from_store.Goals as goal
 

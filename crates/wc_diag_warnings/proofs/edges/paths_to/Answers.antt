@@ -1,7 +1,5 @@
 use Rattle.std.proofs.Common.{◌||◌, sym, ap, ◌∙◌}
-use Rattle.wc_diag_warnings.specs.Edges.{comes_by_jump, comes_down}
-use Rattle.wc_diag_warnings.specs.Paths.{edges, is_from, marks, starts}
-use Rattle.wc_diag_warnings.specs.Seen.{deed_view}
+use Rattle.wc_diag_warnings.specs.{comes_by_jump, comes_down, edges, is_from, marks, starts, deed_view}
 use Rattle.wc_diag_warnings.proofs.edges.paths_to.Goals as goal
 
 pub returns-in-Label : goal.returns-in-Label

@@ -1,7 +1,6 @@
 use Rattle.std.proofs.Common.{◌≡◌, ◌++◌, drop}
 use Rattle.wc_model.specs.Language.Views.{lines_view}
-use Rattle.wc_diag_warnings.specs.Events.{events_of}
-use Rattle.wc_diag_warnings.specs.Seen.{events_view}
+use Rattle.wc_diag_warnings.specs.{events_of, events_view}
 use Rattle.wc_diag_warnings.proofs.events.+putting.Given as goal
 
 -- with the lines that are left it is the whole list

@@ -1,10 +1,7 @@
-use Rattle.std.proofs.Common.{◌∷◌, ◌++◌, [], append_assoc, map, sym, ap, ◌∙◌}
+use Rattle.wc_model.proofs.Common.{◌∷◌, ◌++◌, [], append_assoc, map, sym, ap, ◌∙◌, flat_map}
 use Rattle.std.proofs.lemmas.List.{append-nil, drop_all}
-use Rattle.std.specs.List.{flat_map}
-use Rattle.wc_model.specs.Language.Names.{name_of}
-use Rattle.wc_model.specs.Language.Views.{assignment_view}
-use Rattle.wc_diag_warnings.specs.Events.{Begins, Calls, argument_events, at}
-use Rattle.wc_diag_warnings.specs.Seen.{events_view}
+use Rattle.wc_model.specs.Definitions.{name_of, assignment_view}
+use Rattle.wc_diag_warnings.specs.{Begins, Calls, argument_events, at, events_view}
 use Rattle.wc_diag_warnings.proofs.events.put_call.Goals as goal
 
 pub returns : goal.returns

@@ -1,9 +1,6 @@
-use Rattle.std.proofs.Common.{◌≡◌, ◌++◌, map, drop}
-use Rattle.std.specs.List.{flat_map}
-use Rattle.wc_model.specs.Language.Names.{name_of}
-use Rattle.wc_model.specs.Language.Views.{assignment_view}
-use Rattle.wc_diag_warnings.specs.Events.{argument_events}
-use Rattle.wc_diag_warnings.specs.Seen.{events_view}
+use Rattle.wc_model.proofs.Common.{◌≡◌, ◌++◌, map, drop, flat_map}
+use Rattle.wc_model.specs.Definitions.{name_of, assignment_view}
+use Rattle.wc_diag_warnings.specs.{argument_events, events_view}
 use Rattle.wc_diag_warnings.proofs.events.put_call.Given as goal
 
 -- with the items that are left it is the whole list

@@ -1,7 +1,5 @@
-use Rattle.std.proofs.Common.{◌≡◌, ◌||◌, drop}
-use Rattle.std.specs.List.{list_any}
-use Rattle.wc_model.specs.Language.DeclarationRules.{is_among}
-use Rattle.wc_model.specs.Language.Names.{Name}
+use Rattle.wc_model.proofs.Common.{◌≡◌, ◌||◌, drop, list_any}
+use Rattle.wc_model.specs.Definitions.{is_among, Name}
 use Rattle.wc_diag_warnings.specs.Seen.{does, events_view}
 use Rattle.wc_diag_warnings.proofs.used.add_used.Given as goal
 

@@ -2,8 +2,7 @@ use Rattle.std.proofs.Common.{refl, inl, inr}
 use Rattle.std.specs.Prelude.{[], ◌∷◌, codes, None}
 use Rattle.wc_model.specs.Language.Tree.{End, Plain}
 use Rattle.wc_laws_grammar.proofs.Spelling.{spelling}
-use Rattle.wc_examples_language.specs.Texts.{ident, program_of}
-use Rattle.wc_examples_language.specs.Faulty.{load_true, after_load}
+use Rattle.wc_examples_language.specs.{ident, program_of, load_true, after_load}
 use Rattle.wc_examples_language.proofs.reading_faults.a_bracket_with_none_open.Goals as goal
 
 pub returns-clause-prefix : goal.returns-clause-prefix

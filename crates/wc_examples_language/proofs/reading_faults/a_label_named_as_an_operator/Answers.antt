@@ -1,5 +1,4 @@
-use Rattle.std.proofs.Common.{refl, inl, inr}
-use Rattle.std.specs.Prelude.{codes}
+use Rattle.wc_model.proofs.Common.{refl, inl, inr, codes}
 use Rattle.wc_laws_grammar.proofs.Spelling.{spelling}
 use Rattle.wc_examples_language.specs.Faulty.{after_short_opening}
 use Rattle.wc_examples_language.proofs.reading_faults.a_label_named_as_an_operator.Goals as goal

@@ -1,11 +1,9 @@
 use Rattle.std.proofs.Common.{◌++◌, false, refl, inl, inr}
 use Rattle.std.specs.Prelude.{[], ◌∷◌, codes, None}
-use Rattle.wc_model.specs.Language.Tree.{End, Plain}
-use Rattle.wc_model.specs.Text.Grammar.{IsPrefix}
+use Rattle.wc_model.specs.Definitions.{End, Plain, IsPrefix}
 use Rattle.wc_laws_grammar.proofs.Spelling.{spelling}
 use Rattle.wc_laws_grammar.proofs.WalkedUnits.{units_walked}
-use Rattle.wc_examples_language.specs.Texts.{ident, end_of, program_of}
-use Rattle.wc_examples_language.specs.Faulty.{bare_load_before, load_true}
+use Rattle.wc_examples_language.specs.{ident, end_of, program_of, bare_load_before, load_true}
 use Rattle.wc_examples_language.proofs.reading_faults.a_load_of_nothing.Goals as goal
 
 -- `PROGRAM P / LD /` is not a prefix: a text is walked, and there the walk does not go on, whatever follows

@@ -1,13 +1,11 @@
 use Rattle.std.proofs.Common.{refl, inl, inr, true}
 use Rattle.std.specs.Prelude.{[], ◌∷◌, codes, Some, None}
-use Rattle.wc_model.specs.Language.Tree.{Return, Constant, End, Plain, Nested}
-use Rattle.wc_model.specs.Text.Marks.{ClosingBracket}
+use Rattle.wc_model.specs.Definitions.{Return, Constant, End, Plain, Nested, ClosingBracket}
 use Rattle.wc_laws_grammar.proofs.Spelling.{spelling}
 use Rattle.wc_model.specs.declared.operator.Condition.TheVariants.{Always}
 use Rattle.wc_model.specs.declared.operator.Operator.TheVariants.{And}
 use Rattle.wc_model.specs.declared.value.Value.TheVariants.{Bool as BoolValue}
-use Rattle.wc_examples_language.specs.Texts.{mark, ident, end_of, program_of}
-use Rattle.wc_examples_language.specs.Faulty.{load_true, after_short_opening}
+use Rattle.wc_examples_language.specs.{mark, ident, end_of, program_of, load_true, after_short_opening}
 use Rattle.wc_examples_language.proofs.reading_faults.a_return_in_parentheses.Goals as goal
 
 pub returns-clause-prefix : goal.returns-clause-prefix

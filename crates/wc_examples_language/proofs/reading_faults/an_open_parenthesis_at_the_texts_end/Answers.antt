@@ -1,11 +1,8 @@
 use Rattle.std.proofs.Common.{refl, inl, inr}
 use Rattle.std.specs.Prelude.{[], ◌∷◌, codes, None}
-use Rattle.wc_model.specs.Language.Tree.{Negate, End}
+use Rattle.wc_model.specs.Definitions.{Negate, End, InParentheses, part_of_line}
 use Rattle.wc_laws_grammar.proofs.Spelling.{spelling}
-use Rattle.wc_examples_language.specs.Texts.{ident, end_of, program_of}
-use Rattle.wc_examples_language.specs.Faulty.{short_opening}
-use Rattle.wc_model.specs.Text.Grammar.{InParentheses}
-use Rattle.wc_model.specs.Text.Positions.{part_of_line}
+use Rattle.wc_examples_language.specs.{ident, end_of, program_of, short_opening}
 use Rattle.wc_examples_language.proofs.reading_faults.an_open_parenthesis_at_the_texts_end.Goals as goal
 
 -- before a line, some instruction has still to come

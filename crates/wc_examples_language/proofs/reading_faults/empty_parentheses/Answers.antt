@@ -1,11 +1,9 @@
 use Rattle.std.proofs.Common.{refl, inl, inr}
 use Rattle.std.specs.Prelude.{[], ◌∷◌, ◌++◌, codes, None, drop}
-use Rattle.wc_model.specs.Language.Tree.{Lines, Negate, End, Plain, Nested}
-use Rattle.wc_model.specs.Text.Marks.{ClosingBracket}
+use Rattle.wc_model.specs.Definitions.{Lines, Negate, End, Plain, Nested, ClosingBracket}
 use Rattle.wc_laws_grammar.proofs.Spelling.{spelling}
 use Rattle.wc_model.specs.declared.operator.Operator.TheVariants.{And}
-use Rattle.wc_examples_language.specs.Texts.{mark, ident, end_of, program_of, body_then_end}
-use Rattle.wc_examples_language.specs.Faulty.{load_true, opened, following_opening, empty_opening}
+use Rattle.wc_examples_language.specs.{mark, ident, end_of, program_of, body_then_end, load_true, opened, following_opening, empty_opening}
 use Rattle.wc_examples_language.proofs.reading_faults.empty_parentheses.Goals as goal
 
 -- a parenthesis with NOT inside

@@ -1,5 +1,4 @@
-use Rattle.std.proofs.Common.{◌≡◌, true}
-use Rattle.std.specs.Prelude.{codes}
+use Rattle.wc_model.proofs.Common.{◌≡◌, true, codes}
 use Rattle.wc_laws_grammar.proofs.OperatorWords.{is_operator_word, operator_of_is_word}
 use Rattle.wc_model.specs.Language.Names.{name_of}
 use Rattle.wc_examples_language.proofs.reading_faults.jmpnc_is_no_operator.Goals as goal

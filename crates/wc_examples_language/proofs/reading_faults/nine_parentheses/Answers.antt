@@ -1,16 +1,10 @@
-use Rattle.std.proofs.Common.{refl, inl, inr, arith}
+use Rattle.wc_model.proofs.Common.{refl, inl, inr, arith, ℕ, List}
 use Rattle.std.specs.Prelude.{[], ◌∷◌, ◌++◌, codes, None, map}
-use Rattle.wc_model.specs.Language.Tree.{End}
-use Rattle.wc_model.specs.Text.Marks.{Mark}
+use Rattle.wc_model.specs.Definitions.{End, Mark, ◌then◌, InParentheses, lines, label_in, opening, openings_of}
 use Rattle.wc_laws_grammar.proofs.Languages.{next, pass, cut_at, joined}
 use Rattle.wc_laws_grammar.proofs.Spelling.{spelling}
 use Rattle.wc_model.specs.declared.operator.Operator.TheVariants.{And}
-use Rattle.wc_examples_language.specs.Texts.{ident, end_of}
-use Rattle.wc_examples_language.specs.Faulty.{after_eight_openings, empty_opening, inner_opening, opening_line}
-use Rattle.std.proofs.Common.{ℕ, List}
-use Rattle.wc_model.specs.Text.Languages.{◌then◌}
-use Rattle.wc_model.specs.Text.Grammar.{InParentheses, lines, label_in, opening}
-use Rattle.wc_model.specs.Text.Positions.{openings_of}
+use Rattle.wc_examples_language.specs.{ident, end_of, after_eight_openings, empty_opening, inner_opening, opening_line}
 use Rattle.wc_examples_language.proofs.reading_faults.nine_parentheses.Goals as goal
 
 -- the tokens of a body up to these openings, innermost first, after that of line 3

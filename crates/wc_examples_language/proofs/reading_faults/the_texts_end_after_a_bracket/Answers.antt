@@ -1,12 +1,8 @@
 use Rattle.std.proofs.Common.{refl, inl, inr}
 use Rattle.std.specs.Prelude.{[], ◌∷◌, codes}
-use Rattle.wc_model.specs.Language.Tree.{End}
-use Rattle.wc_model.specs.Text.Marks.{LineEnd}
+use Rattle.wc_model.specs.Definitions.{End, LineEnd, unfinished, optional, ◌then◌, symbol, operand}
 use Rattle.wc_laws_grammar.proofs.Spelling.{spelling}
-use Rattle.wc_examples_language.specs.Texts.{ident, end_of, program_of}
-use Rattle.wc_examples_language.specs.Faulty.{short_opening}
-use Rattle.wc_model.specs.Text.Languages.{unfinished, optional, ◌then◌}
-use Rattle.wc_model.specs.Text.Grammar.{symbol, operand}
+use Rattle.wc_examples_language.specs.{ident, end_of, program_of, short_opening}
 use Rattle.wc_examples_language.proofs.reading_faults.the_texts_end_after_a_bracket.Goals as goal
 
 -- after the bracket an operand has still to come, or the end of the line

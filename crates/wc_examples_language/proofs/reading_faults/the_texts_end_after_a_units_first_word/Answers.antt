@@ -1,5 +1,4 @@
-use Rattle.std.proofs.Common.{refl, [], ◌∷◌}
-use Rattle.std.specs.Prelude.{codes}
+use Rattle.wc_model.proofs.Common.{refl, [], ◌∷◌, codes}
 use Rattle.wc_examples_language.proofs.reading_faults.the_texts_end_after_a_units_first_word.Goals as goal
 use Rattle.wc_examples_language.specs.Texts.{ident}
 use Rattle.wc_laws_grammar.proofs.FaultLaws.{raised_at_end}

@@ -1,8 +1,6 @@
-use Rattle.std.proofs.Common.{refl, [], ◌∷◌, ◌++◌}
-use Rattle.std.specs.Prelude.{codes}
+use Rattle.wc_model.proofs.Common.{refl, [], ◌∷◌, ◌++◌, codes}
 use Rattle.wc_examples_language.proofs.reading_faults.the_texts_end_after_an_operator.Goals as goal
-use Rattle.wc_examples_language.specs.Faulty.{loaded}
-use Rattle.wc_examples_language.specs.Texts.{ident}
+use Rattle.wc_examples_language.specs.{loaded, ident}
 use Rattle.wc_laws_grammar.proofs.FaultLaws.{raised_at_end}
 use Rattle.wc_model.specs.Text.ReadingFaults.{UnitNotClosed}
 

@@ -3,11 +3,7 @@ use Rattle.std.specs.Prelude.{drop}
 use Rattle.wc_laws_grammar.proofs.Languages.{cut_at}
 use Rattle.wc_laws_grammar.proofs.Spelling.{spelling}
 use Rattle.wc_examples_language.specs.Texts.{program_text, call_tokens, call_arguments}
-use Rattle.wc_model.specs.Text.Marks.{ClosingBracket, Comma, LineEnd, is_line_end}
-use Rattle.wc_model.specs.Text.Languages.{◌then◌, separated, skipping, empty}
-use Rattle.wc_model.specs.Text.Keywords.{end_word}
-use Rattle.wc_model.specs.Language.Tree.{End}
-use Rattle.wc_model.specs.Text.Grammar.{InBody, symbol, argument, identifier, lines, line_ends}
+use Rattle.wc_model.specs.Definitions.{ClosingBracket, Comma, LineEnd, is_line_end, ◌then◌, separated, skipping, empty, end_word, End, InBody, symbol, argument, identifier, lines, line_ends}
 use Rattle.wc_model.specs.declared.source.UnitKind.TheVariants.{Program}
 use Rattle.wc_examples_language.proofs.spelled.a_call_on_two_lines.Goals as goal
 

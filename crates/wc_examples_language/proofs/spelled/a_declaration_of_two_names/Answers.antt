@@ -3,11 +3,7 @@ use Rattle.std.specs.Prelude.{[], ◌∷◌, drop}
 use Rattle.wc_laws_grammar.proofs.Languages.{next, cut_at}
 use Rattle.wc_laws_grammar.proofs.Spelling.{spelling, one_unit, sections_by}
 use Rattle.wc_examples_language.specs.Texts.{program_text, body_then_end, declaration_tokens, declared_group, declaring_program}
-use Rattle.wc_model.specs.Text.Marks.{is_line_end}
-use Rattle.wc_model.specs.Text.Languages.{◌then◌, each, skipping, empty}
-use Rattle.wc_model.specs.Text.Keywords.{end_var}
-use Rattle.wc_model.specs.Language.Tree.{End}
-use Rattle.wc_model.specs.Text.Grammar.{declaration, identifier}
+use Rattle.wc_model.specs.Definitions.{is_line_end, ◌then◌, each, skipping, empty, end_var, End, declaration, identifier}
 use Rattle.wc_model.specs.declared.source.Section.TheVariants.{Own}
 use Rattle.wc_examples_language.proofs.spelled.a_declaration_of_two_names.Goals as goal
 

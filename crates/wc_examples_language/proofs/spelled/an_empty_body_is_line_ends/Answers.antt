@@ -1,7 +1,5 @@
 use Rattle.wc_laws_grammar.proofs.LineStarts.{lines_start}
-use Rattle.wc_model.specs.Language.Tree.{End}
-use Rattle.wc_model.specs.Text.Grammar.{InBody, identifier}
-use Rattle.wc_model.specs.Text.Keywords.{end_word}
+use Rattle.wc_model.specs.Definitions.{End, InBody, identifier, end_word}
 use Rattle.wc_examples_language.proofs.spelled.an_empty_body_is_line_ends.Goals as goal
 
 pub returns : goal.returns

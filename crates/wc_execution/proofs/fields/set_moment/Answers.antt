@@ -1,6 +1,5 @@
 -- The place is one of a moment, which is not ahead, and no other is written.
-use Rattle.std.proofs.Common.{pos, ap, sym, ◌∙◌, subst}
-use Rattle.std.specs.Prelude.{slice_set}
+use Rattle.wc_model.proofs.Common.{pos, ap, sym, ◌∙◌, subst, slice_set}
 use Rattle.wc_execution.proofs.Moments.{set_moment_keeps}
 use Rattle.wc_execution.proofs.SlotKinds.{moment_in_range, moment_is_wide, place_fits, place_there, wide_moment, writes_in_range}
 use Rattle.wc_execution.proofs.fields.set_moment.Goals as goal

@@ -1,6 +1,5 @@
 -- The place is one of a phase, and no other is written.
-use Rattle.std.proofs.Common.{pos, ap, ◌∙◌}
-use Rattle.std.specs.Prelude.{slice_set}
+use Rattle.wc_model.proofs.Common.{pos, ap, ◌∙◌, slice_set}
 use Rattle.wc_execution.proofs.SlotKinds.{moments_after, phase_in_range, place_fits, place_there, wide_fits, wide_is, writes_in_range}
 use Rattle.wc_execution.proofs.fields.set_phase.Goals as goal
 use Rattle.wc_model.specs.declared.kind.SlotKind.TheVariants as slots

@@ -1,7 +1,5 @@
 -- The place is one of a TIME, and no other is written.
-use Rattle.std.proofs.Common.{ap, w32, ◌∙◌}
-use Rattle.std.proofs.lemmas.Int.{to_z-of_z}
-use Rattle.std.specs.Prelude.{slice_set}
+use Rattle.wc_model.proofs.Common.{ap, w32, ◌∙◌, slice_set, to_z-of_z}
 use Rattle.wc_execution.proofs.SlotKinds.{moments_after, place_fits, place_there, wide_fits, wide_is, writes_in_range}
 use Rattle.wc_execution.proofs.fields.set_time.Goals as goal
 use Rattle.wc_model.specs.declared.kind.SlotKind.TheVariants as slots

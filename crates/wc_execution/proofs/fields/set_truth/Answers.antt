@@ -1,6 +1,5 @@
 -- The place is one of a BOOL, and no other is written.
-use Rattle.std.proofs.Common.{ap, ◌∙◌}
-use Rattle.std.specs.Prelude.{slice_set}
+use Rattle.wc_model.proofs.Common.{ap, ◌∙◌, slice_set}
 use Rattle.wc_execution.proofs.SlotKinds.{bit_in_range, byte_is, moments_after, place_fits, place_there, wide_bit, writes_in_range}
 use Rattle.wc_execution.proofs.fields.set_truth.Goals as goal
 use Rattle.wc_model.specs.Language.Frames.{bit_number}

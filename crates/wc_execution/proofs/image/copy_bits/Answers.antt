@@ -1,10 +1,8 @@
 -- One more bit is written.
-use Rattle.std.proofs.Common.{◌≡◌, ◌+◌, ◌<◌, length, length-append, ap, ◌∙◌, arith, rules}
-use Rattle.std.specs.Prelude.{slice_set}
+use Rattle.wc_model.proofs.Common.{◌≡◌, ◌+◌, ◌<◌, length, length-append, ap, ◌∙◌, arith, rules, slice_set}
 use Rattle.wc_execution.proofs.After.{next_written}
 use Rattle.wc_execution.proofs.image.copy_bits.Goals as goal
-use Rattle.wc_model.specs.Language.Frames.{bit_number}
-use Rattle.wc_model.specs.Language.Scans.{is_bit_set}
+use Rattle.wc_model.specs.Definitions.{bit_number, is_bit_set}
 
 pub loop-bit-preserved : goal.loop-bit-preserved
 loop-bit-preserved g c =

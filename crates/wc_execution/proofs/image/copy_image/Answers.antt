@@ -1,12 +1,8 @@
 -- The first 25 numbers are those of the image.
-use Rattle.std.proofs.Common.{◌≡◌, ◌+◌, ◌++◌, map, drop, refl, ap, sym, ◌∙◌, subst, arith, pos, true, zero-add}
-use Rattle.std.proofs.lemmas.List.{drop-drop}
-use Rattle.std.specs.Prelude.{slice_get, slice_index_or}
+use Rattle.wc_model.proofs.Common.{◌≡◌, ◌+◌, ◌++◌, map, drop, refl, ap, sym, ◌∙◌, subst, arith, pos, true, zero-add, slice_get, slice_index_or, drop-drop}
 use Rattle.wc_text_flat.specs.NumberBlocks.{is_slot}
 use Rattle.wc_execution.proofs.image.copy_image.Goals as goal
-use Rattle.wc_model.specs.Language.DirectVariables.{numbers_below}
-use Rattle.wc_model.specs.Language.Frames.{bit_number}
-use Rattle.wc_model.specs.Language.Scans.{is_bit_set}
+use Rattle.wc_model.specs.Definitions.{numbers_below, bit_number, is_bit_set}
 use Rattle.wc_model.specs.declared.kind.SlotKind.TheVariants as slots
 
 pub copy_bits-requires-clause-slots : goal.copy_bits-requires-clause-slots

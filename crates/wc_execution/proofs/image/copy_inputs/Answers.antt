@@ -1,16 +1,13 @@
 -- Four more bits are written.
-use Rattle.std.proofs.Common.{◌≡◌, ℕ, ℤ, ◌+◌, ◌*◌, ◌≤◌, ◌++◌, true, map, drop, length, sym, ap, ◌∙◌, subst, arith, zero-add}
-use Rattle.std.specs.Prelude.{slice_get}
+use Rattle.wc_model.proofs.Common.{◌≡◌, ℕ, ℤ, ◌+◌, ◌*◌, ◌≤◌, ◌++◌, true, map, drop, length, sym, ap, ◌∙◌, subst, arith, zero-add, slice_get}
 use Rattle.wc_execution.proofs.After.{next_four}
 use Rattle.wc_execution.proofs.Bits.{shifted_bit}
 use Rattle.wc_execution.proofs.image.copy_inputs.Goals as goal
 use Rattle.wc_text_flat.specs.NumberBlocks.{is_slot}
-use Rattle.wc_model.specs.Language.DirectVariables.{numbers_below}
-use Rattle.wc_model.specs.Language.Frames.{bit_number}
-use Rattle.wc_model.specs.Language.Scans.{is_bit_set}
+use Rattle.wc_model.specs.Definitions.{numbers_below, bit_number, is_bit_set}
 use Rattle.wc_model.specs.declared.kind.SlotKind.TheVariants as slots
-use Rattle.wc_store.proofs.Fours.{same_four}
-use Rattle.wc_store.specs.Slots.{with_four}
+use Rattle.wc_store.proofs.Ranges.{same_four}
+use Rattle.wc_store.specs.Inside.{with_four}
 
 pub copy_four-requires-clause-slots : goal.copy_four-requires-clause-slots
 copy_four-requires-clause-slots g c = λ i below.

@@ -2,9 +2,7 @@
 use Rattle.std.proofs.Common.{◌≡◌, ℕ, ◌*◌, ◌++◌, map, drop}
 use Rattle.wc_execution.proofs.image.copy_inputs.Given as goal
 use Rattle.wc_execution.specs.Lines.{AreBefore}
-use Rattle.wc_model.specs.Language.DirectVariables.{numbers_below}
-use Rattle.wc_model.specs.Language.Frames.{bit_number}
-use Rattle.wc_model.specs.Language.Scans.{is_bit_set}
+use Rattle.wc_model.specs.Definitions.{numbers_below, bit_number, is_bit_set}
 
 abbrev pub invariant-loop-four : goal.invariant-loop-four
 invariant-loop-four g l = record {

@@ -1,6 +1,5 @@
 -- One more weight is written.
-use Rattle.std.proofs.Common.{◌≡◌, ◌+◌, ◌<◌, length, length-append, ap, ◌∙◌, arith, rules, pos}
-use Rattle.std.specs.Prelude.{slice_set, slice_index_or}
+use Rattle.wc_model.proofs.Common.{◌≡◌, ◌+◌, ◌<◌, length, length-append, ap, ◌∙◌, arith, rules, pos, slice_set, slice_index_or}
 use Rattle.wc_execution.proofs.After.{next_written}
 use Rattle.wc_execution.proofs.image.copy_weights.Goals as goal
 

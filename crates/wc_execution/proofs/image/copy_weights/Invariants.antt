@@ -1,6 +1,5 @@
 -- The weights so far follow what was before them, and the rest is as it was.
-use Rattle.std.proofs.Common.{◌≡◌, ℕ, ℤ, pos, List, ◌++◌, map, drop, length}
-use Rattle.std.specs.Prelude.{slice_index_or}
+use Rattle.wc_model.proofs.Common.{◌≡◌, ℕ, ℤ, pos, List, ◌++◌, map, drop, length, slice_index_or}
 use Rattle.wc_execution.proofs.image.copy_weights.Given as goal
 use Rattle.wc_execution.specs.Lines.{AreBefore}
 use Rattle.wc_model.specs.Language.DirectVariables.{numbers_below}

@@ -1,7 +1,6 @@
 -- Sums and differences wrap, and a quotient is in 32 bits.
 use Rattle.std.proofs.Common.{rules, FitsSigned, w32, Some, IsSome, ap, sym, ◌∙◌, ◌-ℤ◌, ◌*ℤ◌, int_rem, subst}
-use Rattle.std.proofs.lemmas.Int.{to_z-of_z, wrapping_add_is, wrapping_sub_is}
-use Rattle.std.specs.Int.{int_wrapping_div}
+use Rattle.wc_model.proofs.Common.{to_z-of_z, wrapping_add_is, wrapping_sub_is, int_wrapping_div}
 use Rattle.wc_text_flat.specs.NumberOperators.{combined}
 use Rattle.wc_execution.proofs.Quotients.{from_quotient_is, left_is, of_bits, quotient_wraps}
 use Rattle.wc_execution.proofs.operators.counted.Goals as goal

@@ -1,6 +1,5 @@
 -- The bits so far, and no higher ones.
-use Rattle.std.proofs.Common.{◌≡◌, ℕ, ◌+◌, ◌<◌, ◌*◌, ◌^◌, Some, map, sum, pos}
-use Rattle.std.specs.Prelude.{slice_get}
+use Rattle.wc_model.proofs.Common.{◌≡◌, ℕ, ◌+◌, ◌<◌, ◌*◌, ◌^◌, Some, map, sum, pos, slice_get}
 use Rattle.wc_execution.proofs.outputs.bits.Given as goal
 use Rattle.wc_model.specs.Language.DirectVariables.{numbers_below}
 

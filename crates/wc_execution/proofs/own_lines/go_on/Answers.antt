@@ -1,7 +1,6 @@
 -- What each line that goes on does to the numbers is what its function does.
-use Rattle.std.proofs.Common.{w32, rules, refl, ◌∙◌}
+use Rattle.wc_model.proofs.Common.{w32, rules, refl, ◌∙◌, to_z-of_z}
 use Rattle.std.proofs.Math.Dec.{lit<}
-use Rattle.std.proofs.lemmas.Int.{to_z-of_z}
 use Rattle.wc_execution.proofs.BlockFields.{narrow_same}
 use Rattle.wc_execution.proofs.LineParts.{open_place_leaves, open_place_space, apply_number_leaves, apply_place_there, apply_there, close_leaves, close_there, flip_leaves, flip_there, open_place_there, read_there, load_there, put_there, pass_there, write_there, load_leaves, put_leaves, pass_leaves, write_leaves, apply_leaves}
 use Rattle.wc_execution.proofs.own_lines.go_on.Goals as goal

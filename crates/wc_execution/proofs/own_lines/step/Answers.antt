@@ -1,7 +1,6 @@
 -- What each line does to the numbers is what its function does.
-use Rattle.std.proofs.Common.{w32, rules, refl, subst, ◌∙◌}
+use Rattle.wc_model.proofs.Common.{w32, rules, refl, subst, ◌∙◌, to_z-of_z}
 use Rattle.std.proofs.Math.Dec.{lit<}
-use Rattle.std.proofs.lemmas.Int.{to_z-of_z}
 use Rattle.wc_execution.proofs.LineParts.{conditional_leaves, jump_leaves, load_number_leaves, open_leaves, open_number_leaves, return_leaves, conditional_there, jump_there, open_number_space, open_space, return_there, block_fits, block_there, call_leaves}
 use Rattle.wc_execution.proofs.own_lines.step.Goals as goal
 use Rattle.wc_execution.specs.Courses.{IsOwn}

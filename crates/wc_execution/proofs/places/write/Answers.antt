@@ -1,13 +1,11 @@
 -- The number is in the range of the place, and the moments stay.
-use Rattle.std.proofs.Common.{◌+◌, Some, w32, ap, sym, ◌∙◌, subst}
-use Rattle.std.proofs.lemmas.Int.{to_z-of_z}
-use Rattle.std.specs.Prelude.{slice_set}
+use Rattle.wc_model.proofs.Common.{◌+◌, Some, w32, ap, sym, ◌∙◌, subst, slice_set, to_z-of_z}
 use Rattle.wc_execution.proofs.Moments.{written_keeps}
 use Rattle.wc_execution.proofs.NamedPlaces.{write_below, write_is, write_place, write_range, write_within}
 use Rattle.wc_execution.proofs.SlotKinds.{wide_fits, wide_is}
 use Rattle.wc_execution.proofs.places.write.Goals as goal
 use Rattle.wc_execution.specs.Lines.{AreBefore}
-use Rattle.wc_store.specs.Slots.{IsInRangeAt}
+use Rattle.wc_store.specs.Inside.{IsInRangeAt}
 
 pub overflow_add-base : goal.overflow_add-base
 overflow_add-base g c =

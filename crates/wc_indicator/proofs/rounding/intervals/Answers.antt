@@ -1,5 +1,4 @@
-use Rattle.std.proofs.Common.{◌≡◌, ◌*◌, ap, ◌∙◌, arith, to_z, of_z, w32}
-use Rattle.std.proofs.lemmas.Int.{ints}
+use Rattle.wc_model.proofs.Common.{◌≡◌, ◌*◌, ap, ◌∙◌, arith, to_z, of_z, w32, ints}
 use Rattle.std.specs.Prelude.{pos, ◌<ℤ◌, unsigned_abs}
 use Rattle.wc_model.specs.Instrument.Rounding.{nearest_above_zero}
 use borrow.Author.Differences.{neg_is}

@@ -1,6 +1,5 @@
-use Rattle.std.proofs.Common.{◌≡◌}
+use Rattle.wc_model.proofs.Common.{◌≡◌, int_max, int_min}
 use Rattle.std.specs.Prelude.{fold}
-use Rattle.std.specs.Int.{int_max, int_min}
 use Rattle.wc_indicator.proofs.spread.spread.Given as goal
 
 -- with the samples that are left, the greatest and the least so far come to those of all

@@ -1,5 +1,4 @@
-use Rattle.std.proofs.Common.{◌≡◌, ◌≤◌, ◌+◌, ◌-◌, length}
-use Rattle.std.specs.Io.KnownBytes.{Consumes}
+use Rattle.wc_model.proofs.Common.{◌≡◌, ◌≤◌, ◌+◌, ◌-◌, length, Consumes}
 use Rattle.wc_job.proofs.reading.read_whole.Given as goal
 use Rattle.wc_model.specs.Run.JobSections.{longest_job}
 

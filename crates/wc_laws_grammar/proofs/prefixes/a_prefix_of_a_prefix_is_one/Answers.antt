@@ -1,6 +1,5 @@
-use Rattle.wc_model.specs.Language.Tree.{Text}
-use Rattle.wc_model.specs.Text.Grammar.{Spells}
-use Rattle.wc_laws_grammar.proofs.PrefixLaws.{prefix_of_prefix}
+use Rattle.wc_model.specs.Definitions.{Text, Spells}
+use Rattle.wc_laws_grammar.proofs.FirstFaults.{prefix_of_prefix}
 use Rattle.wc_laws_grammar.proofs.prefixes.a_prefix_of_a_prefix_is_one.Goals as goal
 
 pub returns : goal.returns

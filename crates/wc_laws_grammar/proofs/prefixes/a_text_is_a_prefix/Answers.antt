@@ -1,6 +1,5 @@
-use Rattle.wc_model.specs.Language.Tree.{Text}
-use Rattle.wc_model.specs.Text.Grammar.{Spells}
-use Rattle.wc_laws_grammar.proofs.PrefixLaws.{whole_is_prefix}
+use Rattle.wc_model.specs.Definitions.{Text, Spells}
+use Rattle.wc_laws_grammar.proofs.FirstFaults.{whole_is_prefix}
 use Rattle.wc_laws_grammar.proofs.prefixes.a_text_is_a_prefix.Goals as goal
 
 pub returns : goal.returns

@@ -1,8 +1,5 @@
 use Rattle.std.proofs.Common.{◌≡◌, ℕ, List, [], ◌∷◌, ◌++◌, ◌∙◌, sym, append_assoc}
-use Rattle.wc_model.specs.Language.Tree.{Text}
-use Rattle.wc_model.specs.Text.Marks.{Mark}
-use Rattle.wc_model.specs.Text.Grammar.{Spells}
-use Rattle.wc_model.specs.Text.ReadingFaults.{UnexpectedToken, IsRaised}
+use Rattle.wc_model.specs.Definitions.{Text, Mark, Spells, UnexpectedToken, IsRaised}
 use Rattle.wc_laws_grammar.proofs.prefixes.an_unexpected_token_spells_nothing.Goals as goal
 
 -- the token that is found, and the tokens before it, begin the text

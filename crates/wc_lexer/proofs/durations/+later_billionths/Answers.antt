@@ -1,10 +1,7 @@
-use Rattle.std.proofs.Common.{arith, ◌∙◌, ◌+◌, None, ap, subst, sym}
-use Rattle.std.specs.Prelude.{option_and_then}
-use Rattle.std.proofs.lemmas.Grind.{common_steps}
+use Rattle.wc_model.proofs.Common.{arith, ◌∙◌, ◌+◌, None, ap, subst, sym, option_and_then, common_steps}
 use Rattle.wc_lexer.proofs.PartSums.{text_later}
 use Rattle.wc_lexer.proofs.durations.+later_billionths.Goals as goal
-use Rattle.wc_lexer.specs.Parts.{IsParsedPart}
-use Rattle.wc_lexer.specs.Widths.{within_64_bits}
+use Rattle.wc_lexer.specs.Numbers.{IsParsedPart, within_64_bits}
 use Rattle.wc_laws_grammar.proofs.DurationParts.{part}
 
 pub returns : goal.returns

@@ -2,7 +2,7 @@ use Rattle.std.proofs.Common.{◌*◌, ◌+◌, ◌^◌, ◌∙◌, ap, sym}
 use Rattle.wc_lexer.proofs.Fractions.{is_narrow, wide_product}
 use Rattle.wc_lexer.proofs.PartSums.{wide_whole}
 use Rattle.wc_lexer.proofs.durations.billionths.Goals as goal
-use Rattle.wc_lexer.specs.Widths.{within_64_bits}
+use Rattle.wc_lexer.specs.Numbers.{within_64_bits}
 
 pub returns-in_err-number : goal.returns-in_err-number
 returns-in_err-number c =

@@ -1,6 +1,5 @@
 use Rattle.std.proofs.Common.{◌∙◌, ◌+◌, ◌≤◌, ap, arith, length, length-drop}
-use Rattle.std.specs.Char.{is_ascii_alphabetic}
-use Rattle.std.specs.List.{prefix_len}
+use Rattle.wc_model.proofs.Common.{is_ascii_alphabetic, prefix_len}
 use Rattle.wc_lexer.proofs.FirstParts.{takes_some, first_cut}
 use Rattle.wc_lexer.proofs.durations.first_part.Goals as goal
 

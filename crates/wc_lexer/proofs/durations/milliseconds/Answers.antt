@@ -1,8 +1,7 @@
-use Rattle.std.proofs.Common.{arith, subst}
-use Rattle.std.proofs.lemmas.Grind.{common_steps}
+use Rattle.wc_model.proofs.Common.{arith, subst, common_steps}
 use Rattle.wc_lexer.proofs.PartSums.{no_milliseconds}
 use Rattle.wc_lexer.proofs.durations.milliseconds.Goals as goal
-use Rattle.wc_lexer.specs.Parts.{IsParsedSum}
+use Rattle.wc_lexer.specs.Numbers.{IsParsedSum}
 use Rattle.wc_model.specs.Text.Durations.{are_duration_parts, billionths, duration_parts}
 
 pub returns-in_err-sum : goal.returns-in_err-sum

@@ -1,7 +1,7 @@
 use Rattle.std.proofs.Common.{ap, sym, ◌∙◌, ◌≤◌, ℕ, IfSome, None, Some, option_map, refl, subst}
 use Rattle.std.specs.List.{list_any}
 use Rattle.wc_lexer.proofs.PartSums.{part_parsed, whole_parsed}
-use Rattle.wc_lexer.specs.Parts.{parsed_fraction, part_by}
+use Rattle.wc_lexer.specs.Numbers.{parsed_fraction, part_by}
 use Rattle.wc_lexer.specs.declared.durations.ParsedPart.{ParsedPart}
 use Rattle.wc_model.specs.Text.Characters.{is_point}
 use Rattle.wc_lexer.proofs.durations.parse_duration_part.Goals as goal

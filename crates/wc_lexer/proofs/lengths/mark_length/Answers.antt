@@ -1,5 +1,4 @@
-use Rattle.std.proofs.Common.{arith}
-use Rattle.std.proofs.lemmas.Grind.{common_steps}
+use Rattle.wc_model.proofs.Common.{arith, common_steps}
 use Rattle.wc_lexer.proofs.lengths.mark_length.Goals as goal
 
 pub returns-in-len2-up-clause-longest : goal.returns-in-len2-up-clause-longest

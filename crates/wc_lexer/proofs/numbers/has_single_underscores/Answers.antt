@@ -1,5 +1,4 @@
-use Rattle.std.proofs.Common.{arith}
-use Rattle.std.proofs.lemmas.Grind.{common_steps}
+use Rattle.wc_model.proofs.Common.{arith, common_steps}
 use Rattle.wc_lexer.proofs.numbers.has_single_underscores.Goals as goal
 
 pub returns-then-not-matches : goal.returns-then-not-matches

@@ -1,8 +1,7 @@
 use Rattle.std.proofs.Common.{◌≡◌, ◌<◌, ◌^◌, length, filter, not}
 use Rattle.std.specs.Str.Parse.{digits_value_after}
 use Rattle.wc_lexer.proofs.numbers.value_of_digits.Given as goal
-use Rattle.wc_model.specs.Text.Characters.{is_underscore}
-use Rattle.wc_model.specs.Text.Digits.{value_of_digits}
+use Rattle.wc_model.specs.Definitions.{is_underscore, value_of_digits}
 
 abbrev pub invariant-loop-rest : goal.invariant-loop-rest
 invariant-loop-rest l = record {

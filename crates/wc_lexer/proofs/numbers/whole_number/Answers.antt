@@ -1,4 +1,4 @@
-use Rattle.wc_lexer.proofs.Wholes.{whole_minus, whole_plus, whole_unsigned}
+use Rattle.wc_lexer.proofs.Widths.{whole_minus, whole_plus, whole_unsigned}
 use Rattle.wc_lexer.proofs.numbers.whole_number.Goals as goal
 use Rattle.std.proofs.Common.{sym, ◌∙◌}
 

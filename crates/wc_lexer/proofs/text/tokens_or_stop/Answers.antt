@@ -3,11 +3,10 @@ use Rattle.wc_lexer.proofs.Feeds.{IsStep, space_feeds, step_feeds, token_feeds}
 use Rattle.wc_lexer.proofs.Steps.{counted_on, cut_at_end, fault_here, going_on, going_with, pass_is_filled, memory_here, take_is_filled, Going}
 use Rattle.wc_lexer.proofs.text.tokens_or_stop.Goals as goal
 use Rattle.wc_lexer.proofs.text.tokens_or_stop.Goals.{in-Space, in-Comment, in-Lexeme+else-is_err}
-use Rattle.wc_lexer.specs.Sights.{IsWithin, sight_of}
+use Rattle.wc_lexer.specs.Views.{IsWithin, sight_of, shape_view, token_view}
 use Rattle.std.proofs.lemmas.List.{map-append}
 use Rattle.wc_lexer.specs.declared.shape.Token.{Token}
 use Rattle.wc_lexer.specs.Spans.{NoSlice, stuck_length}
-use Rattle.wc_lexer.specs.Views.{shape_view, token_view}
 use Rattle.wc_model.specs.Text.Characters.{is_line_feed}
 
 pub returns-then-text-gt-MOST_BYTES-clause-stopped : goal.returns-then-text-gt-MOST_BYTES-clause-stopped

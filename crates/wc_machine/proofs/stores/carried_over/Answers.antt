@@ -1,16 +1,13 @@
 -- One more place is carried over, or begins with its first number.
-use Rattle.std.proofs.Common.{◌≡◌, ◌+◌, ◌<◌, List, Option, length, option_map, refl, sym, ap, ◌∙◌, subst, arith, rules, to_z, of_z, w64}
-use Rattle.std.proofs.lemmas.List.{length-map}
+use Rattle.wc_model.proofs.Common.{◌≡◌, ◌+◌, ◌<◌, List, Option, length, option_map, refl, sym, ap, ◌∙◌, subst, arith, rules, to_z, of_z, w64, IfSome, slice_get, slice_set, length-map}
 use Rattle.wc_machine.proofs.Carrying.{AreCarriedTo, carried_within, first_stays, moment_carried, none_carried, one_carried}
 use Rattle.wc_machine.proofs.stores.carried_over.Goals as goal
 use Rattle.wc_machine.proofs.stores.carried_over.Goals.{in-Some, in_default}
 use Rattle.wc_execution.specs.Lines.{AreBefore}
-use Rattle.wc_model.specs.Language.Frames.{IsInRange, slot_kind_of, slot_kinds}
-use Rattle.wc_model.specs.Language.Views.{text_view}
+use Rattle.wc_model.specs.Definitions.{IsInRange, slot_kind_of, slot_kinds, text_view}
 use Rattle.wc_model.specs.declared.kind.SlotKind.{SlotKind}
-use Rattle.wc_store.specs.Slots.{IsInRangeAt}
+use Rattle.wc_store.specs.Inside.{IsInRangeAt}
 use Rattle.wc_text_flat.specs.Contents.{frame_of_text}
-use Rattle.std.specs.Prelude.{IfSome, slice_get, slice_set}
 
 pub loop-at-init : goal.loop-at-init
 loop-at-init g c = record {

@@ -1,12 +1,11 @@
 -- One more first number is written.
-use Rattle.std.proofs.Common.{◌≡◌, ◌<◌, length, get_or, pos, sym, ap, ◌∙◌, subst, arith, rules, to_z, of_z, w64}
-use Rattle.std.specs.Prelude.{slice_set}
+use Rattle.wc_model.proofs.Common.{◌≡◌, ◌<◌, length, get_or, pos, sym, ap, ◌∙◌, subst, arith, rules, to_z, of_z, w64, slice_set}
 use Rattle.wc_execution.proofs.After.{next_over}
 use Rattle.wc_machine.proofs.FirstNumbers.{FirstAt, first_at, first_count, first_fits, first_keeps}
 use Rattle.wc_machine.proofs.stores.filled.Goals as goal
 use Rattle.wc_execution.specs.Lines.{AreBefore}
 use Rattle.wc_store.proofs.Ranges.{in_range_has_64_bits}
-use Rattle.wc_store.specs.Slots.{IsInRangeAt}
+use Rattle.wc_store.specs.Inside.{IsInRangeAt}
 
 pub set_at-requires-clause-place : goal.set_at-requires-clause-place
 set_at-requires-clause-place g c =

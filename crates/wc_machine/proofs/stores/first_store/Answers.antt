@@ -1,7 +1,5 @@
 -- A store of zeros is filled, and a zero is no moment that is ahead.
-use Rattle.std.proofs.Common.{◌≡◌, ◌≤◌, ℕ, zero, suc, length, replicate, pos, Some, sym, ap, ◌∙◌, subst, arith}
-use Rattle.std.proofs.lemmas.List.{length-replicate}
-use Rattle.std.specs.Prelude.{slice_get}
+use Rattle.wc_model.proofs.Common.{◌≡◌, ◌≤◌, ℕ, zero, suc, length, replicate, pos, Some, sym, ap, ◌∙◌, subst, arith, slice_get, length-replicate}
 use Rattle.wc_execution.specs.Lines.{AreBefore}
 use Rattle.wc_laws_language.specs.FirstNumbers.{AreFirst}
 use Rattle.wc_machine.proofs.stores.first_store.Goals as goal

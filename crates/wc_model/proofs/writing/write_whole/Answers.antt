@@ -1,7 +1,5 @@
 use Rattle.std.proofs.Common.{◌≡◌, ◌-◌, ℕ, List, ap, subst, sym, take, drop, length, ◌∙◌, arith, length-drop}
-use Rattle.std.proofs.Math.Seq.{take-add, take-length}
-use Rattle.std.proofs.KnownBytes.{Appends-trans}
-use Rattle.std.specs.Io.KnownBytes.{Appends}
+use Rattle.wc_model.proofs.Common.{take-add, take-length, Appends-trans, Appends}
 use Rattle.wc_model.proofs.writing.write_whole.Goals as goal
 
 -- what is from a place on is all that is left there

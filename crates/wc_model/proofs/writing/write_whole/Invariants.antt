@@ -1,5 +1,4 @@
-use Rattle.std.proofs.Common.{◌≡◌, ◌≤◌, ◌-◌, length, take}
-use Rattle.std.specs.Io.KnownBytes.{Appends}
+use Rattle.wc_model.proofs.Common.{◌≡◌, ◌≤◌, ◌-◌, length, take, Appends}
 use Rattle.wc_model.proofs.writing.write_whole.Given as goal
 
 -- a prefix of the text is taken, and no call has failed

@@ -1,11 +1,6 @@
-use Rattle.std.proofs.Common.{◌≡◌, ◌+◌, ◌-◌, List, ◌∷◌, Some, refl, ap, sym, subst, ◌∙◌, arith}
-use Rattle.std.specs.Prelude.{slice_get}
-use Rattle.std.proofs.lemmas.Grind.{common_steps}
-use Rattle.wc_model.specs.Language.Declarations.{type_named}
-use Rattle.wc_model.specs.Language.Names.{Name, name_of}
-use Rattle.wc_model.specs.Language.Store.{Content, unit_places}
-use Rattle.wc_names.specs.Carrying.{field_within, kept_from}
-use Rattle.wc_names.specs.RepresentsText.{IsTableOf, first_place}
+use Rattle.wc_model.proofs.Common.{◌≡◌, ◌+◌, ◌-◌, List, ◌∷◌, Some, refl, ap, sym, subst, ◌∙◌, arith, slice_get, common_steps}
+use Rattle.wc_model.specs.Definitions.{type_named, Name, name_of, Content, unit_places}
+use Rattle.wc_names.specs.{field_within, kept_from, IsTableOf, first_place}
 use Rattle.wc_names.specs.declared.declared_type.DeclaredType.TheVariants as numbered
 use Rattle.wc_names.proofs.KeptPlaces.{block_kept, field_kept, in_block, kept_nowhere, meets, plain_kept, unlike_block}
 use Rattle.wc_names.proofs.Lists.{same_found}

@@ -1,6 +1,5 @@
 use Rattle.std.proofs.Common.{leb, leb-true, arith, rules}
-use Rattle.std.proofs.lemmas.Bool.{leb-false}
-use Rattle.std.proofs.lemmas.List.Sorted.{IsPartitionPoint-from_clause, IsPartitionedBy-leb}
+use Rattle.wc_model.proofs.Common.{leb-false, IsPartitionPoint-from_clause, IsPartitionedBy-leb}
 use Rattle.wc_names.specs.declared.variable.Variable.{Variable as Row}
 use Rattle.wc_names.proofs.carry.count_at_or_before.Goals as goal
 

@@ -1,8 +1,5 @@
-use Rattle.std.proofs.Common.{◌<◌, ◌≤◌, List, length, option_map, arith, ap, sym, subst, ◌∙◌}
-use Rattle.std.specs.List.Sorted.{IsNonDecreasingBy}
-use Rattle.std.specs.Prelude.{slice_get, slice_index_or}
-use Rattle.wc_model.specs.Language.Declarations.{variables_of}
-use Rattle.wc_model.specs.Language.Names.{Name, name_of}
+use Rattle.wc_model.proofs.Common.{◌<◌, ◌≤◌, List, length, option_map, arith, ap, sym, subst, ◌∙◌, slice_get, slice_index_or, IsNonDecreasingBy}
+use Rattle.wc_model.specs.Definitions.{variables_of, Name, name_of}
 use Rattle.wc_names.specs.RepresentsText.{first_place}
 use Rattle.wc_names.specs.declared.variable.Variable.{Variable as Row}
 use Rattle.wc_names.proofs.Lists.{got_some}

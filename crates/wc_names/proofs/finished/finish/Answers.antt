@@ -1,5 +1,5 @@
 use Rattle.std.proofs.Common.{rules, ◌≡◌, ◌∷◌, [], ◌++◌, sym, subst}
-use Rattle.wc_names.specs.Slots.{AreFinished, EachHoldsFirst}
+use Rattle.wc_names.specs.Carrying.{AreFinished, EachHoldsFirst}
 use Rattle.wc_names.proofs.Spread.{first_on, finished_on}
 use Rattle.wc_names.proofs.finished.finish.Goals as goal
 

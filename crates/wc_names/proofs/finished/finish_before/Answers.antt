@@ -1,5 +1,5 @@
 use Rattle.std.proofs.Common.{◌≡◌, subst, arith}
-use Rattle.wc_names.specs.Slots.{AreFinished}
+use Rattle.wc_names.specs.Carrying.{AreFinished}
 use Rattle.wc_names.proofs.Spread.{none_finished, none_first}
 use Rattle.wc_names.proofs.finished.finish_before.Goals as goal
 

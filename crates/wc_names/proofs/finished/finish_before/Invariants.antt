@@ -1,4 +1,4 @@
-use Rattle.wc_names.specs.Slots.{AreFinished, EachHoldsFirst}
+use Rattle.wc_names.specs.Carrying.{AreFinished, EachHoldsFirst}
 use Rattle.wc_names.proofs.finished.finish_before.Given as goal
 
 -- the slots of the units before this one are finished

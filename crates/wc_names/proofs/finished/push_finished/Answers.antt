@@ -1,5 +1,4 @@
-use Rattle.std.proofs.Common.{◌≡◌, ◌++◌, ◌∙◌, Some, ap, refl}
-use Rattle.std.specs.Prelude.{slice_get}
+use Rattle.wc_model.proofs.Common.{◌≡◌, ◌++◌, ◌∙◌, Some, ap, refl, slice_get}
 use Rattle.wc_names.specs.declared.frame.Frame.{Frame}
 use Rattle.wc_names.proofs.HandedOn.{on_ok}
 use Rattle.wc_names.proofs.Lists.{same_found}

@@ -1,7 +1,6 @@
-use Rattle.std.proofs.Common.{◌≡◌, ◌++◌, ◌∷◌, ◌∙◌, [], Some, ap, arith, of_z, refl, subst, sym, to_z, w64}
-use Rattle.std.proofs.lemmas.Int.{ints}
+use Rattle.wc_model.proofs.Common.{◌≡◌, ◌++◌, ◌∷◌, ◌∙◌, [], Some, ap, arith, of_z, refl, subst, sym, to_z, w64, ints}
 use Rattle.wc_laws_language.specs.FirstNumbers.{IsFirst}
-use Rattle.wc_names.specs.Slots.{IsGrown}
+use Rattle.wc_names.specs.Carrying.{IsGrown}
 use Rattle.wc_names.proofs.HandedOn.{both_ok, on_ok}
 use Rattle.wc_names.proofs.Spread.{finished_more, held_block, held_elementary, held_standard}
 use Rattle.wc_names.proofs.finished.push_row.Goals as goal

@@ -1,6 +1,5 @@
-use Rattle.std.proofs.Common.{◌≡◌, [], drop, refl, subst}
-use Rattle.std.proofs.lemmas.List.{drop_all}
-use Rattle.wc_names.specs.Slots.{AreFinished, contents_of}
+use Rattle.wc_model.proofs.Common.{◌≡◌, [], drop, refl, subst, drop_all}
+use Rattle.wc_names.specs.Carrying.{AreFinished, contents_of}
 use Rattle.wc_names.proofs.Frames.{own_places}
 use Rattle.wc_names.proofs.Spread.{SpreadsOn, spreads_at, spreads_end}
 use Rattle.wc_names.proofs.finished.push_unit.Goals as goal

@@ -1,7 +1,6 @@
 use Rattle.std.proofs.Common.{◌≡◌, List, drop, length}
 use Rattle.wc_model.specs.Language.Tree.{ProgramUnit}
-use Rattle.wc_names.specs.Slots.{AreFinished, EachHoldsFirst, HoldsFirst}
-use Rattle.wc_names.specs.RepresentsText.{Represents}
+use Rattle.wc_names.specs.{AreFinished, EachHoldsFirst, HoldsFirst, Represents}
 use Rattle.wc_names.proofs.Spread.{SpreadsOn}
 use Rattle.wc_names.proofs.finished.push_unit.Given as goal
 

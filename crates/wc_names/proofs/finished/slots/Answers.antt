@@ -1,5 +1,5 @@
 use Rattle.std.proofs.Common.{sym, subst}
-use Rattle.wc_names.specs.Slots.{AreFinished, IsStarted}
+use Rattle.wc_names.specs.Carrying.{AreFinished, IsStarted}
 use Rattle.wc_names.proofs.Spread.{frame_spread}
 use Rattle.wc_names.proofs.finished.slots.Goals as goal
 

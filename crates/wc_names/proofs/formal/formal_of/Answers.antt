@@ -1,6 +1,5 @@
 use Rattle.std.proofs.Common.{None, Some, option_map, ap, sym, ◌∙◌}
-use Rattle.wc_model.specs.Language.Declarations.{member_named, members_of}
-use Rattle.wc_model.specs.Language.Names.{name_of}
+use Rattle.wc_model.specs.Definitions.{member_named, members_of, name_of}
 use Rattle.wc_names.specs.Members.{found_seen}
 use Rattle.wc_names.proofs.Formals.{input_by, member_spelled, no_input, no_kind, no_member}
 use Rattle.wc_names.proofs.formal.formal_of.Goals as goal

@@ -1,9 +1,6 @@
-use Rattle.std.proofs.Common.{◌≡◌, ◌+◌, ◌++◌, get_or, ◌∷◌, [], drop, map, ap, refl, sym, ◌∙◌, ℤ}
+use Rattle.wc_model.proofs.Common.{◌≡◌, ◌+◌, ◌++◌, get_or, ◌∷◌, [], drop, map, ap, refl, sym, ◌∙◌, ℤ, map-map}
 use Rattle.std.proofs.lemmas.List.{append-nil, drop_all}
-use Rattle.std.proofs.lemmas.Simd.{map-map}
-use Rattle.wc_model.specs.Language.Frames.{content_number, slot_kind_of}
-use Rattle.wc_model.specs.Language.Names.{Name}
-use Rattle.wc_model.specs.Language.Store.{Content, standard_fields}
+use Rattle.wc_model.specs.Definitions.{content_number, slot_kind_of, Name, Content, standard_fields}
 use Rattle.wc_built_in.specs.Fields.{field_content, zero_content}
 use Rattle.wc_model.specs.declared.kind.SlotKind.{SlotKind}
 use Rattle.wc_built_in.specs.declared.fields.StandardField.{StandardField}

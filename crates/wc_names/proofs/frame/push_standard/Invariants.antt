@@ -1,7 +1,7 @@
 use Rattle.std.proofs.Common.{◌≡◌, ◌++◌, drop, map}
 use Rattle.wc_model.specs.Language.Frames.{content_number, slot_kind_of}
 use Rattle.wc_built_in.specs.Fields.{zero_content}
-use Rattle.wc_names.specs.Slots.{HoldsFirst}
+use Rattle.wc_names.specs.Carrying.{HoldsFirst}
 use Rattle.wc_names.proofs.frame.push_standard.Given as goal
 
 -- with the fields that are left all are added, and each slot may hold its number

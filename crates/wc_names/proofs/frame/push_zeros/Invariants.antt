@@ -1,6 +1,6 @@
 use Rattle.std.proofs.Common.{◌≡◌, ◌++◌, drop, length}
 use Rattle.std.specs.Prelude.{pos, replicate}
-use Rattle.wc_names.specs.Slots.{HoldsFirst}
+use Rattle.wc_names.specs.Carrying.{HoldsFirst}
 use Rattle.wc_names.proofs.frame.push_zeros.Given as goal
 
 -- with the kinds that are left all are added, and each slot may hold its number

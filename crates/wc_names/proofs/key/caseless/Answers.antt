@@ -1,7 +1,4 @@
-use Rattle.std.proofs.Common.{◌≡◌, ℕ, Bool, true, refl, bit_or, nat_eq, arith}
-use Rattle.std.proofs.lemmas.Bool.{eqb-true}
-use Rattle.std.specs.Char.{to_ascii_lowercase}
-use Rattle.std.specs.List.{list_all}
+use Rattle.wc_model.proofs.Common.{◌≡◌, ℕ, Bool, true, refl, bit_or, nat_eq, arith, eqb-true, to_ascii_lowercase, list_all}
 use Rattle.wc_model.specs.Language.DirectVariables.{numbers_below}
 use Rattle.wc_names.specs.Keys.{caseless}
 use Rattle.wc_built_in.proofs.Below.{each_below}

@@ -1,7 +1,6 @@
-use Rattle.std.proofs.Common.{[], ◌∷◌, map, sym, ap, ◌∙◌, arith, w64}
-use Rattle.std.specs.Int.{from_le_bytes}
+use Rattle.wc_model.proofs.Common.{[], ◌∷◌, map, sym, ap, ◌∙◌, arith, w64, from_le_bytes}
 use Rattle.wc_names.specs.Keys.{caseless}
-use Rattle.wc_names.proofs.KeyWords.{eight, small_eight}
+use Rattle.wc_names.proofs.KeyNames.{eight, small_eight}
 use Rattle.wc_names.proofs.key.first_word.Goals as goal
 
 pub returns-in_default : goal.returns-in_default

@@ -1,9 +1,7 @@
-use Rattle.std.proofs.Common.{◌≡◌, ◌+◌, ◌-◌, ◌<◌, ◌≤◌, [], length, get_or, take, drop, sym, ap, ◌∙◌, arith}
-use Rattle.std.proofs.lemmas.List.{drop_all, drop-drop, drop-map, length-drop, length-map, take_rest}
-use Rattle.std.specs.Char.{to_ascii_lowercase}
+use Rattle.wc_model.proofs.Common.{◌≡◌, ◌+◌, ◌-◌, ◌<◌, ◌≤◌, [], length, get_or, take, drop, sym, ap, ◌∙◌, arith, drop_all, drop-drop, drop-map, length-drop, length-map, take_rest, to_ascii_lowercase}
 use Rattle.wc_model.specs.Language.Names.{name_of}
 use Rattle.wc_names.specs.Keys.{caseless, mix, number_after, word_of}
-use Rattle.wc_names.proofs.KeyWords.{byte_next, word_next}
+use Rattle.wc_names.proofs.KeyNames.{byte_next, word_next}
 use Rattle.wc_names.proofs.Lists.{from_index_or}
 use Rattle.wc_names.proofs.key.name_number.Goals as goal
 

@@ -1,7 +1,5 @@
-use Rattle.std.proofs.Common.{map, Some, ap, sym, ◌∙◌}
-use Rattle.std.specs.Prelude.{slice_get}
-use Rattle.wc_model.specs.Language.Names.{name_of}
-use Rattle.wc_model.specs.Language.Declarations.{variables_of}
+use Rattle.wc_model.proofs.Common.{map, Some, ap, sym, ◌∙◌, slice_get}
+use Rattle.wc_model.specs.Definitions.{name_of, variables_of}
 use Rattle.wc_names.specs.RepresentsText.{first_place}
 use Rattle.wc_names.proofs.Lookups.{empty_list, from_nothing, from_row, has_capacity, named_rows, no_name, place_from, within_block, within_elementary, within_standard}
 use Rattle.wc_names.proofs.Frames.{own_places}

@@ -1,7 +1,6 @@
 use Rattle.std.proofs.Common.{ap, ◌∙◌}
 use Rattle.std.specs.Prelude.{option_and_then, option_map}
-use Rattle.wc_model.specs.Language.Frames.{frame_of, place_number}
-use Rattle.wc_model.specs.Language.Store.{Direct}
+use Rattle.wc_model.specs.Definitions.{frame_of, place_number, Direct}
 use Rattle.wc_names.proofs.lookup.address.Goals as goal
 
 pub returns : goal.returns

@@ -1,6 +1,5 @@
-use Rattle.std.proofs.Common.{Some, refl, ap, sym, ◌∙◌}
-use Rattle.std.specs.Prelude.{slice_get}
-use Rattle.wc_built_in.specs.Direct.{direct_at}
+use Rattle.wc_model.proofs.Common.{Some, refl, ap, sym, ◌∙◌, slice_get}
+use Rattle.wc_built_in.specs.Fields.{direct_at}
 use Rattle.wc_names.specs.declared.unit_table.UnitTable.{UnitTable}
 use Rattle.wc_names.proofs.Lists.{not_past, same_found}
 use Rattle.wc_names.proofs.ScopeTables.{address_in_block, address_in_program}

@@ -1,8 +1,6 @@
-use Rattle.std.proofs.Common.{ℕ, List, [], ◌∷◌, map, Option, ap, sym, ◌∙◌}
-use Rattle.std.specs.List.{position_from}
+use Rattle.wc_model.proofs.Common.{ℕ, List, [], ◌∷◌, map, Option, ap, sym, ◌∙◌, position_from}
 use Rattle.std.specs.Borrow.{Bor}
-use Rattle.wc_model.specs.Language.Names.{Name, name_of}
-use Rattle.wc_model.specs.Language.Store.{Content, same_path, standard_fields}
+use Rattle.wc_model.specs.Definitions.{Name, name_of, Content, same_path, standard_fields}
 use Rattle.wc_model.specs.declared.block.StandardBlock.{StandardBlock}
 use Rattle.wc_names.proofs.Lookups.{empty_list, field_of_more, field_of_none, field_of_one}
 use Rattle.wc_names.proofs.lookup.field_at.Goals as goal

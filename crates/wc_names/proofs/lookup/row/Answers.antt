@@ -1,9 +1,5 @@
-use Rattle.std.proofs.Common.{◌≤◌, length, None, Some, refl, sym, ap, subst, ◌∙◌}
-use Rattle.std.proofs.lemmas.Option.{slice_get_past}
-use Rattle.std.specs.Prelude.{slice_get}
-use Rattle.std.specs.List.{position_from}
-use Rattle.wc_model.specs.Language.Declarations.{same_name}
-use Rattle.wc_model.specs.Language.Names.{name_of}
+use Rattle.wc_model.proofs.Common.{◌≤◌, length, None, Some, refl, sym, ap, subst, ◌∙◌, slice_get, slice_get_past, position_from}
+use Rattle.wc_model.specs.Definitions.{same_name, name_of}
 use Rattle.wc_names.specs.declared.unit_table.UnitTable.{UnitTable}
 use Rattle.wc_names.proofs.Frames.{row_found, row_unknown}
 use Rattle.wc_names.proofs.Lists.{got_some, same_found}

@@ -1,5 +1,4 @@
-use Rattle.std.proofs.Common.{Some, option_map, ap, sym, ◌∙◌}
-use Rattle.std.specs.Prelude.{slice_get}
+use Rattle.wc_model.proofs.Common.{Some, option_map, ap, sym, ◌∙◌, slice_get}
 use Rattle.wc_model.specs.Language.Names.{name_of}
 use Rattle.wc_names.specs.Members.{found_seen, row_seen}
 use Rattle.wc_names.proofs.Lookups.{named_rows}

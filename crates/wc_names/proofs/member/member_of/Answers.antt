@@ -1,5 +1,4 @@
-use Rattle.std.proofs.Common.{◌≡◌, [], ◌∷◌, Some, ap, subst, ◌∙◌}
-use Rattle.std.specs.Prelude.{IfSome}
+use Rattle.wc_model.proofs.Common.{◌≡◌, [], ◌∷◌, Some, ap, subst, ◌∙◌, IfSome}
 use Rattle.wc_model.specs.Language.Names.{name_of}
 use Rattle.wc_names.proofs.Formals.{within_fields}
 use Rattle.wc_names.proofs.MemberTables.{members_by}

@@ -1,17 +1,11 @@
-use Rattle.std.proofs.Common.{◌≡◌, [], ◌∷◌, Option, Some, None, option_map, refl, ap, sym, ◌∙◌}
-use Rattle.std.specs.Prelude.{option_and_then, slice_get}
-use Rattle.wc_model.specs.Language.Names.{name_of}
-use Rattle.wc_model.specs.Language.Scopes.{Scope, type_of}
-use Rattle.std.specs.List.{position_from}
-use Rattle.wc_model.specs.Language.Store.{block_places, same_path, variable_places}
-use Rattle.wc_names.specs.Members.{found_seen}
-use Rattle.wc_names.specs.Numbered.{numbered_type}
+use Rattle.wc_model.proofs.Common.{◌≡◌, [], ◌∷◌, Option, Some, None, option_map, refl, ap, sym, ◌∙◌, option_and_then, slice_get, position_from}
+use Rattle.wc_model.specs.Definitions.{name_of, Scope, type_of, block_places, same_path, variable_places, VariableType}
+use Rattle.wc_names.specs.{found_seen, numbered_type}
 use Rattle.wc_names.specs.declared.entity.Entity.{Entity}
 use Rattle.wc_names.proofs.Lookups.{from_row, has_capacity, named_rows, none_named, same_within, type_at_found, type_not_found}
 use Rattle.wc_names.proofs.Frames.{own_places}
 use Rattle.wc_names.proofs.Positions.{after_is}
 use Rattle.wc_names.proofs.ScopeTables.{frame_path}
-use Rattle.wc_model.specs.Language.Declarations.{VariableType}
 use Rattle.wc_names.specs.declared.declared_type.DeclaredType.{DeclaredType}
 use Rattle.wc_names.proofs.Entities.{field_named, no_field_named, no_instance}
 use Rattle.wc_names.proofs.naming.field_entity.Goals as goal

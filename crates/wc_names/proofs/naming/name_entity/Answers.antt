@@ -1,5 +1,4 @@
-use Rattle.std.proofs.Common.{[], ◌∷◌, Some, true, not, option_map, ap, sym, ◌∙◌}
-use Rattle.std.specs.Prelude.{slice_get}
+use Rattle.wc_model.proofs.Common.{[], ◌∷◌, Some, true, not, option_map, ap, sym, ◌∙◌, slice_get}
 use Rattle.wc_model.specs.Language.Names.{name_of}
 use Rattle.wc_names.specs.declared.entity.Entity.{Entity}
 use Rattle.wc_names.proofs.Lookups.{from_row, named_rows, none_named}

@@ -1,5 +1,4 @@
-use Rattle.std.proofs.Common.{◌≡◌, ◌∙◌, refl, sym, ap}
-use Rattle.std.specs.Prelude.{option_and_then}
+use Rattle.wc_model.proofs.Common.{◌≡◌, ◌∙◌, refl, sym, ap, option_and_then}
 use Rattle.toml.proofs.Views.{table_get}
 use Rattle.toml.specs.Data.{as_integer}
 use Rattle.toml.specs.View.{table_view}

@@ -1,7 +1,4 @@
-use Rattle.std.proofs.Common.{◌≡◌, true, ℕ, List, string_bytes}
-use Rattle.std.specs.Prelude.{is_some}
-use Rattle.std.specs.List.{list_all, list_any}
-use Rattle.std.specs.Str.{bytes_eq}
+use Rattle.wc_model.proofs.Common.{◌≡◌, true, ℕ, List, string_bytes, is_some, list_all, list_any, bytes_eq}
 use Rattle.toml.specs.View.{table_view}
 use Rattle.wc_model.specs.Instrument.PlateTable.{entry_at, plate_keys, has_no_other_key}
 use Rattle.wc_plate.specs.TomlTable.{entries_of}

@@ -1,5 +1,4 @@
-use Rattle.std.proofs.Common.{◌∙◌, Err, ap, refl, sym}
-use Rattle.std.proofs.lemmas.Bool.{false≢true}
+use Rattle.wc_model.proofs.Common.{◌∙◌, Err, ap, refl, sym, false≢true}
 use Rattle.toml.specs.View.{table_view}
 use Rattle.wc_plate.proofs.Texts.{read_some, read_none}
 use Rattle.wc_plate.proofs.reading.plate.Goals as goal

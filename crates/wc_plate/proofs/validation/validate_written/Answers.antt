@@ -1,9 +1,8 @@
-use Rattle.std.proofs.Common.{◌≡◌, ◌∙◌, false, ap, arith, of_z, rules, sym, to_z, w64}
-use Rattle.std.proofs.lemmas.Int.{ints}
+use Rattle.wc_model.proofs.Common.{◌≡◌, ◌∙◌, false, ap, arith, of_z, rules, sym, to_z, w64, ints}
 use Rattle.std.specs.Prelude.{int_div, pos, ◌*ℤ◌}
 use Rattle.wc_model.specs.Instrument.PlateTable.{Written, is_between}
-use Rattle.wc_plate.specs.Seen.{written_seen}
-use Rattle.wc_plate.proofs.Validated.{validated_is_plate, refused_507}
+use Rattle.wc_plate.specs.KeyFaults.{written_seen}
+use Rattle.wc_plate.proofs.Texts.{validated_is_plate, refused_507}
 use Rattle.wc_plate.proofs.validation.validate_written.Goals as goal
 
 pub invariant_of-result : goal.invariant_of-result

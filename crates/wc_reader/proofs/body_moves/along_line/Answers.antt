@@ -2,7 +2,7 @@ use Rattle.std.proofs.Common.{[], ap, ◌∙◌}
 use Rattle.wc_laws_grammar.specs.Moves.{started_line}
 use Rattle.wc_model.specs.Text.Positions.{setting_in}
 use Rattle.wc_text_lines.proofs.Outcomes.{ok-map}
-use Rattle.wc_text_bodies.specs.BodyViews.{position_view, openings_view}
+use Rattle.wc_text_bodies.specs.Views.{position_view, openings_view}
 use Rattle.wc_reader.proofs.body_moves.along_line.Goals as goal
 
 pub returns-clause-following : goal.returns-clause-following

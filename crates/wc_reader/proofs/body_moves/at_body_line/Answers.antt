@@ -3,7 +3,7 @@ use Rattle.wc_laws_grammar.specs.Moves.{body_move, started_line}
 use Rattle.wc_reader.proofs.FirstTokens.{body-colon, body-other, body-word}
 use Rattle.wc_text_lines.proofs.Outcomes.{ok-map}
 use Rattle.wc_text_lines.specs.Words.{symbol_view}
-use Rattle.wc_text_bodies.specs.BodyViews.{position_view}
+use Rattle.wc_text_bodies.specs.Views.{position_view}
 use Rattle.wc_reader.proofs.body_moves.at_body_line.Goals as goal
 
 pub returns-then-colon-clause-following : goal.returns-then-colon-clause-following

@@ -1,16 +1,9 @@
-use Rattle.std.proofs.Common.{◌≡◌, ℕ, Bool, List, Option, Some, None, false, sym, ap, ◌∙◌}
-use Rattle.std.specs.Prelude.{if◌then◌else◌}
-use Rattle.wc_laws_grammar.specs.LineMoves.{Start, line_move}
-use Rattle.wc_laws_grammar.specs.Moves.{after_unit, section_of_word, section_or_line, started_line, word_move}
-use Rattle.wc_model.specs.Text.Grammar.{InBody}
-use Rattle.wc_model.specs.Text.Keywords.{end_word}
-use Rattle.wc_model.specs.Language.Names.{name_of}
-use Rattle.wc_model.specs.Language.Declarations.{same_name}
-use Rattle.wc_model.specs.Language.Views.{lines_view}
-use Rattle.wc_model.specs.Text.Positions.{Position}
+use Rattle.wc_model.proofs.Common.{◌≡◌, ℕ, Bool, List, Option, Some, None, false, sym, ap, ◌∙◌, if◌then◌else◌}
+use Rattle.wc_laws_grammar.specs.{Start, line_move, after_unit, section_of_word, section_or_line, started_line, word_move}
+use Rattle.wc_model.specs.Definitions.{InBody, end_word, name_of, same_name, lines_view, Position}
 use Rattle.wc_model.specs.declared.source.Section.{Section}
 use Rattle.wc_text_lines.proofs.Outcomes.{ok-map}
-use Rattle.wc_text_bodies.specs.BodyViews.{position_view}
+use Rattle.wc_text_bodies.specs.Views.{position_view}
 use Rattle.wc_reader.proofs.body_moves.at_body_word.Goals as goal
 
 -- a word that does not end the unit

@@ -2,7 +2,7 @@ use Rattle.std.proofs.Common.{false, sym, ap, ◌∙◌}
 use Rattle.wc_laws_grammar.specs.Moves.{started_line}
 use Rattle.wc_reader.proofs.FirstTokens.{inside-other}
 use Rattle.wc_text_lines.proofs.Outcomes.{ok-map}
-use Rattle.wc_text_bodies.specs.BodyViews.{position_view}
+use Rattle.wc_text_bodies.specs.Views.{position_view}
 use Rattle.wc_reader.proofs.body_moves.at_inside_line.Goals as goal
 
 pub returns-in_default : goal.returns-in_default

@@ -3,10 +3,10 @@ use Rattle.std.proofs.Common.{sym, ap, ◌∙◌}
 use Rattle.wc_laws_grammar.specs.Moves.{start_move}
 use Rattle.wc_text_bodies.proofs.Openings.{innermost_of}
 use Rattle.wc_text_lines.proofs.Outcomes.{ok-map}
-use Rattle.wc_text_bodies.specs.BodyViews.{position_view}
+use Rattle.wc_text_bodies.specs.Views.{position_view}
 use Rattle.wc_text_lines.specs.Words.{symbol_view}
 use Rattle.wc_reader.proofs.FirstTokens.{line-other}
-use Rattle.wc_reader.proofs.OpenParentheses.{none_open, some_open}
+use Rattle.wc_reader.proofs.Units.{none_open, some_open}
 use Rattle.wc_reader.proofs.body_moves.at_line.Goals as goal
 
 pub at_body_line-requires : goal.at_body_line-requires

@@ -1,7 +1,7 @@
 -- Each place moves as its view does.
 use Rattle.std.proofs.Common.{sym, ap, ◌∙◌}
 use Rattle.wc_laws_grammar.specs.Moves.{move}
-use Rattle.wc_text_bodies.specs.BodyViews.{position_view}
+use Rattle.wc_text_bodies.specs.Views.{position_view}
 use Rattle.wc_text_lines.proofs.Outcomes.{ok-map}
 use Rattle.wc_text_lines.specs.Words.{symbol_view}
 use Rattle.wc_reader.proofs.body_moves.place_move.Goals as goal

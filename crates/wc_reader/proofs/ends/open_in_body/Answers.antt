@@ -3,7 +3,7 @@ use Rattle.wc_laws_grammar.specs.Moves.{Raised, open_on}
 use Rattle.wc_model.specs.declared.fault.Fault.{Fault}
 use Rattle.wc_model.specs.declared.fault.Fault.TheVariants.{Memory, Refused}
 use Rattle.wc_text_lines.specs.LineViews.{line_state_view}
-use Rattle.wc_text_bodies.specs.BodyViews.{fault_of, position_view}
+use Rattle.wc_text_bodies.specs.Views.{fault_of, position_view}
 use Rattle.wc_reader.proofs.ends.open_in_body.Goals as goal
 
 pub returns-in-OnLine-clause-reported : goal.returns-in-OnLine-clause-reported

@@ -1,5 +1,5 @@
 use Rattle.std.proofs.Common.{◌∙◌}
-use Rattle.wc_reader.proofs.AnyProgram.{any-program}
+use Rattle.wc_reader.proofs.Units.{any-program}
 use Rattle.wc_reader.proofs.faults.has_program.Goals as goal
 
 pub returns : goal.returns

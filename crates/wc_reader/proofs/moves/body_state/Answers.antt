@@ -2,7 +2,7 @@
 use Rattle.std.proofs.Common.{Some, IfSome, map, sym, ap, ◌∙◌, subst}
 use Rattle.std.specs.Prelude.{option_map}
 use Rattle.wc_model.specs.Language.Views.{unit_view}
-use Rattle.wc_text_bodies.specs.BodyViews.{IsCounted, position_view}
+use Rattle.wc_text_bodies.specs.Views.{IsCounted, position_view}
 use Rattle.wc_reader.proofs.moves.body_state.Goals as goal
 use Rattle.wc_reader.specs.TextViews.{place_view}
 

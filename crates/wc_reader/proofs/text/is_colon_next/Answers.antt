@@ -1,6 +1,5 @@
 -- The first token says it.
-use Rattle.std.proofs.Common.{sym, ap, ◌∙◌}
-use Rattle.std.specs.Option.{option_copied}
+use Rattle.wc_model.proofs.Common.{sym, ap, ◌∙◌, option_copied}
 use Rattle.wc_reader.proofs.FirstTokens.{colon_first, no_colon_first, nothing_first}
 use Rattle.wc_reader.proofs.text.is_colon_next.Goals as goal
 

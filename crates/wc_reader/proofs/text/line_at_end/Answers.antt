@@ -1,7 +1,6 @@
-use Rattle.std.proofs.Common.{arith, ap, ◌∙◌, count_by, ◌==◌, ◌+◌, ◌≡◌}
-use Rattle.std.proofs.lemmas.List.Sums.{count_by-le-length}
+use Rattle.wc_model.proofs.Common.{arith, ap, ◌∙◌, count_by, ◌==◌, ◌+◌, ◌≡◌, count_by-le-length}
 use Rattle.wc_model.specs.Text.Reading.{last_line}
-use Rattle.wc_reader.proofs.LastLines.{counted_on}
+use Rattle.wc_reader.proofs.Units.{counted_on}
 use Rattle.wc_reader.proofs.text.line_at_end.Goals as goal
 
 -- the line of the last token and the line feeds from its start on

@@ -1,10 +1,7 @@
-use Rattle.std.proofs.Common.{◌≡◌, Result, Ok, Err, ap, arith, length, map, subst, sym}
-use Rattle.std.proofs.lemmas.List.{length-map}
-use Rattle.std.specs.Prelude.{IfErr}
-use Rattle.std.specs.Result.{IsErr, IsErrAnd}
+use Rattle.wc_model.proofs.Common.{◌≡◌, Result, Ok, Err, ap, arith, length, map, subst, sym, IfErr, length-map, IsErr, IsErrAnd}
 use Rattle.wc_lexer.specs.Views.{token_view}
 use Rattle.wc_model.specs.declared.fault.Fault.{Fault}
-use Rattle.wc_reader.specs.ReadTexts.{IsRefusedAs}
+use Rattle.wc_reader.specs.Reported.{IsRefusedAs}
 use Rattle.wc_text_lines.proofs.Outcomes.{err-map}
 use Rattle.wc_reader.proofs.ReadTexts.{result_read, result_refused, token_fault}
 use Rattle.wc_reader.proofs.text.read.Goals as goal

@@ -1,5 +1,4 @@
-use Rattle.std.proofs.Common.{arith}
-use Rattle.std.proofs.lemmas.Grind.{common_steps}
+use Rattle.wc_model.proofs.Common.{arith, common_steps}
 use Rattle.wc_reader.proofs.text.read_at.Goals as goal
 
 pub returns-clause-goes_on : goal.returns-clause-goes_on

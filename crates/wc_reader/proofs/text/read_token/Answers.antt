@@ -2,7 +2,7 @@ use Rattle.std.proofs.Common.{sym, ◌∙◌}
 use Rattle.wc_lexer.specs.Views.{token_view}
 use Rattle.wc_model.specs.Text.Reading.{mark_of_token}
 use Rattle.wc_text_lines.proofs.Outcomes.{err-map, on_ok-map}
-use Rattle.wc_text_short_lines.proofs.WalkSteps.{at_move}
+use Rattle.wc_text_bodies.proofs.WalkSteps.{at_move}
 use Rattle.wc_reader.proofs.ReadingSteps.{at_fault, at_unexpected}
 use Rattle.wc_reader.specs.TextViews.{reading_view}
 use Rattle.wc_reader.proofs.text.read_token.Goals as goal

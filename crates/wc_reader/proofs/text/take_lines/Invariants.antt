@@ -1,5 +1,5 @@
 use Rattle.std.proofs.Common.{◌≤◌, drop, length}
-use Rattle.wc_text_short_lines.specs.Several.{GoesOn}
+use Rattle.wc_text_bodies.specs.Several.{GoesOn}
 use Rattle.wc_reader.specs.TextViews.{IsStateCounted, reading_view}
 use Rattle.wc_text_lines.specs.Words.{marks_of}
 use Rattle.wc_reader.proofs.text.take_lines.Given as goal

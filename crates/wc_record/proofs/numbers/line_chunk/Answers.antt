@@ -1,5 +1,4 @@
-use Rattle.std.proofs.Common.{◌≡◌, ◌/◌, length, ap, ◌∙◌, Some, arith}
-use Rattle.std.proofs.lemmas.Grind.{common_steps}
+use Rattle.wc_model.proofs.Common.{◌≡◌, ◌/◌, length, ap, ◌∙◌, Some, arith, common_steps}
 use Rattle.wc_record.proofs.HexDigits.{chunk_few, chunk_not_read, chunk_read, chunk_too_long, whole_buffer}
 use Rattle.wc_record.proofs.numbers.line_chunk.Goals as goal
 

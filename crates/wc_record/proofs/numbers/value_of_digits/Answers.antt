@@ -1,7 +1,4 @@
-use Rattle.std.proofs.Common.{◌≡◌, ◌≤◌, ◌<◌, ◌-◌, get_or, length, true, arith, sym, ◌∙◌}
-use Rattle.std.proofs.lemmas.Bool.Decides.{nat_tests}
-use Rattle.std.specs.Char.{is_ascii_digit}
-use Rattle.std.specs.Prelude.{nat_lt}
+use Rattle.wc_model.proofs.Common.{◌≡◌, ◌≤◌, ◌<◌, ◌-◌, get_or, length, true, arith, sym, ◌∙◌, nat_lt, nat_tests, is_ascii_digit}
 use Rattle.wc_record.proofs.DigitValues.{digits_after, few_after, shorter_after, ten_rises, whole_after}
 use Rattle.wc_record.proofs.numbers.value_of_digits.Goals as goal
 

@@ -1,7 +1,4 @@
-use Rattle.std.proofs.Common.{◌≡◌, ◌≤◌, ◌<◌, ◌-◌, ◌^◌, length}
-use Rattle.std.specs.Char.{is_ascii_digit}
-use Rattle.std.specs.Int.Digits.{number_from_digits, number_from_digits_after}
-use Rattle.std.specs.List.{list_all}
+use Rattle.wc_model.proofs.Common.{◌≡◌, ◌≤◌, ◌<◌, ◌-◌, ◌^◌, length, is_ascii_digit, number_from_digits, number_from_digits_after, list_all}
 use Rattle.wc_record.proofs.DigitValues.{values}
 use Rattle.wc_record.proofs.numbers.value_of_digits.Given as goal
 

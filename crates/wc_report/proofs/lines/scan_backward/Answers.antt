@@ -1,7 +1,4 @@
-use Rattle.std.proofs.Common.{◌≡◌, ◌∙◌, ◌∷◌, [], ◌++◌, ap, pos, length, drop, arith}
-use Rattle.std.proofs.Math.ListN.{drop_of_length-le}
-use Rattle.std.specs.Prelude.{decimal}
-use Rattle.std.proofs.lemmas.Grind.{common_steps}
+use Rattle.wc_model.proofs.Common.{◌≡◌, ◌∙◌, ◌∷◌, [], ◌++◌, ap, pos, length, drop, arith, decimal, drop_of_length-le, common_steps}
 use Rattle.wc_report.proofs.ScanText.{joined}
 use Rattle.wc_report.proofs.lines.scan_backward.Goals as goal
 

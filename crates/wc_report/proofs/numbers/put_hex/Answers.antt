@@ -1,6 +1,5 @@
-use Rattle.std.proofs.Common.{◌≡◌, ◌+◌, length, take, ◌∙◌, ap, ◌++◌, arith}
-use Rattle.std.proofs.lemmas.Grind.{common_steps}
-use Rattle.wc_report.proofs.Placed.{filled}
+use Rattle.wc_model.proofs.Common.{◌≡◌, ◌+◌, length, take, ◌∙◌, ap, ◌++◌, arith, common_steps}
+use Rattle.wc_report.proofs.SpacedNumbers.{filled}
 use Rattle.wc_report.proofs.numbers.put_hex.Goals as goal
 
 pub returns-clause-digits : goal.returns-clause-digits

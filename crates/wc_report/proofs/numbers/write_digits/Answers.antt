@@ -1,5 +1,5 @@
 use Rattle.std.proofs.Common.{arith}
-use Rattle.wc_report.proofs.HexSteps.{all_bytes, one_byte_more}
+use Rattle.wc_report.proofs.Digits.{all_bytes, one_byte_more}
 use Rattle.wc_report.proofs.numbers.write_digits.Goals as goal
 
 pub loop-index-preserved : goal.loop-index-preserved

@@ -4,10 +4,8 @@ use Rattle.wc_record.specs.Views.{head_view}
 use Rattle.wc_run.proofs.RunsOn.{does_row, stops_row}
 use Rattle.wc_run.proofs.ScaleRows.{on_ok_both, on_ok_of}
 use Rattle.wc_run.proofs.HandedOn.{propagated}
-use Rattle.wc_run.specs.Doing.{Does, seen_writing}
+use Rattle.wc_run.specs.{Does, seen_writing, lines_of_row, said_by, lines_of_scan}
 use Rattle.wc_run.proofs.log_rows.run_row.Goals as goal
-use Rattle.wc_run.specs.Logics.{lines_of_row}
-use Rattle.wc_run.specs.Observing.{said_by, lines_of_scan}
 
 pub returns-clause-does : goal.returns-clause-does
 returns-clause-does g c = λ start plate logic past represents seen.

@@ -1,16 +1,10 @@
-use Rattle.wc_run.specs.Observing.{said_by}
+use Rattle.wc_run.specs.{said_by, from_log_fault, Does, RunsRows, seen_writing, ReportsRow, IsNotAfter}
 use Rattle.std.proofs.Common.{Ok, Err, ap, sym, subst, ◌∙◌, arith}
 use Rattle.wc_model.specs.Say.LogFor.{log_for}
 use Rattle.wc_run.proofs.RunsOn.{at_end, at_fault, at_row, one_more}
-use Rattle.wc_record.specs.Left.{end_after}
-use Rattle.wc_record.specs.Reported.{current_record}
+use Rattle.wc_record.specs.{end_after, current_record, head_view}
 use Rattle.wc_run.proofs.HandedOn.{propagated}
-use Rattle.wc_run.specs.Faults.{from_log_fault}
-use Rattle.wc_run.specs.Runs.{ReportsRow}
 use Rattle.wc_run.proofs.ReportedRows.{reported_at_end, reported_at_row}
-use Rattle.wc_record.specs.Views.{head_view}
-use Rattle.wc_run.specs.Doing.{Does, RunsRows, seen_writing}
-use Rattle.wc_run.specs.Representation.{IsNotAfter}
 use Rattle.wc_run.proofs.log_rows.run_rows.Goals as goal
 
 pub returns-in_err-run_row-clause-runs : goal.returns-in_err-run_row-clause-runs

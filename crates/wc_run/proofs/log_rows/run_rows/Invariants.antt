@@ -1,14 +1,8 @@
 use Rattle.std.proofs.Common.{◌≡◌, ◌≤◌, ◌+◌, ◌-◌, List, [], Option}
 use Rattle.std.specs.Prelude.{max}
-use Rattle.wc_model.specs.Run.Log.{LogOf, Record}
-use Rattle.wc_model.specs.Instrument.Plates.{PlateData}
-use Rattle.wc_record.specs.Left.{HasLeft, last_ms, rows_read}
-use Rattle.wc_record.specs.Reported.{Reads}
-use Rattle.wc_model.specs.Say.LogFor.{log_for}
-use Rattle.wc_model.specs.Say.ProgramReport.{Logic}
-use Rattle.wc_run.specs.Doing.{seen_writing}
-use Rattle.wc_run.specs.Observing.{Start, said}
-use Rattle.wc_run.specs.Representation.{IsNotAfter, Represents}
+use Rattle.wc_model.specs.Definitions.{LogOf, Record, PlateData, log_for, Logic}
+use Rattle.wc_record.specs.{HasLeft, last_ms, rows_read, Reads}
+use Rattle.wc_run.specs.{seen_writing, Start, said, IsNotAfter, Represents}
 use Rattle.wc_run.proofs.RunsOn.{Running}
 use Rattle.wc_run.proofs.log_rows.run_rows.Given as goal
 

@@ -1,11 +1,7 @@
-use Rattle.std.proofs.Common.{◌≡◌, ℕ, Global, Result, Vec, refl, sym, ap, ◌∙◌, arith, None, inl, inr}
-use Rattle.std.proofs.lemmas.List.{take_all}
-use Rattle.std.proofs.lemmas.Option.{slice_get_cases}
-use Rattle.std.specs.Option.{option_copied}
-use Rattle.std.specs.Prelude.{IfOk, IsOkUnless, slice_get}
+use Rattle.wc_model.proofs.Common.{◌≡◌, ℕ, Global, Result, Vec, refl, sym, ap, ◌∙◌, arith, None, inl, inr, IfOk, IsOkUnless, slice_get, take_all, slice_get_cases, option_copied}
 use Rattle.wc_model.specs.Say.Report.{line_text, report_text}
 use Rattle.wc_run.proofs.Recording.{one_record_more}
-use Rattle.wc_run.specs.Outputs.{line_of_record, lines_of_records}
+use Rattle.wc_run.specs.Observing.{line_of_record, lines_of_records}
 use Rattle.wc_run.specs.declared.fault.RunFault.{RunFault}
 use Rattle.wc_run.specs.declared.fault.RunFault.TheVariants.{Memory}
 use Rattle.wc_run.proofs.HandedOn.{propagated}

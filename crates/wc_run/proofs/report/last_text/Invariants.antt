@@ -1,6 +1,6 @@
 use Rattle.std.proofs.Common.{◌≡◌, take}
 use Rattle.wc_model.specs.Say.Report.{report_text}
-use Rattle.wc_run.specs.Outputs.{lines_of_records}
+use Rattle.wc_run.specs.Observing.{lines_of_records}
 use Rattle.wc_run.proofs.report.last_text.Given as goal
 
 -- the lines of the records so far

@@ -1,12 +1,10 @@
 use Rattle.std.proofs.Common.{◌≡◌, [], Ok, Err, true, false, sym, subst, ◌∙◌, append-nil}
 use Rattle.wc_run.proofs.HandedOn.{propagated}
-use Rattle.wc_run.proofs.ReaderFailures.{short_says_nothing, whole_writes}
+use Rattle.wc_run.proofs.Failures.{short_says_nothing, whole_writes}
 use Rattle.wc_run.proofs.ReportedRows.{none_of_rows}
 use Rattle.wc_run.proofs.RunEnds.{all_done, came_short, came_to_end, cut_at_end, ends_plan, ends_short, ends_whole, failed_there}
 use Rattle.wc_run.proofs.running.end_rows.Goals as goal
-use Rattle.wc_run.specs.Doing.{EndsWhole, Writes, WritesBy, is_cut_short, refused_in, seen_writing}
-use Rattle.wc_run.specs.Observing.{said_by, onto, refusal_of}
-use Rattle.wc_run.specs.Runs.{ReportsRow, ReportsWrite, ReportsWrites}
+use Rattle.wc_run.specs.{EndsWhole, Writes, WritesBy, is_cut_short, refused_in, seen_writing, said_by, onto, refusal_of, ReportsRow, ReportsWrite, ReportsWrites}
 
 pub returns-then-is_cut_short-clause-writes : goal.returns-then-is_cut_short-clause-writes
 returns-then-is_cut_short-clause-writes g c = λ start plan plate logic log taken same runs.

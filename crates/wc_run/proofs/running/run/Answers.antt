@@ -1,15 +1,10 @@
-use Rattle.std.proofs.Common.{[], Err, arith, subst}
-use Rattle.std.proofs.lemmas.Bool.{ltb-false}
-use Rattle.std.proofs.lemmas.Option.{IfSome_then}
-use Rattle.wc_model.specs.Run.Log.{LogOf, log_of}
-use Rattle.wc_model.specs.Say.LogFor.{log_for}
-use Rattle.wc_record.specs.Reading.{records_of}
-use Rattle.wc_record.specs.Reported.{fields_reported, records_read}
+use Rattle.wc_model.proofs.Common.{[], Err, arith, subst, ltb-false, IfSome_then}
+use Rattle.wc_model.specs.Definitions.{LogOf, log_of, log_for}
+use Rattle.wc_record.specs.{records_of, fields_reported, records_read}
 use Rattle.wc_run.proofs.RunEnds.{classified_at_end, classified_says, classified_writes}
 use Rattle.wc_run.proofs.ReportedRows.{reported_still}
 use Rattle.wc_run.proofs.running.run.Goals as goal
-use Rattle.wc_run.specs.Doing.{EndsWhole}
-use Rattle.wc_run.specs.Observing.{said_by, text_coming, text_in_all}
+use Rattle.wc_run.specs.{EndsWhole, said_by, text_coming, text_in_all}
 
 pub returns-in-Ok-clause-writes : goal.returns-in-Ok-clause-writes
 returns-in-Ok-clause-writes g c =

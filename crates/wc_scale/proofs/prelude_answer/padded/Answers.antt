@@ -1,6 +1,4 @@
-use Rattle.std.proofs.Common.{◌≡◌, ◌∙◌, ap, arith, length, pos, replicate, sym}
-use Rattle.std.proofs.lemmas.List.{drop-replicate}
-use Rattle.std.proofs.lemmas.Slice.{drop-append-drop}
+use Rattle.wc_model.proofs.Common.{◌≡◌, ◌∙◌, ap, arith, length, pos, replicate, sym, drop-replicate, drop-append-drop}
 use Rattle.wc_scale.proofs.prelude_answer.padded.Goals as goal
 
 pub returns-clause-zeros : goal.returns-clause-zeros

@@ -1,5 +1,4 @@
-use Rattle.std.proofs.Common.{None}
-use Rattle.std.proofs.lemmas.Result.{IfOk-weaker}
+use Rattle.wc_model.proofs.Common.{None, IfOk-weaker}
 use Rattle.wc_scale.proofs.scale.opened_by.Goals as goal
 
 pub returns-in-Ok-clause-plate : goal.returns-in-Ok-clause-plate

@@ -1,6 +1,6 @@
 use Rattle.std.proofs.Common.{sym, subst}
 use Rattle.wc_scale.proofs.Refusing.{no_unit_answer, refused_at}
-use Rattle.wc_scale.specs.Refusals.{ReportsFault}
+use Rattle.wc_scale.specs.Opening.{ReportsFault}
 use Rattle.wc_scale.proofs.units.about.Goals as goal
 
 pub returns-in-Err-clause-refused : goal.returns-in-Err-clause-refused

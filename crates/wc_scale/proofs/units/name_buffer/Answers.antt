@@ -1,6 +1,4 @@
-use Rattle.std.proofs.Common.{◌≡◌, ap, ◌∙◌, arith, length, min, replicate, take}
-use Rattle.std.proofs.lemmas.List.{drop-replicate, length-take, take_at, take_min}
-use Rattle.std.proofs.lemmas.Slice.{drop-append-drop}
+use Rattle.wc_model.proofs.Common.{◌≡◌, ap, ◌∙◌, arith, length, min, replicate, take, drop-replicate, length-take, take_at, take_min, drop-append-drop}
 use Rattle.wc_scale.proofs.units.name_buffer.Goals as goal
 
 pub returns-clause-name : goal.returns-clause-name

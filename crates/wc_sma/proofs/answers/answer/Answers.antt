@@ -1,11 +1,10 @@
-use Rattle.std.proofs.Common.{◌≡◌, ap, sym, ◌∙◌, subst, arith, to_z, of_z, w32, get_or, length}
-use Rattle.std.proofs.lemmas.Int.{ints}
+use Rattle.wc_model.proofs.Common.{◌≡◌, ap, sym, ◌∙◌, subst, arith, to_z, of_z, w32, get_or, length, ints}
 use Rattle.std.specs.Prelude.{◌<◌, unsigned_abs, IfSome}
 use Rattle.wc_model.specs.Instrument.Plates.{IsPlate}
 use Rattle.wc_model.specs.Instrument.Answers as answers
 use Rattle.wc_laws_instrument.proofs.Answers.{short_weight, length_unit}
-use Rattle.wc_sma.specs.Asking.{mode_view}
-use Rattle.wc_sma.proofs.Joining.{three_of, parts_joined, short_where_some}
+use Rattle.wc_sma.specs.Replies.{mode_view}
+use Rattle.wc_sma.proofs.Digits.{three_of, parts_joined, short_where_some}
 use Rattle.wc_sma.proofs.answers.answer.Goals as goal
 
 pub returns : goal.returns

@@ -1,6 +1,5 @@
 use Rattle.std.proofs.Common.{refl, arith}
-use Rattle.wc_model.specs.Language.Tree.{End, Alone}
-use Rattle.wc_model.specs.Language.Views.{lines_view, word_view}
+use Rattle.wc_model.specs.Definitions.{End, Alone, lines_view, word_view}
 use Rattle.wc_text_bodies.proofs.LineLists.{lines_view-push, line_count-and, seen-push}
 use Rattle.wc_text_bodies.proofs.bodies.add_label.Goals as goal
 

@@ -1,8 +1,7 @@
 use Rattle.std.proofs.Common.{[], refl, arith}
 use Rattle.wc_model.specs.Text.Limits.{lines_before}
-use Rattle.wc_text_bodies.proofs.Counting.{counted_more}
-use Rattle.wc_text_bodies.proofs.Openings.{opened-append}
-use Rattle.wc_text_bodies.specs.BodyViews.{position_view}
+use Rattle.wc_text_bodies.proofs.Openings.{counted_more, opened-append}
+use Rattle.wc_text_bodies.specs.Views.{position_view}
 use Rattle.wc_text_bodies.proofs.bodies.add_opening.Goals as goal
 
 pub returns-clause-following : goal.returns-clause-following

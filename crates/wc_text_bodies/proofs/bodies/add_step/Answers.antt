@@ -1,11 +1,9 @@
 use Rattle.std.proofs.Common.{[], option_map, refl, arith}
-use Rattle.wc_model.specs.Text.Limits.{lines_before}
-use Rattle.wc_model.specs.Language.Tree.{End, Plain}
-use Rattle.wc_model.specs.Language.Views.{lines_view, word_view}
-use Rattle.wc_text_bodies.proofs.Counting.{counted_more}
+use Rattle.wc_model.specs.Definitions.{lines_before, End, Plain, lines_view, word_view}
+use Rattle.wc_text_bodies.proofs.Openings.{counted_more}
 use Rattle.wc_text_bodies.proofs.LineLists.{lines_view-push, line_count-and, seen-push}
 use Rattle.wc_text_lines.specs.LineViews.{step_view}
-use Rattle.wc_text_bodies.specs.BodyViews.{position_view}
+use Rattle.wc_text_bodies.specs.Views.{position_view}
 use Rattle.wc_text_bodies.proofs.bodies.add_step.Goals as goal
 
 pub returns-clause-following : goal.returns-clause-following

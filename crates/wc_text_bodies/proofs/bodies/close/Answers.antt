@@ -1,12 +1,9 @@
 use Rattle.std.proofs.Common.{◌≡◌, [], ◌∷◌, ◌++◌, true, false, option_map, refl, sym, ap, ◌∙◌, arith}
 use Rattle.wc_laws_grammar.specs.Moves.{has_content, lines_and}
-use Rattle.wc_model.specs.Text.Limits.{line_count, lines_before, lines_opened}
-use Rattle.wc_model.specs.Language.Tree.{End, Nested}
-use Rattle.wc_model.specs.Language.Views.{lines_view, term_view}
-use Rattle.wc_text_bodies.proofs.Counting.{counted_more}
+use Rattle.wc_model.specs.Definitions.{line_count, lines_before, lines_opened, End, Nested, lines_view, term_view}
+use Rattle.wc_text_bodies.proofs.Openings.{counted_more, opened-append}
 use Rattle.wc_text_bodies.proofs.LineLists.{lines_view-push, line_count-and, seen-push}
-use Rattle.wc_text_bodies.proofs.Openings.{opened-append}
-use Rattle.wc_text_bodies.specs.BodyViews.{position_view, opening_view, openings_view}
+use Rattle.wc_text_bodies.specs.Views.{position_view, opening_view, openings_view}
 use Rattle.wc_text_bodies.proofs.bodies.close.Goals as goal
 
 pub returns-in_ok-push-in-Some-clause-following : goal.returns-in_ok-push-in-Some-clause-following

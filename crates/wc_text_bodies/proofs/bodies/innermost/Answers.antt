@@ -1,6 +1,6 @@
 use Rattle.std.proofs.Common.{[], ap, ◌∙◌}
 use Rattle.wc_text_bodies.proofs.Openings.{opened-append}
-use Rattle.wc_text_bodies.specs.BodyViews.{openings_view}
+use Rattle.wc_text_bodies.specs.Views.{openings_view}
 use Rattle.wc_text_bodies.proofs.bodies.innermost.Goals as goal
 
 pub returns-in-Some : goal.returns-in-Some

@@ -4,9 +4,7 @@ use Rattle.wc_laws_grammar.specs.Words.{literal_of}
 use Rattle.wc_lexer.specs.Views.{shape_view}
 use Rattle.wc_lexer.specs.declared.shape.Shape.{Shape}
 use Rattle.wc_lexer.specs.declared.shape.Shape.TheVariants.{LineEnd}
-use Rattle.wc_model.specs.Language.Tree.{ProgramUnit, Word}
-use Rattle.wc_model.specs.Language.Views.{word_view}
-use Rattle.wc_model.specs.Text.Reading.{symbol_of}
+use Rattle.wc_model.specs.Definitions.{ProgramUnit, Word, word_view, symbol_of}
 use Rattle.wc_model.specs.declared.source.Section.{Section}
 use Rattle.wc_text_bodies.proofs.declarations.at_value.Goals as goal
 

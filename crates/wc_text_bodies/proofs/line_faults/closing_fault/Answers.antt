@@ -1,11 +1,10 @@
 use Rattle.std.proofs.Common.{◌≡◌, [], ◌∷◌, Bool, Option, Some, None, true, false, if◌then◌else◌, option_map, refl, sym, ap, ◌∙◌}
 use Rattle.wc_laws_grammar.specs.Moves.{fault_at_closing, has_content, is_full}
-use Rattle.wc_model.specs.Language.Views.{lines_view, term_view}
-use Rattle.wc_model.specs.Text.ReadingFaults.{TooMany}
+use Rattle.wc_model.specs.Definitions.{lines_view, term_view, TooMany}
 use Rattle.wc_model.specs.declared.fault.Fault.{Fault}
 use Rattle.wc_model.specs.declared.fault.Fault.TheVariants.{Refused}
 use Rattle.wc_text_bodies.proofs.FaultIf.{reported-raised}
-use Rattle.wc_text_bodies.specs.BodyViews.{fault_of, opening_view, position_view, openings_view}
+use Rattle.wc_text_bodies.specs.Views.{fault_of, opening_view, position_view, openings_view}
 use Rattle.wc_text_bodies.proofs.line_faults.closing_fault.Goals as goal
 
 pub returns-then-has_content : goal.returns-then-has_content

@@ -1,5 +1,4 @@
-use Rattle.std.proofs.Common.{[], arith}
-use Rattle.std.proofs.lemmas.Bool.Decides.{nat_tests}
+use Rattle.wc_model.proofs.Common.{[], arith, nat_tests}
 use Rattle.wc_text_bodies.proofs.Openings.{length-opened}
 use Rattle.wc_text_bodies.proofs.line_faults.depth_fault.Goals as goal
 

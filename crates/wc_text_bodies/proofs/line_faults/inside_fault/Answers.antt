@@ -1,7 +1,6 @@
 use Rattle.std.proofs.Common.{◌≡◌, true, false, refl, sym, ◌∙◌}
 use Rattle.std.specs.Prelude.{◌&&◌}
-use Rattle.wc_laws_grammar.specs.Moves.{begins_transfer, has_name, is_identifier}
-use Rattle.wc_laws_grammar.specs.Words.{operation_of}
+use Rattle.wc_laws_grammar.specs.{begins_transfer, has_name, is_identifier, operation_of}
 use Rattle.wc_model.specs.Text.Keywords.{end_word}
 use Rattle.wc_text_lines.specs.Words.{symbol_view}
 use Rattle.wc_text_bodies.proofs.line_faults.inside_fault.Goals as goal

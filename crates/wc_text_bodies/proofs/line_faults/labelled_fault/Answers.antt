@@ -1,10 +1,9 @@
 use Rattle.std.proofs.Common.{◌≡◌, Bool, Option, Some, None, true, false, if◌then◌else◌, is_some, sym, ap, ◌∙◌}
-use Rattle.wc_laws_grammar.specs.Moves.{is_full}
-use Rattle.wc_laws_grammar.specs.Words.{operation_of}
+use Rattle.wc_laws_grammar.specs.{is_full, operation_of}
 use Rattle.wc_model.specs.declared.fault.Fault.{Fault}
 use Rattle.wc_model.specs.declared.fault.Fault.TheVariants.{Refused}
 use Rattle.wc_text_bodies.proofs.FaultIf.{full-meets, not-full-meets}
-use Rattle.wc_text_bodies.specs.BodyViews.{position_view}
+use Rattle.wc_text_bodies.specs.Views.{position_view}
 use Rattle.wc_text_lines.specs.Words.{symbol_view}
 use Rattle.wc_text_bodies.proofs.line_faults.labelled_fault.Goals as goal
 

@@ -1,6 +1,6 @@
 use Rattle.std.proofs.Common.{[], option_map, refl, sym, ap, ◌∙◌}
 use Rattle.wc_laws_grammar.specs.Moves.{fault_at_line}
-use Rattle.wc_text_bodies.specs.BodyViews.{fault_of, position_view, opening_view, openings_view}
+use Rattle.wc_text_bodies.specs.Views.{fault_of, position_view, opening_view, openings_view}
 use Rattle.wc_text_lines.specs.Words.{symbol_view}
 use Rattle.wc_text_bodies.proofs.line_faults.line_fault.Goals as goal
 

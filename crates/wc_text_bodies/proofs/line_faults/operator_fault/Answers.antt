@@ -1,8 +1,7 @@
 use Rattle.std.proofs.Common.{is_some, ◌∙◌}
-use Rattle.wc_laws_grammar.specs.Moves.{is_full}
-use Rattle.wc_laws_grammar.specs.Words.{operation_of}
+use Rattle.wc_laws_grammar.specs.{is_full, operation_of}
 use Rattle.wc_text_bodies.proofs.FaultIf.{label-meets, no-label-meets}
-use Rattle.wc_text_bodies.specs.BodyViews.{position_view}
+use Rattle.wc_text_bodies.specs.Views.{position_view}
 use Rattle.wc_text_lines.specs.Words.{symbol_view}
 use Rattle.wc_text_bodies.proofs.line_faults.operator_fault.Goals as goal
 

@@ -1,7 +1,6 @@
 use Rattle.std.proofs.Common.{[], ◌∷◌, refl, pos}
 use Rattle.wc_text_flat.proofs.examples.body_is_lowered.Goals as goal
-use Rattle.wc_text_flat.specs.Examples.{place}
-use Rattle.wc_text_flat.specs.Lowered.{Number, At}
+use Rattle.wc_text_flat.specs.{place, Number, At}
 use Rattle.wc_model.specs.declared.block.StandardBlock.TheVariants.{Ton}
 use Rattle.wc_model.specs.declared.code.Code.TheVariants.{ArgumentPlace, ArgumentNumber, Standard}
 

@@ -1,4 +1,4 @@
-use Rattle.wc_text_flat.proofs.Skipping.{ended_bodies_are_over}
+use Rattle.wc_text_flat.proofs.Counts.{ended_bodies_are_over}
 use Rattle.wc_text_flat.proofs.laws.ended_bodies_are_over.Goals as goal
 
 pub returns : goal.returns

@@ -1,5 +1,4 @@
-use Rattle.std.proofs.Common.{◌∙◌, List, Bor, ap, map, sym}
-use Rattle.std.proofs.lemmas.List.{drop_all}
+use Rattle.wc_model.proofs.Common.{◌∙◌, List, Bor, ap, map, sym, drop_all}
 use Rattle.wc_model.specs.Language.Names.{Name, name_of}
 use Rattle.wc_names.proofs.Lists.{from_index}
 use Rattle.wc_text_variables.proofs.variables.is_hidden_at.Goals as goal

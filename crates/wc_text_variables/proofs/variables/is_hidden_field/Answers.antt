@@ -1,7 +1,6 @@
 use Rattle.std.proofs.Common.{◌∙◌, ap}
 use Rattle.std.specs.Prelude.{not}
-use Rattle.wc_model.specs.Language.Declarations.{member_named, standard_members}
-use Rattle.wc_model.specs.Language.Names.{name_of}
+use Rattle.wc_model.specs.Definitions.{member_named, standard_members, name_of}
 use Rattle.wc_text_variables.proofs.Meanings.{unnamed}
 use Rattle.wc_text_variables.proofs.variables.is_hidden_field.Goals as goal
 

@@ -1,16 +1,10 @@
-use Rattle.std.proofs.Common.{◌≡◌, ◌+◌, ◌-◌, ◌<◌, ◌∙◌, ℕ, Bool, Bor, List, Option, Some, None, ap, drop, get_or, length, map, subst, sym}
-use Rattle.std.proofs.lemmas.List.{drop_all}
+use Rattle.wc_model.proofs.Common.{◌≡◌, ◌+◌, ◌-◌, ◌<◌, ◌∙◌, ℕ, Bool, Bor, List, Option, Some, None, ap, drop, get_or, length, map, subst, sym, drop_all}
 use Rattle.std.specs.Prelude.{option_and_then, option_map}
 use Rattle.wc_cost.proofs.WholeTexts.{last_unit}
-use Rattle.wc_model.specs.Language.Names.{Name, name_of}
-use Rattle.wc_model.specs.Language.Scopes.{Scope, type_of}
-use Rattle.wc_model.specs.Language.Store.{Path}
-use Rattle.wc_model.specs.Language.Tree.{Text}
-use Rattle.wc_model.specs.Language.Views.{text_view}
+use Rattle.wc_model.specs.Definitions.{Name, name_of, Scope, type_of, Path, Text, text_view}
 use Rattle.wc_model.specs.declared.source.Source.{Source}
 use Rattle.wc_names.proofs.Lists.{from_index}
-use Rattle.wc_names.specs.Numbered.{IsUnit, numbered_type}
-use Rattle.wc_names.specs.RepresentsText.{AreTables}
+use Rattle.wc_names.specs.{IsUnit, numbered_type, AreTables}
 use Rattle.wc_names.specs.declared.declared_type.DeclaredType.{DeclaredType}
 use Rattle.wc_names.specs.declared.declared_type.DeclaredType.TheVariants as numbered
 use Rattle.wc_names.specs.declared.kept.Tables.{Tables}

@@ -1,7 +1,5 @@
 use Rattle.std.proofs.Common.{drop, map}
-use Rattle.wc_model.specs.Language.Names.{name_of}
-use Rattle.wc_model.specs.Language.Store.{Path}
-use Rattle.wc_model.specs.Language.Views.{text_view}
+use Rattle.wc_model.specs.Definitions.{name_of, Path, text_view}
 use Rattle.wc_text_variables.proofs.Walks.{Walks}
 use Rattle.wc_text_variables.specs.Names.{is_hidden}
 use Rattle.wc_text_variables.proofs.variables.leads_to_hidden.Given as goal

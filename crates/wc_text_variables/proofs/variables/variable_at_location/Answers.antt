@@ -1,9 +1,7 @@
-use Rattle.std.proofs.Common.{None, Some, ap, sym, refl, ◌∙◌, length, ◌-◌}
-use Rattle.std.specs.Prelude.{option_and_then, slice_get}
+use Rattle.wc_model.proofs.Common.{None, Some, ap, sym, refl, ◌∙◌, length, ◌-◌, option_and_then, slice_get}
 use Rattle.wc_built_in.specs.Fields.{value_kind}
 use Rattle.wc_cost.proofs.WholeTexts.{last_unit}
-use Rattle.wc_model.specs.Language.Frames.{location_of, place_number}
-use Rattle.wc_model.specs.Language.Views.{text_view}
+use Rattle.wc_model.specs.Definitions.{location_of, place_number, text_view}
 use Rattle.wc_text_variables.proofs.Meanings.{numbered, unnumbered}
 use Rattle.wc_text_variables.proofs.variables.variable_at_location.Goals as goal
 

@@ -1,11 +1,8 @@
-use Rattle.std.proofs.Common.{◌≡◌, ◌∙◌, List, Bor, Result, Ok, Err, false, sym, subst, ap, true}
-use Rattle.std.specs.Prelude.{IfOk, MatchResult}
-use Rattle.wc_model.specs.Language.Names.{Name}
-use Rattle.wc_model.specs.Language.Views.{text_view}
+use Rattle.wc_model.proofs.Common.{◌≡◌, ◌∙◌, List, Bor, Result, Ok, Err, false, sym, subst, ap, true, IfOk, MatchResult}
+use Rattle.wc_model.specs.Definitions.{Name, text_view}
 use Rattle.wc_text_variables.proofs.Meanings.{by_address, by_parts, path_of}
 use Rattle.wc_text_variables.proofs.variables.variable_named.Goals as goal
-use Rattle.wc_text_variables.specs.Numbered.{variable_at_location}
-use Rattle.wc_text_variables.specs.Names.{is_hidden}
+use Rattle.wc_text_variables.specs.Names.{variable_at_location, is_hidden}
 
 -- what was promised of a value that is propagated
 handed_on : {X E F : Type 0} (P : X → Type 0) (fault : F) (made : Result X E) (given : Result X F) (x : X) → MatchResult made (λ value. given ≡ Ok value) (λ error. given ≡ Err fault) → given ≡ Ok x → IfOk made P → P x

@@ -1,11 +1,6 @@
-use Rattle.std.proofs.Common.{◌≡◌, ◌+◌, [], ◌++◌, Ok, Err, drop, refl, sym, ap, subst, ◌∙◌}
-use Rattle.std.proofs.lemmas.List.{drop_all}
-use Rattle.wc_model.specs.Language.Checks.{first_broken}
-use Rattle.wc_model.specs.Language.Validation.{Validates}
-use Rattle.wc_model.specs.Language.Kinds.{lines_of}
-use Rattle.wc_model.specs.Language.Views.{lines_view}
-use Rattle.wc_verify.specs.Bodies.{GetsTo, asked_of}
-use Rattle.wc_verify.specs.Rows.{row_at}
+use Rattle.wc_model.proofs.Common.{◌≡◌, ◌+◌, [], ◌++◌, Ok, Err, drop, refl, sym, ap, subst, ◌∙◌, drop_all}
+use Rattle.wc_model.specs.Definitions.{first_broken, Validates, lines_of, lines_view}
+use Rattle.wc_verify.specs.Bodies.{GetsTo, asked_of, row_at}
 use Rattle.wc_names.proofs.HandedOn.{propagated}
 use Rattle.wc_verify.proofs.BodySteps.{body_fault, goes_further}
 use Rattle.wc_verify.proofs.InstrLines.{first_seen}

@@ -1,9 +1,6 @@
 use Rattle.std.proofs.Common.{[], drop}
-use Rattle.wc_model.specs.Language.Kinds.{lines_of}
-use Rattle.wc_model.specs.Language.Scopes.{Scope}
-use Rattle.wc_model.specs.Language.Views.{lines_view}
-use Rattle.wc_verify.specs.Bodies.{GetsTo}
-use Rattle.wc_verify.specs.Seeing.{IsScope}
+use Rattle.wc_model.specs.Definitions.{lines_of, Scope, lines_view}
+use Rattle.wc_verify.specs.{GetsTo, IsScope}
 use Rattle.wc_verify.proofs.bodies.validate_body.Given as goal
 
 -- nothing is broken before the lines that are left

@@ -1,9 +1,6 @@
 use Rattle.std.proofs.Common.{◌≡◌, option_map, ap, sym, subst, ◌∙◌}
-use Rattle.wc_model.specs.Language.Kinds.{jumps_to, lines_of}
-use Rattle.wc_model.specs.Language.Views.{line_view, word_view}
-use Rattle.wc_verify.specs.Bodies.{GetsTo, GoesTo}
-use Rattle.wc_verify.specs.Instructions.{instr_line}
-use Rattle.wc_verify.specs.Rows.{jumped_row, row_named}
+use Rattle.wc_model.specs.Definitions.{jumps_to, lines_of, line_view, word_view}
+use Rattle.wc_verify.specs.{GetsTo, GoesTo, jumped_row, row_named, instr_line}
 use Rattle.wc_names.proofs.HandedOn.{propagated}
 use Rattle.wc_verify.proofs.BodyLines.{label_kept}
 use Rattle.wc_verify.proofs.BodySteps.{IsEntered, alone_validated, at_label, counts_entered, given_kept, label_refused, line_validated}

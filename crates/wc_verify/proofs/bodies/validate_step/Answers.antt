@@ -1,10 +1,8 @@
-use Rattle.std.proofs.Common.{ap, sym, ◌∙◌}
-use Rattle.std.specs.Prelude.{if◌then◌else◌}
+use Rattle.wc_model.proofs.Common.{ap, sym, ◌∙◌, if◌then◌else◌}
 use Rattle.wc_model.specs.Language.Kinds.{kind_after}
-use Rattle.wc_verify.specs.Instructions.{instr_line}
+use Rattle.wc_verify.specs.{instr_line, HandsOn}
 use Rattle.wc_verify.specs.declared.edges.Way.TheVariants.{Unseen, Agreed}
 use Rattle.wc_names.proofs.HandedOn.{propagated}
-use Rattle.wc_verify.specs.Bodies.{HandsOn}
 use Rattle.wc_verify.proofs.BodySteps.{hands_fault}
 use Rattle.wc_verify.proofs.bodies.validate_step.Goals as goal
 

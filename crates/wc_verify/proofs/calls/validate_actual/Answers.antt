@@ -1,8 +1,6 @@
 use Rattle.std.proofs.Common.{[], ◌∷◌, Some, sym, subst, ◌∙◌}
-use Rattle.wc_model.specs.Language.BodyRules.{actual_checks, reading_checks, suits_input, suits_output, writing_checks}
-use Rattle.wc_model.specs.Language.Checks.{asks}
-use Rattle.wc_model.specs.Language.Views.{term_view}
-use Rattle.wc_verify.specs.Found.{Finds}
+use Rattle.wc_model.specs.Definitions.{actual_checks, reading_checks, suits_input, suits_output, writing_checks, asks, term_view}
+use Rattle.wc_verify.specs.Seeing.{Finds}
 use Rattle.wc_verify.proofs.Calling.{output_suits}
 use Rattle.wc_verify.proofs.Found.{asked_as, joined}
 use Rattle.wc_verify.proofs.calls.validate_actual.Goals as goal

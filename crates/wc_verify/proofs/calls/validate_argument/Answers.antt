@@ -1,12 +1,7 @@
-use Rattle.std.proofs.Common.{◌≡◌, List, sym, ap, subst, ◌∙◌, ◌∷◌, [], ◌++◌}
-use Rattle.std.specs.Prelude.{if◌then◌else◌}
-use Rattle.wc_model.specs.Language.BodyRules.{formal_named}
+use Rattle.wc_model.proofs.Common.{◌≡◌, List, sym, ap, subst, ◌∙◌, ◌∷◌, [], ◌++◌, if◌then◌else◌}
+use Rattle.wc_model.specs.Definitions.{formal_named, Assignment, members_of, name_of, assignment_view}
 use Rattle.wc_model.specs.Language.Checks.{Position, first_broken}
-use Rattle.wc_model.specs.Language.Tree.{Assignment}
-use Rattle.wc_model.specs.Language.Declarations.{members_of}
-use Rattle.wc_model.specs.Language.Names.{name_of}
-use Rattle.wc_model.specs.Language.Views.{assignment_view}
-use Rattle.wc_verify.specs.Calls.{HoldsNames}
+use Rattle.wc_verify.specs.Seeing.{HoldsNames}
 use Rattle.wc_verify.proofs.Calling.{argument_found, formal_parts, on_ok, one_more, is_new}
 use Rattle.wc_verify.proofs.calls.validate_argument.Goals as goal
 

@@ -1,11 +1,5 @@
-use Rattle.std.proofs.Common.{ℕ, ◌+◌, ◌<◌, false, List, [], ◌∷◌, ◌++◌, length, map, drop, get_or, ap, sym, subst, ◌∙◌, append_assoc}
-use Rattle.std.specs.List.{flat_map}
-use Rattle.wc_model.specs.Language.BodyRules.{argument_checks}
-use Rattle.wc_model.specs.Language.Checks.{first_broken, positions_after, positions_of}
-use Rattle.wc_model.specs.Language.Declarations.{members_of}
-use Rattle.wc_model.specs.Language.Names.{Name}
-use Rattle.wc_model.specs.Language.Tree.{Assignment}
-use Rattle.wc_model.specs.Language.Views.{assignment_view}
+use Rattle.wc_model.proofs.Common.{ℕ, ◌+◌, ◌<◌, false, List, [], ◌∷◌, ◌++◌, length, map, drop, get_or, ap, sym, subst, ◌∙◌, append_assoc, flat_map}
+use Rattle.wc_model.specs.Definitions.{argument_checks, first_broken, positions_after, positions_of, members_of, Name, Assignment, assignment_view}
 use Rattle.wc_model.specs.declared.operand.Operand.TheVariants.{Literal}
 use Rattle.wc_model.specs.declared.operator.Direction.TheVariants.{Into}
 use Rattle.wc_model.specs.declared.tree.Argument.{Argument}

@@ -1,11 +1,5 @@
-use Rattle.std.proofs.Common.{map, ap, sym, ◌∙◌, ◌∷◌, ◌++◌}
-use Rattle.std.specs.List.{flat_map}
-use Rattle.wc_model.specs.Language.BodyRules.{argument_checks, call_checks, condition_checks, is_instance, members_called}
-use Rattle.wc_model.specs.Language.Checks.{asks, first_broken, positions_of}
-use Rattle.wc_model.specs.Language.Declarations.{members_of}
-use Rattle.wc_model.specs.Language.Names.{name_of}
-use Rattle.wc_model.specs.Language.Scopes.{type_of}
-use Rattle.wc_model.specs.Language.Views.{assignment_view}
+use Rattle.wc_model.proofs.Common.{map, ap, sym, ◌∙◌, ◌∷◌, ◌++◌, flat_map}
+use Rattle.wc_model.specs.Definitions.{argument_checks, call_checks, condition_checks, is_instance, members_called, asks, first_broken, positions_of, members_of, name_of, type_of, assignment_view}
 use Rattle.wc_verify.proofs.Calling.{instance_found, no_instance_found, type_parts}
 use Rattle.wc_declare.proofs.Validation.{validates_same}
 use Rattle.wc_verify.proofs.calls.validate_call.Goals as goal

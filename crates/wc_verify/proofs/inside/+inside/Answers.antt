@@ -1,11 +1,6 @@
-use Rattle.std.proofs.Common.{◌≡◌, ◌+◌, List, [], ◌++◌, Ok, Err, map, drop, refl, sym, ap, subst, ◌∙◌, option_map}
-use Rattle.std.proofs.lemmas.List.{drop_all}
-use Rattle.wc_model.specs.Language.BodyRules.{inside_rules, line_rules, opening_checks}
-use Rattle.wc_model.specs.Language.Checks.{first_broken}
-use Rattle.wc_model.specs.Language.Kinds.{PlainLine, NestedLine, kind_after}
-use Rattle.wc_model.specs.Language.Names.{name_of}
+use Rattle.wc_model.proofs.Common.{◌≡◌, ◌+◌, List, [], ◌++◌, Ok, Err, map, drop, refl, sym, ap, subst, ◌∙◌, option_map, drop_all}
+use Rattle.wc_model.specs.Definitions.{inside_rules, line_rules, opening_checks, first_broken, PlainLine, NestedLine, kind_after, name_of, assignment_view, line_view, lines_view, term_view, word_view}
 use Rattle.wc_model.specs.Language.Tree.{Load, Store, Apply, Negate, Jump, Call, Return, End}
-use Rattle.wc_model.specs.Language.Views.{assignment_view, line_view, lines_view, term_view, word_view}
 use Rattle.wc_model.specs.declared.tree.Argument.{Argument}
 use Rattle.wc_verify.specs.Instructions.{GoesInside, GoesOn, SaysAhead, instr_line}
 use Rattle.wc_verify.proofs.InstrLines.{first_seen, inside_fault, inside_line, inside_more, line_apply, line_call, line_defer, line_jump, line_load, line_not, line_return, line_store, none_ahead, same_line, view_instr}

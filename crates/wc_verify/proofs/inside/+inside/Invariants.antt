@@ -1,9 +1,6 @@
 use Rattle.std.proofs.Common.{List, Ok, drop}
-use Rattle.wc_model.specs.Language.Checks.{Check}
-use Rattle.wc_model.specs.Language.Scopes.{Scope}
-use Rattle.wc_model.specs.Language.Views.{lines_view}
-use Rattle.wc_verify.specs.Instructions.{GoesInside}
-use Rattle.wc_verify.specs.Seeing.{IsScope}
+use Rattle.wc_model.specs.Definitions.{Check, Scope, lines_view}
+use Rattle.wc_verify.specs.{GoesInside, IsScope}
 use Rattle.wc_verify.proofs.inside.+inside.Given as goal
 
 -- the lines so far break nothing, and hand on the kind

@@ -1,7 +1,4 @@
-use Rattle.wc_model.specs.Language.Checks.{first_broken}
-use Rattle.wc_model.specs.Language.Kinds.{PlainLine}
-use Rattle.wc_model.specs.Language.Tree.{Apply}
-use Rattle.wc_model.specs.Language.Views.{term_view}
+use Rattle.wc_model.specs.Definitions.{first_broken, PlainLine, Apply, term_view}
 use Rattle.wc_verify.proofs.instructions.apply.Goals as goal
 
 pub returns : goal.returns

@@ -1,7 +1,4 @@
-use Rattle.wc_model.specs.Language.Kinds.{PlainLine}
-use Rattle.wc_model.specs.Language.Tree.{Call}
-use Rattle.wc_model.specs.Language.Views.{assignment_view}
-use Rattle.wc_model.specs.Language.Names.{name_of}
+use Rattle.wc_model.specs.Definitions.{PlainLine, Call, assignment_view, name_of}
 use Rattle.std.proofs.Common.{map, refl}
 use Rattle.wc_verify.proofs.instructions.call.Goals as goal
 

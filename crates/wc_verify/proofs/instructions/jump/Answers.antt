@@ -1,12 +1,6 @@
-use Rattle.wc_model.specs.Language.Checks.{first_broken}
-use Rattle.wc_model.specs.Language.Kinds.{PlainLine}
-use Rattle.wc_model.specs.Language.Tree.{Jump}
-use Rattle.wc_model.specs.Language.Names.{name_of}
-use Rattle.std.proofs.Common.{refl, sym}
-use Rattle.wc_model.specs.Language.BodyRules.{condition_checks, is_ahead}
+use Rattle.wc_model.specs.Definitions.{first_broken, PlainLine, Jump, name_of, condition_checks, is_ahead, asks}
+use Rattle.wc_model.proofs.Common.{refl, sym, [], ◌∷◌}
 use Rattle.wc_verify.proofs.Found.{asked_as, joined}
-use Rattle.wc_model.specs.Language.Checks.{asks}
-use Rattle.std.proofs.Common.{[], ◌∷◌}
 use Rattle.wc_verify.proofs.instructions.jump.Goals as goal
 
 pub returns : goal.returns

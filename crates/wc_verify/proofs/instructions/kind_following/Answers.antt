@@ -1,6 +1,6 @@
 use Rattle.wc_names.proofs.HandedOn.{propagated}
 use Rattle.wc_verify.specs.Instructions.{GoesOn}
-use Rattle.wc_verify.proofs.Going.{goes_wrong}
+use Rattle.wc_verify.proofs.Found.{goes_wrong}
 use Rattle.wc_verify.proofs.instructions.kind_following.Goals as goal
 
 pub returns-in_err-validated : goal.returns-in_err-validated

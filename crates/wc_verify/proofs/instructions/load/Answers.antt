@@ -1,8 +1,5 @@
-use Rattle.wc_model.specs.Language.Checks.{first_broken}
-use Rattle.wc_model.specs.Language.Kinds.{PlainLine}
-use Rattle.wc_model.specs.Language.Tree.{Load}
-use Rattle.wc_model.specs.Language.Views.{term_view}
-use Rattle.wc_verify.proofs.Going.{loaded}
+use Rattle.wc_model.specs.Definitions.{first_broken, PlainLine, Load, term_view}
+use Rattle.wc_verify.proofs.Found.{loaded}
 use Rattle.wc_verify.proofs.instructions.load.Goals as goal
 
 pub returns : goal.returns

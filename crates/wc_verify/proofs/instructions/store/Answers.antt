@@ -1,7 +1,5 @@
-use Rattle.wc_model.specs.Language.Checks.{first_broken}
-use Rattle.wc_model.specs.Language.Kinds.{PlainLine}
+use Rattle.wc_model.specs.Definitions.{first_broken, PlainLine, term_view}
 use Rattle.wc_model.specs.Language.Tree.{Store}
-use Rattle.wc_model.specs.Language.Views.{term_view}
 use Rattle.std.proofs.Common.{refl}
 use Rattle.wc_verify.proofs.instructions.store.Goals as goal
 

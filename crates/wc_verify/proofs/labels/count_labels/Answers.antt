@@ -1,8 +1,6 @@
-use Rattle.std.proofs.Common.{◌≡◌, ◌+◌, [], drop, ap, subst, ◌∙◌}
-use Rattle.std.proofs.lemmas.List.{drop_all}
-use Rattle.wc_model.specs.Language.Kinds.{lines_of}
-use Rattle.wc_model.specs.Language.Views.{lines_view}
-use Rattle.wc_verify.specs.Rows.{row_at}
+use Rattle.wc_model.proofs.Common.{◌≡◌, ◌+◌, [], drop, ap, subst, ◌∙◌, drop_all}
+use Rattle.wc_model.specs.Definitions.{lines_of, lines_view}
+use Rattle.wc_verify.specs.Bodies.{row_at}
 use Rattle.wc_verify.proofs.BodyLines.{AreCounted, all_counted, one_counted}
 use Rattle.wc_verify.proofs.InstrLines.{first_seen}
 use Rattle.wc_verify.proofs.labels.count_labels.Goals as goal

@@ -1,6 +1,5 @@
 use Rattle.std.proofs.Common.{drop}
-use Rattle.wc_model.specs.Language.Kinds.{lines_of}
-use Rattle.wc_model.specs.Language.Views.{lines_view}
+use Rattle.wc_model.specs.Definitions.{lines_of, lines_view}
 use Rattle.wc_verify.proofs.BodyLines.{AreCounted}
 use Rattle.wc_verify.proofs.labels.count_labels.Given as goal
 

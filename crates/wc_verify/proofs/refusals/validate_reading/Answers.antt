@@ -1,6 +1,5 @@
 use Rattle.std.specs.Prelude.{is_some}
-use Rattle.wc_model.specs.Language.BodyRules.{is_readable}
-use Rattle.wc_model.specs.Language.Scopes.{entity_of}
+use Rattle.wc_model.specs.Definitions.{is_readable, entity_of}
 use Rattle.wc_verify.proofs.Found.{pair_found}
 use Rattle.wc_verify.proofs.refusals.validate_reading.Goals as goal
 

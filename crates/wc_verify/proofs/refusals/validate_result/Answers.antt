@@ -1,5 +1,4 @@
-use Rattle.std.proofs.Common.{sym}
-use Rattle.std.specs.Prelude.{is_some}
+use Rattle.wc_model.proofs.Common.{sym, is_some}
 use Rattle.wc_model.specs.Language.BodyRules.{is_of, takes}
 use Rattle.wc_verify.proofs.Found.{pair_found}
 use Rattle.wc_verify.proofs.refusals.validate_result.Goals as goal

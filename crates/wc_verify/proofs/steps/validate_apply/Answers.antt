@@ -1,7 +1,5 @@
 use Rattle.std.proofs.Common.{sym, [], ◌∷◌, ◌++◌}
-use Rattle.wc_model.specs.Language.BodyRules.{divisor_checks, reading_checks, result_checks, suits_result}
-use Rattle.wc_model.specs.Language.Checks.{asks}
-use Rattle.wc_model.specs.Language.Views.{term_view}
+use Rattle.wc_model.specs.Definitions.{divisor_checks, reading_checks, result_checks, suits_result, asks, term_view}
 use Rattle.wc_verify.proofs.Found.{asked_as, joined}
 use Rattle.wc_verify.proofs.steps.validate_apply.Goals as goal
 

@@ -1,12 +1,7 @@
-use Rattle.std.proofs.Common.{◌≡◌, Bool, true, false, sym, ap, ◌∙◌, ℕ, Option, [], ◌∷◌}
-use Rattle.wc_model.specs.Language.Checks.{asks}
-use Rattle.std.specs.Prelude.{is_some, if◌then◌else◌}
-use Rattle.wc_model.specs.Language.BodyRules.{is_bool, load_checks, reading_checks}
-use Rattle.wc_model.specs.Language.Kinds.{term_kind}
-use Rattle.wc_model.specs.Language.Scopes.{Scope}
-use Rattle.wc_model.specs.Language.Tree.{Term}
+use Rattle.wc_model.proofs.Common.{◌≡◌, Bool, true, false, sym, ap, ◌∙◌, ℕ, Option, [], ◌∷◌, is_some, if◌then◌else◌}
+use Rattle.wc_model.specs.Definitions.{asks, is_bool, load_checks, reading_checks, term_kind, Scope, Term}
 use Rattle.wc_model.specs.declared.kind.Kind.{Kind}
-use Rattle.wc_verify.specs.Found.{Finds}
+use Rattle.wc_verify.specs.Seeing.{Finds}
 use Rattle.wc_verify.proofs.Found.{Both, Asked, asked_as, joined}
 use Rattle.wc_verify.proofs.steps.validate_load.Goals as goal
 

@@ -1,6 +1,5 @@
 use Rattle.std.proofs.Common.{sym, ap, not, [], ◌∷◌, ◌++◌}
-use Rattle.wc_model.specs.Language.BodyRules.{divides, is_no_instance, opening_operand_checks, result_checks}
-use Rattle.wc_model.specs.Language.Checks.{asks}
+use Rattle.wc_model.specs.Definitions.{divides, is_no_instance, opening_operand_checks, result_checks, asks}
 use Rattle.wc_verify.proofs.Found.{joined, pair_found}
 use Rattle.wc_verify.proofs.steps.validate_opening.Goals as goal
 

@@ -1,13 +1,9 @@
-use Rattle.std.proofs.Common.{◌≡◌, sym, subst, [], ◌∷◌, ◌++◌, Option, ℕ, refl}
-use Rattle.std.specs.Prelude.{is_some}
-use Rattle.wc_model.specs.Language.BodyRules.{store_checks, suits_target, truth_checks, writing_checks}
-use Rattle.wc_model.specs.Language.Checks.{asks}
-use Rattle.wc_model.specs.Language.Scopes.{Scope}
-use Rattle.wc_model.specs.Language.Tree.{Term}
+use Rattle.wc_model.proofs.Common.{◌≡◌, sym, subst, [], ◌∷◌, ◌++◌, Option, ℕ, refl, is_some}
+use Rattle.wc_model.specs.Definitions.{store_checks, suits_target, truth_checks, writing_checks, asks, Scope, Term}
 use Rattle.wc_model.specs.declared.kind.Kind.{Kind}
 use Rattle.wc_model.specs.declared.operator.Storing.{Storing}
 use Rattle.wc_model.specs.declared.operator.Storing.TheVariants.{Result as StoreResult, Negation, Set, Reset}
-use Rattle.wc_verify.specs.Found.{Finds}
+use Rattle.wc_verify.specs.Seeing.{Finds}
 use Rattle.wc_verify.proofs.Found.{asked_as, joined, pair_found}
 use Rattle.wc_verify.proofs.steps.validate_store.Goals as goal
 

@@ -1,10 +1,5 @@
-use Rattle.std.proofs.Common.{◌+◌, ◌∷◌, ◌++◌, None, map, drop, refl, sym, ap, subst, ◌∙◌}
-use Rattle.std.specs.List.{flat_map}
-use Rattle.wc_model.specs.Language.BodyRules.{body_rules}
-use Rattle.wc_model.specs.Language.Checks.{first_broken, positions_after}
-use Rattle.wc_model.specs.Language.Faults.{body_fault}
-use Rattle.wc_model.specs.Language.Scopes.{Scope}
-use Rattle.wc_model.specs.Language.Views.{unit_view}
+use Rattle.wc_model.proofs.Common.{◌+◌, ◌∷◌, ◌++◌, None, map, drop, refl, sym, ap, subst, ◌∙◌, flat_map}
+use Rattle.wc_model.specs.Definitions.{body_rules, first_broken, positions_after, body_fault, Scope, unit_view}
 use Rattle.wc_names.specs.RepresentsText.{AreTables}
 use Rattle.wc_verify.proofs.BodyUnits.{UnitsLeft, unit_passed, unit_rules, unit_there}
 use Rattle.wc_declare.proofs.Validation.{validates_on}

@@ -1,18 +1,13 @@
-use Rattle.std.proofs.Common.{◌≡◌, ◌++◌, ◌∷◌, [], Some, ap, sym, subst, ◌∙◌, map, arith}
-use Rattle.std.proofs.lemmas.Grind.{common_steps}
+use Rattle.wc_model.proofs.Common.{◌≡◌, ◌++◌, ◌∷◌, [], Some, ap, sym, subst, ◌∙◌, map, arith, common_steps, flat_map}
 use Rattle.std.proofs.lemmas.List.{append_assoc}
-use Rattle.std.specs.List.{flat_map}
-use Rattle.wc_model.specs.Language.Names.{name_of}
-use Rattle.wc_model.specs.Language.Scopes.{type_of}
+use Rattle.wc_model.specs.Definitions.{name_of, type_of, text_view, unit_view}
 use Rattle.wc_model.specs.Language.Store as store
-use Rattle.wc_model.specs.Language.Views.{text_view, unit_view}
 use Rattle.wc_model.specs.declared.operand.Word.{Word}
 use Rattle.wc_model.specs.declared.source.Decl.{Decl}
 use Rattle.wc_model.specs.declared.source.Unit.{Unit as CodeUnit}
 use Rattle.wc_names.proofs.HandedOn.{on_ok}
 use Rattle.wc_names.proofs.Lists.{same_found}
-use Rattle.wc_view_changes.specs.Shown.{declared_in, declared_of, seen}
-use Rattle.wc_view_changes.specs.Sides.{IsSide, lines_between, side_after, unit_numbered, variable_lines}
+use Rattle.wc_view_changes.specs.{declared_in, declared_of, seen, IsSide, lines_between, side_after, unit_numbered, variable_lines}
 use Rattle.wc_view_changes.proofs.Between.{side_is}
 use Rattle.wc_view_changes.proofs.Units.{at_there, in_unit}
 use Rattle.wc_view_changes.proofs.Variables.{all_reported, block_lines, elementary_type, instance_line, into, no_lines, passed_lines, plain_line, standard_type}

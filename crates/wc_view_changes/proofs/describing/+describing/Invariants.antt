@@ -1,12 +1,9 @@
-use Rattle.std.proofs.Common.{◌≡◌, ◌*◌, ◌+◌, ◌++◌, List, Option, take}
-use Rattle.std.specs.List.{flat_map}
-use Rattle.wc_model.specs.Language.Scopes.{Scope}
-use Rattle.wc_model.specs.Language.Views.{text_view}
+use Rattle.wc_model.proofs.Common.{◌≡◌, ◌*◌, ◌+◌, ◌++◌, List, Option, take, flat_map}
+use Rattle.wc_model.specs.Definitions.{Scope, text_view}
 use Rattle.wc_model.specs.declared.operand.Word.{Word}
 use Rattle.wc_model.specs.declared.source.Decl.{Decl}
 use Rattle.wc_model.specs.declared.source.Unit.{Unit as CodeUnit}
-use Rattle.wc_view_changes.specs.Shown.{declared_in}
-use Rattle.wc_view_changes.specs.Sides.{IsAt, IsSide, lines_between, variable_lines}
+use Rattle.wc_view_changes.specs.{declared_in, IsAt, IsSide, lines_between, variable_lines}
 use Rattle.wc_view_changes.proofs.describing.+describing.Given as goal
 
 abbrev pub decreases-describe_variable : goal.decreases-describe_variable

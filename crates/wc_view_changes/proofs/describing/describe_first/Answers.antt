@@ -1,11 +1,8 @@
 use Rattle.std.proofs.Common.{◌≡◌, true, sym, ◌∙◌}
-use Rattle.wc_model.specs.Language.Names.{name_of}
+use Rattle.wc_model.specs.Definitions.{name_of, text_view}
 use Rattle.wc_model.specs.Language.Store as store
-use Rattle.wc_model.specs.Language.Views.{text_view}
 use Rattle.wc_names.proofs.HandedOn.{on_ok}
-use Rattle.wc_view_changes.specs.Shapes.{has_shape}
-use Rattle.wc_view_changes.specs.Shown.{Plain}
-use Rattle.wc_view_changes.specs.Sides.{side_initial}
+use Rattle.wc_view_changes.specs.{has_shape, Plain, side_initial}
 use Rattle.wc_view_changes.proofs.Others.{first_there}
 use Rattle.wc_view_changes.proofs.describing.describe_first.Goals as goal
 

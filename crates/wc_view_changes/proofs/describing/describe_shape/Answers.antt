@@ -1,9 +1,7 @@
 use Rattle.std.proofs.Common.{◌++◌, None, append-nil, false, ap, sym, ◌∙◌}
-use Rattle.wc_model.specs.Language.Names.{name_of}
-use Rattle.wc_model.specs.Language.Views.{text_view}
+use Rattle.wc_model.specs.Definitions.{name_of, text_view}
 use Rattle.wc_names.proofs.HandedOn.{on_ok}
-use Rattle.wc_view_changes.specs.ChangeReport.{line_text}
-use Rattle.wc_view_changes.specs.Shapes.{shape_view}
+use Rattle.wc_view_changes.specs.{line_text, shape_view}
 use Rattle.wc_view_changes.proofs.Others.{line_there}
 use Rattle.wc_view_changes.proofs.describing.describe_shape.Goals as goal
 

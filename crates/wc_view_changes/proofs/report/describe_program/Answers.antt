@@ -3,8 +3,7 @@ use Rattle.std.proofs.lemmas.List.{length-map}
 use Rattle.wc_model.specs.Language.Views.{text_view, unit_view}
 use Rattle.wc_model.specs.declared.source.Source.{Source}
 use Rattle.wc_names.proofs.HandedOn.{on_ok}
-use Rattle.wc_view_changes.specs.Shown.{declared_of}
-use Rattle.wc_view_changes.specs.Sides.{lines_between}
+use Rattle.wc_view_changes.specs.{declared_of, lines_between}
 use Rattle.wc_view_changes.proofs.Wholes.{none_reported, other_side, reported}
 use Rattle.wc_view_changes.proofs.report.describe_program.Goals as goal
 

@@ -1,5 +1,4 @@
-use Rattle.std.proofs.Common.{◌≡◌, ◌+◌, ◌<◌, ◌∙◌, ℕ, Bool, List, ap, cond, drop, false, get_or, length, option_map, sym, true}
-use Rattle.std.proofs.lemmas.List.{drop_all}
+use Rattle.wc_model.proofs.Common.{◌≡◌, ◌+◌, ◌<◌, ◌∙◌, ℕ, Bool, List, ap, cond, drop, false, get_or, length, option_map, sym, true, drop_all}
 use Rattle.wc_model.specs.Language.Names.{Name, name_of}
 use Rattle.wc_model.specs.declared.source.Decl.{Decl}
 use Rattle.wc_model.specs.declared.source.Initial.{Initial}

@@ -1,7 +1,5 @@
-use Rattle.std.proofs.Common.{◌∙◌, ap, option_map, subst, sym}
-use Rattle.std.specs.Prelude.{slice_get}
-use Rattle.wc_model.specs.Language.Names.{name_of}
-use Rattle.wc_model.specs.Language.Views.{text_view}
+use Rattle.wc_model.proofs.Common.{◌∙◌, ap, option_map, subst, sym, slice_get}
+use Rattle.wc_model.specs.Definitions.{name_of, text_view}
 use Rattle.wc_model.specs.declared.source.Initial.{Initial}
 use Rattle.wc_model.specs.declared.source.Source.{Source}
 use Rattle.wc_names.proofs.Lists.{got_some}

@@ -1,15 +1,11 @@
-use Rattle.std.proofs.Common.{◌≡◌, ◌≤◌, Bor, List, ℕ, Some, None, ap, arith, length, option_map, refl, sym, ◌∙◌}
-use Rattle.std.proofs.lemmas.List.{length-map}
-use Rattle.std.proofs.lemmas.Option.{slice_get-map, slice_get_past}
-use Rattle.std.specs.Prelude.{slice_get}
+use Rattle.wc_model.proofs.Common.{◌≡◌, ◌≤◌, Bor, List, ℕ, Some, None, ap, arith, length, option_map, refl, sym, ◌∙◌, slice_get, length-map, slice_get-map, slice_get_past}
 use Rattle.wc_model.specs.Language.Views.{text_view, unit_view}
 use Rattle.wc_model.specs.declared.source.Source.{Source}
 use Rattle.wc_names.proofs.Lists.{got_some}
 use Rattle.wc_names.specs.declared.declared_type.DeclaredType.TheVariants as numbered
 use Rattle.wc_view_changes.proofs.Others.{found_there, spelled_there}
 use Rattle.wc_view_changes.proofs.shape.type_text.Goals as goal
-use Rattle.wc_view_changes.specs.ChangeReport.{Found}
-use Rattle.wc_view_changes.specs.Sides.{found_numbered, side_initial}
+use Rattle.wc_view_changes.specs.{Found, found_numbered, side_initial}
 
 pub returns-in-Elementary : goal.returns-in-Elementary
 returns-in-Elementary c = λ unit side name h e.

@@ -1,5 +1,5 @@
 use Rattle.std.proofs.Common.{◌≡◌, filter, take}
-use Rattle.wc_view_columns.specs.Lanes.{is_shown}
+use Rattle.wc_view_columns.specs.Columns.{is_shown}
 use Rattle.wc_view_columns.proofs.lanes.lanes_of.Given as goal
 
 -- those of the lanes so far that are shown

@@ -1,5 +1,4 @@
-use Rattle.std.proofs.Common.{subst, arith}
-use Rattle.std.proofs.lemmas.List.{take_all}
+use Rattle.wc_model.proofs.Common.{subst, arith, take_all}
 use Rattle.wc_view_columns.proofs.Totals.{both_together}
 use Rattle.wc_view_columns.proofs.Wholes.{as_many, whole_on}
 use Rattle.wc_view_columns.specs.Columns.{HasHappened, HasHeld, IsOfAll, IsWholeOf}

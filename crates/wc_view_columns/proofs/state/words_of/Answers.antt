@@ -1,8 +1,7 @@
-use Rattle.std.proofs.Common.{◌≡◌, ◌∙◌, [], ◌∷◌, Some, ap, arith, get_or, of_z, pos, rules, suc, to_z, w32, zero, ℤ}
-use Rattle.std.proofs.lemmas.Int.{to_z-of_z}
+use Rattle.wc_model.proofs.Common.{◌≡◌, ◌∙◌, [], ◌∷◌, Some, ap, arith, get_or, of_z, pos, rules, suc, to_z, w32, zero, ℤ, to_z-of_z}
 use Rattle.std.specs.Prelude.{FitsSigned}
 use Rattle.wc_view_columns.proofs.state.words_of.Goals as goal
-use Rattle.wc_view_columns.specs.Spans.{span_of}
+use Rattle.wc_view_columns.specs.Held.{span_of}
 use Rattle.wc_view_columns.specs.declared.span.Span.{Span}
 
 raw : (span : Span) (word : ℤ) → FitsSigned w32 word → Some span ≡ span_of (to_z w32 (of_z w32 word) ∷ []) → Some span ≡ span_of (word ∷ [])

@@ -2,8 +2,7 @@ use Rattle.std.proofs.Common.{◌∙◌, ◌++◌, ◌∷◌, [], true, ap, refl
 use Rattle.wc_view_decode.proofs.RowTexts.{one_more}
 use Rattle.wc_view_decode.proofs.Standings.{long_started}
 use Rattle.wc_view_decode.proofs.Takings.{after_text}
-use Rattle.wc_view_decode.specs.Formats.{opening, passed_on}
-use Rattle.wc_view_decode.specs.Representation.{IsInState}
+use Rattle.wc_view_decode.specs.{opening, passed_on, IsInState}
 use Rattle.wc_view_decode.proofs.decoder.begin_long.Goals as goal
 
 pub returns : goal.returns

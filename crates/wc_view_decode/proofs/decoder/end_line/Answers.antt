@@ -1,8 +1,7 @@
 use Rattle.std.proofs.Common.{◌≡◌, ◌∙◌, ◌+◌, ◌≤◌, ◌++◌, ◌∷◌, [], false, length, refl, sym, subst}
 use Rattle.wc_view_decode.proofs.Standings.{line_ended}
 use Rattle.wc_view_decode.proofs.Takings.{after_text}
-use Rattle.wc_view_decode.specs.Decoding.{IsDecodedLine, longest_line}
-use Rattle.wc_view_decode.specs.Representation.{HasNoEnd, IsInState}
+use Rattle.wc_view_decode.specs.{IsDecodedLine, longest_line, HasNoEnd, IsInState}
 use Rattle.wc_view_decode.proofs.decoder.end_line.Goals as goal
 
 pub returns : goal.returns

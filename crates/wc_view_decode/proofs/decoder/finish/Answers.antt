@@ -1,11 +1,7 @@
-use Rattle.std.proofs.Common.{◌∙◌, ◌++◌, true, false, ◌<◌, length, ap, subst, arith}
-use Rattle.std.proofs.lemmas.Grind.{common_steps}
-use Rattle.std.proofs.lemmas.Result.{on_ok_weaker}
+use Rattle.wc_model.proofs.Common.{◌∙◌, ◌++◌, true, false, ◌<◌, length, ap, subst, arith, common_steps, on_ok_weaker}
 use Rattle.wc_view_decode.proofs.Standings.{finished_kept, finished_long}
 use Rattle.wc_view_decode.proofs.Takings.{after_text}
-use Rattle.wc_view_decode.specs.Decoding.{Decodes}
-use Rattle.wc_view_decode.specs.Formats.{unknown}
-use Rattle.wc_view_decode.specs.Representation.{IsInState}
+use Rattle.wc_view_decode.specs.{Decodes, unknown, IsInState}
 use Rattle.wc_view_decode.proofs.decoder.finish.Goals as goal
 
 pub returns-then-decoder-clause-finishes : goal.returns-then-decoder-clause-finishes

@@ -1,9 +1,7 @@
-use Rattle.std.proofs.Common.{◌-◌, length, take, ap, subst, arith}
-use Rattle.std.proofs.lemmas.Result.{on_ok_weaker}
+use Rattle.wc_model.proofs.Common.{◌-◌, length, take, ap, subst, arith, on_ok_weaker}
 use Rattle.std.specs.Prelude.{option_map}
 use Rattle.wc_view_decode.proofs.Standings.{cut_end, marked}
-use Rattle.wc_view_decode.specs.Formats.{unknown}
-use Rattle.wc_view_decode.specs.Lines.{IsContentOf, entry_content}
+use Rattle.wc_view_decode.specs.{unknown, IsContentOf, entry_content}
 use Rattle.wc_view_decode.proofs.decoder.put_line.Goals as goal
 
 pub returns-in-None-clause-line : goal.returns-in-None-clause-line

@@ -1,9 +1,7 @@
-use Rattle.std.proofs.Common.{◌≡◌, ◌∙◌, ◌++◌, ◌∷◌, [], true, false, length, refl, subst, arith}
-use Rattle.std.proofs.lemmas.Grind.{common_steps}
-use Rattle.std.proofs.lemmas.Result.{on_ok_weaker}
+use Rattle.wc_model.proofs.Common.{◌≡◌, ◌∙◌, ◌++◌, ◌∷◌, [], true, false, length, refl, subst, arith, common_steps, on_ok_weaker}
 use Rattle.wc_view_decode.proofs.Standings.{byte_kept, long_ended, long_more}
 use Rattle.wc_view_decode.proofs.Takings.{after_text}
-use Rattle.wc_view_decode.specs.Representation.{IsInState}
+use Rattle.wc_view_decode.specs.Running.{IsInState}
 use Rattle.wc_view_decode.proofs.decoder.take_byte.Goals as goal
 
 pub returns-then-byte-ne10 : goal.returns-then-byte-ne10

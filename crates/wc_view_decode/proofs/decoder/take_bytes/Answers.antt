@@ -1,7 +1,7 @@
 use Rattle.std.proofs.Common.{◌∙◌, ◌++◌, take, refl, sym, subst, arith}
 use Rattle.std.proofs.lemmas.List.{append-nil, take_all}
 use Rattle.wc_view_decode.proofs.Takings.{one_taken_more}
-use Rattle.wc_view_decode.specs.Representation.{Represents}
+use Rattle.wc_view_decode.specs.Running.{Represents}
 use Rattle.wc_view_decode.proofs.decoder.take_bytes.Goals as goal
 
 pub loop-byte-preserved : goal.loop-byte-preserved

@@ -1,5 +1,5 @@
 use Rattle.std.proofs.Common.{◌≡◌, ◌++◌, List, ℕ, take}
-use Rattle.wc_view_decode.specs.Representation.{Represents}
+use Rattle.wc_view_decode.specs.Running.{Represents}
 use Rattle.wc_view_decode.proofs.decoder.take_bytes.Given as goal
 
 -- the bytes so far are taken

@@ -1,10 +1,7 @@
-use Rattle.std.proofs.Common.{◌∙◌, [], Result, false, refl, sym, subst}
-use Rattle.std.specs.Io.KnownBytes.{Appends}
+use Rattle.wc_model.proofs.Common.{◌∙◌, [], Result, false, refl, sym, subst, Appends}
 use Rattle.wc_view_decode.proofs.Chunks.{all_decoded, heading_unwritten, propagated}
 use Rattle.wc_view_decode.proofs.Standings.{nothing_read}
-use Rattle.wc_view_decode.specs.Decoding.{DecodesAll}
-use Rattle.wc_view_decode.specs.Formats.{heading}
-use Rattle.wc_view_decode.specs.Representation.{IsInState, Represents}
+use Rattle.wc_view_decode.specs.{DecodesAll, heading, IsInState, Represents}
 use Rattle.wc_view_decode.specs.declared.decoder.Decoder.{Decoder}
 use Rattle.wc_view_decode.specs.declared.format.DecodeFault.{DecodeFault}
 use Rattle.wc_view_decode.proofs.decoding.decode.Goals as goal

@@ -1,5 +1,4 @@
-use Rattle.std.proofs.Common.{◌∙◌, Result, take, subst, arith, rules}
-use Rattle.std.specs.Io.KnownBytes.{Consumes}
+use Rattle.wc_model.proofs.Common.{◌∙◌, Result, take, subst, arith, rules, Consumes}
 use Rattle.wc_view_decode.proofs.Chunks.{goes_more, propagated, rest_ended, rest_unread, rest_unwritten}
 use Rattle.wc_view_decode.specs.Running.{DecodesRest}
 use Rattle.wc_view_decode.specs.declared.format.DecodeFault.{DecodeFault}

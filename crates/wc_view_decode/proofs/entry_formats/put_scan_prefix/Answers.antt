@@ -1,6 +1,5 @@
 use Rattle.std.proofs.Common.{◌∙◌, ◌++◌, codes, ap}
-use Rattle.std.proofs.lemmas.Result.{on_ok_weaker}
-use Rattle.std.specs.Prelude.{decimal}
+use Rattle.wc_model.proofs.Common.{decimal, on_ok_weaker}
 use Rattle.wc_view_decode.proofs.RowTexts.{one_more, two_more}
 use Rattle.wc_view_decode.proofs.entry_formats.put_scan_prefix.Goals as goal
 

@@ -1,7 +1,6 @@
-use Rattle.std.proofs.Common.{◌∙◌, ◌≤◌, ◌-◌, length, sym, subst, drop, arith}
-use Rattle.std.proofs.lemmas.List.{length-drop, take_all}
+use Rattle.wc_model.proofs.Common.{◌∙◌, ◌≤◌, ◌-◌, length, sym, subst, drop, arith, length-drop, take_all}
 use Rattle.wc_view_decode.proofs.Several.{LeavesRest, at_end, at_none, is_empty, is_not_empty, one_taken}
-use Rattle.wc_view_decode.specs.Found.{IsFirstAnswer}
+use Rattle.wc_view_decode.specs.AnswerBytes.{IsFirstAnswer}
 use Rattle.wc_view_decode.proofs.frames.answers_of.Goals as goal
 
 pub returns-in-None-clause-answers : goal.returns-in-None-clause-answers

@@ -1,6 +1,6 @@
 use Rattle.std.proofs.Common.{◌∙◌, subst, sym}
 use Rattle.wc_view_decode.proofs.Framed.{all_found, no_unit, not_framed}
-use Rattle.wc_view_decode.specs.Found.{IsAnswerOf}
+use Rattle.wc_view_decode.specs.AnswerBytes.{IsAnswerOf}
 use Rattle.wc_view_decode.proofs.frames.weight_in.Goals as goal
 
 pub returns-then-not-is_framed : goal.returns-then-not-is_framed

@@ -1,5 +1,4 @@
-use Rattle.std.proofs.Common.{◌∙◌, ap}
-use Rattle.std.specs.Int.{from_be_bytes}
+use Rattle.wc_model.proofs.Common.{◌∙◌, ap, from_be_bytes}
 use Rattle.wc_view_decode.proofs.Digits.{word_again, word_decoded}
 use mir.Syntax.{w16}
 use Rattle.wc_view_decode.proofs.lines.bits.Goals as goal

@@ -1,7 +1,7 @@
 use Rattle.std.proofs.Common.{◌≡◌, ◌∙◌, Ok, inl, inr, sym, ap}
 use Rattle.hex.proofs.HexLemmas.{decode_of-encode_lower, decode_of-same}
 use Rattle.hex.specs.Hex.{decode_of}
-use Rattle.wc_report.proofs.WrittenDigits.{digits_same}
+use Rattle.wc_report.proofs.Digits.{digits_same}
 use Rattle.wc_view_decode.proofs.lines.bytes_in.Goals as goal
 
 pub returns-in-Ok-clause-bytes : goal.returns-in-Ok-clause-bytes

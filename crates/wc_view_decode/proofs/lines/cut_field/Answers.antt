@@ -1,10 +1,6 @@
 use Rattle.std.proofs.Common.{◌≡◌, ◌∙◌, ◌∷◌, Bor, ℕ, List, Option, Some, None, take, drop, length, nat_lt, ap, arith, inl, inr}
-use Rattle.std.specs.List.{prefix_len}
+use Rattle.wc_model.proofs.Common.{slice_range, prefix_len, IsGetRangeResult, take_all, take-append_seam, drop-append_seam}
 use Rattle.std.specs.Option.{unwrap_or}
-use Rattle.std.specs.Prelude.{slice_range}
-use Rattle.std.specs.Slice.{IsGetRangeResult}
-use Rattle.std.proofs.lemmas.List.{take_all}
-use Rattle.std.proofs.Math.Seq.{take-append_seam, drop-append_seam}
 use Rattle.wc_view_decode.proofs.Digits.{field_in_prefix}
 use Rattle.wc_view_decode.proofs.lines.cut_field.Goals as goal
 

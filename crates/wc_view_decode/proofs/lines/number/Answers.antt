@@ -1,7 +1,4 @@
-use Rattle.std.proofs.Common.{◌∙◌, ap}
-use Rattle.std.proofs.lemmas.Fmt.{IsAscii-decimal, parse-decimal}
-use Rattle.std.proofs.lemmas.Str.{IsUtf8-from_ascii}
-use Rattle.std.specs.Result.{result_unwrap_or}
+use Rattle.wc_model.proofs.Common.{◌∙◌, ap, IsAscii-decimal, parse-decimal, IsUtf8-from_ascii, result_unwrap_or}
 use Rattle.wc_view_decode.proofs.Digits.{given_of}
 use Rattle.wc_view_decode.proofs.lines.number.Goals as goal
 

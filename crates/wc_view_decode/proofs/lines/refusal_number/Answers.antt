@@ -1,8 +1,4 @@
-use Rattle.std.proofs.Common.{◌≡◌, ◌<◌, ◌∙◌, ℕ, Result, pos, sym, ap, arith}
-use Rattle.std.proofs.lemmas.Grind.{common_steps}
-use Rattle.std.specs.Int.{FitsUnsignedBits}
-use Rattle.std.specs.Prelude.{unsigned_abs}
-use Rattle.std.specs.Result.{OkIff, result_unwrap_or}
+use Rattle.wc_model.proofs.Common.{◌≡◌, ◌<◌, ◌∙◌, ℕ, Result, pos, sym, ap, arith, unsigned_abs, common_steps, FitsUnsignedBits, OkIff, result_unwrap_or}
 use Rattle.wc_diag_texts.specs.Numbers.{is_refusal}
 use Rattle.wc_view_decode.proofs.Digits.{known_below}
 use Rattle.wc_view_decode.proofs.lines.refusal_number.Goals as goal

@@ -1,7 +1,7 @@
 use Rattle.std.proofs.Common.{◌∙◌, ◌++◌, ◌/◌, ◌%◌, ◌∷◌, [], decimal, lit≤, lit<, refl, arith}
 use Rattle.wc_view_decode.proofs.CutLines.{scan_fields}
 use Rattle.wc_view_decode.proofs.Digits.{decimal_is_field, hex_is_field}
-use Rattle.wc_view_decode.specs.Fields.{words_text}
+use Rattle.wc_view_decode.specs.Lines.{words_text}
 use Rattle.wc_model.specs.Run.Hex.{hex_of_word}
 use Rattle.wc_view_decode.proofs.lines.scan_in.Goals as goal
 

@@ -1,9 +1,5 @@
-use Rattle.std.proofs.Common.{◌≡◌, ◌∙◌, pos, ap, arith}
-use Rattle.std.proofs.lemmas.Fmt.{IsAscii-signed, parse-signed_decimal}
-use Rattle.std.proofs.lemmas.Str.{IsUtf8-from_ascii}
+use Rattle.wc_model.proofs.Common.{◌≡◌, ◌∙◌, pos, ap, arith, IsAscii-signed, parse-signed_decimal, IsUtf8-from_ascii, to_z-of_z, result_unwrap_or}
 use mir.Syntax.{w32}
-use Rattle.std.proofs.lemmas.Int.{to_z-of_z}
-use Rattle.std.specs.Result.{result_unwrap_or}
 use Rattle.wc_view_decode.proofs.Digits.{given_of}
 use Rattle.wc_view_decode.proofs.lines.signed_number.Goals as goal
 

@@ -1,6 +1,5 @@
 use Rattle.std.proofs.Common.{Option, Some, None, List, subst, sym}
-use Rattle.wc_view_columns.specs.Rows.{Row}
-use Rattle.wc_view_columns.specs.TimeLines.{IsTimeLineOf, row_at}
+use Rattle.wc_view_columns.specs.{Row, IsTimeLineOf, row_at}
 use Rattle.wc_view_columns.specs.declared.line.TimeLine.{TimeLine}
 use Rattle.wc_view_picture.proofs.Kept.{without_last}
 use Rattle.wc_view_picture.proofs.rows.keep.Goals as goal

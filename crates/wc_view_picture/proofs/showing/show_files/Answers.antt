@@ -2,17 +2,13 @@ use Rattle.std.proofs.Common.{◌≡◌, Bor, List, None, Option, false, subst, 
 use Rattle.std.specs.Prelude.{ℕ, option_map}
 use Rattle.wc_controller.proofs.RefusedNames.{stopped_at_names}
 use Rattle.wc_controller.proofs.WrittenRuns.{ends_unwritten, unwritten_at_names}
-use Rattle.wc_controller.specs.InputRuns.{RunsAs}
-use Rattle.wc_controller.specs.TakenLogs.{OfPrograms}
-use Rattle.wc_controller.specs.WrittenRuns.{EndsUnwritten}
-use Rattle.wc_endings.specs.Endings.{IsAt, ending_of}
-use Rattle.wc_endings.specs.declared.ending.Ending.{Ending}
+use Rattle.wc_controller.specs.{RunsAs, OfPrograms, EndsUnwritten, IsAt, ending_of}
+use Rattle.wc_controller.specs.declared.ending.Ending.{Ending}
 use Rattle.wc_job.specs.declared.input.Input.TheVariants as input
 use Rattle.wc_record.specs.Reported.{fields_reported}
 use Rattle.wc_view_picture.proofs.Unrefused.{run_unrefused, unknown_is, unwritten}
 use Rattle.wc_view_picture.proofs.showing.show_files.Goals as goal
-use Rattle.wc_view_picture.specs.Runs.{IsUnknownOf, drawn, unsaid}
-use Rattle.wc_view_picture.specs.Seen.{HasRefused, begins_with, list_of}
+use Rattle.wc_view_picture.specs.Seen.{IsUnknownOf, drawn, unsaid, HasRefused, begins_with, list_of}
 use Rattle.wc_view_watch.proofs.Observed.{programs_more}
 
 pub returns-then-is_at_names-clause-unknown : goal.returns-then-is_at_names-clause-unknown

@@ -1,5 +1,4 @@
-use Rattle.std.proofs.Common.{arith, refl, ◌≤◌, ◌^◌}
-use Rattle.std.proofs.Math.Pow.{pow_mono}
+use Rattle.wc_model.proofs.Common.{arith, refl, ◌≤◌, ◌^◌, pow_mono}
 use Rattle.wc_view_trace.proofs.Bits.{one_more_bit, still_small}
 use Rattle.wc_view_trace.proofs.image.bits_at.Goals as goal
 

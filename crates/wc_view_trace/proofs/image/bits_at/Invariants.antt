@@ -1,5 +1,5 @@
 use Rattle.std.proofs.Common.{◌+◌, ◌-◌, ◌<◌, ◌^◌}
-use Rattle.wc_view_trace.specs.Images.{HasBits}
+use Rattle.wc_view_trace.specs.Members.{HasBits}
 use Rattle.wc_view_trace.proofs.image.bits_at.Given as goal
 
 -- the bits so far are those of the last places

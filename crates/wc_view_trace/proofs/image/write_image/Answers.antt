@@ -1,10 +1,6 @@
-use Rattle.std.proofs.Common.{◌≡◌, ◌∙◌, ◌++◌, ◌∷◌, [], of_z, rules, to_z, w32}
-use Rattle.std.proofs.lemmas.Int.{to_z-of_z}
-use Rattle.std.specs.Prelude.{codes}
-use Rattle.std.proofs.lemmas.Result.{on_ok_weaker}
+use Rattle.wc_model.proofs.Common.{◌≡◌, ◌∙◌, ◌++◌, ◌∷◌, [], of_z, rules, to_z, w32, codes, to_z-of_z, on_ok_weaker}
 use Rattle.wc_view_trace_rows.proofs.Joins.{three_parts}
-use Rattle.wc_view_trace.specs.Images.{Image}
-use Rattle.wc_view_trace.specs.Members.{integers_member, number_member}
+use Rattle.wc_view_trace.specs.Members.{Image, integers_member, number_member}
 use Rattle.wc_view_trace.proofs.image.write_image.Goals as goal
 
 pub returns-clause-tokens : goal.returns-clause-tokens

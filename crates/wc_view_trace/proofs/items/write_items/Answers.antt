@@ -1,8 +1,5 @@
-use Rattle.std.proofs.Common.{◌∷◌, []}
-use Rattle.std.specs.Prelude.{codes}
-use Rattle.std.specs.List.{flat_map}
+use Rattle.wc_model.proofs.Common.{◌∷◌, [], codes, flat_map, on_ok_weaker}
 use Rattle.json.specs.Token as json
-use Rattle.std.proofs.lemmas.Result.{on_ok_weaker}
 use Rattle.wc_view_trace.proofs.Joins.{four_parts}
 use Rattle.wc_view_trace.specs.Items.{item_tokens}
 use Rattle.wc_view_trace.proofs.items.write_items.Goals as goal

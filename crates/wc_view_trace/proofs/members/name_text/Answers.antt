@@ -1,7 +1,4 @@
-use Rattle.std.proofs.Common.{◌∙◌, [], cond, sym, ap}
-use Rattle.std.proofs.lemmas.Bool.{false_from_ne_true}
-use Rattle.std.proofs.lemmas.Str.{IsUtf8-from_is_utf8, is_utf8-from_IsUtf8}
-use Rattle.std.specs.Str.{is_utf8}
+use Rattle.wc_model.proofs.Common.{◌∙◌, [], cond, sym, ap, false_from_ne_true, IsUtf8-from_is_utf8, is_utf8-from_IsUtf8, is_utf8}
 use Rattle.wc_view_trace.proofs.members.name_text.Goals as goal
 
 pub returns-in-Ok : goal.returns-in-Ok

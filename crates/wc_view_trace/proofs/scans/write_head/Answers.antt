@@ -1,7 +1,5 @@
-use Rattle.std.proofs.Common.{◌∷◌, []}
-use Rattle.std.specs.Prelude.{codes}
+use Rattle.wc_model.proofs.Common.{◌∷◌, [], codes, on_ok_weaker}
 use Rattle.json.specs.Token as json
-use Rattle.std.proofs.lemmas.Result.{on_ok_weaker}
 use Rattle.wc_view_trace.proofs.Joins.{four_parts}
 use Rattle.wc_view_trace.specs.Members.{number_member}
 use Rattle.wc_view_trace.specs.Scans.{program_of}

@@ -1,7 +1,6 @@
-use Rattle.std.proofs.Common.{length, refl}
-use Rattle.std.proofs.lemmas.Result.{on_ok_weaker}
+use Rattle.wc_model.proofs.Common.{length, refl, on_ok_weaker}
 use Rattle.wc_view_trace.proofs.Joins.{four_parts}
-use Rattle.wc_view_trace.specs.Images.{image_tokens}
+use Rattle.wc_view_trace.specs.Members.{image_tokens}
 use Rattle.wc_view_trace.specs.Scans.{head_tokens, items_tokens, tail_tokens}
 use Rattle.wc_view_trace.proofs.scans.write_scan.Goals as goal
 

@@ -1,5 +1,4 @@
-use Rattle.std.proofs.Common.{arith}
-use Rattle.std.proofs.lemmas.Fmt.{decimal_nonempty, length-decimal-le}
+use Rattle.wc_model.proofs.Common.{arith, decimal_nonempty, length-decimal-le}
 use Rattle.wc_view_trace_rows.proofs.Digits.{more_than}
 use Rattle.wc_view_trace_rows.proofs.columns.spaces_before.Goals as goal
 

@@ -1,6 +1,4 @@
-use Rattle.std.proofs.Common.{ltb, arith, rules}
-use Rattle.std.proofs.lemmas.Bool.{ltb-true, ltb-false}
-use Rattle.std.proofs.lemmas.List.Sorted.{IsPartitionPoint-from_clause, IsPartitionedBy-ltb}
+use Rattle.wc_model.proofs.Common.{ltb, arith, rules, ltb-true, ltb-false, IsPartitionPoint-from_clause, IsPartitionedBy-ltb}
 use Rattle.wc_view_trace_rows.specs.declared.notes.Note.{Note}
 use Rattle.wc_view_trace_rows.proofs.notes.count_before.Goals as goal
 

@@ -1,5 +1,4 @@
-use Rattle.std.proofs.Common.{◌∙◌, ap}
-use Rattle.std.specs.Prelude.{slice_get}
+use Rattle.wc_model.proofs.Common.{◌∙◌, ap, slice_get}
 use Rattle.wc_view_trace_rows.proofs.NotesFound.{from_number, found}
 use Rattle.wc_view_trace_rows.specs.Notes.{of_line}
 use Rattle.wc_view_trace_rows.proofs.notes.note_among.Goals as goal

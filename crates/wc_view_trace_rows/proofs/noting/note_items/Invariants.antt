@@ -1,7 +1,5 @@
-use Rattle.std.proofs.Common.{◌≡◌, ◌++◌, map, drop}
-use Rattle.std.specs.List.{flat_map}
-use Rattle.wc_model.specs.Language.Names.{name_of}
-use Rattle.wc_model.specs.Language.Views.{assignment_view}
+use Rattle.wc_model.proofs.Common.{◌≡◌, ◌++◌, map, drop, flat_map}
+use Rattle.wc_model.specs.Definitions.{name_of, assignment_view}
 use Rattle.wc_view_trace_rows.specs.Named.{IsWhole, item_named, notes_named}
 use Rattle.wc_view_trace_rows.proofs.noting.note_items.Given as goal
 

@@ -1,7 +1,5 @@
-use Rattle.std.proofs.Common.{◌≡◌, ◌++◌, map, drop}
-use Rattle.std.specs.List.{flat_map}
-use Rattle.wc_model.specs.Language.Tree.{ProgramUnit}
-use Rattle.wc_model.specs.Language.Views.{unit_view}
+use Rattle.wc_model.proofs.Common.{◌≡◌, ◌++◌, map, drop, flat_map}
+use Rattle.wc_model.specs.Definitions.{ProgramUnit, unit_view}
 use Rattle.wc_view_trace_rows.specs.Named.{IsWhole, lines_named, notes_named}
 use Rattle.wc_view_trace_rows.proofs.noting.note_units.Given as goal
 

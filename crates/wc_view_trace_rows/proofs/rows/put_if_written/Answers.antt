@@ -1,8 +1,6 @@
-use Rattle.std.proofs.Common.{◌∙◌, Some, None, ap, cond, sym}
-use Rattle.std.proofs.lemmas.Result.{on_ok_weaker}
+use Rattle.wc_model.proofs.Common.{◌∙◌, Some, None, ap, cond, sym, on_ok_weaker}
 use Rattle.wc_view_trace_rows.proofs.Joins.{one_cell}
-use Rattle.wc_view_trace_rows.specs.Columns.{written_column}
-use Rattle.wc_view_trace_rows.specs.Rows.{written_cell, written_text}
+use Rattle.wc_view_trace_rows.specs.{written_column, written_cell, written_text}
 use Rattle.wc_view_trace_rows.proofs.rows.put_if_written.Goals as goal
 
 pub returns-then-has_written-clause-puts : goal.returns-then-has_written-clause-puts

@@ -1,11 +1,8 @@
-use Rattle.std.proofs.Common.{◌≡◌, ◌∙◌, ◌++◌, ap, arith, of_z, sym, to_z, w32}
-use Rattle.std.proofs.lemmas.Int.{ints}
-use Rattle.std.proofs.lemmas.Result.{on_ok_weaker}
+use Rattle.wc_model.proofs.Common.{◌≡◌, ◌∙◌, ◌++◌, ap, arith, of_z, sym, to_z, w32, ints, on_ok_weaker}
 use Rattle.wc_view_trace_rows.proofs.Joins.{numbered, one_cell}
 use Rattle.wc_model.specs.Language.Store.{Plain}
 use Rattle.wc_view_changes.specs.ChangeReport.{content_text}
-use Rattle.wc_view_trace_rows.specs.Columns.{result_column}
-use Rattle.wc_view_trace_rows.specs.Rows.{is_part, literal, result_cell}
+use Rattle.wc_view_trace_rows.specs.{result_column, is_part, literal, result_cell}
 use Rattle.wc_view_trace_rows.proofs.rows.put_result.Goals as goal
 
 pub returns-clause-puts : goal.returns-clause-puts

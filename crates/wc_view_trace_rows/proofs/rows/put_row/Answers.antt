@@ -1,9 +1,6 @@
-use Rattle.std.proofs.Common.{◌≡◌, ◌∙◌, ◌++◌, arith, length, rules}
-use Rattle.std.proofs.lemmas.Result.{on_ok_weaker}
+use Rattle.wc_model.proofs.Common.{◌≡◌, ◌∙◌, ◌++◌, arith, length, rules, on_ok_weaker}
 use Rattle.wc_view_trace_rows.proofs.Joins.{row_put}
-use Rattle.wc_view_trace_rows.specs.Columns.{prefix, result_column, written_column}
-use Rattle.wc_view_trace_rows.specs.Legends.{line_of}
-use Rattle.wc_view_trace_rows.specs.Rows.{number_shown, result_cell, written_cell}
+use Rattle.wc_view_trace_rows.specs.{prefix, result_column, written_column, line_of, number_shown, result_cell, written_cell}
 use Rattle.wc_view_trace_rows.proofs.rows.put_row.Goals as goal
 
 pub returns-clause-puts : goal.returns-clause-puts

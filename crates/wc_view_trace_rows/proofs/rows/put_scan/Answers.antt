@@ -1,5 +1,4 @@
-use Rattle.std.proofs.Common.{length, refl}
-use Rattle.std.proofs.lemmas.Result.{on_ok_weaker}
+use Rattle.wc_model.proofs.Common.{length, refl, on_ok_weaker}
 use Rattle.wc_view_trace_rows.proofs.RowsPut.{scan_put}
 use Rattle.wc_view_trace_rows.proofs.rows.put_scan.Goals as goal
 

@@ -1,5 +1,4 @@
-use Rattle.std.proofs.Common.{◌∙◌, ◌<◌, ap, drop, subst}
-use Rattle.std.proofs.lemmas.Result.{on_ok_weaker}
+use Rattle.wc_model.proofs.Common.{◌∙◌, ◌<◌, ap, drop, subst, on_ok_weaker}
 use Rattle.wc_view_trace_rows.proofs.Chunks.{cut_off}
 use Rattle.wc_view_trace_rows.specs.Columns.{first_columns}
 use Rattle.wc_view_trace_rows.proofs.shown.fit.Goals as goal

@@ -1,5 +1,4 @@
-use Rattle.std.proofs.Common.{◌≡◌, arith, length}
-use Rattle.std.proofs.lemmas.Result.{on_ok_weaker}
+use Rattle.wc_model.proofs.Common.{◌≡◌, arith, length, on_ok_weaker}
 use Rattle.wc_view_trace_rows.proofs.Ends.{between_words_is}
 use Rattle.wc_view_trace_rows.proofs.Joins.{line_put}
 use Rattle.wc_view_trace_rows.proofs.shown.put_line.Goals as goal

@@ -1,11 +1,6 @@
-use Rattle.std.proofs.Common.{◌≡◌, ◌∙◌, ◌++◌, List, ℕ, Bor, Result, Ok, Err, IsUtf8, ap, append-nil, sym}
-use Rattle.std.specs.Prelude.{MatchResult, is_ok}
-use Rattle.std.specs.Str.{is_utf8}
-use Rattle.std.proofs.lemmas.Bool.{false_from_ne_true}
-use Rattle.std.proofs.lemmas.List.{drop_all}
-use Rattle.std.proofs.lemmas.Str.{IsUtf8-from_is_utf8, is_utf8-from_IsUtf8}
+use Rattle.wc_model.proofs.Common.{◌≡◌, ◌∙◌, ◌++◌, List, ℕ, Bor, Result, Ok, Err, IsUtf8, ap, append-nil, sym, MatchResult, is_ok, is_utf8, false_from_ne_true, drop_all, IsUtf8-from_is_utf8, is_utf8-from_IsUtf8}
 use Rattle.wc_view_trace_rows.proofs.Chunks.{passed, put_next}
-use Rattle.wc_view_trace_rows.specs.Shown.{shown_bytes, single_spaces}
+use Rattle.wc_view_trace_rows.specs.Columns.{shown_bytes, single_spaces}
 use Rattle.wc_view_trace_rows.proofs.shown.put_shown.Goals as goal
 
 pub loop-index-preserved-then-hidden-gt0 : goal.loop-index-preserved-then-hidden-gt0

@@ -1,5 +1,5 @@
 use Rattle.std.proofs.Common.{◌≡◌, ◌++◌, drop}
-use Rattle.wc_view_trace_rows.specs.Shown.{shown_bytes, single_spaces}
+use Rattle.wc_view_trace_rows.specs.Columns.{shown_bytes, single_spaces}
 use Rattle.wc_view_trace_rows.proofs.shown.put_shown.Given as goal
 
 -- with the bytes that are left the text is the whole one

@@ -1,7 +1,5 @@
-use Rattle.std.proofs.Common.{◌++◌, ap, ◌∙◌}
+use Rattle.wc_model.proofs.Common.{◌++◌, ap, ◌∙◌, codes, decimal, on_ok_weaker}
 use Rattle.std.proofs.lemmas.List.{append_assoc}
-use Rattle.std.proofs.lemmas.Result.{on_ok_weaker}
-use Rattle.std.specs.Prelude.{codes, decimal}
 use Rattle.wc_view_trace_rows.proofs.Joins.{two_parts}
 use Rattle.wc_view_trace_rows.proofs.steps.put_heading.Goals as goal
 

@@ -1,5 +1,4 @@
-use Rattle.std.proofs.Common.{◌≡◌, ◌++◌, map, take}
-use Rattle.std.specs.List.{flat_map}
+use Rattle.wc_model.proofs.Common.{◌≡◌, ◌++◌, map, take, flat_map}
 use Rattle.wc_view_watch.proofs.last_texts.put_texts.Given as goal
 
 -- the texts so far are put

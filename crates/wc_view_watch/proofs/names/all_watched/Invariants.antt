@@ -1,6 +1,6 @@
 use Rattle.std.proofs.Common.{◌≡◌, map, take}
 use Rattle.wc_model.specs.Language.Views.{text_view}
-use Rattle.wc_text_variables.specs.Numbered.{variable_named}
+use Rattle.wc_text_variables.specs.Names.{variable_named}
 use Rattle.wc_view_watch.proofs.names.all_watched.Given as goal
 
 -- what the names so far mean

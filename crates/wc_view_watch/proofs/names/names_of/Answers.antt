@@ -1,6 +1,4 @@
-use Rattle.std.proofs.Common.{rules, tests}
-use Rattle.std.proofs.lemmas.Iterator.Consumers.{map_from_collect}
-use Rattle.std.proofs.lemmas.Iterator.Splits.{YieldsList-from_slice_split}
+use Rattle.wc_model.proofs.Common.{rules, tests, map_from_collect, YieldsList-from_slice_split}
 use Rattle.std.specs.Prelude.{Ok}
 use Rattle.wc_view_watch.proofs.names.names_of.Goals as goal
 

@@ -1,21 +1,14 @@
-use Rattle.std.proofs.Common.{◌≡◌, [], Result, arith, refl, sym, subst}
-use Rattle.std.proofs.KnownBytes.{Consumes-nil}
+use Rattle.wc_model.proofs.Common.{◌≡◌, [], Result, arith, refl, sym, subst, Consumes-nil}
 use Rattle.std.specs.Prelude.{IfErr, IfSome, Some, Err}
 use Rattle.wc_controller.proofs.Allowing.{file_not_read, file_read, of_known, on_each, too_long_file}
 use Rattle.wc_controller.proofs.Blaming.{load_refused, program_read}
 use Rattle.wc_controller.proofs.Givings.{not_loaded, upto_more}
-use Rattle.wc_controller.specs.Blames.{RefusesText}
-use Rattle.wc_endings.specs.Endings.{WritesUpTo, raised}
-use Rattle.wc_controller.specs.Files.{AnswersFile}
-use Rattle.wc_controller.specs.Loads.{IsRefusedLoad}
+use Rattle.wc_controller.specs.{RefusesText, WritesUpTo, raised, AnswersFile, IsRefusedLoad}
 use Rattle.wc_job.specs.declared.input.Input.TheVariants as input
-use Rattle.wc_endings.specs.declared.ending.Stopped.{Stopped}
-use Rattle.wc_model.specs.Language.Loading.{IsLoaded}
-use Rattle.wc_model.specs.Language.Tree.{Text}
-use Rattle.wc_model.specs.Language.Views.{text_view}
-use Rattle.wc_model.specs.Say.Job.{AnswersProgram, JobAnswer, loads_program}
+use Rattle.wc_controller.specs.declared.ending.Stopped.{Stopped}
+use Rattle.wc_model.specs.Definitions.{IsLoaded, Text, text_view, AnswersProgram, JobAnswer, loads_program}
 use Rattle.wc_run.proofs.HandedOn.{propagated}
-use Rattle.wc_run.specs.Faults.{from_fault}
+use Rattle.wc_run.specs.Doing.{from_fault}
 use Rattle.wc_view_watch.specs.Previews.{AnswersNew, AnswersPreview, AnswersTree}
 use Rattle.wc_view_watch.proofs.previewing.preview_inputs.Goals as goal
 

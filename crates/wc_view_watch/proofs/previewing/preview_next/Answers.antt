@@ -1,9 +1,8 @@
 use Rattle.std.proofs.Common.{refl, sym, subst}
 use Rattle.std.specs.Prelude.{Some}
 use Rattle.wc_controller.proofs.Givings.{not_loaded, upto_more}
-use Rattle.wc_endings.specs.Endings.{WritesUpTo, raised}
-use Rattle.wc_model.specs.Language.Views.{text_view}
-use Rattle.wc_model.specs.Say.Job.{loads_program}
+use Rattle.wc_controller.specs.Endings.{WritesUpTo, raised}
+use Rattle.wc_model.specs.Definitions.{text_view, loads_program}
 use Rattle.wc_view_watch.specs.Previews.{AnswersNew, AnswersTree, IsPreview}
 use Rattle.wc_view_watch.proofs.previewing.preview_next.Goals as goal
 

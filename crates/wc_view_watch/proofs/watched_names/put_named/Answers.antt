@@ -1,5 +1,4 @@
-use Rattle.std.proofs.Common.{◌≡◌, ◌∙◌, [], ◌∷◌, None, Some, ap, append-nil, sym, ◌++◌, arith, to_z, of_z, w64}
-use Rattle.std.proofs.lemmas.Int.{ints}
+use Rattle.wc_model.proofs.Common.{◌≡◌, ◌∙◌, [], ◌∷◌, None, Some, ap, append-nil, sym, ◌++◌, arith, to_z, of_z, w64, ints}
 use Rattle.wc_view_changes.specs.ChangeReport.{content_text}
 use Rattle.wc_model.specs.Language.Frames.{content_number}
 use Rattle.wc_model.specs.Language.Store.{Plain}

@@ -1,11 +1,9 @@
 use Rattle.std.proofs.Common.{◌≡◌, false, subst}
-use Rattle.wc_controller.specs.InputRuns.{RunsAs}
-use Rattle.wc_controller.specs.InputStates.{writer_of}
+use Rattle.wc_controller.specs.{RunsAs, writer_of}
 use Rattle.wc_record.specs.Reported.{fields_reported}
 use Rattle.wc_view_watch.proofs.Observed.{found_name, observed_is, programs_more}
 use Rattle.wc_view_watch.proofs.watching.watch_files.Goals as goal
-use Rattle.wc_view_watch.specs.Unknown.{IsFirstUnknown, begins_with}
-use Rattle.wc_view_watch.specs.Watching.{HasRefused}
+use Rattle.wc_view_watch.specs.{IsFirstUnknown, begins_with, HasRefused}
 
 pub returns-then-is_at_names-clause-unknown : goal.returns-then-is_at_names-clause-unknown
 returns-then-is_at_names-clause-unknown g c =

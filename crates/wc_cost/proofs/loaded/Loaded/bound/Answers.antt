@@ -1,9 +1,6 @@
-use Rattle.std.proofs.Common.{◌<◌, length, refl, sym, subst, arith}
-use Rattle.std.proofs.lemmas.List.{length-map}
-use Rattle.std.proofs.lemmas.Option.{slice_get_read}
-use Rattle.wc_model.specs.Language.Views.{text_view}
-use Rattle.wc_model.specs.Say.UnitReport.{IsBoundAt}
-use Rattle.wc_cost.proofs.Bounds.{bound_holds}
+use Rattle.wc_model.proofs.Common.{◌<◌, length, refl, sym, subst, arith, length-map, slice_get_read}
+use Rattle.wc_model.specs.Definitions.{text_view, IsBoundAt}
+use Rattle.wc_cost.proofs.WorstLines.{bound_holds}
 use Rattle.wc_cost.specs.LoadedTexts.{LoadedText}
 use Rattle.wc_cost.specs.declared.units.LoweredUnit.{LoweredUnit}
 use Rattle.wc_cost.proofs.loaded.Loaded.bound.Goals as goal

@@ -1,12 +1,8 @@
-use Rattle.std.proofs.Common.{◌≡◌, ◌-◌, ◌<◌, length, option_map, Some, sym, subst, ap, ◌∙◌, rules}
-use Rattle.std.specs.Prelude.{IfSome, slice_get}
+use Rattle.wc_model.proofs.Common.{◌≡◌, ◌-◌, ◌<◌, length, option_map, Some, sym, subst, ap, ◌∙◌, rules, IfSome, slice_get}
 use Rattle.wc_cost.proofs.CarriedKinds.{kind_answered, kind_kept}
 use Rattle.wc_cost.proofs.WholeTexts.{carried_alike, lowered_count, last_unit}
 use Rattle.wc_cost.specs.LoadedTexts.{LoadedText}
-use Rattle.wc_model.specs.Language.CarriedPlaces.{carried_number, frame_of_text}
-use Rattle.wc_model.specs.Language.Frames.{place_number, slot_kinds}
-use Rattle.wc_model.specs.Language.Store.{Location, Content}
-use Rattle.wc_model.specs.Language.Views.{text_view}
+use Rattle.wc_model.specs.Definitions.{carried_number, frame_of_text, place_number, slot_kinds, Location, Content, text_view}
 use Rattle.wc_model.specs.declared.place.Place.{Place}
 use Rattle.wc_names.specs.RepresentsText.{AreTables}
 use Rattle.wc_cost.proofs.loaded.Loaded.carry.Goals as goal

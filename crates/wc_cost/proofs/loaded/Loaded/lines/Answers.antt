@@ -1,6 +1,4 @@
-use Rattle.std.proofs.Common.{◌≡◌, ◌<◌, length, refl, sym, subst, ap, ◌∙◌, arith}
-use Rattle.std.proofs.lemmas.List.{length-map}
-use Rattle.std.proofs.lemmas.Option.{slice_get_read}
+use Rattle.wc_model.proofs.Common.{◌≡◌, ◌<◌, length, refl, sym, subst, ap, ◌∙◌, arith, length-map, slice_get_read}
 use Rattle.std.specs.Prelude.{Some, map, slice_get}
 use Rattle.wc_text_flat.specs.FlatPaths.{sources_of}
 use Rattle.wc_model.specs.Language.Views.{text_view}

@@ -1,10 +1,7 @@
 use Rattle.std.proofs.Common.{rules, ◌≡◌, ◌<◌, Some, length, option_map, slice_get, refl, sym, ap, subst, ◌∙◌, arith}
-use Rattle.std.proofs.lemmas.Option.{slice_get_read}
-use Rattle.std.proofs.lemmas.Str.{IsUtf8-from_ascii}
+use Rattle.wc_model.proofs.Common.{slice_get_read, IsUtf8-from_ascii, vec_len}
 use Rattle.std.specs.Prelude.{Option}
-use Rattle.std.specs.Vec.{vec_len}
-use Rattle.wc_model.specs.Language.Tree.{ProgramUnit}
-use Rattle.wc_model.specs.Language.Views.{text_view, unit_view}
+use Rattle.wc_model.specs.Definitions.{ProgramUnit, text_view, unit_view}
 use Rattle.wc_cost.specs.LoadedInside.{codes_of}
 use Rattle.wc_cost.specs.LoadedTexts.{LoadedText}
 use Rattle.wc_cost.proofs.UnitNames.{unit_ascii, unit_found, unit_within}

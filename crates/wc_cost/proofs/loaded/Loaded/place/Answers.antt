@@ -1,9 +1,6 @@
 use Rattle.std.proofs.Common.{◌≡◌, ◌-◌, length, option_map, sym, subst, ap, ◌∙◌, rules}
-use Rattle.wc_names.specs.Numbered.{IsUnit}
-use Rattle.wc_names.specs.RepresentsText.{AreTables}
-use Rattle.wc_model.specs.Language.Frames.{number_of_path}
-use Rattle.wc_model.specs.Language.Scopes.{Scope}
-use Rattle.wc_model.specs.Language.Views.{text_view}
+use Rattle.wc_names.specs.{IsUnit, AreTables}
+use Rattle.wc_model.specs.Definitions.{number_of_path, Scope, text_view}
 use Rattle.wc_model.specs.declared.place.Place.{Place}
 use Rattle.wc_cost.proofs.WholeTexts.{lowered_count}
 use Rattle.wc_cost.specs.LoadedTexts.{IsProgramOf, LoadedText}

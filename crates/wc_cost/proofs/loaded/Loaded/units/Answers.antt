@@ -1,5 +1,4 @@
-use Rattle.std.proofs.Common.{rules, ◌≡◌, [], length, sym, subst, ◌∙◌}
-use Rattle.std.proofs.lemmas.List.{length-map}
+use Rattle.wc_model.proofs.Common.{rules, ◌≡◌, [], length, sym, subst, ◌∙◌, length-map}
 use Rattle.wc_text_flat.proofs.Programs.{codes_length}
 use Rattle.wc_model.specs.Language.Views.{text_view}
 use Rattle.wc_cost.specs.LoadedInside.{codes_of}

@@ -1,14 +1,9 @@
-use Rattle.std.proofs.Common.{◌<◌, ◌≤◌, List, length, refl, sym, subst, ◌∙◌, arith}
-use Rattle.std.proofs.lemmas.List.{length-map}
-use Rattle.std.proofs.lemmas.Result.{IfOk-weaker}
-use Rattle.std.proofs.lemmas.Option.{slice_get_read}
+use Rattle.wc_model.proofs.Common.{◌<◌, ◌≤◌, List, length, refl, sym, subst, ◌∙◌, arith, length-map, IfOk-weaker, slice_get_read}
 use Rattle.wc_text_flat.specs.FlatPaths.{worst_of}
 use Rattle.wc_model.specs.Language.Views.{text_view}
 use Rattle.wc_model.specs.declared.code.Code.{Code}
 use Rattle.wc_cost.proofs.WorstLines.{code_short, worst_holds}
-use Rattle.wc_cost.specs.LoadedInside.{bounds_of}
-use Rattle.wc_cost.specs.LoadedTexts.{AreWorstAt, LoadedText}
-use Rattle.wc_cost.specs.PathLengths.{AreSmall, ArePathLengths}
+use Rattle.wc_cost.specs.{bounds_of, AreWorstAt, LoadedText, AreSmall, ArePathLengths}
 use Rattle.wc_cost.specs.declared.units.LoweredUnit.{LoweredUnit}
 use Rattle.wc_cost.proofs.loaded.Loaded.worst_path.Goals as goal
 

@@ -1,13 +1,10 @@
-use Rattle.std.proofs.Common.{◌≡◌, ◌∙◌, [], ap, subst, sym}
-use Rattle.std.proofs.KnownBytes.{Appends-nil}
-use Rattle.std.specs.Io.KnownBytes.{Appends}
+use Rattle.wc_model.proofs.Common.{◌≡◌, ◌∙◌, [], ap, subst, sym, Appends-nil, Appends}
 use Rattle.wc_cut.proofs.Observed.{always, counted_after, counted_before, ends_after, ends_before, ends_refused, none_refused, some_refused}
 use Rattle.wc_cut.proofs.cutter.CutterObserverSlotStore.end.Goals as goal
 use Rattle.wc_cut.proofs.cutter.CutterObserverSlotStore.end.Goals.{then-self-via-then-self, then-self-via-else-self+then-is_some}
 use Rattle.wc_cut.specs.Cuts.{end_written}
 use Rattle.wc_cut.specs.declared.cutter.Cutter.{Cutter}
-use Rattle.wc_run.specs.Doing.{Writes}
-use Rattle.wc_run.specs.Observing.{onto, refusal_of}
+use Rattle.wc_run.specs.{Writes, onto, refusal_of}
 
 pub returns-then-self-clause-writes : goal.returns-then-self-clause-writes
 returns-then-self-clause-writes g c plate logic past seen =

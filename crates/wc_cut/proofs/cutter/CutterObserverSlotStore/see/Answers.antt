@@ -1,21 +1,12 @@
-use Rattle.std.proofs.Common.{◌≡◌, ◌∙◌, ◌-◌, ◌∷◌, ◌++◌, ap, arith, refl, subst, sym, true}
-use Rattle.std.proofs.KnownBytes.{Appends-nil}
-use Rattle.std.specs.Io.KnownBytes.{Appends}
+use Rattle.wc_model.proofs.Common.{◌≡◌, ◌∙◌, ◌-◌, ◌∷◌, ◌++◌, ap, arith, refl, subst, sym, true, Appends-nil, Appends}
 use Rattle.wc_cut.proofs.Observed.{always, has_gone_on, has_opened, keeps, writes_first, writes_more, writes_none}
 use Rattle.wc_cut.proofs.cutter.CutterObserverSlotStore.see.Goals as goal
 use Rattle.wc_cut.proofs.cutter.CutterObserverSlotStore.see.Goals.{then-self, else-self+in_ok-put_opening}
-use Rattle.wc_cut.specs.Cuts.{row_written}
-use Rattle.wc_cut.specs.KeptRows.{HasSeenBy}
-use Rattle.wc_cut.specs.RowTexts.{row_text}
+use Rattle.wc_cut.specs.{row_written, HasSeenBy, row_text}
 use Rattle.wc_cut.specs.declared.cutter.Cutter.{Cutter}
 use Rattle.wc_model.specs.Run.Rows.{LogRow}
-use Rattle.wc_open_scale.specs.Rows.{came_by}
-use Rattle.wc_open_scale.specs.Representation as open_scale
-use Rattle.wc_open_scale.specs.Representation.{Came}
-use Rattle.wc_run.specs.Doing.{Writes}
-use Rattle.wc_run.specs.Logics.{logic_after}
-use Rattle.wc_run.specs.Observing.{row_of}
-use Rattle.wc_run.specs.Representation.{program_of}
+use Rattle.wc_run.specs.{came_by, program_of, Came, Writes, logic_after, row_of}
+use Rattle.wc_run.specs.OpenScales as open_scale
 
 pub returns-then-self-gt0-clause-seen : goal.returns-then-self-gt0-clause-seen
 returns-then-self-gt0-clause-seen g c plate logic past shown represents seen =

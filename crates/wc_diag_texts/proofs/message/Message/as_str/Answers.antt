@@ -1,7 +1,4 @@
-use Rattle.std.proofs.Common.{◌≡◌, ◌∙◌, List, ℕ, Bor, Result, Ok, Err, IsUtf8, ap}
-use Rattle.std.specs.Prelude.{MatchResult}
-use Rattle.std.specs.Result.{result_unwrap_or}
-use Rattle.std.proofs.lemmas.Str.{IsUtf8-from_is_utf8}
+use Rattle.wc_model.proofs.Common.{◌≡◌, ◌∙◌, List, ℕ, Bor, Result, Ok, Err, IsUtf8, ap, MatchResult, result_unwrap_or, IsUtf8-from_is_utf8}
 use Rattle.wc_diag_texts.proofs.message.Message.as_str.Goals as goal
 
 the_text : {E : Type 0} (bytes : List ℕ) (other : Bor (List ℕ)) (No : E → Type 0) → (r : Result (Bor (List ℕ)) E)

@@ -1,5 +1,4 @@
-use Rattle.std.proofs.Common.{ap, ◌∙◌}
-use Rattle.std.specs.Str.{is_utf8}
+use Rattle.wc_model.proofs.Common.{ap, ◌∙◌, is_utf8}
 use Rattle.wc_diag_texts.specs.Plain.{acts_nowhere}
 use Rattle.wc_diag_texts.proofs.OnLines.{nothing_is_text}
 use Rattle.wc_diag_texts.proofs.message.Message.new.Goals as goal

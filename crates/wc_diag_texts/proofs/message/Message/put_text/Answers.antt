@@ -1,5 +1,4 @@
-use Rattle.std.proofs.Common.{arith}
-use Rattle.std.proofs.lemmas.List.Folds.{list_all-append}
+use Rattle.wc_model.proofs.Common.{arith, list_all-append}
 use Rattle.wc_diag_texts.proofs.Calm.{calm_joined, passing_is_calm}
 use Rattle.wc_diag_texts.proofs.OnLines.{passing_is_plain, passing_is_text, text_joined}
 use Rattle.wc_diag_texts.proofs.message.Message.put_text.Goals as goal

@@ -1,7 +1,5 @@
 -- The kinds stay, so each write is to a place of its kind, and keeps that no moment is ahead.
-use Rattle.std.proofs.Common.{◌≡◌, ◌+◌, rules, to_z, of_z, w32, refl, ap, ◌∙◌}
-use Rattle.std.proofs.lemmas.Int.{to_z-of_z}
-use Rattle.std.specs.Prelude.{slice_set}
+use Rattle.wc_model.proofs.Common.{◌≡◌, ◌+◌, rules, to_z, of_z, w32, refl, ap, ◌∙◌, slice_set, to_z-of_z}
 use Rattle.wc_execution.proofs.BlockFields.{capacity_after, field_place, field_slot, three_written, slot_after}
 use Rattle.wc_execution.proofs.plain_blocks.CtuStoredBlock.set_fields.Goals as goal
 use Rattle.wc_execution.specs.Lines.{slots_of}

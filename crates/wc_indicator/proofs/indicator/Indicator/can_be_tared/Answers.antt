@@ -1,9 +1,7 @@
-use Rattle.std.proofs.Common.{◌≡◌, true, false, ◌&&◌, ap, sym, ◌∙◌, subst, arith, to_z, of_z, w64}
-use Rattle.std.proofs.lemmas.Int.{ints}
+use Rattle.wc_model.proofs.Common.{◌≡◌, true, false, ◌&&◌, ap, sym, ◌∙◌, subst, arith, to_z, of_z, w64, ints}
 use Rattle.std.specs.Prelude.{pos, int_le}
 use Rattle.wc_model.specs.Instrument.Indication.{gross_intervals}
-use Rattle.wc_indicator.specs.Kept.{RepresentsHistory}
-use Rattle.wc_indicator.specs.Fields.{kept_view}
+use Rattle.wc_indicator.specs.Kept.{RepresentsHistory, kept_view}
 use Rattle.wc_indicator.proofs.indicator.Indicator.can_be_tared.Goals as goal
 
 pub returns-then-gross-ge1 : goal.returns-then-gross-ge1

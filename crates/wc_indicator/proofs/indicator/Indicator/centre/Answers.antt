@@ -1,9 +1,7 @@
-use Rattle.std.proofs.Common.{◌≡◌, ◌*◌, true, ◌&&◌, ap, sym, ◌∙◌, subst, arith, to_z, of_z, w32}
-use Rattle.std.proofs.lemmas.Int.{ints, unsigned_abs-mul}
+use Rattle.wc_model.proofs.Common.{◌≡◌, ◌*◌, true, ◌&&◌, ap, sym, ◌∙◌, subst, arith, to_z, of_z, w32, ints, unsigned_abs-mul}
 use Rattle.std.specs.Prelude.{pos, ◌*ℤ◌, unsigned_abs, nat_le, is_some}
 use Rattle.wc_model.specs.Instrument.Indication.{from_zero, has_sample}
-use Rattle.wc_indicator.specs.Kept.{RepresentsHistory}
-use Rattle.wc_indicator.specs.Fields.{kept_view}
+use Rattle.wc_indicator.specs.Kept.{RepresentsHistory, kept_view}
 use Rattle.wc_indicator.proofs.indicator.Indicator.centre.Goals as goal
 
 pub returns-then-is_some : goal.returns-then-is_some

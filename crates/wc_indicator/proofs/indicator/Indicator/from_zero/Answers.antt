@@ -1,7 +1,6 @@
 use Rattle.std.proofs.Common.{sym, subst, arith}
 use Rattle.wc_model.specs.Instrument.Indication.{present_counts, zero_point}
-use Rattle.wc_indicator.specs.Kept.{RepresentsHistory}
-use Rattle.wc_indicator.specs.Fields.{kept_view}
+use Rattle.wc_indicator.specs.Kept.{RepresentsHistory, kept_view}
 use Rattle.wc_indicator.proofs.Units.{difference_kept, difference_range}
 use Rattle.wc_indicator.proofs.indicator.Indicator.from_zero.Goals as goal
 

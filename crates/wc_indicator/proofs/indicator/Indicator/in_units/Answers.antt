@@ -1,9 +1,7 @@
-use Rattle.std.proofs.Common.{◌≡◌, ◌≤◌, ap, sym, ◌∙◌, subst, arith}
-use Rattle.std.proofs.lemmas.Int.{ints}
+use Rattle.wc_model.proofs.Common.{◌≡◌, ◌≤◌, ap, sym, ◌∙◌, subst, arith, ints}
 use Rattle.std.specs.Prelude.{pos}
 use Rattle.wc_model.specs.Instrument.Indication.{in_units}
-use Rattle.wc_indicator.specs.Kept.{RepresentsHistory}
-use Rattle.wc_indicator.specs.Fields.{kept_view}
+use Rattle.wc_indicator.specs.Kept.{RepresentsHistory, kept_view}
 use Rattle.wc_indicator.proofs.Units.{few_units, product_fits, units_fit, units_kept}
 use Rattle.wc_indicator.proofs.indicator.Indicator.in_units.Goals as goal
 

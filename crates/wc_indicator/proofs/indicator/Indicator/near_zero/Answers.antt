@@ -1,9 +1,6 @@
-use Rattle.std.proofs.Common.{◌≡◌, ◌*◌, ap, sym, ◌∙◌, subst, arith, to_z, of_z, w32}
-use Rattle.std.proofs.lemmas.Int.{ints}
-use Rattle.std.specs.Prelude.{◌-ℤ◌, unsigned_abs, nat_le}
+use Rattle.wc_model.proofs.Common.{◌≡◌, ◌*◌, ap, sym, ◌∙◌, subst, arith, to_z, of_z, w32, ◌-ℤ◌, unsigned_abs, nat_le, ints}
 use Rattle.wc_model.specs.Instrument.Indication.{present_counts}
-use Rattle.wc_indicator.specs.Kept.{RepresentsHistory}
-use Rattle.wc_indicator.specs.Fields.{kept_view}
+use Rattle.wc_indicator.specs.Kept.{RepresentsHistory, kept_view}
 use Rattle.wc_indicator.proofs.Units.{difference_kept}
 use Rattle.wc_indicator.proofs.indicator.Indicator.near_zero.Goals as goal
 

@@ -1,5 +1,4 @@
-use Rattle.std.proofs.Common.{◌≡◌, ap, ◌∙◌, arith, to_z, of_z, w64}
-use Rattle.std.proofs.lemmas.Int.{ints}
+use Rattle.wc_model.proofs.Common.{◌≡◌, ap, ◌∙◌, arith, to_z, of_z, w64, ints}
 use Rattle.wc_model.specs.Instrument.Indication.{intervals_of, from_zero, tare_counts}
 use Rattle.wc_indicator.proofs.Units.{difference_kept}
 use Rattle.wc_indicator.proofs.indicator.Indicator.net_intervals.Goals as goal

@@ -1,9 +1,7 @@
-use Rattle.std.proofs.Common.{◌≡◌, true, false, ◌+◌, ◌&&◌, ap, sym, ◌∙◌, subst, arith, to_z, of_z, w64}
-use Rattle.std.proofs.lemmas.Int.{ints}
+use Rattle.wc_model.proofs.Common.{◌≡◌, true, false, ◌+◌, ◌&&◌, ap, sym, ◌∙◌, subst, arith, to_z, of_z, w64, ints}
 use Rattle.std.specs.Prelude.{pos, ◌+ℤ◌, int_lt, is_some}
 use Rattle.wc_model.specs.Instrument.Indication.{gross_intervals, has_sample}
-use Rattle.wc_indicator.specs.Kept.{RepresentsHistory}
-use Rattle.wc_indicator.specs.Fields.{kept_view}
+use Rattle.wc_indicator.specs.Kept.{RepresentsHistory, kept_view}
 use Rattle.wc_indicator.proofs.indicator.Indicator.over.Goals as goal
 
 pub returns-then-is_some : goal.returns-then-is_some

@@ -1,9 +1,6 @@
-use Rattle.std.proofs.Common.{◌≡◌, ap, sym, ◌∙◌, subst, arith, to_z, of_z, w32}
-use Rattle.std.proofs.lemmas.Int.{ints}
-use Rattle.std.specs.Prelude.{unwrap_or}
+use Rattle.wc_model.proofs.Common.{◌≡◌, ap, sym, ◌∙◌, subst, arith, to_z, of_z, w32, unwrap_or, ints}
 use Rattle.wc_model.specs.Instrument.WeighingHistories.{last_sample}
-use Rattle.wc_indicator.specs.Kept.{RepresentsHistory, IsCount}
-use Rattle.wc_indicator.specs.Fields.{kept_view}
+use Rattle.wc_indicator.specs.Kept.{RepresentsHistory, IsCount, kept_view}
 use Rattle.wc_indicator.proofs.Units.{either_range}
 use Rattle.wc_indicator.proofs.indicator.Indicator.present_counts.Goals as goal
 

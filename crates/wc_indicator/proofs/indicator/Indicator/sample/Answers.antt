@@ -1,10 +1,7 @@
-use Rattle.std.proofs.Common.{◌≡◌, ap, sym, ◌∙◌, subst, [], ◌∷◌, ◌++◌, arith}
-use Rattle.std.proofs.lemmas.Int.{ints}
+use Rattle.wc_model.proofs.Common.{◌≡◌, ap, sym, ◌∙◌, subst, [], ◌∷◌, ◌++◌, arith, to_z, of_z, w32, ints}
 use Rattle.std.specs.Prelude.{ℤ}
-use Rattle.std.proofs.Common.{to_z, of_z, w32}
 use Rattle.wc_model.specs.Instrument.WeighingHistories.{last_items}
-use Rattle.wc_indicator.specs.Kept.{RepresentsHistory}
-use Rattle.wc_indicator.specs.Fields.{kept_view}
+use Rattle.wc_indicator.specs.Kept.{RepresentsHistory, kept_view}
 use Rattle.wc_indicator.proofs.Windows.{represents_after}
 use Rattle.wc_indicator.proofs.indicator.Indicator.sample.Goals as goal
 

@@ -1,8 +1,6 @@
-use Rattle.std.proofs.Common.{◌≡◌, ap, sym, ◌∙◌, subst, arith, to_z, of_z, w32}
-use Rattle.std.proofs.lemmas.Int.{ints}
+use Rattle.wc_model.proofs.Common.{◌≡◌, ap, sym, ◌∙◌, subst, arith, to_z, of_z, w32, ints}
 use Rattle.wc_model.specs.Instrument.Indication.{from_zero}
-use Rattle.wc_indicator.specs.Fields.{kept_view}
-use Rattle.wc_indicator.specs.Kept.{RepresentsHistory}
+use Rattle.wc_indicator.specs.Kept.{kept_view, RepresentsHistory}
 use Rattle.wc_indicator.specs.Refusals.{reason, reported_by}
 use Rattle.wc_indicator.proofs.LeftByCommands.{tare_refused, tare_taken}
 use Rattle.wc_indicator.proofs.indicator.Indicator.set_tare.Goals as goal

@@ -1,10 +1,8 @@
-use Rattle.std.proofs.Common.{◌≡◌, ap, sym, ◌∙◌, subst, arith, to_z, of_z, w32}
-use Rattle.std.proofs.lemmas.Int.{ints}
+use Rattle.wc_model.proofs.Common.{◌≡◌, ap, sym, ◌∙◌, subst, arith, to_z, of_z, w32, ints}
 use Rattle.std.specs.Prelude.{◌+ℤ◌, Some, IfSome}
 use Rattle.wc_laws_instrument.specs.Preludes as prelude
 use Rattle.wc_model.specs.Instrument.Indication.{zero_point}
-use Rattle.wc_indicator.specs.Kept.{IsDifference, RepresentsHistory}
-use Rattle.wc_indicator.specs.Fields.{kept_view}
+use Rattle.wc_indicator.specs.Kept.{IsDifference, RepresentsHistory, kept_view}
 use Rattle.wc_indicator.proofs.indicator.Indicator.tare_load.Goals as goal
 
 pub returns-in-Some : goal.returns-in-Some

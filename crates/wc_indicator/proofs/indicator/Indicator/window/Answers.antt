@@ -1,6 +1,5 @@
 use Rattle.std.proofs.Common.{sym, ◌∙◌, subst, length, ◌≤◌}
-use Rattle.wc_indicator.specs.Fields.{kept_view}
-use Rattle.wc_indicator.specs.Kept.{RepresentsHistory}
+use Rattle.wc_indicator.specs.Kept.{kept_view, RepresentsHistory}
 use Rattle.wc_indicator.proofs.Windows.{both_taken, few_latest}
 use Rattle.wc_indicator.proofs.indicator.Indicator.window.Goals as goal
 

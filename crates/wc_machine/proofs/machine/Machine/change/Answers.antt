@@ -1,24 +1,15 @@
 -- A changed machine represents the store that is carried over.
-use Rattle.std.proofs.Common.{◌≡◌, ◌-◌, List, ℤ, length, ap, sym, ◌∙◌, subst, arith, rules, refl}
-use Rattle.std.proofs.lemmas.List.{length-map}
+use Rattle.wc_model.proofs.Common.{◌≡◌, ◌-◌, List, ℤ, length, ap, sym, ◌∙◌, subst, arith, rules, refl, length-map}
 use Rattle.wc_cost.specs.LoadedTexts.{LoadedText}
 use Rattle.wc_text_flat.specs.Contents.{AreContents, frame_of_text}
 use Rattle.wc_machine.proofs.Carrying.{before_later, contents_carried}
 use Rattle.wc_machine.proofs.FirstPlaces.{last_bound}
 use Rattle.wc_machine.proofs.Scanning.{has_a_unit}
 use Rattle.wc_machine.proofs.machine.Machine.change.Goals as goal
-use Rattle.wc_machine.specs.Carrying.{AreCarried}
-use Rattle.wc_machine.specs.Machines.{IsMachineSound, MachineState, RepresentsText, machine_view, text_of}
-use Rattle.wc_model.specs.Language.Carried.{carried}
-use Rattle.wc_model.specs.Language.Frames.{content_number, first_numbers, slot_kind_of, slot_kinds}
-use Rattle.wc_model.specs.Language.Scans.{initial_of}
-use Rattle.wc_model.specs.Language.Store.{Store}
-use Rattle.wc_model.specs.Language.Tree.{Text}
-use Rattle.wc_model.specs.Language.Views.{text_view}
-use Rattle.wc_model.specs.Text.Grammar.{IsProgramLast}
+use Rattle.wc_machine.specs.Machines.{AreCarried, IsMachineSound, MachineState, RepresentsText, machine_view, text_of}
+use Rattle.wc_model.specs.Definitions.{carried, content_number, first_numbers, slot_kind_of, slot_kinds, initial_of, Store, Text, text_view, IsProgramLast}
 use Rattle.wc_laws_language.proofs.Carrying.{carried_holds}
-use Rattle.wc_laws_language.specs.FirstNumbers.{AreFirst}
-use Rattle.wc_laws_language.specs.Typing.{SameSlots}
+use Rattle.wc_laws_language.specs.{AreFirst, SameSlots}
 
 -- the carried numbers are the contents of the carried store
 held : (old new : Text) → IsProgramLast old → IsProgramLast new → (store : Store) → SameSlots (initial_of old) store → (numbers : List ℤ) → AreContents (frame_of_text old) store numbers → (first all : List ℤ) → first ≡ first_numbers (frame_of_text new) →

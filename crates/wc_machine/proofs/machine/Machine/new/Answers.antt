@@ -1,6 +1,5 @@
 -- A new machine represents the store of the declarations.
-use Rattle.std.proofs.Common.{◌≡◌, ◌-◌, List, ℤ, length, refl, ap, sym, ◌∙◌, subst, arith, rules}
-use Rattle.std.proofs.lemmas.List.{length-map}
+use Rattle.wc_model.proofs.Common.{◌≡◌, ◌-◌, List, ℤ, length, refl, ap, sym, ◌∙◌, subst, arith, rules, length-map}
 use Rattle.wc_cost.specs.LoadedTexts.{LoadedText}
 use Rattle.wc_text_flat.proofs.Images.{first_numbers_are_contents}
 use Rattle.wc_text_flat.specs.Contents.{frame_of_text, AreContents}
@@ -8,10 +7,7 @@ use Rattle.wc_machine.proofs.FirstPlaces.{last_bound}
 use Rattle.wc_machine.proofs.Scanning.{has_a_unit}
 use Rattle.wc_machine.proofs.machine.Machine.new.Goals as goal
 use Rattle.wc_machine.specs.Machines.{IsMachineSound, RepresentsText, machine_view}
-use Rattle.wc_model.specs.Language.Frames.{content_number, first_numbers, slot_kind_of}
-use Rattle.wc_model.specs.Language.Scans.{initial_of}
-use Rattle.wc_model.specs.Language.Tree.{Text}
-use Rattle.wc_model.specs.Language.Views.{text_view}
+use Rattle.wc_model.specs.Definitions.{content_number, first_numbers, slot_kind_of, initial_of, Text, text_view}
 use Rattle.wc_laws_language.specs.FirstNumbers.{AreFirst}
 use Rattle.wc_laws_language.proofs.Places.{SameSlots-refl}
 

@@ -1,6 +1,5 @@
 -- The number at the place is that of what the store holds there.
-use Rattle.std.proofs.Common.{◌∙◌, ap}
-use Rattle.std.specs.Prelude.{slice_get}
+use Rattle.wc_model.proofs.Common.{◌∙◌, ap, slice_get}
 use Rattle.wc_machine.proofs.machine.Machine.number.Goals as goal
 use Rattle.wc_machine.specs.Machines.{MachineState}
 

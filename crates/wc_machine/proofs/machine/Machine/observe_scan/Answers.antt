@@ -1,17 +1,12 @@
 -- A scan is the run of the program's flat code, and what is shown of it is what is seen of the text.
-use Rattle.std.proofs.Common.{◌≡◌, ◌+◌, ◌-◌, ◌≤◌, length, refl, ap, sym, ◌∙◌, subst, arith}
-use Rattle.std.proofs.lemmas.List.{length-map}
+use Rattle.wc_model.proofs.Common.{◌≡◌, ◌+◌, ◌-◌, ◌≤◌, length, refl, ap, sym, ◌∙◌, subst, arith, length-map}
 use Rattle.wc_text_flat.specs.Contents.{frame_of_text, AreContents}
 use Rattle.wc_machine.proofs.FirstPlaces.{AreFirst, first_places}
 use Rattle.wc_machine.proofs.Scanning.{has_a_unit, machine_runs, later, short_run, ran_is}
 use Rattle.wc_machine.proofs.machine.Machine.observe_scan.Goals as goal
 use Rattle.wc_machine.proofs.SeenScans.{scan_is_seen}
-use Rattle.wc_machine.specs.Machines.{MachineState, Leaves, machine_view, text_of}
-use Rattle.wc_machine.specs.Seeing.{IsScanShown}
-use Rattle.wc_model.specs.Language.Frames.{slot_kind_of}
-use Rattle.wc_model.specs.Language.Paths.{IsProgramBound}
-use Rattle.wc_model.specs.Language.Scans.{initial_of, scan_of}
-use Rattle.wc_model.specs.Language.Views.{text_view}
+use Rattle.wc_machine.specs.{MachineState, Leaves, machine_view, text_of, IsScanShown}
+use Rattle.wc_model.specs.Definitions.{slot_kind_of, IsProgramBound, initial_of, scan_of, text_view}
 use Rattle.wc_laws_language.specs.Typing.{SameSlots}
 
 pub copy_image-requires-clause-weights : goal.copy_image-requires-clause-weights

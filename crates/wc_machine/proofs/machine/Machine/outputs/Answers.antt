@@ -5,10 +5,7 @@ use Rattle.wc_text_flat.specs.Contents.{frame_of_text, AreContents}
 use Rattle.wc_machine.proofs.FirstPlaces.{AreFirst, first_places, same_outputs}
 use Rattle.wc_machine.proofs.machine.Machine.outputs.Goals as goal
 use Rattle.wc_machine.specs.Machines.{MachineState, text_of}
-use Rattle.wc_model.specs.Language.DirectVariables.{OutputBit, OutputWord}
-use Rattle.wc_model.specs.Language.Scans.{initial_of, bit_of, word_of, output_bits, output_words}
-use Rattle.wc_model.specs.Language.Store.{Direct, value_at}
-use Rattle.wc_model.specs.Language.Views.{text_view}
+use Rattle.wc_model.specs.Definitions.{OutputBit, OutputWord, initial_of, bit_of, word_of, output_bits, output_words, Direct, value_at, text_view}
 use Rattle.wc_laws_language.specs.Typing.{SameSlots}
 
 pub read_outputs-requires-clause-bits : goal.read_outputs-requires-clause-bits

@@ -1,6 +1,5 @@
 -- What is kept of a scan is what was shown of it.
-use Rattle.std.proofs.Common.{◌∙◌, ◌++◌, List, ap, subst, sym}
-use Rattle.std.proofs.lemmas.Result.{IfOk-weaker}
+use Rattle.wc_model.proofs.Common.{◌∙◌, ◌++◌, List, ap, subst, sym, IfOk-weaker}
 use Rattle.wc_machine.proofs.machine.Machine.trace.Goals as goal
 use Rattle.wc_machine.specs.Seeing.{IsSeen}
 use Rattle.wc_machine.specs.declared.seen.SeenLine.{SeenLine}

@@ -1,10 +1,8 @@
 -- The fields of a unit's table are its plain variables.
-use Rattle.std.proofs.Common.{◌≡◌, [], Some, map, ap, sym, ◌∙◌, refl}
-use Rattle.std.proofs.lemmas.Option.{slice_get-map}
+use Rattle.wc_model.proofs.Common.{◌≡◌, [], Some, map, ap, sym, ◌∙◌, refl, slice_get-map}
 use Rattle.std.specs.Prelude.{option_map, slice_get}
-use Rattle.wc_names.specs.Numbered.{plain_of_field}
+use Rattle.wc_names.specs.{plain_of_field, spelled, spelled_in_table}
 use Rattle.wc_names.specs.declared.unit_table.UnitTable.{UnitTable}
-use Rattle.wc_names.specs.Spelled.{spelled, spelled_in_table}
 use Rattle.wc_names.proofs.Lists.{got_some, same_found}
 use Rattle.wc_names.proofs.PlainVariables.{plain_fields}
 use Rattle.wc_names.proofs.ScopeTables.{at_unit, from_0}

@@ -1,6 +1,4 @@
-use Rattle.std.proofs.Common.{◌≡◌, arith, [], ◌≤◌, length, ap, sym, subst}
-use Rattle.std.proofs.lemmas.List.{length-map}
-use Rattle.std.proofs.lemmas.Result.{IfOk-weaker}
+use Rattle.wc_model.proofs.Common.{◌≡◌, arith, [], ◌≤◌, length, ap, sym, subst, length-map, IfOk-weaker}
 use Rattle.wc_model.specs.Language.Frames.{frame_of, slot_kind_of, slot_kinds}
 use Rattle.wc_names.specs.RepresentsText.{Represents}
 use Rattle.wc_names.proofs.HandedOn.{handed_on}

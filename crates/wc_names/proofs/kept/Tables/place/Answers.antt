@@ -1,6 +1,5 @@
 use Rattle.std.proofs.Common.{[], map, ap, sym, subst, ◌∙◌}
-use Rattle.wc_model.specs.Language.Frames.{number_of_path}
-use Rattle.wc_model.specs.Language.Names.{name_of}
+use Rattle.wc_model.specs.Definitions.{number_of_path, name_of}
 use Rattle.wc_names.specs.RepresentsText.{Represents}
 use Rattle.wc_names.proofs.OwnNumbers.{own_number}
 use Rattle.wc_names.proofs.ScopeTables.{at_unit, from_0, frame_path}

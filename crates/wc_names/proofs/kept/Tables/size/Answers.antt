@@ -1,5 +1,4 @@
-use Rattle.std.proofs.Common.{[], ap, ◌∙◌}
-use Rattle.std.specs.Prelude.{slice_get}
+use Rattle.wc_model.proofs.Common.{[], ap, ◌∙◌, slice_get}
 use Rattle.wc_names.specs.declared.unit_table.UnitTable.{UnitTable}
 use Rattle.wc_names.proofs.Lists.{not_past, same_found}
 use Rattle.wc_names.proofs.ScopeTables.{at_unit, from_0, frame_size}

@@ -1,11 +1,7 @@
 use Rattle.std.proofs.Common.{◌+◌, [], ◌∷◌, is_some, option_map, ap, sym, subst, ◌∙◌}
-use Rattle.std.specs.Prelude.{option_and_then, slice_get}
-use Rattle.std.specs.List.{position_from}
-use Rattle.wc_model.specs.Language.Names.{name_of}
-use Rattle.wc_model.specs.Language.Scopes.{type_of}
-use Rattle.wc_model.specs.Language.Store.{block_places, same_path, variable_places}
-use Rattle.wc_names.specs.Numbered.{numbered_type}
-use Rattle.wc_names.specs.RepresentsText.{Represents}
+use Rattle.wc_model.proofs.Common.{option_and_then, slice_get, position_from}
+use Rattle.wc_model.specs.Definitions.{name_of, type_of, block_places, same_path, variable_places}
+use Rattle.wc_names.specs.{numbered_type, Represents}
 use Rattle.wc_names.specs.declared.located.Located.{Located}
 use Rattle.wc_names.specs.declared.variable.Variable.{Variable as Row}
 use Rattle.wc_names.proofs.Lookups.{first_found, from_row, named_rows, none_named, same_within, there_is, type_at_found, type_not_found}

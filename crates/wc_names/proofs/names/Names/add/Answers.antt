@@ -1,6 +1,5 @@
 use Rattle.std.proofs.Common.{not, ap, sym, ◌∙◌}
-use Rattle.wc_model.specs.Language.DeclarationRules.{is_among}
-use Rattle.wc_model.specs.Language.Names.{name_of}
+use Rattle.wc_model.specs.Definitions.{is_among, name_of}
 use Rattle.wc_names.proofs.KeyNames.{keys_any, keys_more}
 use Rattle.wc_names.proofs.names.Names.add.Goals as goal
 use Rattle.wc_names.proofs.names.Names.add.Goals.{in-Ok, in-Err}

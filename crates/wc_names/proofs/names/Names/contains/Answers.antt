@@ -1,6 +1,5 @@
 use Rattle.std.proofs.Common.{ap, ◌∙◌}
-use Rattle.wc_model.specs.Language.DeclarationRules.{is_among}
-use Rattle.wc_model.specs.Language.Names.{name_of}
+use Rattle.wc_model.specs.Definitions.{is_among, name_of}
 use Rattle.wc_names.proofs.KeyNames.{keys_any}
 use Rattle.wc_names.proofs.names.Names.contains.Goals as goal
 

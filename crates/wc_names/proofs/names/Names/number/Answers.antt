@@ -1,8 +1,5 @@
-use Rattle.std.proofs.Common.{sym, ap, ◌∙◌}
-use Rattle.std.proofs.lemmas.Iterator.Adapters.{position_from-zero}
-use Rattle.std.specs.List.{position_from}
-use Rattle.wc_model.specs.Language.Declarations.{same_name}
-use Rattle.wc_model.specs.Language.Names.{name_of}
+use Rattle.wc_model.proofs.Common.{sym, ap, ◌∙◌, position_from-zero, position_from}
+use Rattle.wc_model.specs.Definitions.{same_name, name_of}
 use Rattle.wc_names.specs.Keys.{name_of_key}
 use Rattle.wc_built_in.proofs.FieldTables.{position_from-map}
 use Rattle.wc_names.proofs.names.Names.number.Goals as goal

@@ -2,9 +2,7 @@
 use Rattle.std.proofs.Common.{◌≡◌, Option, Some, None, sym, ◌∙◌, subst}
 use Rattle.wc_record.proofs.LogSteps.{not_ended, read_on, reads_still, taken}
 use Rattle.wc_record.proofs.log.Rows.next_head.Goals as goal
-use Rattle.wc_record.specs.Left.{Takes, row_bytes}
-use Rattle.wc_record.specs.Reported.{Reads}
-use Rattle.wc_record.specs.Views.{head_view}
+use Rattle.wc_record.specs.{Takes, row_bytes, Reads, head_view}
 use Rattle.wc_record.specs.declared.log.LogEnd.{LogEnd}
 
 pub returns-in-Some-end_after-clause-takes : goal.returns-in-Some-end_after-clause-takes

@@ -2,8 +2,7 @@
 use Rattle.std.proofs.Common.{◌≡◌, [], ◌∷◌, subst, sym, arith}
 use Rattle.wc_record.proofs.LogSteps.{gives_as, none_read}
 use Rattle.wc_record.proofs.log.Rows.row_after_heading.Goals as goal
-use Rattle.wc_record.specs.Left.{IsAfterRecords}
-use Rattle.wc_record.specs.Steps.{GivesRecord}
+use Rattle.wc_record.specs.{IsAfterRecords, GivesRecord}
 
 pub returns-in-Ok-clause-gives : goal.returns-in-Ok-clause-gives
 returns-in-Ok-clause-gives g c =

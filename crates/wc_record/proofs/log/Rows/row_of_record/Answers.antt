@@ -2,8 +2,7 @@ use Rattle.std.proofs.Common.{◌≡◌, ◌∙◌, ◌+◌, ◌∷◌, suc, sym
 use Rattle.csv.specs.Records.{fields_of}
 use Rattle.wc_record.proofs.LogSteps.{one_read, record_there, row_facts, step_refused, step_row, step_too_many}
 use Rattle.wc_record.proofs.log.Rows.row_of_record.Goals as goal
-use Rattle.wc_record.specs.Left.{moment_or_zero}
-use Rattle.wc_record.specs.Views.{head_view}
+use Rattle.wc_record.specs.{moment_or_zero, head_view}
 
 pub returns-in-Ok-clause-gives : goal.returns-in-Ok-clause-gives
 returns-in-Ok-clause-gives g c =

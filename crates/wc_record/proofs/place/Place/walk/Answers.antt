@@ -1,7 +1,7 @@
 use Rattle.std.proofs.Common.{arith}
 use Rattle.wc_record.proofs.Cuts.{passed_and_cut}
 use Rattle.wc_record.proofs.place.Place.walk.Goals as goal
-use Rattle.wc_record.specs.Places.{record_start}
+use Rattle.wc_record.specs.Cutting.{record_start}
 
 pub returns-clause-cuts : goal.returns-clause-cuts
 returns-clause-cuts c =

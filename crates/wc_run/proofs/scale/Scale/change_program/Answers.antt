@@ -2,7 +2,7 @@ use Rattle.std.proofs.Common.{sym, ◌∙◌, subst}
 use Rattle.wc_model.specs.Run.Rows.{Change}
 use Rattle.wc_run.proofs.ProgramChanges.{runs_change, runs_past, stops_change, takes_change}
 use Rattle.wc_run.proofs.ScaleRows.{passes_change}
-use Rattle.wc_run.specs.Taking.{TakesRow}
+use Rattle.wc_run.specs.Doing.{TakesRow}
 use Rattle.wc_run.proofs.scale.Scale.change_program.Goals as goal
 
 pub returns-then-not-has_program-clause-represents : goal.returns-then-not-has_program-clause-represents

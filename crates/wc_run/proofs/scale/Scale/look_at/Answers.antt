@@ -1,5 +1,5 @@
 use Rattle.std.proofs.Common.{Some, subst, sym}
-use Rattle.wc_open_scale.specs.Scanning.{Sees}
+use Rattle.wc_run.specs.Scanning.{Sees}
 use Rattle.wc_run.proofs.ScaleRows.{gives_items, gives_no_items, gives_no_scan, gives_scan, passes_scan, takes_scan}
 use Rattle.wc_run.proofs.scale.Scale.look_at.Goals as goal
 

@@ -2,7 +2,7 @@ use Rattle.std.proofs.Common.{◌≡◌, [], None, ap, subst, to_z, of_z, w32, a
 use Rattle.std.proofs.lemmas.Int.{ints}
 use Rattle.wc_model.specs.Run.Rows.{Bytes, Change, Counts, Inputs, Scan}
 use Rattle.wc_record.specs.Views.{head_data_view, head_view, IsDataInRange}
-use Rattle.wc_run.specs.Taking.{StopsAtRow, TakesRow}
+use Rattle.wc_run.specs.Doing.{StopsAtRow, TakesRow}
 use Rattle.wc_run.proofs.HandedOn.{no_success_of, no_success_on, propagated}
 use Rattle.wc_run.proofs.ScaleRows.{gives_no_change, gives_no_counts, gives_no_inputs, items_at, lines_at, on_ok, runs_row, runs_this, stops_at, stops_for_memory, takes_row}
 use Rattle.wc_run.proofs.scale.Scale.take.Goals as goal

@@ -1,8 +1,7 @@
-use Rattle.std.proofs.Common.{◌≡◌, ℕ, arith, of_z, subst, to_z, w32}
-use Rattle.std.proofs.lemmas.Int.{ints}
+use Rattle.wc_model.proofs.Common.{◌≡◌, ℕ, arith, of_z, subst, to_z, w32, ints}
 use Rattle.wc_model.specs.Run.Rows.{Counts}
 use Rattle.wc_run.proofs.ScaleRows.{takes_sample}
-use Rattle.wc_run.specs.Taking.{TakesRow}
+use Rattle.wc_run.specs.Doing.{TakesRow}
 use Rattle.wc_run.proofs.scale.Scale.take_sample.Goals as goal
 
 pub returns-clause-represents : goal.returns-clause-represents

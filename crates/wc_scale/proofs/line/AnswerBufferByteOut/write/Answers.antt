@@ -1,6 +1,4 @@
-use Rattle.std.proofs.Common.{◌≡◌, ◌≤◌, ◌∙◌, ◌+◌, ◌-◌, ap, arith, drop, length, replicate, rules, sym}
-use Rattle.std.proofs.lemmas.List.{drop-drop, drop-replicate, length-take}
-use Rattle.std.proofs.lemmas.Slice.{drop-put_mid}
+use Rattle.wc_model.proofs.Common.{◌≡◌, ◌≤◌, ◌∙◌, ◌+◌, ◌-◌, ap, arith, drop, length, replicate, rules, sym, drop-drop, drop-replicate, length-take, drop-put_mid}
 use Rattle.wc_scale.proofs.line.AnswerBufferByteOut.write.Goals as goal
 
 -- what follows the bytes taken are the zeros that followed those taken before, but for as many as the chunk has

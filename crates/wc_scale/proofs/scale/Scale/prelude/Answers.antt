@@ -1,8 +1,7 @@
 use Rattle.std.proofs.Common.{◌≡◌, ◌∙◌, ap, rules, subst}
 use Rattle.wc_model.specs.Instrument.Plates.{PlateData}
-use Rattle.wc_open_scale.specs.Representation.{Represents as OpenRepresents}
-use Rattle.wc_scale.specs.Preludes.{IsReportedState}
-use Rattle.wc_scale.specs.Representation.{IsOpenAt}
+use Rattle.wc_run.specs.OpenScales.{Represents as OpenRepresents}
+use Rattle.wc_scale.specs.{IsReportedState, IsOpenAt}
 use Rattle.wc_scale.proofs.scale.Scale.prelude.Goals as goal
 
 -- what is reported is what the open scale's prelude has

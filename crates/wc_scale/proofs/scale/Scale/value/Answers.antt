@@ -1,6 +1,4 @@
-use Rattle.std.proofs.Common.{◌≡◌, ◌∙◌, Some, ap, arith, of_z, sym, to_z, w64}
-use Rattle.std.proofs.lemmas.Int.{ints}
-use Rattle.std.specs.Option.{option_copied}
+use Rattle.wc_model.proofs.Common.{◌≡◌, ◌∙◌, Some, ap, arith, of_z, sym, to_z, w64, ints, option_copied}
 use Rattle.wc_scale.proofs.ReadValues.{has_number, is_value, leads_nowhere, refuses_value}
 use Rattle.wc_scale.proofs.scale.Scale.value.Goals as goal
 

@@ -1,5 +1,4 @@
-use Rattle.std.proofs.Common.{ap, sym, ◌∙◌}
-use Rattle.std.specs.Option.{option_to_list}
+use Rattle.wc_model.proofs.Common.{ap, sym, ◌∙◌, option_to_list}
 use Rattle.std.specs.Prelude.{option_map}
 use Rattle.wc_laws_instrument.proofs.Requests.{open_request_after}
 use Rattle.wc_model.specs.Instrument.Requests.{open_request}

@@ -1,6 +1,4 @@
-use Rattle.std.proofs.Common.{◌/◌, ◌<◌, ◌≤◌, ◌++◌, length, ap, ◌∙◌, length-append, arith}
-use Rattle.std.proofs.lemmas.Fmt.{decimal_nonempty}
-use Rattle.std.specs.Prelude.{decimal}
+use Rattle.wc_model.proofs.Common.{◌/◌, ◌<◌, ◌≤◌, ◌++◌, length, ap, ◌∙◌, length-append, arith, decimal, decimal_nonempty}
 use Rattle.wc_sma.proofs.Digits.{more_digits, one_digit}
 use Rattle.wc_sma.proofs.weight.Field.put_decimal.Goals as goal
 

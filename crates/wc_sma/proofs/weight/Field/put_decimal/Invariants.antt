@@ -1,5 +1,4 @@
-use Rattle.std.proofs.Common.{◌≡◌, ◌++◌}
-use Rattle.std.specs.Prelude.{decimal}
+use Rattle.wc_model.proofs.Common.{◌≡◌, ◌++◌, decimal}
 use Rattle.wc_sma.proofs.weight.Field.put_decimal.Given as goal
 
 -- the digits left before those put are the number's

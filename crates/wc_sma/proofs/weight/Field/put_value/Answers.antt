@@ -1,5 +1,4 @@
-use Rattle.std.proofs.Common.{◌≡◌, ◌/◌, ◌^◌, ◌++◌, length, ap, ◌∙◌, append-nil, length-append, arith, to_z, of_z, w32}
-use Rattle.std.proofs.lemmas.Int.{ints}
+use Rattle.wc_model.proofs.Common.{◌≡◌, ◌/◌, ◌^◌, ◌++◌, length, ap, ◌∙◌, append-nil, length-append, arith, to_z, of_z, w32, ints}
 use Rattle.std.specs.Prelude.{pos, ◌<ℤ◌, unsigned_abs, decimal}
 use Rattle.wc_model.specs.Instrument.Answers.{fraction_text, minus_of}
 use Rattle.wc_laws_instrument.proofs.Answers.{length_value, length_three}

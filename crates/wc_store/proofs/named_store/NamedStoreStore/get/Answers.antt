@@ -1,11 +1,9 @@
 -- What is kept under a place is what is at its index.
-use Rattle.std.proofs.Common.{◌≡◌, ◌<◌, ap, sym, ◌∙◌, subst, length, Some, to_z, of_z, w64}
-use Rattle.std.specs.Prelude.{slice_get}
+use Rattle.wc_model.proofs.Common.{◌≡◌, ◌<◌, ap, sym, ◌∙◌, subst, length, Some, to_z, of_z, w64, slice_get}
 use Rattle.wc_store.proofs.Numbered.{IsKept, is_kept, not_missing}
 use Rattle.wc_store.proofs.Ranges.{has_64_bits}
 use Rattle.wc_store.proofs.named_store.NamedStoreStore.get.Goals as goal
-use Rattle.wc_store.specs.Inside.{kinds_in, number_view, tag_view}
-use Rattle.wc_store.specs.Slots.{SlotNumbers, IsInRangeAt}
+use Rattle.wc_store.specs.Inside.{kinds_in, number_view, tag_view, SlotNumbers, IsInRangeAt}
 
 pub number-requires : goal.number-requires
 number-requires c = (is_kept c.self.inside.slots.entries c.from.result c.in-Some.tagged.now c.self.invariant.places c.self.invariant.ranges (sym c.in-Some.ensures.value)).range

@@ -1,14 +1,11 @@
 -- One more place of the next kind, 0; in the end there is one for each kind, and all are in their ranges.
-use Rattle.std.proofs.Common.{◌≡◌, ◌<◌, ap, sym, ◌∙◌, subst, arith, length, take, pos, replicate, None}
-use Rattle.std.proofs.lemmas.List.{take_more, take_all, length-take-le}
-use Rattle.std.specs.Map.{lookup}
+use Rattle.wc_model.proofs.Common.{◌≡◌, ◌<◌, ap, sym, ◌∙◌, subst, arith, length, take, pos, replicate, None, take_more, take_all, length-take-le, lookup}
 use Rattle.indexmap.proofs.CallerLemmas.{insert_entry-new}
 use Rattle.wc_model.specs.declared.kind.SlotKind.TheVariants as slots
 use Rattle.wc_store.proofs.Numbered.{AreZeros, is_place, none_yet, one_more, zeros_length}
 use Rattle.wc_store.proofs.Ranges.{zeros_fit}
 use Rattle.wc_store.proofs.named_store.NamedStoreStore.make.Goals as goal
-use Rattle.wc_store.specs.Inside.{numbers_in}
-use Rattle.wc_store.specs.Slots.{AreInRange}
+use Rattle.wc_store.specs.Inside.{numbers_in, AreInRange}
 
 pub loop-kind-preserved : goal.loop-kind-preserved
 loop-kind-preserved c =

@@ -1,13 +1,11 @@
 -- A number written under a place is written at its index.
-use Rattle.std.proofs.Common.{◌<◌, ap, sym, ◌∙◌, subst, length}
-use Rattle.std.specs.Prelude.{slice_set}
+use Rattle.wc_model.proofs.Common.{◌<◌, ap, sym, ◌∙◌, subst, length, slice_set}
 use Rattle.wc_model.specs.Language.Frames.{IsInRange}
 use Rattle.wc_store.proofs.Numbered.{IsKept, is_kept, IsWritten, is_written, in_kind, not_missing}
 use Rattle.wc_store.proofs.Ranges.{in_range_has_64_bits}
 use Rattle.wc_store.proofs.named_store.NamedStoreStore.set.Goals as goal
 use Rattle.wc_store.proofs.named_store.NamedStoreStore.set.Goals.{in-Some, in_default}
-use Rattle.wc_store.specs.Inside.{kinds_in, tag_view}
-use Rattle.wc_store.specs.Slots.{SlotNumbers, IsInRangeAt}
+use Rattle.wc_store.specs.Inside.{kinds_in, tag_view, SlotNumbers, IsInRangeAt}
 
 pub with_number-requires : goal.with_number-requires
 with_number-requires c =

@@ -2,7 +2,7 @@
 use Rattle.std.proofs.Common.{◌<◌, ap, sym, subst, arith, length}
 use Rattle.wc_store.proofs.Ranges.{same_length, is_read, IsRead}
 use Rattle.wc_store.proofs.slot_store.SlotStoreStore.get_at.Goals as goal
-use Rattle.wc_store.specs.Slots.{SlotNumbers}
+use Rattle.wc_store.specs.Inside.{SlotNumbers}
 
 pub index-requires : goal.index-requires
 index-requires c =

@@ -2,7 +2,7 @@
 use Rattle.std.proofs.Common.{rules, ◌≡◌, sym, subst, length, replicate, pos}
 use Rattle.wc_store.proofs.Ranges.{zeros_fit}
 use Rattle.wc_store.proofs.slot_store.SlotStoreStore.make.Goals as goal
-use Rattle.wc_store.specs.Slots.{AreInRange}
+use Rattle.wc_store.specs.Inside.{AreInRange}
 
 pub invariant_of-result : goal.invariant_of-result
 invariant_of-result c =

@@ -1,9 +1,8 @@
 -- A number in range is written at a place that there is.
-use Rattle.std.proofs.Common.{◌<◌, ap, sym, subst, arith, length}
+use Rattle.wc_model.proofs.Common.{◌<◌, ap, sym, subst, arith, length, slice_set}
 use Rattle.wc_store.proofs.Ranges.{same_length, written_fits, in_range_has_64_bits}
 use Rattle.wc_store.proofs.slot_store.SlotStoreStore.set_at.Goals as goal
-use Rattle.wc_store.specs.Slots.{SlotNumbers, IsInRangeAt, AreInRange}
-use Rattle.std.specs.Prelude.{slice_set}
+use Rattle.wc_store.specs.Inside.{SlotNumbers, IsInRangeAt, AreInRange}
 
 pub index_mut-requires : goal.index_mut-requires
 index_mut-requires c =

@@ -1,10 +1,8 @@
 -- Four numbers in range are written at places that there are.
-use Rattle.std.proofs.Common.{◌≡◌, ◌+◌, length, ap, sym, ◌∙◌, subst, arith, w64}
-use Rattle.std.proofs.lemmas.Int.{to_z-of_z}
-use Rattle.wc_store.proofs.Fours.{four_length, fours_fit, put_back, same_four}
-use Rattle.wc_store.proofs.Ranges.{same_length}
+use Rattle.wc_model.proofs.Common.{◌≡◌, ◌+◌, length, ap, sym, ◌∙◌, subst, arith, w64, to_z-of_z}
+use Rattle.wc_store.proofs.Ranges.{four_length, fours_fit, put_back, same_four, same_length}
 use Rattle.wc_store.proofs.slot_store.SlotStoreStore.set_four.Goals as goal
-use Rattle.wc_store.specs.Slots.{SlotNumbers, AreInRange, IsInRangeAt, with_four}
+use Rattle.wc_store.specs.Inside.{SlotNumbers, AreInRange, IsInRangeAt, with_four}
 
 pub write_four-requires : goal.write_four-requires
 write_four-requires c =

@@ -2,7 +2,7 @@
 use Rattle.std.proofs.Common.{ap, arith, length}
 use Rattle.wc_store.proofs.Ranges.{same_length}
 use Rattle.wc_store.proofs.slot_store.SlotStoreStore.size.Goals as goal
-use Rattle.wc_store.specs.Slots.{SlotNumbers}
+use Rattle.wc_store.specs.Inside.{SlotNumbers}
 
 pub returns-clause-kinds : goal.returns-clause-kinds
 returns-clause-kinds c =

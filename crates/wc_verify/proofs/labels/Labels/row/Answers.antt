@@ -1,6 +1,6 @@
 use Rattle.std.proofs.Common.{ap, ◌∙◌}
 use Rattle.wc_model.specs.Language.Names.{name_of}
-use Rattle.wc_verify.specs.Rows.{row_named, row_of}
+use Rattle.wc_verify.specs.Bodies.{row_named, row_of}
 use Rattle.wc_verify.proofs.LabelRows.{looked_up}
 use Rattle.wc_verify.proofs.labels.Labels.row.Goals as goal
 

@@ -1,8 +1,6 @@
-use Rattle.std.proofs.Common.{ap, ◌∙◌}
-use Rattle.std.specs.Prelude.{if◌then◌else◌}
-use Rattle.wc_model.specs.Language.Declarations.{named_in, same_name}
-use Rattle.wc_model.specs.Language.Names.{name_of}
-use Rattle.wc_verify.specs.Rows.{named_rows, row_named, row_of}
+use Rattle.wc_model.proofs.Common.{ap, ◌∙◌, if◌then◌else◌}
+use Rattle.wc_model.specs.Definitions.{named_in, same_name, name_of}
+use Rattle.wc_verify.specs.Bodies.{named_rows, row_named, row_of}
 use Rattle.wc_verify.proofs.LabelRows.{kept, row_chosen}
 use Rattle.wc_verify.proofs.labels.Labels.set.Goals as goal
 use Rattle.wc_verify.proofs.labels.Labels.set.Goals.{in-Ok, in-Err}

@@ -1,9 +1,8 @@
-use Rattle.std.proofs.Common.{ℕ, ◌<◌, List, ◌++◌, ◌∷◌, [], length, take, get_or, ap, sym, ◌∙◌, subst, arith, append_assoc}
-use Rattle.std.proofs.lemmas.List.{take_all, take_more}
+use Rattle.wc_model.proofs.Common.{ℕ, ◌<◌, List, ◌++◌, ◌∷◌, [], length, take, get_or, ap, sym, ◌∙◌, subst, arith, append_assoc, take_all, take_more}
 use Rattle.wc_laws_instrument.proofs.Requests.{requests_in_again}
 use Rattle.wc_view_columns.specs.Followed.{HasFollowed}
 use Rattle.wc_model.specs.Instrument.Requests.{requests_in}
-use Rattle.wc_sma.specs.Representation.{HasRead}
+use Rattle.wc_sma.specs.Feeding.{HasRead}
 use Rattle.wc_view_columns.proofs.events.Tracker.follow.Goals as goal
 
 pub loop-byte-preserved : goal.loop-byte-preserved

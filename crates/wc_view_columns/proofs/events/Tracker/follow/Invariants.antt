@@ -1,6 +1,6 @@
 use Rattle.std.proofs.Common.{◌≤◌, ℕ, List, ◌++◌, length, take}
 use Rattle.wc_model.specs.Instrument.Requests.{requests_in}
-use Rattle.wc_sma.specs.Representation.{HasRead}
+use Rattle.wc_sma.specs.Feeding.{HasRead}
 use Rattle.wc_view_columns.specs.Followed.{HasFollowed}
 use Rattle.wc_view_columns.proofs.events.Tracker.follow.Given as goal
 

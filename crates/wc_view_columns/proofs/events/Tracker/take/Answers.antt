@@ -1,5 +1,4 @@
-use Rattle.std.proofs.Common.{[], ◌∷◌, refl, sym, ap, ◌∙◌}
-use Rattle.std.specs.Option.{option_to_list}
+use Rattle.wc_model.proofs.Common.{[], ◌∷◌, refl, sym, ap, ◌∙◌, option_to_list}
 use Rattle.std.specs.Prelude.{option_map}
 use Rattle.wc_model.specs.Instrument.Requests.{requests_in}
 use Rattle.wc_sma.specs.Seen.{command_view}

@@ -1,7 +1,6 @@
 use Rattle.std.proofs.Common.{get_or, subst, refl}
 use Rattle.wc_view_columns.proofs.Rows.{followed, without_last}
-use Rattle.wc_view_columns.specs.Rows.{AreJoined}
-use Rattle.wc_view_columns.specs.TimeLines.{row_at}
+use Rattle.wc_view_columns.specs.{AreJoined, row_at}
 use Rattle.wc_view_columns.proofs.line.TimeLine.follow.Goals as goal
 
 pub returns-clause-columns : goal.returns-clause-columns

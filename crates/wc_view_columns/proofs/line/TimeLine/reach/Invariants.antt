@@ -1,6 +1,5 @@
 use Rattle.std.proofs.Common.{◌≡◌, ℕ, ◌<◌, ◌≤◌, ◌⊎◌, List}
-use Rattle.wc_view_columns.specs.Rows.{AreFrom, Row, column_number}
-use Rattle.wc_view_columns.specs.TimeLines.{AreColumns}
+use Rattle.wc_view_columns.specs.{AreFrom, Row, column_number, AreColumns}
 use Rattle.wc_view_columns.proofs.line.TimeLine.reach.Given as goal
 
 -- the columns so wide are of the same rows, and narrower ones do not reach

@@ -1,9 +1,7 @@
 use Rattle.std.proofs.Common.{◌≡◌, ◌<◌, [], ◌∷◌, ◌++◌, ap, sym, ◌∙◌, subst, arith}
-use Rattle.wc_view_columns.proofs.Lines.{from_start, moved, narrow_on, start_stays}
+use Rattle.wc_view_columns.proofs.Joined.{from_start, moved, narrow_on, start_stays}
 use Rattle.wc_view_columns.proofs.Rows.{left_last}
-use Rattle.wc_view_columns.specs.Held.{IsStateOf}
-use Rattle.wc_view_columns.specs.Rows.{column_count, left_by}
-use Rattle.wc_view_columns.specs.TimeLines.{AreColumns, IsLeft, IsStart, row_at}
+use Rattle.wc_view_columns.specs.{IsStateOf, column_count, left_by, AreColumns, IsLeft, IsStart, row_at}
 use Rattle.wc_view_columns.specs.declared.line.TimeLine.{TimeLine}
 use Rattle.wc_view_columns.proofs.line.TimeLine.take.Goals as goal
 use Rattle.wc_view_columns.proofs.line.TimeLine.take.Goals.{in-Some, in-None}

@@ -1,8 +1,6 @@
-use Rattle.std.proofs.Common.{ap, sym, ◌∙◌, not, None, get_or}
-use Rattle.std.specs.Option.{option_to_list}
+use Rattle.wc_model.proofs.Common.{ap, sym, ◌∙◌, not, None, get_or, option_to_list}
 use Rattle.wc_view_columns.proofs.Together.{one_flag, one_given}
-use Rattle.wc_view_columns.specs.Held.{held_at}
-use Rattle.wc_view_columns.specs.Spans.{span_of}
+use Rattle.wc_view_columns.specs.Held.{held_at, span_of}
 use Rattle.wc_view_columns.proofs.state.State.at.Goals as goal
 
 pub returns : goal.returns

@@ -1,5 +1,4 @@
-use Rattle.std.proofs.Common.{map, get_or, None, pos, refl}
-use Rattle.std.specs.List.{filter_map}
+use Rattle.wc_model.proofs.Common.{map, get_or, None, pos, refl, filter_map}
 use Rattle.wc_view_columns.proofs.Together.{bits_on, flags_on, spans_on, words_on}
 use Rattle.wc_view_columns.proofs.state.State.joined.Goals as goal
 

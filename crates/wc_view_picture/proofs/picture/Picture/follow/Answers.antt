@@ -1,13 +1,10 @@
 use Rattle.std.proofs.Common.{◌≡◌, ◌∙◌, ◌∷◌, ◌++◌, Option, suc, length, ap, arith, subst, sym}
 use Rattle.std.specs.Prelude.{ℕ, List, None, ◌-◌, ◌^◌, get_or, min, option_map}
 use Rattle.wc_indicator.specs.Kept.{IndicatorState, RepresentsHistory}
-use Rattle.wc_model.specs.Run.ProcessImage.{inputs_with}
-use Rattle.wc_model.specs.Run.Rows.{history_of, line_bytes}
-use Rattle.wc_model.specs.Say.Report.{answer_line}
+use Rattle.wc_model.specs.Definitions.{inputs_with, history_of, line_bytes, answer_line}
 use Rattle.wc_record.specs.Views.{head_data_view}
-use Rattle.wc_run.specs.Logics.{logic_after}
-use Rattle.wc_run.specs.Observing.{lines_of_scan, row_of}
-use Rattle.wc_sma.specs.Representation.{HasRead}
+use Rattle.wc_run.specs.{logic_after, lines_of_scan, row_of}
+use Rattle.wc_sma.specs.Feeding.{HasRead}
 use Rattle.wc_sma.specs.declared.requests.RequestReader.{RequestReader}
 use Rattle.wc_view_columns.specs.declared.line.TimeLine.{TimeLine}
 use Rattle.wc_view_picture.proofs.Kept.{names_turned, on_ok, row_seen, runs}

@@ -1,6 +1,4 @@
-use Rattle.std.proofs.Common.{[], sym, subst, ◌∙◌}
-use Rattle.std.proofs.KnownBytes.{Appends-nil}
-use Rattle.std.specs.Io.KnownBytes.{Appends}
+use Rattle.wc_model.proofs.Common.{[], sym, subst, ◌∙◌, Appends-nil, Appends}
 use Rattle.wc_run.proofs.ScaleRows.{on_ok_of}
 use Rattle.wc_run.specs.Observing.{refusal_of}
 use Rattle.wc_view_trace.proofs.Traced.{all_written, end_refused, end_said, traced_all}

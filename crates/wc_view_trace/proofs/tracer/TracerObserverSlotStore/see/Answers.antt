@@ -1,5 +1,4 @@
-use Rattle.std.proofs.Common.{◌∷◌, subst}
-use Rattle.std.specs.Io.KnownBytes.{Appends}
+use Rattle.wc_model.proofs.Common.{◌∷◌, subst, Appends}
 use Rattle.wc_run.proofs.ScaleRows.{on_ok_of}
 use Rattle.wc_run.specs.Observing.{row_of}
 use Rattle.wc_view_trace.proofs.Traced.{all_written, runs_logic, traced_on}

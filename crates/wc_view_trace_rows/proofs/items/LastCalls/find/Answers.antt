@@ -1,5 +1,4 @@
-use Rattle.std.proofs.Common.{◌∙◌, arith, get_or}
-use Rattle.std.proofs.lemmas.List.{take_more}
+use Rattle.wc_model.proofs.Common.{◌∙◌, arith, get_or, take_more}
 use Rattle.wc_view_trace_rows.proofs.LastCalls.{marked}
 use Rattle.wc_view_trace_rows.proofs.items.LastCalls.find.Goals as goal
 

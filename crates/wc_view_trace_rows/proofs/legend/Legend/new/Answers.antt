@@ -1,10 +1,6 @@
 use Rattle.std.proofs.Common.{◌≡◌, ◌∙◌, ◌++◌, ap, arith, map, rules, subst, sym}
-use Rattle.wc_model.specs.Language.CarriedPlaces.{frame_of_text}
-use Rattle.wc_model.specs.Language.Frames.{slot_kinds}
-use Rattle.wc_model.specs.Language.Views.{text_view}
-use Rattle.wc_view_trace_rows.specs.Legends.{line_starts}
-use Rattle.wc_view_trace_rows.specs.Named.{note_named, text_named}
-use Rattle.wc_view_trace_rows.specs.Notes.{AreWithin}
+use Rattle.wc_model.specs.Definitions.{frame_of_text, slot_kinds, text_view}
+use Rattle.wc_view_trace_rows.specs.{line_starts, note_named, text_named, AreWithin}
 use Rattle.wc_view_trace_rows.proofs.legend.Legend.new.Goals as goal
 
 pub note_units-requires : goal.note_units-requires

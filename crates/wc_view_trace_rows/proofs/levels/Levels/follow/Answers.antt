@@ -1,5 +1,4 @@
-use Rattle.std.proofs.Common.{refl}
-use Rattle.std.specs.Vec.{with_item}
+use Rattle.wc_model.proofs.Common.{refl, with_item}
 use Rattle.wc_view_trace_rows.proofs.Bodies.{after_is, left_is}
 use Rattle.wc_view_trace_rows.specs.Levels.{levels_view}
 use Rattle.wc_view_trace_rows.proofs.levels.Levels.follow.Goals as goal

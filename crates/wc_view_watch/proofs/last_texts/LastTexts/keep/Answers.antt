@@ -1,5 +1,4 @@
-use Rattle.std.proofs.Common.{◌≡◌, ◌+◌, ◌<◌, ◌≤◌, ◌⊎◌, ◌∙◌, ◌++◌, ◌∷◌, [], Global, Vec, ap, inl, inr, length, map, rules, set, subst, sym, arith}
-use Rattle.std.proofs.lemmas.List.{length-map, map-set}
+use Rattle.wc_model.proofs.Common.{◌≡◌, ◌+◌, ◌<◌, ◌≤◌, ◌⊎◌, ◌∙◌, ◌++◌, ◌∷◌, [], Global, Vec, ap, inl, inr, length, map, rules, set, subst, sym, arith, length-map, map-set}
 use Rattle.std.specs.Prelude.{ℕ}
 use Rattle.wc_view_watch.proofs.RingSteps.{one_kept}
 use Rattle.wc_view_watch.proofs.last_texts.LastTexts.keep.Goals as goal

@@ -1,5 +1,4 @@
-use Rattle.std.proofs.Common.{◌≡◌, ◌∙◌, Global, Vec, ap, drop, length, rules, subst, sym, take, arith, min}
-use Rattle.std.proofs.lemmas.List.{length-drop, take_all}
+use Rattle.wc_model.proofs.Common.{◌≡◌, ◌∙◌, Global, Vec, ap, drop, length, rules, subst, sym, take, arith, min, length-drop, take_all}
 use Rattle.std.specs.Prelude.{◌-◌, ℕ}
 use Rattle.wc_names.proofs.HandedOn.{on_ok}
 use Rattle.wc_view_watch.proofs.RingSteps.{both_put}

@@ -1,8 +1,6 @@
 use Rattle.std.proofs.Common.{◌∙◌, ◌++◌, Some, ap}
 use Rattle.wc_view_watch.proofs.last_values.LastValues.keep.Goals as goal
-use Rattle.wc_view_watch.specs.Plans.{differ}
-use Rattle.wc_view_watch.specs.Values.{values_in}
-use Rattle.wc_view_watch.specs.Watching.{kept_values}
+use Rattle.wc_view_watch.specs.{differ, values_in, kept_values}
 
 pub returns-clause-differ : goal.returns-clause-differ
 returns-clause-differ c = λ list text next store looked represents.

@@ -2,8 +2,7 @@ use Rattle.std.proofs.Common.{◌+◌, ◌∙◌, Bor, List, ap, arith, false, l
 use Rattle.std.specs.Prelude.{ℕ, not, option_map}
 use Rattle.wc_view_watch.proofs.LookUps.{at_index, found_from, got_there, is_known_at, start_more, start_within}
 use Rattle.wc_view_watch.proofs.watched_names.WatchedNames.find_unknown.Goals as goal
-use Rattle.wc_view_watch.specs.Unknown.{is_unknown}
-use Rattle.wc_view_watch.specs.Values.{names_in}
+use Rattle.wc_view_watch.specs.Plans.{is_unknown, names_in}
 
 pub returns-then-not-is_known : goal.returns-then-not-is_known
 returns-then-not-is_known c = λ text next looked.

@@ -1,9 +1,6 @@
-use Rattle.std.proofs.Common.{◌≡◌, Option, drop, length, map, take}
-use Rattle.std.specs.List.{position_from}
+use Rattle.wc_model.proofs.Common.{◌≡◌, Option, drop, length, map, take, position_from}
 use Rattle.wc_model.specs.Language.Tree.{Text}
-use Rattle.wc_view_watch.specs.Values.{names_in}
-use Rattle.wc_view_watch.specs.Unknown.{is_unknown, with_commas}
-use Rattle.wc_view_watch.specs.Watching.{AreLookedUp}
+use Rattle.wc_view_watch.specs.{names_in, is_unknown, with_commas, AreLookedUp}
 use Rattle.wc_view_watch.proofs.watched_names.WatchedNames.find_unknown.Given as goal
 
 -- the next name begins there, and the names before it are known

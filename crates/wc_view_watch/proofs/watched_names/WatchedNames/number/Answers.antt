@@ -1,12 +1,11 @@
-use Rattle.std.proofs.Common.{◌∙◌, ap, sym}
-use Rattle.std.specs.Prelude.{option_and_then}
+use Rattle.wc_model.proofs.Common.{◌∙◌, ap, sym, option_and_then}
 use Rattle.wc_text_flat.specs.Contents.{number_in}
 use Rattle.wc_text_variables.proofs.Readings.{reads}
-use Rattle.wc_text_variables.specs.Numbered.{variable_named}
+use Rattle.wc_text_variables.specs.Names.{variable_named}
 use Rattle.wc_view_watch.proofs.LookUps.{got_there, named_at}
 use Rattle.wc_view_watch.proofs.ValueTexts.{no_place}
 use Rattle.wc_view_watch.proofs.watched_names.WatchedNames.number.Goals as goal
-use Rattle.wc_view_watch.specs.Values.{names_in, number_named}
+use Rattle.wc_view_watch.specs.Plans.{names_in, number_named}
 
 pub returns-in-Some-watched : goal.returns-in-Some-watched
 returns-in-Some-watched c = λ list text next store looked represents.

@@ -1,10 +1,9 @@
-use Rattle.std.proofs.Common.{◌∷◌, []}
+use Rattle.wc_model.proofs.Common.{◌∷◌, [], flat_map}
 use Rattle.std.specs.Fmt.{decimal}
-use Rattle.std.specs.List.{flat_map}
 use Rattle.wc_names.proofs.HandedOn.{on_ok}
 use Rattle.wc_view_watch.proofs.LookUps.{four_chunks}
 use Rattle.wc_view_watch.proofs.watched_names.WatchedNames.put_line.Goals as goal
-use Rattle.wc_view_watch.specs.Values.{names_in, value_text}
+use Rattle.wc_view_watch.specs.Plans.{names_in, value_text}
 
 pub returns-clause-puts : goal.returns-clause-puts
 returns-clause-puts c = λ list text next store looked represents.

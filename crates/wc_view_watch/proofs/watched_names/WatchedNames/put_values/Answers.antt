@@ -1,10 +1,9 @@
-use Rattle.std.proofs.Common.{◌≡◌, ◌≤◌, Bor, List, ap, arith, length, rules, sym}
-use Rattle.std.proofs.lemmas.List.{length-map}
+use Rattle.wc_model.proofs.Common.{◌≡◌, ◌≤◌, Bor, List, ap, arith, length, rules, sym, length-map}
 use Rattle.std.specs.Prelude.{ℕ}
-use Rattle.wc_text_variables.specs.Numbered.{variable_named}
+use Rattle.wc_text_variables.specs.Names.{variable_named}
 use Rattle.wc_view_watch.proofs.LookUps.{all_names, at_index, got_there, one_name_more, same_meaning}
 use Rattle.wc_view_watch.proofs.watched_names.WatchedNames.put_values.Goals as goal
-use Rattle.wc_view_watch.specs.Values.{names_in, value_text}
+use Rattle.wc_view_watch.specs.Plans.{names_in, value_text}
 
 pub loop-index-preserved : goal.loop-index-preserved
 loop-index-preserved c = λ list text next store looked represents.

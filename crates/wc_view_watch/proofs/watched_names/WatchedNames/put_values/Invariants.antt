@@ -1,10 +1,8 @@
 use Rattle.std.proofs.Common.{◌≡◌, ◌++◌, List, Option, take}
 use Rattle.std.specs.Prelude.{ℕ, flat_map}
 use Rattle.wc_machine.specs.Machines.{RepresentsText}
-use Rattle.wc_model.specs.Language.Store.{Store}
-use Rattle.wc_model.specs.Language.Tree.{Text}
-use Rattle.wc_view_watch.specs.Values.{names_in, value_text}
-use Rattle.wc_view_watch.specs.Watching.{AreLookedUp}
+use Rattle.wc_model.specs.Definitions.{Store, Text}
+use Rattle.wc_view_watch.specs.{names_in, value_text, AreLookedUp}
 use Rattle.wc_view_watch.proofs.watched_names.WatchedNames.put_values.Given as goal
 
 -- the names so far are put with their values

@@ -1,7 +1,6 @@
 use Rattle.std.proofs.Common.{◌∷◌, ◌∙◌, sym}
 use Rattle.wc_names.proofs.HandedOn.{on_ok}
-use Rattle.wc_run.specs.Logics.{logic_after}
-use Rattle.wc_run.specs.Observing.{row_of}
+use Rattle.wc_run.specs.{logic_after, row_of}
 use Rattle.wc_view_watch.proofs.Rows.{kept_with_scan, kept_without_scan, row_with_scan, row_without_scan, values_left}
 use Rattle.wc_view_watch.proofs.watcher.Watcher.put_row.Goals as goal
 use Rattle.wc_view_watch.specs.Plans.{last_values, scans_so_far}

@@ -1,4 +1,0 @@
-pub mod FlatLines
-pub mod Lowerable
-pub mod Lowering
-pub mod Operands

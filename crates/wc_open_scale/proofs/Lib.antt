@@ -1,6 +1,0 @@
-pub mod Cuts
-pub mod Feeding
-pub mod ProgramChanges
-pub mod RowCalls
-pub mod Scans
-pub mod KeptStates

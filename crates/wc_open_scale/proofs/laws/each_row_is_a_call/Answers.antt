@@ -1,5 +1,0 @@
-use Rattle.wc_open_scale.proofs.RowCalls.{each_row_is_a_call}
-use Rattle.wc_open_scale.proofs.laws.each_row_is_a_call.Goals as goal
-
-pub returns : goal.returns
-returns c = each_row_is_a_call

@@ -1,3 +1,0 @@
-mod CallLists
-mod ShortLines
-pub mod WalkSteps
