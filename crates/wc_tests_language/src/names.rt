@@ -1,5 +1,4 @@
 //! Names without letter case, in the order in which they came.
-use std::alloc::Global;
 use wc_declare::Names;
 
 /// Whether a name is added, and is a new one or not.
@@ -22,12 +21,7 @@ fn are_added(names: &mut Names<'_>) -> bool {
         && have_numbers(names)
 }
 
-/// Likewise from no names on.
-fn are_numbered(alloc: Global) -> bool {
-    are_added(&mut Names::new(alloc))
-}
-
 #[test]
 fn names_are_numbered(rt: HostRuntime) {
-    assert!(rt; are_numbered(rt.alloc()));
+    assert!(rt; are_added(&mut Names::new(rt.alloc())));
 }

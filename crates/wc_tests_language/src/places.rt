@@ -1,6 +1,5 @@
 //! The places of a loaded text, and the frame that its program begins with.
 use crate::texts::loaded;
-use std::alloc::Global;
 use wc_cost::Loaded;
 use wc_model::{Fault, Path, Place, SlotKind};
 
@@ -83,12 +82,7 @@ fn are_right(loaded: &Result<Loaded<'_>, Fault>) -> bool {
     }
 }
 
-/// Likewise for the text.
-fn are_right_for_the_text(alloc: Global) -> bool {
-    are_right(&loaded(alloc, PLANT))
-}
-
 #[test]
 fn places_are_the_programs(rt: HostRuntime) {
-    assert!(rt; are_right_for_the_text(rt.alloc()));
+    assert!(rt; are_right(&loaded(rt.alloc(), PLANT)));
 }

@@ -102,9 +102,9 @@ fn line_at<'s, 'a>(read: &'s Result<Source<'a>, Fault>, place: usize) -> Option<
     }
 }
 
-/// The instruction of a line.
-fn instruction_of(line: Option<&Line<'_>>) -> (u8, (u8, i64), u32) {
-    match line {
+/// The instruction that is at that place of the program's body, counted from 0.
+fn instruction_at(alloc: Global, text: &[u8], place: usize) -> (u8, (u8, i64), u32) {
+    match line_at(&read(alloc, text), place) {
         Some(line) => match &line.instr {
             Some(instr) => numbers(instr),
             None => (4, (0, 0), 0),
@@ -113,25 +113,15 @@ fn instruction_of(line: Option<&Line<'_>>) -> (u8, (u8, i64), u32) {
     }
 }
 
-/// The instruction that is at that place of the program's body, counted from 0.
-fn instruction_at(alloc: Global, text: &[u8], place: usize) -> (u8, (u8, i64), u32) {
-    instruction_of(line_at(&read(alloc, text), place))
-}
-
-/// The number of letters and the line of a line's label.
-fn label_of(line: Option<&Line<'_>>) -> (usize, u32) {
-    match line {
+/// The number of letters and the line of the label at that place of the program's body.
+fn label_at(alloc: Global, text: &[u8], place: usize) -> (usize, u32) {
+    match line_at(&read(alloc, text), place) {
         Some(line) => match line.label {
             Some(label) => (label.text.len(), label.line),
             None => (0, 0),
         },
         None => (0, 1),
     }
-}
-
-/// The number of letters and the line of the label at that place of the program's body.
-fn label_at(alloc: Global, text: &[u8], place: usize) -> (usize, u32) {
-    label_of(line_at(&read(alloc, text), place))
 }
 
 /// The declaration at that place of the first unit.
@@ -148,9 +138,9 @@ fn nth_declaration<'s, 'a>(
     }
 }
 
-/// The number of letters the name and the type of a declaration have, and their lines.
-fn words_of(declaration: Option<&Decl<'_>>) -> (usize, u32, usize, u32) {
-    match declaration {
+/// The number of letters that the name and the type of the declaration at that place of a text have, and their lines.
+fn declaration_at(alloc: Global, text: &[u8], place: usize) -> (usize, u32, usize, u32) {
+    match nth_declaration(&read(alloc, text), place) {
         Some(declaration) => {
             let word = declaration.type_name;
             match declaration.names.first() {
@@ -160,11 +150,6 @@ fn words_of(declaration: Option<&Decl<'_>>) -> (usize, u32, usize, u32) {
         }
         None => (0, 1, 0, 0),
     }
-}
-
-/// Likewise for the declaration at that place of a text.
-fn declaration_at(alloc: Global, text: &[u8], place: usize) -> (usize, u32, usize, u32) {
-    words_of(nth_declaration(&read(alloc, text), place))
 }
 
 /// Texts, each with a place of its body and the instruction there.

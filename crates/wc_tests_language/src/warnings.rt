@@ -8,18 +8,13 @@ use wc_reader::read;
 /// A warning as its number, its line and its name.
 type Row = (u8, u32, &'static [u8]);
 
-/// A warning is that of a row.
-fn is_row(warning: Option<&Warning<'_>>, row: &Row) -> bool {
-    let (number, line, name) = *row;
-    warning == Some(&Warning { number, line, name })
-}
-
 /// The warnings that were found are these.
 fn are_rows(found: &Result<Vec<Warning<'_>>, Fault>, rows: &[Row]) -> bool {
     match found {
         Ok(found) => {
             for at in 0..rows.len() {
-                if !is_row(found.get(at), &rows[at]) {
+                let (number, line, name) = rows[at];
+                if found.get(at) != Some(&Warning { number, line, name }) {
                     return false;
                 }
             }
@@ -37,14 +32,9 @@ fn has_warnings(alloc: Global, read: &Result<Source<'_>, Fault>, rows: &[Row]) -
     }
 }
 
-/// The text is accepted.
-fn is_accepted(alloc: Global, text: &[u8]) -> bool {
-    checked(alloc, text).is_ok()
-}
-
 /// The text is accepted, and its warnings are these.
 fn is_warned(alloc: Global, text: &[u8], rows: &[Row]) -> bool {
-    is_accepted(alloc, text) && has_warnings(alloc, &read(alloc, text), rows)
+    checked(alloc, text).is_ok() && has_warnings(alloc, &read(alloc, text), rows)
 }
 
 #[test]

@@ -9,11 +9,6 @@ fn are_units_known() -> bool {
     known && unit_kind(b"END_PROGRAM").is_none()
 }
 
-/// The words of instructions are known.
-fn are_operations_known() -> bool {
-    operation_named(b"jmpcn").is_some() && operation_named(b"JMPNC").is_none()
-}
-
 /// The words of sections are known.
 fn are_sections_known() -> bool {
     let known = matches!(section_named(b"VAR"), Some(Section::Own))
@@ -25,7 +20,7 @@ fn are_sections_known() -> bool {
 #[test]
 fn words_of_units_are_known(rt: HostRuntime) {
     assert!(rt; are_units_known());
-    assert!(rt; are_operations_known());
+    assert!(rt; operation_named(b"jmpcn").is_some() && operation_named(b"JMPNC").is_none());
 }
 
 #[test]
