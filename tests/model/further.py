@@ -17,10 +17,10 @@ LAST = (102, 103, 107, 202, 203, 208, 306, 411)
 ENDS = {"END_" + word for word in UNITS}
 # words that no unit can have as names, and that begin or follow a section or a FUNCTION
 FOREIGN = {"FUNCTION", "END_FUNCTION", "VAR_IN_OUT", "VAR_GLOBAL", "VAR_EXTERNAL", "VAR_TEMP", "CONSTANT", "RETAIN", "AT"}
-# what a gap was, from the least that may follow from it: what leaves the result; another instruction, or a declaration; the words of a
+# what a gap was, from the least that may follow from it: a comment, from which nothing does; what leaves the result; another instruction, or a declaration; the words of a
 # section, but for VAR; what may have had a label; a parenthesis without its other one; a malformed slice, of which the rest is still there; a
 # declaration whose names are not sure
-ASIDE, LINE, SECTION, LABEL, HALF, SLICE, NAMES = range(7)
+COMMENT, ASIDE, LINE, SECTION, LABEL, HALF, SLICE, NAMES = range(8)
 
 
 @dataclass
@@ -147,7 +147,7 @@ class Text:
         for gap in gaps:
             spaces = re.sub(rb"[^\n]", b" ", self.content[gap.start : gap.end])
             self.content = self.content[: gap.start] + spaces + self.content[gap.start + len(spaces) :]
-            if gap.what != SLICE:
+            if gap.what not in (SLICE, COMMENT):
                 self.gaps = [old for old in self.gaps if old.what != SLICE or not gap.first <= old.first <= gap.last]
             self.gaps.append(gap)
 
@@ -169,7 +169,7 @@ class Extent:
             if part.where == "section" and self.units & names(part.tokens):
                 self.words |= names(part.tokens)
                 self.take(part.tokens, LINE)
-            if part.where == "body" and (self.words | self.units) & names(part.rest[1:]):
+            if part.where == "body" and part.operator in (None, *OPERATORS) and (self.words | self.units) & names(part.rest[1:]):
                 self.take(part.rest, LINE)
 
     def take(self, found, what, skipped=0):
@@ -187,7 +187,8 @@ class Extent:
         here = self.is_on(part.first, part.last)
         ahead = self.line and self.number < 300 and part.first <= self.line <= following
         if part.where == "edge" and ahead and (len(part.tokens) > 1 or is_foreign(part.word)):
-            self.take(part.tokens, SECTION, len("END_VAR" if part.word == "END_VAR" else "VAR"))
+            # of a section that was VAR no input or output is missing
+            self.take(part.tokens, LINE if part.word == "VAR" else SECTION, len("END_VAR" if part.word == "END_VAR" else "VAR"))
             return True
         if part.where == "section" and (here or ahead and not part.whole):
             self.declaration(part)
@@ -323,7 +324,7 @@ def may_follow(text, found, parts, number, line):
         above = max((token.line for token in found if token.line < line and token.kind != "eol"), default=0)
         return text.was(line, line) or kinds in (["=>"], [":="]) and text.was(above, line - 1)
     if number == 206:
-        return bool(text.gaps)
+        return text.was(0, MOST_BYTES)
     if number in (204, 205, 207):
         return any(part.first <= line <= part.last for part in changed)
     if number == 302:
@@ -355,6 +356,14 @@ def is_result_unsure(text, parts, line):
     return False
 
 
+def slice_gap(content, fault):
+    """A malformed slice; of a comment of other tools the rest of its line, of which nothing is missing then."""
+    start, end = fault.slice
+    if content.startswith(b"//", start):
+        return Gap(start, (content + b"\n").index(b"\n", start), fault.place, fault.place, COMMENT)
+    return Gap(start, end, fault.place, fault.place, SLICE)
+
+
 def further(content):
     """The number and the line of each refusal that `check` lists of a text."""
     text, listed, tried, was_cut = Text(content), [], 0, True
@@ -364,7 +373,7 @@ def further(content):
             break
         number, line = fault.number, fault.place
         if number < 200:
-            gaps = [] if number in LAST else [Gap(*fault.slice, line, line, SLICE)]
+            gaps = [] if number in LAST else [slice_gap(text.content, fault)]
             is_own = not text.was(line, line)
         elif number in LAST:
             gaps, is_own = [], number > 203

@@ -6,7 +6,7 @@ use std::alloc::{AllocError, Global};
 use wc_built_in::{Keyword, is_reserved, keyword_named};
 use wc_diag_stops::{is_operator, is_shape, text_of};
 use wc_lexer::{Shape, Token};
-use wc_model::Condition;
+use wc_model::{Condition, Section};
 use wc_names::Key;
 
 /// What is taken out for a fault of a text with these lines, and the names that are then unknown with whether each may be that of a unit.
@@ -76,6 +76,11 @@ fn is_name(token: &Token<'_>) -> bool {
     token.shape == Shape::Identifier && !is_reserved(token.text)
 }
 
+/// Whether an instruction begins with a word that is no operator.
+fn is_foreign(some: &[Token<'_>]) -> bool {
+    is_shape(some.first(), Shape::Identifier) && !is_operator(text_of(some.first()))
+}
+
 /// Whether the names of a declaration that can't be read are seen: each is a word before a comma or a colon, up to the first colon
 /// no two are next to one another and no point is, each line has a colon or ends with a comma, and none has two colons.
 fn shows_names(some: &[Token<'_>]) -> bool {
@@ -143,12 +148,14 @@ impl<'a, 't> TakenOut<'a, 't> {
         labelled.any(|line| text_of(line.all.first()).eq_ignore_ascii_case(word))
     }
 
-    /// Takes each declaration with one of these names of units, and each instruction with one of all of them among its operands.
+    /// Takes each declaration with one of these names of units, and each instruction whose operator is known with one of all of them among
+    /// its operands.
     fn take_named(&mut self) -> Result<(), AllocError> {
         for line in self.lines {
             let some = line.after_label();
             match line.region {
                 Region::Section if self.is_named(some, true) => self.keep_names(some, false)?,
+                Region::Body if is_foreign(some) => continue,
                 Region::Body if self.is_named(some.get(1..).unwrap_or(&[]), false) => {}
                 _ => continue,
             }
@@ -208,8 +215,8 @@ impl<'a, 't> TakenOut<'a, 't> {
     /// Takes an instruction with a fault out, without its label, if it can stay. Nothing is taken out of a declaration outside all sections.
     fn take_instruction(&mut self, line: &LogicalLine<'a, '_>) -> Result<(), AllocError> {
         let (all, some, is_label) = (line.all, line.after_label(), line.has_label());
-        let is_foreign = !is_operator(text_of(some.first()));
-        let is_typed = is_label && is_foreign || is_shape(all.get(1), Shape::Comma);
+        let is_other = !is_operator(text_of(some.first()));
+        let is_typed = is_label && is_other || is_shape(all.get(1), Shape::Comma);
         if self.faulty.number < 300 && is_typed && is_shape(all.last(), Shape::Semicolon) {
             return Ok(());
         }
@@ -225,7 +232,7 @@ impl<'a, 't> TakenOut<'a, 't> {
         let (part, closing) = parts_of(line, self.faulty, is_call);
         // a word that is no operator may be a label whose colon is missing, or the rest of one that has its colon too early
         let is_word = self.faulty.number < 300
-            && is_foreign
+            && is_other
             && line.is_closed
             && part.len() == some.len();
         if is_word {
@@ -287,9 +294,13 @@ impl<'a, 't> TakenOut<'a, 't> {
         let word = text_of(line.all.first());
         match line.region {
             Region::Edge if is_before && (line.all.len() > 1 || is_foreign_section(word)) => {
-                // VAR stays, or END_VAR
-                let is_end = matches!(keyword_named(word), Some(Keyword::SectionEnd));
-                self.take(line.all, if is_end { 7 } else { 3 }, Mark::Section)?;
+                // VAR stays, or END_VAR; of a section that was VAR no input or output is missing
+                let (length, mark) = match keyword_named(word) {
+                    Some(Keyword::SectionEnd) => (7, Mark::Section),
+                    Some(Keyword::SectionStart(Section::Own)) => (3, Mark::Taken),
+                    _ => (3, Mark::Section),
+                };
+                self.take(line.all, length, mark)?;
                 return Ok(true);
             }
             Region::Section if is_here || is_before && !line.is_closed => {

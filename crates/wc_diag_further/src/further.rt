@@ -70,8 +70,14 @@ fn uncut(alloc: Global, text: &[u8], fault: LineFault) -> Result<Option<Vec<Blan
     match tokens_or_stop(alloc, text) {
         Err(stop) if stop.fault == Fault::Memory => Err(AllocError),
         Err(stop) if !matches!(fault.number, 102 | 103 | 107) => {
-            let place = (stop.start as usize, stop.length as usize);
-            let (lines, mark) = ((fault.place, fault.place), Mark::Uncut);
+            let (_, rest) = text.split_at((stop.start as usize).min(text.len()));
+            let mut line = rest.split(|byte| *byte == b'\n');
+            // a comment of other tools is taken out whole, and nothing of its line is missing then
+            let (length, mark) = match line.next() {
+                Some(comment) if comment.starts_with(b"//") => (comment.len(), Mark::None),
+                _ => (stop.length as usize, Mark::Uncut),
+            };
+            let (place, lines) = ((stop.start as usize, length), (fault.place, fault.place));
             Ok(Some(vec![in alloc; Blank { place, lines, mark }]?))
         }
         _ => Ok(None),

@@ -3,7 +3,7 @@ use std::alloc::{AllocError, Global};
 /// What was taken out of a line, from the least of which something may follow.
 #[derive(Clone, Copy, PartialEq, Eq, PartialOrd, Ord)]
 pub(crate) enum Mark {
-    /// Nothing.
+    /// Nothing, or a comment.
     None,
     /// What leaves the current result as it is: a store, a call, or an initial value.
     Aside,
@@ -40,7 +40,7 @@ impl Marks {
     pub(crate) fn set_all(&mut self, first: u32, last: u32, mark: Mark) {
         for line in first..last.saturating_add(1) {
             if let Some(found) = self.lines.get_mut(line as usize) {
-                if *found == Mark::Uncut {
+                if *found == Mark::Uncut && mark > Mark::None {
                     *found = Mark::None;
                 }
                 *found = mark.max(*found);

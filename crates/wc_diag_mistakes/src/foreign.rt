@@ -100,8 +100,8 @@ pub(crate) const OPERATORS: [Row; 53] = rows! {
     b"invi invd" => OtherOperator "the bits of a number n all turned are LD -1, and on the next line SUB n";
     b"mc mcr il ilc" => OtherOperator "there is no master control: ST the condition to a BOOL of your own above, and AND that to each result before its ST; JMPCN would leave the outputs as they are";
     b"keep" => OtherOperator "a latch is a block: declare l : RS; in VAR, and write CAL l(S := a, R1 := b, Q1 => c): the reset wins";
-    b"anb andld" => OtherOperator "write AND( and the operand in place of the LD that begins the block, and `)` in place of this line";
-    b"orb orld" => OtherOperator "write OR( and the operand in place of the LD that begins the block, and `)` in place of this line";
+    b"anb andld" => OtherOperator "write AND( alone on a line above the LD or LDN that begins the block, and `)` in place of this line";
+    b"orb orld" => OtherOperator "write OR( alone on a line above the LD or LDN that begins the block, and `)` in place of this line";
     b"ldp andp orp fp pls" => OtherOperator "an edge is found by a block: declare e : R_TRIG; in VAR, and write CAL e(CLK := a); e.Q is TRUE for one scan";
     b"ldf andf orf fn plf" => OtherOperator "for a falling edge of a, declare was and f as BOOL, and write LDN a, AND was, ST f; LD a, ST was: f is TRUE for one scan";
     b"stc stcn ldc ldcn sc scn rc rcn" => OtherOperator "only JMP, CAL and RET have a C: for others write JMPCN skip on the line above, and `skip:` with an LD below; S and R act only on TRUE";

@@ -237,11 +237,12 @@ fn mistaken_at(refused: &Refused<'_, '_>) -> Mistake {
 fn mistaken_address(address: &[u8]) -> Option<Mistake> {
     mistake_among! {
         (address.get(1), address.get(2));
-        (Some(b'm' | b'M'), _) => Worded "there are no %M addresses: declare a variable in VAR";
+        (Some(b'm' | b'M'), _) => Worded "there are no %M addresses: declare a variable in VAR; the scale gives %IX1.0 (stable) to %IX1.5, %ID0 (gross), %ID1 (net) and %ID2 (tare)";
         (_, Some(b'd' | b'D')) => Worded "numbers are %ID0 (gross), %ID1 (net), %ID2 (tare) and %QD0 to %QD3";
         (_, Some(b'b' | b'B')) => Worded "there are no bytes: use bits, such as %IX0.0 and %QX0.0, or the numbers %ID0 (gross), %ID1 (net), %ID2 (tare) and %QD0 to %QD3";
-        (_, Some(b'w' | b'W' | b'l' | b'L')) => Worded "there are no 16-bit words: use %ID0 (gross), %ID1 (net), %ID2 (tare) or %QD0 to %QD3";
-        _ if address.starts_with(b"%") => Worded "bits are %IX0.0 to %IX0.15 and %IX1.0 to %IX1.5 (inputs, also called E) and %QX0.0 to %QX0.15 (outputs, also called A): bit 0 of a second output byte is %QX0.8";
+        (Some(b'q' | b'Q' | b'a' | b'A'), Some(b'w' | b'W' | b'l' | b'L')) => Worded "numbers have 32 bits: use %QD0 to %QD3";
+        (_, Some(b'w' | b'W' | b'l' | b'L')) => Worded "numbers have 32 bits: use %ID0 (gross), %ID1 (net) or %ID2 (tare)";
+        _ if address.starts_with(b"%") => Worded "bits are %IX0.0 to %IX0.15 (inputs, also called E), %IX1.0 (stable), %IX1.1 (over), %IX1.2 (under), %IX1.3 (centre of zero), %IX1.4 (tare), %IX1.5 (valid) and %QX0.0 to %QX0.15 (outputs, also called A): bit 0 of a second byte is %IX0.8 or %QX0.8";
     }
 }
 
