@@ -175,16 +175,16 @@ fn foreign_byte(before: &[Token<'_>], rest: &[u8]) -> Option<Mistake> {
 /// A mistake of a byte that is not allowed at a place: these tokens are before it, and `rest` begins with it.
 pub fn mistaken_byte(before: &[Token<'_>], at: usize, rest: &[u8], case: Case) -> Option<Mistake> {
     let line = last_line(before);
-    let comment = mistake_among! {
-        case;
-        Case::Byte(_) if is_shape(line.first(), Shape::Semicolon) => Worded "a line that begins with `;` is no comment: a comment is (* .. *)";
-    };
-    comment.or(match case {
+    match case {
+        Case::Byte(_) if is_shape(line.first(), Shape::Semicolon) => mistake_among! {
+            rest;
+            [_, ..] => Worded "a line that begins with `;` is no comment: a comment is (* .. *)";
+        },
         Case::Byte(byte @ (b'=' | b'<' | b'>')) => mistaken_sign(before, byte),
         Case::Byte(b'\'' | b'"') => mistaken_quote(before, at, rest),
         Case::Byte(_) => foreign_byte(line, rest),
         _ => None,
-    })
+    }
 }
 
 /// A mistake in a duration; `rest` begins after it.
