@@ -68,7 +68,7 @@ abbrev pub StopsAsPart : Record → Result Sections ℕ → Input → RunFault �
 StopsAsPart reported parts at (Refused number place) = RefusesPart reported parts at number place
 StopsAsPart reported parts at fault = ⊤
 
--- likewise for whatever is answered
+-- whatever stopped at a part of a job is a refusal of that part, if it is one
 abbrev pub StopsForPart : {X : Type 0} → Record → Result Sections ℕ → Result X Stopped → Type 0
 StopsForPart reported parts (Ok done) = ⊤
 StopsForPart reported parts (Err stopped) = StopsAsPart reported parts stopped.input stopped.fault

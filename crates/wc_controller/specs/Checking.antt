@@ -37,7 +37,7 @@ Checks paths bytes (Err Read) old new = ⊥
 Checks paths bytes (Err Write) old new = (text : Text) × (report : List ℕ) × IsLoaded bytes text × IsUnitReport paths text report × TakesPrefix old new report
 Checks paths bytes (Err Memory) old new = Keeps old new
 
--- Of bytes that are loaded what is written is the one report of their text: no other satisfies what is said of it.
+-- What is written of bytes that are loaded is the one report of their text: no other satisfies what is said of it.
 abbrev pub ChecksAlone : {X : Type 0} → Bool → List ℕ → Result X RunFault → Option (List ℕ) → Option (List ℕ) → Type 0
 ChecksAlone paths bytes (Ok done) old new =
     (report : List ℕ) × Appends old new report × ((text : Text) (other : List ℕ) → IsLoaded bytes text → IsUnitReport paths text other → other ≡ report)

@@ -21,7 +21,7 @@ abbrev pub raised : {X : Type 0} → Result X Stopped → Option RunFault
 raised (Ok x) = None
 raised (Err stopped) = Some stopped.fault
 
--- likewise for a fault alone
+-- the fault with which something stopped that has no input
 abbrev pub fault_raised : {X : Type 0} → Result X RunFault → Option RunFault
 fault_raised (Ok x) = None
 fault_raised (Err fault) = Some fault
@@ -53,7 +53,7 @@ RefusesPlate bytes Read = ⊤
 RefusesPlate bytes Write = ⊥
 RefusesPlate bytes Memory = ⊤
 
--- of an input no more is taken than the byte that makes it too long
+-- no more is taken of an input than the byte that makes it too long
 abbrev pub TakesInput : Option (List ℕ) → Option (List ℕ) → Type 0
 TakesInput old new = TakesAtMost (longest_job + 1) old new
 
@@ -112,7 +112,7 @@ EndsAfterFault input Read ending old new = (ending ≡ ended.ReadFault input) ×
 EndsAfterFault input Write ending old new = (ending ≡ ended.WriteFault) × Keeps old new
 EndsAfterFault input Memory ending old new = (ending ≡ ended.NoMemory) × Keeps old new
 
--- likewise for whatever is answered
+-- the ending of whatever stopped, and what was written after
 abbrev pub EndsAfter : {X : Type 0} → Result X Stopped → Ending → Option (List ℕ) → Option (List ℕ) → Type 0
 EndsAfter (Ok done) ending old new = (ending ≡ ended.Done) × Keeps old new
 EndsAfter (Err stopped) ending old new = EndsAfterFault stopped.input stopped.fault ending old new
@@ -124,7 +124,7 @@ fault_ending input Read = ended.ReadFault input
 fault_ending input Write = ended.WriteFault
 fault_ending input Memory = ended.NoMemory
 
--- likewise for whatever is answered
+-- the ending of whatever is answered
 abbrev pub ending_of : {X : Type 0} → Result X Stopped → Ending
 ending_of (Ok done) = ended.Done
 ending_of (Err stopped) = fault_ending stopped.input stopped.fault
@@ -133,7 +133,7 @@ ending_of (Err stopped) = fault_ending stopped.input stopped.fault
 abbrev pub ReportsFailures : Ending → ℕ → ℕ → Type 0
 ReportsFailures ending old new = (ending ≡ ended.WriteFault → HasFailedSince old new) × ((ending ≡ ended.WriteFault → ⊥) → new ≡ old)
 
--- likewise for a fault
+-- the same of a fault
 abbrev pub ReportsWriteFaults : Option RunFault → ℕ → ℕ → Type 0
 ReportsWriteFaults None old new = new ≡ old
 ReportsWriteFaults (Some fault) old new = ReportsWrite fault old new
@@ -157,11 +157,11 @@ IsReadFaultAt input (Err stopped) = (stopped.input ≡ input) × (stopped.fault 
 abbrev pub ReportsReadFaults : {X : Type 0} → Input → Result X Stopped → ℕ → ℕ → Type 0
 ReportsReadFaults input result old new = (IsReadFaultAt input result → HasFailedSince old new) × ((IsReadFaultAt input result → ⊥) → new ≡ old)
 
--- likewise for an ending
+-- the same of an ending
 abbrev pub ReportsReadEndings : Input → Ending → ℕ → ℕ → Type 0
 ReportsReadEndings input ending old new = (ending ≡ ended.ReadFault input → HasFailedSince old new) × ((ending ≡ ended.ReadFault input → ⊥) → new ≡ old)
 
--- of a log in memory: reading it fails only when out of memory
+-- the fault at a log in memory: reading it fails only when out of memory
 abbrev pub fault_in_memory : RunFault → RunFault
 fault_in_memory Read = Memory
 fault_in_memory fault = fault
@@ -177,7 +177,7 @@ abbrev pub HasNotFailedAt : {X : Type 0} → Input → Result X Stopped → ℕ 
 HasNotFailedAt input (Ok done) old new = new ≤ old
 HasNotFailedAt input (Err stopped) old new = stopped.input ≡ input → HasNotFailed (Err stopped.fault) old new
 
--- likewise for an ending
+-- if by its ending all was done, or this input is refused, its reader has not failed
 abbrev pub HasNotFailedIn : Input → Ending → ℕ → ℕ → Type 0
 HasNotFailedIn input ended.Done old new = new ≤ old
 HasNotFailedIn input (ended.Refused at number place) old new = at ≡ input → new ≤ old

@@ -11,7 +11,7 @@ use Rattle.wc_run.specs.{AppendsPrefix, report_written, Written}
 abbrev pub Allows : List ℕ → JobAnswer → Type 0
 Allows bytes answer = AnswersJob table_read records_of bytes answer
 
--- likewise for the sections of a job
+-- an answer to the sections of a job: that of the definitions
 abbrev pub AllowsSections : Sections → JobAnswer → Type 0
 AllowsSections sections answer = AnswersPlate records_of sections (plate_of (table_read sections.plate)) answer
 

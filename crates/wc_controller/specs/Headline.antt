@@ -61,7 +61,7 @@ store_after plate text past = (logic_following plate (first_logic text None) pas
 abbrev pub outcome_of : PlateData → Logic → Past → ℕ → Outcome
 outcome_of plate logic past ms = scan_of logic.text logic.store (image_after plate past) ms
 
--- Of a program with a scale, after whatever rows have come (newest first), none of which changes
+-- A program with a scale, after whatever rows have come (newest first), none of which changes
 -- the program:
 --     scan     the scan of the next moment ends within the bound
 --     shown    its line shows what that scan means
@@ -73,7 +73,7 @@ pub record KeepsToItself (plate : PlateData) (text : Text) (bound : ℕ) : Type 
       (programs.scan (record { text = text; store = store_after plate text past; next = None }) (image_after plate past) ms)
   pub line : (rows : List LogRow) → HasNoChange rows → IsFreeOfPrograms plate programs (first_logic text None) rows
 
--- Likewise for a program that has a next one, after whatever rows have come that are run, with the
+-- The same of a program that has a next one, after whatever rows have come that are run, with the
 -- change to the next one among them or not. The text is the one that runs at that scan, and the bound
 -- its own.
 pub record KeepsOverAChange (plate : PlateData) (text : Text) (next : Option Text) : Type 0 where
@@ -90,7 +90,7 @@ ShowsInTurn turns (Done result store trace) shown =
     (shown.steps ≡ length trace) × (shown.outputs ≡ outputs_of store) × (shown.after ≡ record { text = turns.text; store = store; nexts = turns.nexts })
 ShowsInTurn turns (Stuck reason) shown = ⊥
 
--- Likewise for a program that others follow, as many as there are: after whatever rows, in whatever
+-- The same of a program that others follow, as many as there are: after whatever rows, in whatever
 -- order scans and changes come, the next scan of the text that runs then ends within its bound, its
 -- line shows what that scan means, and the answers are those of a run with no program.
 pub record KeepsInTurn (plate : PlateData) (first : Turns) : Type 0 where

@@ -21,7 +21,7 @@ OfAnswersTo o plate (Some program) next log said =
     IfSome plate.bytes (λ table. IfSome program.bytes (λ text. IfKnown next (λ known. IfSome log.bytes
     (λ bytes. said (AnswersRun o table text known bytes)))))
 
--- likewise for the inputs of a run
+-- what holds of each answer to the inputs of a run
 abbrev pub OfAnswers : Observed → InputStates → ((JobAnswer → Type 0) → Type 0) → Type 0
 OfAnswers o inputs said = OfAnswersTo o inputs.plate inputs.program inputs.next inputs.log said
 

@@ -22,7 +22,7 @@ abbrev pub reader_of : {R : Type 0} → (R → Option (List ℕ)) → (R → ℕ
 reader_of bytes_left failure_count spent_count reader =
     record { bytes = bytes_left reader; failures = failure_count reader; spent = spent_count reader }
 
--- likewise for a reader that may be missing
+-- a reader that may be missing, by what its type says of it
 abbrev pub optional_of : {R : Type 0} → (R → Option (List ℕ)) → (R → ℕ) → (R → ℕ) → Option R → Option Reader
 optional_of bytes_left failure_count spent_count None = None
 optional_of bytes_left failure_count spent_count (Some reader) = Some (reader_of bytes_left failure_count spent_count reader)

@@ -53,7 +53,7 @@ abbrev pub IsUnwritten : {X : Type 0} → Result X Stopped → Option (List ℕ)
 IsUnwritten (Ok done) old new = ⊤
 IsUnwritten (Err stopped) old new = stopped.input ≢ input.Log → new ≡ old
 
--- likewise for an ending after which no line of a refusal is written
+-- the same of an ending after which no line of a refusal is written
 abbrev pub EndsUnwritten : Ending → Option (List ℕ) → Option (List ℕ) → Type 0
 EndsUnwritten (ended.Refused at number place) old new = at ≢ input.Log → new ≡ old
 EndsUnwritten (ended.ReadFault at) old new = at ≢ input.Log → new ≡ old

@@ -61,7 +61,7 @@ pub fn check<W: ByteOut>(
 ) -> Result<(), RunFault>
     ensures checks { Checks paths text.now result (W.bytes_taken writer.old)
         (W.bytes_taken writer.new) }
-    // Of paths that are equally long one alone is the worst, so a text has no other report.
+    // One of several paths that are equally long is the worst, so a text has no other report.
     ensures alone { ChecksAlone paths text.now result (W.bytes_taken writer.old)
         (W.bytes_taken writer.new) }
     ensures failures { ReportsWrites result (W.failure_count writer.old)

@@ -34,7 +34,7 @@ kind_kept old new old_last new_last n own k e = by (slice_get (frame_of_text new
     by None there e = cc
     by (Some entry) there e = chosen entry (keeps old new entry.0) (own entry there) refl e
 
--- likewise for an answer
+-- the kind at the place that is answered stays
 pub kind_answered : (old new : Text) (n : ℕ) (result : Option Place) → ((k : ℕ) → carried_number old new n ≡ Some k → slice_get (slot_kinds (frame_of_text new)) n ≡ slice_get (slot_kinds (frame_of_text old)) k) → option_map (λ p. p.0) result ≡ carried_number old new n →
     IfSome result (λ p. slice_get (slot_kinds (frame_of_text new)) n ≡ slice_get (slot_kinds (frame_of_text old)) p.0)
 kind_answered old new n None kind is = tt

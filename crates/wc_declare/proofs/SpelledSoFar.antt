@@ -25,7 +25,7 @@ pub where_none : (plain : Bool) → spelled_where plain [] ≡ []
 where_none true = refl
 where_none false = refl
 
--- likewise for the names of units
+-- the names of units are these so far
 abbrev pub AreNamedOn : (old now left all : List (List (List ℕ))) → Type 0
 AreNamedOn old now left all = now ++ left ≡ old ++ all
 

@@ -71,14 +71,14 @@ pub fn read_again<D: Read>(reader: &mut D, buffer: &mut [u8]) -> io::Result<usiz
     again!(reader.read(buffer))
 }
 
-/// Opens a file for reading, again after an interruption, likewise.
+/// Opens a file for reading, again after an interruption, which is never the answer.
 pub fn open_again(rt: &HostRuntime, path: &str) -> io::Result<File>
     ensures retried { IfErr result (λ error. error_kind error ≢ ErrorKind.Interrupted) }
 {
     again!(File::open(rt, path))
 }
 
-/// Writes, again after an interruption, likewise.
+/// Writes, again after an interruption, which is never the answer.
 pub(crate) fn write_again<D: Write>(writer: &mut D, chunk: &[u8]) -> io::Result<usize>
     ensures bound { WritesAtMost result chunk.now }
     ensures bytes { WriteAppends (D.contents writer.old) (D.contents writer.new)
@@ -88,7 +88,7 @@ pub(crate) fn write_again<D: Write>(writer: &mut D, chunk: &[u8]) -> io::Result<
     again!(writer.write(chunk))
 }
 
-/// Flushes, again after an interruption, likewise.
+/// Flushes, again after an interruption, which is never the answer.
 pub(crate) fn flush_again<D: Write>(writer: &mut D) -> io::Result<()>
     ensures bytes { Keeps (D.contents writer.old) (D.contents writer.new) }
     ensures retried { IfErr result (λ error. error_kind error ≢ ErrorKind.Interrupted) }

@@ -47,7 +47,7 @@ pub record IsNameOf (name text : List ℕ) : Type 0 where
 abbrev pub text_member : List ℕ → List ℕ → List Token
 text_member name text = json_token.key name ∷ json_token.string text ∷ []
 
--- likewise; none if the text is empty
+-- a member of an object, or none if the text is empty
 abbrev pub text_if_any : List ℕ → List ℕ → List Token
 text_if_any name [] = []
 text_if_any name (byte ∷ rest) = text_member name (byte ∷ rest)
@@ -56,7 +56,7 @@ text_if_any name (byte ∷ rest) = text_member name (byte ∷ rest)
 abbrev pub number_member : List ℕ → ℕ → List Token
 number_member name value = json_token.key name ∷ json_token.number (decimal value) ∷ []
 
--- likewise; none if the number is 0
+-- a member of an object, or none if the number is 0
 abbrev pub number_if_any : List ℕ → ℕ → List Token
 number_if_any name value = if value == 0 then [] else number_member name value
 

@@ -8,7 +8,7 @@ ghost use Rattle.wc_diag_stops.specs.Listed.{ListsAll, ListsNoOther};
 ghost use Rattle.wc_reader.specs.TextViews.{line_place_view, reading_view};
 
 use wc_diag_texts::Expected;
-use wc_reader::{LinePlace, Reading, TextState, has_program};
+use wc_reader::{LinePlace, Progress, TextState, has_program};
 use wc_text_bodies::{Body, DeclarationState};
 use wc_text_lines::{InLine, InList, LineShape, LineState, OperandOf, Operating};
 
@@ -97,7 +97,7 @@ fn in_body(body: &Body, place: &LinePlace) -> Expected
 }
 
 /// What could come next in a text that has been read so far.
-pub(crate) fn expected_at(reading: &Reading) -> Expected
+pub(crate) fn expected_at(reading: &Progress) -> Expected
     ensures { result ≡ allowed (reading_view reading.now) }
 {
     match &reading.state {

@@ -18,7 +18,7 @@ use std::alloc::{AllocError, Global};
 use wc_diag_texts::Expected;
 use wc_lexer::{Token, tokens, tokens_or_stop};
 use wc_model::{Fault, is_word};
-use wc_reader::{Reading, at_text_end, last_line, read_at, reading_start, take_lines};
+use wc_reader::{Progress, at_text_end, last_line, read_at, reading_start, take_lines};
 
 /// A fault that is found, and what could be there.
 #[derive(Clone, Copy)]
@@ -31,7 +31,7 @@ struct RaisedFault {
 /// short lines in one step: there is no fault in them.
 fn raised_on<'a>(
     alloc: Global,
-    reading: &mut Reading<'a>,
+    reading: &mut Progress<'a>,
     tokens: &[Token<'a>],
     last: u32,
 ) -> Option<RaisedFault>

@@ -9,7 +9,7 @@ pub shown_further : (old new text : List ℕ) → IsShown old → new ≡ old ++
 shown_further old new text was e =
     (was.0 ++ text ∷ [], e ∙ ap (λ l. l ++ shown_text text) was.1 ∙ flat_map_more shown_text [] was.0 text)
 
--- likewise, if it may fail
+-- more of them after these, if it may fail
 pub says_further : {E : Type 0} (r : Result Unit E) (old new text : List ℕ) → OnOk r (new ≡ old ++ shown_text text) → IsShown old → OnOk r (IsShown new)
 says_further (Ok x) old new text e was = shown_further old new text was e
 says_further (Err x) old new text e was = tt

@@ -65,7 +65,7 @@ pub enum Case {
     Unpassed(Kind, Kind),
     /// A name in a call's list that this standard block does not have.
     NotOfBlock(StandardBlock),
-    /// Likewise for a block of the text.
+    /// A name in a call's list that this block of the text does not have.
     NotOfOwnBlock,
     InputArrow,
     OutputAssigned,

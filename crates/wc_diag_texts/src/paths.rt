@@ -6,7 +6,7 @@ use std::alloc::{AllocError, Global};
 /// The paths to a label at which no result is defined.
 #[derive(Clone, Copy)]
 pub enum Paths<'a> {
-    /// A label, the line of a path to it and what it brings, and likewise for another.
+    /// A label, and of each of two paths to it the line and what it brings.
     Two(&'a str, u32, &'a str, u32, &'a str),
     /// A label, and the line of a path that brings nothing to it.
     Empty(&'a str, u32),

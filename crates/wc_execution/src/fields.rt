@@ -3,6 +3,7 @@ ghost use Rattle.wc_text_flat.specs.NumberBlocks.{is_slot, number_from};
 ghost use Rattle.wc_execution.specs.Lines.{AreBefore};
 ghost use Rattle.wc_model.specs.Language.Frames.{bit_number};
 ghost use Rattle.wc_model.specs.declared.kind.SlotKind.TheVariants as slots;
+ghost use Rattle.wc_model.specs.Definitions.{greatest_moment};
 
 use wc_store::Store;
 
@@ -107,7 +108,7 @@ pub(crate) fn set_time<S: Store>(store: &mut S, at: usize, time: i32)
 pub(crate) fn set_moment<S: Store>(store: &mut S, at: usize, moment: u64)
     requires capacity { length (S.slot_kinds store.old) ≤ 65536 }
     requires kind { is_slot slots.Moment (slice_get (S.slot_kinds store.old) at) ≡ true }
-    requires range { moment ≤ 1099511627775 }
+    requires range { moment ≤ greatest_moment }
     ensures number { S.numbers store.new ≡ slice_set (S.numbers store.old) at (pos moment) }
     ensures kinds { S.slot_kinds store.new ≡ S.slot_kinds store.old }
     ensures moments { (now : ℕ) → moment ≤ now

@@ -1,6 +1,6 @@
 ghost use Rattle.std.specs.Prelude.{◌≡◌, ◌+◌, ◌≤◌, ℕ, List, Some, drop, length, IsSome, ⊤};
 ghost use Rattle.wc_execution.specs.Lines.{AreBefore, AreSlots, slots_of};
-ghost use Rattle.wc_model.specs.Definitions.{Name, Content};
+ghost use Rattle.wc_model.specs.Definitions.{Name, Content, greatest_moment};
 ghost use Rattle.wc_model.specs.declared.block.StandardBlock.{StandardBlock};
 ghost use Rattle.wc_text_flat.specs.NumberBlocks.{block_called, field_numbers, with_numbers};
 
@@ -41,7 +41,7 @@ pub(crate) trait StoredBlock: Copy + Sized {
 
     /// One call of the block at a time in milliseconds.
     fn call_at(&mut self, now: u64)
-        requires moment { now ≤ 1099511627775 }
+        requires moment { now ≤ greatest_moment }
         requires forward { start self.old ≤ now }
         ensures called { contents self.new ≡ called now self.old }
         ensures start { start self.new ≤ now }
@@ -65,7 +65,7 @@ pub(crate) trait StoredBlock: Copy + Sized {
 pub(crate) fn call<B: StoredBlock, S: Store>(store: &mut S, at: usize, now: u64)
     requires capacity { length (S.slot_kinds store.old) ≤ 65536 }
     requires slots { AreSlots (slots_of B.block) (S.slot_kinds store.old) at }
-    requires moment { now ≤ 1099511627775 }
+    requires moment { now ≤ greatest_moment }
     requires forward { AreBefore now (S.slot_kinds store.old) (S.numbers store.old) }
     ensures called { block_called B.block now (S.slot_kinds store.old) (S.numbers store.old) at
         ≡ Some (S.numbers store.new) }
@@ -84,7 +84,7 @@ pub(crate) fn call_standard<S: Store>(store: &mut S, block: StandardBlock, at: u
     requires capacity { length (S.slot_kinds store.old) ≤ 65536 }
     requires there { IsSome
         (block_called block now (S.slot_kinds store.old) (S.numbers store.old) at) }
-    requires moment { now ≤ 1099511627775 }
+    requires moment { now ≤ greatest_moment }
     requires forward { AreBefore now (S.slot_kinds store.old) (S.numbers store.old) }
     ensures called { block_called block now (S.slot_kinds store.old) (S.numbers store.old) at
         ≡ Some (S.numbers store.new) }

@@ -1,6 +1,6 @@
 ghost use Rattle.std.specs.Prelude.{◌≤◌};
 ghost use Rattle.wc_blocks.specs.Views.{tof_view};
-ghost use Rattle.wc_model.specs.Definitions.{tof_contents, tof_step};
+ghost use Rattle.wc_model.specs.Definitions.{tof_contents, tof_step, greatest_moment};
 ghost use Rattle.wc_model.specs.declared.block.StandardBlock.TheVariants as blocks;
 
 use crate::fields::{
@@ -21,7 +21,7 @@ impl StoredBlock for Tof {
 
     ghost start = { λ block. block.start };
 
-    ghost is_in_range = { λ block. (block.start ≤ 1099511627775) × (block.phase ≤ 2) };
+    ghost is_in_range = { λ block. (block.start ≤ greatest_moment) × (block.phase ≤ 2) };
 
     #[inline(always)]
     fn fields_at<S: Store>(store: &S, at: usize) -> Tof {

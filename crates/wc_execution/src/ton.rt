@@ -1,6 +1,6 @@
 ghost use Rattle.std.specs.Prelude.{◌≤◌};
 ghost use Rattle.wc_blocks.specs.Views.{ton_view};
-ghost use Rattle.wc_model.specs.Definitions.{ton_contents, ton_step};
+ghost use Rattle.wc_model.specs.Definitions.{ton_contents, ton_step, greatest_moment};
 ghost use Rattle.wc_model.specs.declared.block.StandardBlock.TheVariants as blocks;
 
 use crate::fields::{moment_at, set_moment, set_time, set_truth, time_at, truth_at};
@@ -19,7 +19,7 @@ impl StoredBlock for Ton {
 
     ghost start = { λ block. block.start };
 
-    ghost is_in_range = { λ block. block.start ≤ 1099511627775 };
+    ghost is_in_range = { λ block. block.start ≤ greatest_moment };
 
     #[inline(always)]
     fn fields_at<S: Store>(store: &S, at: usize) -> Ton {

@@ -6,8 +6,8 @@ macro_rules! with_constants {
         $macro!(
             "0.1.0",
             "rattle-kit-13 logic dac8208d650f15bf",
-            "f566cf1da978ab5689762c34c8de4a0f2782cebe7086c2b09b0647e530e3198e",
-            "f1337b323bc26233f0a8fd7b5f4ff7c8f1b02ef70477fc5f5db57d07d9238d46"
+            "62ad75432a1843da2bbbb7f6d24648d07cc10c2a02f8b6cdd062a8a830ebb066",
+            "c11763aa48da9e24860b91d9d803a8c8509a2a8ee6d4ad6a6fd579d6fefbc47a"
         )
     };
 }

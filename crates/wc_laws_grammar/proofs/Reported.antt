@@ -77,7 +77,7 @@ Reported (AtLine p) tokens = at_line p tokens
 Reported (OnLine p line) tokens = InLine p line tokens
 Reported (Closed p) tokens = AfterClosing p tokens
 
--- likewise for one more token, if it is taken
+-- the same with one more token, if it is taken
 abbrev pub Keeps : List Mark → Mark → Option State → Type 0
 Keeps tokens mark None = Unit {0}
 Keeps tokens mark (Some next) = Reported next (tokens ++ mark ∷ [])

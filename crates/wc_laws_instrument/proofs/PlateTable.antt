@@ -112,7 +112,7 @@ validated_is_plate w (Some unit) p known e =
     let fine = none_broken (find {X = ℕ × Bool} (λ rule. not rule.1) (rules_after_unit w unit)) (plate_from w unit) p e in
     subst (λ q. IsPlate q) fine.1 (in_ranges w unit (known unit refl) fine.0)
 
--- likewise for what is written
+-- the same of what is written
 written_is_plate : (w : Option Written) (p : PlateData) → plate_of_written w ≡ Ok p → IsPlate p
 written_is_plate None p e = absurd (cc)
 written_is_plate (Some w) p e = validated_is_plate w (line_unit w.unit) p

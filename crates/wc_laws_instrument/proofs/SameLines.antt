@@ -175,7 +175,7 @@ module _ (p : PlateData) (some : 0 < p.window) where
     pub lines : kept bytes' ≡ kept bytes
     pub same_inputs : inputs' ≡ inputs
 
-  -- likewise for rows so far
+  -- two runs are alike after rows so far
   abbrev pub ArePastsAlike : Past → Past → Type 0
   ArePastsAlike past past' = AreAlike (history_of past) (line_bytes past) (inputs_of past) (history_of past') (line_bytes past') (inputs_of past')
 

@@ -1,4 +1,4 @@
--- Of each standard block its fields, its calls and what fits a history of them (IEC 61131-3:2003, 2.5.2.3), over a call and over a
+-- Each standard block: its fields, its calls and what fits a history of them (IEC 61131-3:2003, 2.5.2.3), over a call and over a
 -- change of the text between two scans (the profile's own).
 use Rattle.std.specs.List.{AllByRecursion, list_any}
 use Rattle.std.specs.Prelude.{◌≡◌, ℕ, Bool, List, ◌∷◌, Some, Ok, true, [], ◌++◌}
@@ -6,7 +6,7 @@ use Rattle.wc_model.specs.Definitions.{field_at, r_trig_contents, sr_contents, r
 use Rattle.wc_model.specs.declared.block.StandardBlock.{StandardBlock}
 use Rattle.wc_model.specs.declared.block.StandardBlock.TheVariants.{RTrig, Sr, Rs, Ctu, Ton, Tof, Tp}
 
--- Of a block:
+-- A block:
 --     Fields    its fields
 --     Call      a call of it: its inputs, and a timer's moment
 --     contents  what the places of its fields hold

@@ -2,7 +2,7 @@ ghost use Rattle.std.specs.Prelude.{◌≡◌, ◌≤◌, ◌<◌, ℕ, Some, If
 ghost use Rattle.wc_text_flat.specs.Contents.{frame_of_text, number_in};
 ghost use Rattle.wc_machine.specs.Machines.{text_of, Leaves, RepresentsText};
 ghost use Rattle.wc_machine.specs.Seeing.{IsScanShown, IsSeen};
-ghost use Rattle.wc_model.specs.Definitions.{carried, place_number, IsProgramBound, Location, Store as Contents, Text, text_view};
+ghost use Rattle.wc_model.specs.Definitions.{carried, place_number, IsProgramBound, Location, Store as Contents, Text, text_view, greatest_moment};
 ghost use Rattle.wc_model.specs.Language.Scans.{initial_of, outputs_of, scan_of};
 
 use crate::body::run;
@@ -125,7 +125,7 @@ impl<'a, S: Store> Machine<'a, S> {
     /// One scan as `scan` does it, with an observer of its lines.
     fn observe_scan<O: LineObserver>(&mut self, now: u64, image: &Image, observer: &mut O) -> Steps
         requires not_before { self.old.last ≤ now }
-        requires in_range { now ≤ 1099511627775 }
+        requires in_range { now ≤ greatest_moment }
         ensures shown { (text : Text) (store : Contents) → RepresentsText self.old text store
             → IsScanShown (O.is_shown observer.old observer.new) text store image.now now }
         ensures means { (text : Text) (store : Contents) → RepresentsText self.old text store
@@ -144,7 +144,7 @@ impl<'a, S: Store> Machine<'a, S> {
     /// items are counted. It takes no memory.
     pub fn scan(&mut self, now: u64, image: &Image) -> Steps
         requires not_before { self.old.last ≤ now }
-        requires in_range { now ≤ 1099511627775 }
+        requires in_range { now ≤ greatest_moment }
         // So each bit of the status has a place that the program can read. The proof does without.
         requires status { image.now.status < 64 }
         ensures means { (text : Text) (store : Contents) → RepresentsText self.old text store
@@ -165,7 +165,7 @@ impl<'a, S: Store> Machine<'a, S> {
         image: &Image,
     ) -> (Steps, Result<Vec<SeenLine>, Fault>)
         requires not_before { self.old.last ≤ now }
-        requires in_range { now ≤ 1099511627775 }
+        requires in_range { now ≤ greatest_moment }
         // So each bit of the status has a place that the program can read. The proof does without.
         requires status { image.now.status < 64 }
         ensures seen { (text : Text) (store : Contents) → RepresentsText self.old text store

@@ -29,7 +29,7 @@ plain_within kind (numbered.Elementary k) = if is_kind k kind then Some 0 else N
 plain_within kind (numbered.Standard block) = None
 plain_within kind (numbered.Block number) = None
 
--- likewise for a standard block's field with this number
+-- the number of a standard block's field with this number among those of a variable of this type, if it keeps its value
 abbrev pub field_within : StandardBlock → ℕ → DeclaredType → Option ℕ
 field_within block n (numbered.Elementary k) = None
 field_within block n (numbered.Standard b) = if same_block b block then Some n else None

@@ -56,7 +56,7 @@ fn plain_within(kind: Kind, declared: DeclaredType) -> Option<u16>
     }
 }
 
-/// Likewise for the field with this number of a standard function block.
+/// The number of the field with this number of a standard function block among those of a variable of a type, if it keeps its value.
 fn field_within(block: StandardBlock, number: u16, declared: DeclaredType) -> Option<u16>
     ensures { result ≡ field_within block number declared }
 {

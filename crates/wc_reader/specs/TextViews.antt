@@ -14,7 +14,7 @@ use Rattle.wc_reader.specs.declared.text_state.BodyPlace.{BodyPlace}
 use Rattle.wc_reader.specs.declared.text_state.BodyPlace.TheVariants.{Within, InSection, AfterUnit}
 use Rattle.wc_reader.specs.declared.text_state.LinePlace.{LinePlace}
 use Rattle.wc_reader.specs.declared.text_state.LinePlace.TheVariants.{AtLine, OnLine, Closed}
-use Rattle.wc_reader.specs.declared.text_state.Reading.{Reading}
+use Rattle.wc_reader.specs.declared.text_state.Progress.{Progress}
 
 -- how far a line of a body has been read
 abbrev pub line_place_view : Position → LinePlace → State
@@ -40,7 +40,7 @@ state_view units (Declaring unit section state) = moves.Declaring units (unit_vi
 state_view units (InBody body place) = line_place_view (position_view units body) place
 
 -- how far a text has been read
-abbrev pub reading_view : Reading → State
+abbrev pub reading_view : Progress → State
 reading_view reading = state_view (map unit_view reading.units.items) reading.state
 
 -- the lines of the body that is read are counted

@@ -6,7 +6,7 @@ ghost use Rattle.wc_reader.specs.TextViews.{line_place_view, reading_view, state
 ghost use Rattle.wc_reader.specs.Reported.{ReportsFault, ReportsReading};
 
 use crate::faults::has_program;
-use crate::text_state::{LinePlace, Reading, TextState};
+use crate::text_state::{LinePlace, Progress, TextState};
 use std::alloc::Global;
 use std::mem;
 use wc_model::{Fault, Source, Unit};
@@ -74,7 +74,7 @@ fn open_at_end<'a>(state: &TextState<'a>) -> Option<Fault>
 /// The text whose tokens have all been read, or what is wrong at its end.
 pub fn at_text_end<'a>(
     alloc: Global,
-    reading: &mut Reading<'a>,
+    reading: &mut Progress<'a>,
     last_line: u32,
 ) -> Result<Source<'a>, Fault>
     ensures reported { ReportsReading (moves.at_end (reading_view reading.old) last_line) result }

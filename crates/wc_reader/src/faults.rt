@@ -8,7 +8,7 @@ ghost use Rattle.wc_text_bodies.specs.Views.{IsCounted, fault_of, position_view}
 ghost use Rattle.wc_reader.specs.TextViews.{IsStateCounted, line_place_view, reading_view};
 ghost use Rattle.wc_text_lines.specs.Words.{symbol_view};
 
-use crate::text_state::{LinePlace, Reading, TextState};
+use crate::text_state::{LinePlace, Progress, TextState};
 use wc_lexer::{Shape, Token};
 use wc_model::{Fault, MOST_UNITS, Unit, UnitKind};
 use wc_text_bodies::{Body, start_fault, state_fault};
@@ -99,7 +99,7 @@ fn body_fault<'a>(
 
 /// What is wrong with a token, other than that it is unexpected. `colon` says whether a colon
 /// follows it.
-pub(crate) fn fault_at<'a>(reading: &Reading<'a>, token: Token<'a>, colon: bool) -> Option<Fault>
+pub(crate) fn fault_at<'a>(reading: &Progress<'a>, token: Token<'a>, colon: bool) -> Option<Fault>
     requires { IsStateCounted reading.now.state }
     ensures { result
         ≡ option_map fault_of

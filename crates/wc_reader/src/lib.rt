@@ -12,4 +12,4 @@ mod text_state;
 pub use ends::at_text_end;
 pub use faults::has_program;
 pub use text::{last_line, read, read_at, read_tokens, reading_start, take_lines};
-pub use text_state::{LinePlace, Reading, TextState};
+pub use text_state::{LinePlace, Progress, TextState};

@@ -12,7 +12,7 @@ ghost use Rattle.wc_text_lines.specs.Words.{marks_of, symbol_view};
 use crate::ends::at_text_end;
 use crate::faults::fault_at;
 use crate::moves::text_move;
-use crate::text_state::{LinePlace, Reading, TextState};
+use crate::text_state::{LinePlace, Progress, TextState};
 use std::alloc::{AllocError, Global};
 use std::mem;
 use wc_lexer::{Shape, Token, tokens};
@@ -34,7 +34,7 @@ fn is_colon_next(tokens: &[Token]) -> bool
 #[inline(always)]
 fn move_on<'a>(
     alloc: Global,
-    reading: &mut Reading<'a>,
+    reading: &mut Progress<'a>,
     token: Token<'a>,
     colon: bool,
 ) -> Result<(), Fault>
@@ -71,7 +71,7 @@ fn move_on<'a>(
 #[inline(always)]
 fn read_token<'a>(
     alloc: Global,
-    reading: &mut Reading<'a>,
+    reading: &mut Progress<'a>,
     token: Token<'a>,
     colon: bool,
 ) -> Result<(), Fault>
@@ -96,7 +96,7 @@ fn read_token<'a>(
 #[inline(always)]
 pub fn read_at<'a>(
     alloc: Global,
-    reading: &mut Reading<'a>,
+    reading: &mut Progress<'a>,
     tokens: &[Token<'a>],
     index: usize,
 ) -> Result<(), Fault>
@@ -177,7 +177,7 @@ fn take_prefix<'a>(
 /// token is.
 pub fn take_lines<'a>(
     alloc: Global,
-    reading: &mut Reading<'a>,
+    reading: &mut Progress<'a>,
     tokens: &[Token<'a>],
     from: usize,
 ) -> Result<usize, AllocError>
@@ -206,7 +206,7 @@ pub fn take_lines<'a>(
 /// The text that goes on from here with these tokens, or the first fault in them.
 fn read_on<'a>(
     alloc: Global,
-    reading: &mut Reading<'a>,
+    reading: &mut Progress<'a>,
     tokens: &[Token<'a>],
     last_line: u32,
 ) -> Result<Source<'a>, Fault>
@@ -230,11 +230,11 @@ fn read_on<'a>(
 }
 
 /// A text of which nothing has been read.
-pub fn reading_start<'a>(alloc: Global) -> Reading<'a>
+pub fn reading_start<'a>(alloc: Global) -> Progress<'a>
     ensures start { reading_view result ≡ at_first }
     ensures counted { IsStateCounted result.state }
 {
-    Reading {
+    Progress {
         units: Vec::new(alloc),
         state: TextState::Outside,
     }

@@ -40,7 +40,7 @@ pub(crate) enum BodyPlace<'a> {
 
 /// The whole units, and how far the text after them has been read.
 #[derive(Drop)]
-pub struct Reading<'a> {
+pub struct Progress<'a> {
     pub units: Vec<Unit<'a>, Global>,
     pub state: TextState<'a>,
 }

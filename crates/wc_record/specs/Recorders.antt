@@ -9,7 +9,7 @@ pub record RecorderState : Type 0 where
   pub most : ℕ
   pub records : List Record
 
--- of all records that were kept it holds the last n
+-- it holds the last n of all records that were kept
 abbrev pub HoldsLast : RecorderState → ℕ → List Record → Type 0
 HoldsLast recorder number all = (recorder.most ≡ number) × (recorder.records ≡ last_items number all)
 

@@ -27,7 +27,7 @@ pub(crate) fn put_number(number: u64, buffer: &mut [u8], end: usize) -> usize
     put_byte(b' ', buffer, start)
 }
 
-/// Likewise for a number that may be negative.
+/// Puts a number that may be negative before the text, and a space before it, and returns where the text then starts.
 #[tactic(auto, using(crate::proofs::Digits::short_decimal))]
 pub(crate) fn put_signed(number: &i32, buffer: &mut [u8], end: usize) -> usize
     requires { (22 ≤ end) × (end ≤ length buffer.old) }

@@ -44,7 +44,7 @@ StopsAtRow old row Read = ⊥
 StopsAtRow old row Write = ⊥
 StopsAtRow old row Memory = ⊤
 
--- Of a text that is not written whole a prefix is written at a write fault, and when out of
+-- A prefix of a text that is not written whole is written at a write fault, and when out of
 -- memory nothing: a text is made before it is written.
 abbrev pub IsCutShort : RunFault → Option (List ℕ) → Option (List ℕ) → List ℕ → Type 0
 IsCutShort (Refused number place) old new text = ⊥
@@ -131,12 +131,12 @@ IsClassified Read classified = (classified ≡ Read) ⊎ (classified ≡ Memory)
 IsClassified Memory classified = (classified ≡ Read) ⊎ (classified ≡ Memory)
 IsClassified fault classified = classified ≡ fault
 
--- of a fault of a plate or a text
+-- what a run answers at a fault of a plate or a text
 abbrev pub from_fault : Fault → RunFault
 from_fault (fault.Refused number place) = Refused number place
 from_fault fault.Memory = Memory
 
--- of a log that gives no further row
+-- what a run answers at a log that gives no further row
 abbrev pub from_log_fault : LogFault → RunFault
 from_log_fault (log.Refused number place) = Refused number place
 from_log_fault log.Read = Read

@@ -45,7 +45,7 @@ abbrev pub onto : Past → List LogRow → List LogRow
 onto [] rows = rows
 onto (row ∷ past) rows = onto past (row ∷ rows)
 
--- of the bytes that a writer takes these are said, or none
+-- what is said of the bytes that a writer takes: these, or nothing
 abbrev pub said : Bool → Option (List ℕ) → Option (List ℕ)
 said true bytes = bytes
 said false bytes = None

@@ -79,12 +79,12 @@ abbrev pub ReportsFault : List Record → Record → RunFault → Type 0
 ReportsFault records fields (Refused number place) = fields ≡ record_at records place
 ReportsFault records fields fault = Unit {0}
 
--- likewise for whatever a run answers
+-- at a refusal a run answers with the fields of the refused row
 abbrev pub ReportsRow : {X : Type 0} → List Record → Record → Result X RunFault → Type 0
 ReportsRow records fields (Ok x) = Unit {0}
 ReportsRow records fields (Err fault) = ReportsFault records fields fault
 
--- of a log whose bytes are known the refused row is reported
+-- the refused row of a log whose bytes are known is reported
 abbrev pub ReportsRefused : {X : Type 0} → Option (List ℕ) → Record → Result X RunFault → Type 0
 ReportsRefused known fields answer = IfSome known (λ bytes. ReportsRow (records_read bytes) fields answer)
 
@@ -93,7 +93,7 @@ abbrev pub ReportsWrite : RunFault → ℕ → ℕ → Type 0
 ReportsWrite Write old new = HasFailedSince old new
 ReportsWrite fault old new = new ≡ old
 
--- likewise for whatever a run answers
+-- a run answers with a write fault if the writer's failed calls rose, and only then
 abbrev pub ReportsWrites : {X : Type 0} → Result X RunFault → ℕ → ℕ → Type 0
 ReportsWrites (Ok x) old new = new ≡ old
 ReportsWrites (Err fault) old new = ReportsWrite fault old new

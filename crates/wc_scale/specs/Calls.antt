@@ -1,7 +1,7 @@
 -- What each call with a row's work does to a scale and what it answers, for whatever plate and whatever has come the scale
 -- represents. A call that answers any status but 0 changes nothing. (The profile's own.)
 use Rattle.std.specs.Prelude.{◌≡◌, ℕ, ◌<◌, ◌≤◌, ◌-◌, List, [], ◌∷◌, drop, take, replicate, ℤ, pos, IfSome, Some}
-use Rattle.wc_model.specs.Definitions.{answers_to, PlateData, requests_in, IsProgramBound, scan_of, Store, ScanResult}
+use Rattle.wc_model.specs.Definitions.{answers_to, PlateData, requests_in, IsProgramBound, scan_of, Store, ScanResult, greatest_moment}
 use Rattle.wc_run.specs.{IsSample, image_of, with_byte, with_inputs, with_program, with_sample, IsDone, scan_result, scanned_program, Came, Running, nothing_yet}
 use Rattle.wc_scale.specs.Opening.{GivesPlate, RefusesPlate, IsBare}
 use Rattle.wc_scale.specs.Representation.{HasNoProgram, IsClosed, IsKept, IsNotAfter, Represents, machine_in}
@@ -90,9 +90,9 @@ pub record RefusesScan (old new : Scale) (ms : ℕ) (scanned : Scanned) : Type 0
   pub empty : ¬ (scanned.status ≡ 0) → (scanned.steps ≡ 0) × (scanned.bits ≡ 0) × (scanned.words ≡ replicate 4 (pos 0))
   pub closed : IsClosed old → scanned.status ≡ 3
   pub program : ¬ (IsClosed old) → HasNoProgram old → scanned.status ≡ 5
-  pub range : ¬ (IsClosed old) → ¬ (HasNoProgram old) → 1099511627775 < ms → scanned.status ≡ 7
-  pub back : ¬ (IsClosed old) → ¬ (HasNoProgram old) → ms ≤ 1099511627775 → ¬ (IsNotAfter old ms) → scanned.status ≡ 8
-  pub else : ¬ (IsClosed old) → ¬ (HasNoProgram old) → ms ≤ 1099511627775 → IsNotAfter old ms → scanned.status ≡ 0
+  pub range : ¬ (IsClosed old) → ¬ (HasNoProgram old) → greatest_moment < ms → scanned.status ≡ 7
+  pub back : ¬ (IsClosed old) → ¬ (HasNoProgram old) → ms ≤ greatest_moment → ¬ (IsNotAfter old ms) → scanned.status ≡ 8
+  pub else : ¬ (IsClosed old) → ¬ (HasNoProgram old) → ms ≤ greatest_moment → IsNotAfter old ms → scanned.status ≡ 0
 
 -- ---- what is shown
 -- the status and the weights of the process image

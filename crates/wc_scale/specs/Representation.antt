@@ -61,7 +61,7 @@ pub record IsValueOf (read : VariableRead) (running : Running) (name : List ℕ)
   pub kind : read.kind ≡ kind_number (kind_of value)
   pub number : read.number ≡ content_number (Plain value)
 
--- of whatever program the scale has
+-- what holds of whatever program the scale has
 abbrev pub OfProgram : Scale → (Running → Type 0) → Type 0
 OfProgram scale Holds = (plate : PlateData) (came : Came) (running : Running) → came.program ≡ Some running → Represents scale plate came → Holds running
 

@@ -135,7 +135,7 @@ pub struct VariableRead {
     pub status: u32,
     /// 1 of a BOOL, 2 of a DINT, 3 of a TIME; 0 if there is no value.
     pub kind: u32,
-    /// Of a BOOL 0 or 1, of a DINT its number, of a TIME its milliseconds; 0 if there is no value.
+    /// A BOOL is 0 or 1, a DINT its number, a TIME its milliseconds; it is 0 if there is no value.
     pub number: i64,
 }
 

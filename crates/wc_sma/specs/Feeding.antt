@@ -32,7 +32,7 @@ pub record Feeds (line : Line) (indicator : IndicatorState) (taken : Option (Lis
   pub answers : (before : List ℕ) (p : PlateData) (history : History) → RepresentsBytes line before → RepresentsHistory indicator p history →
       Appends taken taken' (answers_to p (requests_in before chunk) history)
 
--- Of these requests those up to `next` are acted on and no more. The writer has taken the answers of those before it, and of
+-- These requests are acted on up to `next` and no further. The writer has taken the answers of those before it, and of
 -- its answer a prefix that is not all of it.
 pub record IsCutShort (p : PlateData) (texts : List (List ℕ)) (history : History) (indicator' : IndicatorState) (taken taken' : Option (List ℕ)) : Type 0 where
   pub done : List (List ℕ)

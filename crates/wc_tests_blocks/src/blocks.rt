@@ -61,7 +61,7 @@ fn an_on_delay(rt: HostRuntime) {
     }
 }
 
-/// Likewise over all moments, and after them at moments that are none to call at.
+/// Rows over all moments, and after them at moments that are none to call at.
 const ON_DELAY_OVER_ALL: [(u64, bool, i32, Option<(bool, i32)>); 9] = [
     (0, true, 2147483647, Some((false, 0))),
     (2147483646, true, 2147483647, Some((false, 2147483646))),
@@ -82,7 +82,7 @@ fn an_on_delay_over_all_moments(rt: HostRuntime) {
     }
 }
 
-/// Likewise for a TOF.
+/// Rows of calls of a TOF: moment, IN, PT, and its outputs.
 const OFF_DELAY: [(u64, bool, i32, bool, i32); 14] = [
     (0, false, 100, false, 0),
     (10, true, 100, true, 0),
@@ -108,7 +108,7 @@ fn an_off_delay(rt: HostRuntime) {
     }
 }
 
-/// Likewise over all moments, and after them at moments that are none to call at.
+/// Rows over all moments, and after them at moments that are none to call at.
 const OFF_DELAY_OVER_ALL: [(u64, bool, i32, Option<(bool, i32)>); 10] = [
     (0, true, 2147483647, Some((true, 0))),
     (0, false, 2147483647, Some((true, 0))),
@@ -132,7 +132,7 @@ fn an_off_delay_over_all_moments(rt: HostRuntime) {
     assert!(rt; tof_at(&mut fresh, 1099511627775, false, 100) == Some((false, 0)));
 }
 
-/// Likewise for a TP.
+/// Rows of calls of a TP: moment, IN, PT, and its outputs.
 const PULSE: [(u64, bool, i32, bool, i32); 17] = [
     (0, false, 100, false, 0),
     (10, true, 100, true, 0),
@@ -161,7 +161,7 @@ fn a_pulse(rt: HostRuntime) {
     }
 }
 
-/// Likewise over all moments, and after them at moments that are none to call at.
+/// Rows over all moments, and after them at moments that are none to call at.
 const PULSE_OVER_ALL: [(u64, bool, i32, Option<(bool, i32)>); 9] = [
     (0, true, 2147483647, Some((true, 0))),
     (2147483646, false, 2147483647, Some((true, 2147483646))),
@@ -212,7 +212,7 @@ fn a_count_up(rt: HostRuntime) {
     }
 }
 
-/// Likewise at the greatest count.
+/// Rows of calls at the greatest count.
 const GREATEST_COUNTS: [(bool, bool, bool, i32); 5] = [
     (false, false, false, 2147483646),
     (true, false, true, 2147483647),
@@ -258,7 +258,7 @@ fn set_is_dominant(rt: HostRuntime) {
     }
 }
 
-/// Likewise for an RS.
+/// Rows of calls of an RS: its inputs and its output.
 const RESETS: [(bool, bool, bool); 8] = [
     (false, false, false),
     (true, true, false),

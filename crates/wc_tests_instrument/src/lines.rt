@@ -24,7 +24,7 @@ fn are_put(text: &mut Vec<u8>) -> bool {
         && text.as_slice() == LINES
 }
 
-/// Likewise after a text.
+/// Lines and parts of lines are put after a text.
 fn are_lines_after_a_text(alloc: Global) -> bool {
     match Vec::from_slice(alloc, b"L 1 0a\n") {
         Ok(mut text) => are_put(&mut text),

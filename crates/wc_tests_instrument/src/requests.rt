@@ -89,7 +89,7 @@ fn is_state_reported(line: &mut Line, indicator: &mut Indicator, out: &mut Vec<u
     zeroed && tared && are_both_known(line, indicator)
 }
 
-/// Likewise for an indicator at 11000 counts.
+/// The same of a line and an indicator at 11000 counts.
 fn is_state_reported_at_rest(alloc: Global) -> bool {
     match at_rest(alloc, 11000) {
         Ok(mut indicator) => {

@@ -15,7 +15,7 @@ fn scan_at(ms: u64) -> Record {
     }
 }
 
-/// Of n scans, one each millisecond from 1 on, a recorder of n holds those from this moment on.
+/// A recorder of n holds of scans, one each millisecond from 1 on, those from this moment on.
 fn are_held(alloc: Global, number: u16, scans: u64, first: u64) -> bool {
     let few = number.clamp(1, 1000);
     let Ok(mut recorder) = Recorder::new(alloc, few) else {

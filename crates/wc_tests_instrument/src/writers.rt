@@ -38,7 +38,7 @@ fn fails_at_the_second_answer(line: &mut Line, indicator: &mut Indicator) -> boo
     first && again && failed && written && tared && indicator.tare_active()
 }
 
-/// Likewise with a load.
+/// A line with a load on the scale fails so at the second answer.
 fn fails_at_the_second_answer_at_rest(alloc: Global) -> bool {
     match at_rest(alloc, 60000) {
         Ok(mut indicator) => fails_at_the_second_answer(&mut Line::new(), &mut indicator),
@@ -59,7 +59,7 @@ fn fails_once_an_answer_comes<W: ByteOut>(
     before && not_yet && then && empty && indicator.tare_active() && writer.failures() == 1
 }
 
-/// Likewise with a load.
+/// A line with a load on the scale fails so once an answer comes.
 fn fails_once_an_answer_comes_at_rest(alloc: Global) -> bool {
     let mut buffer = [0; 0];
     let mut device = Device::new(buffer.as_mut_slice());

@@ -12,7 +12,7 @@ fn kept(checked: &Result<Checked<'_>, Fault>) -> (usize, usize) {
     }
 }
 
-/// Likewise for a text.
+/// The same of a text that is verified.
 fn kept_of(alloc: Global, text: &[u8]) -> (usize, usize) {
     kept(&checked(alloc, text))
 }

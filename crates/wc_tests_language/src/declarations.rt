@@ -21,7 +21,7 @@ const PLACES: [(usize, &[&[u8]], Option<Place>); 9] = [
     (1, &[b"two"], None),
 ];
 
-/// Of the names of a block and a program each is at its place, or nowhere.
+/// Each name of a block and a program is at its place, or nowhere.
 fn are_at_places(tables: &Tables<'_>) -> bool {
     for (unit, names, wanted) in &PLACES {
         if tables.place(*unit, &Path::Names(names)) != *wanted {
@@ -147,7 +147,7 @@ fn slot_of(frame: &Result<Frame, Fault>, place: usize) -> Option<(SlotKind, i64)
     }
 }
 
-/// Likewise for a unit's frame.
+/// The kind of a place of a unit's frame, and the number that it holds at first.
 fn slot(alloc: Global, tables: &Tables<'_>, unit: usize, place: usize) -> Option<(SlotKind, i64)> {
     slot_of(&tables.frame(alloc, unit), place)
 }
@@ -189,7 +189,7 @@ fn are_right(alloc: Global, tables: &Result<Tables<'_>, Fault>) -> bool {
     }
 }
 
-/// Likewise from their text.
+/// All that the tables of their text say.
 fn are_right_for_the_text(alloc: Global) -> bool {
     are_right(alloc, &tabled(alloc, PLANT))
 }
@@ -219,7 +219,7 @@ fn have_first_values(alloc: Global, tables: &Result<Tables<'_>, Fault>) -> bool 
     }
 }
 
-/// Likewise for the text.
+/// The frame of the text has these first values.
 fn are_first_values(alloc: Global) -> bool {
     have_first_values(alloc, &tabled(alloc, INITIAL))
 }

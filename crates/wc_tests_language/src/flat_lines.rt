@@ -61,7 +61,7 @@ fn are_flat(loaded: &Loaded<'_>) -> bool {
     loaded.units() == 2 && is_next(loaded.code(0)) && is_program(loaded.code(1))
 }
 
-/// Likewise for what may be loaded.
+/// Both units of what is loaded are lowered so.
 fn is_flat(loaded: &Result<Loaded<'_>, Fault>) -> bool {
     match loaded {
         Ok(loaded) => are_flat(loaded),
@@ -69,7 +69,7 @@ fn is_flat(loaded: &Result<Loaded<'_>, Fault>) -> bool {
     }
 }
 
-/// Likewise for the text.
+/// Both units of a text are lowered so.
 fn is_text_flat(alloc: Global, text: &[u8]) -> bool {
     is_flat(&loaded(alloc, text))
 }

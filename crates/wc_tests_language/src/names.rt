@@ -13,7 +13,7 @@ fn have_numbers(names: &Names<'_>) -> bool {
     numbers && other && names.contains(b"Tare")
 }
 
-/// Of three names the third is the first in other letters.
+/// The third of three names is the first in other letters.
 fn are_added(names: &mut Names<'_>) -> bool {
     is_added(names, b"Fill", true)
         && is_added(names, b"tare", true)

@@ -16,7 +16,7 @@ const PLACES: [(&[&[u8]], Option<Place>); 5] = [
     (&[b"x"], None),
 ];
 
-/// Of the names in the program's frame each is at its place, or nowhere.
+/// Each name in the program's frame is at its place, or nowhere.
 fn are_at_places(loaded: &Loaded<'_>) -> bool {
     for (names, wanted) in &PLACES {
         if loaded.place(&Path::Names(names)) != *wanted {
@@ -26,7 +26,7 @@ fn are_at_places(loaded: &Loaded<'_>) -> bool {
     true
 }
 
-/// Of the addresses the first and the last are at these places.
+/// The first and the last of the addresses are at these places.
 fn are_addresses_at_places(loaded: &Loaded<'_>) -> bool {
     let first = loaded.place(&Path::Address(b"%IX0.0")) == Some(Place(0));
     first && loaded.place(&Path::Address(b"%qd3")) == Some(Place(44))

@@ -50,7 +50,7 @@ fn mixed<S: Store>(machine: &mut Machine<'_, S>, all: &[u16]) -> i64 {
     mix
 }
 
-/// Likewise for a machine, if it was made.
+/// The same of a machine, if it was made.
 fn mixed_if_made<S: Store>(made: &mut Result<Machine<'_, S>, Fault>, all: &[u16]) -> Option<i64> {
     match made {
         Ok(machine) => Some(mixed(machine, all)),
@@ -58,7 +58,7 @@ fn mixed_if_made<S: Store>(made: &mut Result<Machine<'_, S>, Fault>, all: &[u16]
     }
 }
 
-/// Likewise for a text over a store; nothing if it is refused.
+/// The same of a text over a store; nothing if it is refused.
 fn mixed_over<S: Store>(alloc: Global, text: &[u8], all: &[u16]) -> Option<i64> {
     match loaded(alloc, text) {
         Ok(loaded) => mixed_if_made(&mut Machine::<S>::new(alloc, loaded), all),
@@ -115,7 +115,7 @@ fn sees(machine: &mut Machine<'_, SlotStore>) -> bool {
     has_seen(machine) && steps == Steps(10) && machine.last() == 7
 }
 
-/// Likewise for a machine, if it was made.
+/// The same of a machine, if it was made.
 fn sees_if_made(made: &mut Result<Machine<'_, SlotStore>, Fault>) -> bool {
     match made {
         Ok(machine) => sees(machine),
@@ -123,7 +123,7 @@ fn sees_if_made(made: &mut Result<Machine<'_, SlotStore>, Fault>) -> bool {
     }
 }
 
-/// Likewise for the program's text.
+/// A machine of the program's text copies what it sees.
 fn is_seen(alloc: Global) -> bool {
     let text =
         b"PROGRAM P\nLD %IX1.0\nST %QX0.0\nLD %IX1.5\nST %QX0.1\nLD %ID0\nST %QD0\nLD %ID1\nST %QD1\nLD %ID2\nST %QD2\nEND_PROGRAM";

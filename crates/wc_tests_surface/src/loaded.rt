@@ -72,7 +72,7 @@ fn answers(loaded: &Loaded<'_>, same: &Loaded<'_>) -> bool {
     program && carried(loaded, same, Place(54)) == Some(Place(54))
 }
 
-/// Likewise for the text.
+/// The text, loaded twice, answers so.
 fn is_answering(alloc: Global) -> bool {
     match loaded_of(alloc, COUNTING) {
         Ok(loaded) => answers(&loaded, &loaded),

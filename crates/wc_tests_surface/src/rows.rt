@@ -78,7 +78,7 @@ fn record(ms: u64) -> Record {
     }
 }
 
-/// Of two scans it keeps the last.
+/// It keeps the last of two scans.
 fn keeps_the_last(alloc: Global) -> bool {
     match recorder_of(alloc, 1) {
         Ok(mut recorder) => {

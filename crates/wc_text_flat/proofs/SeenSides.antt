@@ -29,7 +29,7 @@ OnwardSeen w flats sources own put_by state (Goes (Seeking label result) store i
 OnwardSeen w flats sources own put_by state (Goes (Returned result) store items) seen = ⊥
 OnwardSeen w flats sources own put_by state (Fails reason) seen = Unit {0}
 
--- likewise for an effect that may lead elsewhere, from a course on, if these lines follow
+-- the same of an effect that may lead elsewhere, from a course on, if these lines follow
 abbrev pub EffectSeen : Sides → FlatSeenCalls → Lines → List ℕ → List Code → List ℤ → Flow → State → Effect → List Seen → Type 0
 EffectSeen w flats rest sources own put_by course state (Goes mode store items) seen =
     (next : Flow) × (numbers : List ℤ) × AreContents w.frame store numbers × IsCourse rest mode next × ((fs : List FlatSeen) × AreSeenAs w.frame seen fs

@@ -100,7 +100,7 @@ seen_step here calls line (Call condition instance arguments) result store =
       | Err reason ↦ []
     ]
 
--- of a line that is not executed nothing is seen
+-- nothing is seen of a line that is not executed
 abbrev pub seen_line : Context → SeenCalls → ℕ → Step → Mode → Store → List Seen
 seen_line here calls line step (Running result) store = seen_step here calls line step result store
 seen_line here calls line step (Seeking label result) store = []

@@ -19,7 +19,7 @@ is_address (byte ∷ bytes) = byte == 37
 abbrev pub place_named : List ℕ → Option Location
 place_named name = if is_address name then option_map Direct (variable_at (name_of name)) else Some (Path (map name_of (parts_in name)))
 
--- of an instance of a standard block texts can name the inputs and the outputs; another field is hidden, and names that lead to one
+-- texts can name the inputs and the outputs of an instance of a standard block; another field is hidden, and names that lead to one
 abbrev pub is_hidden_field : StandardBlock → List Name → Bool
 is_hidden_field block [] = false
 is_hidden_field block (field ∷ names) = is_none (member_named (standard_members block) field)

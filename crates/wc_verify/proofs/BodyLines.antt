@@ -5,7 +5,7 @@ use Rattle.wc_model.specs.declared.tree.Instr.{Instr, out-Instr}
 use Rattle.wc_model.specs.declared.tree.Instr.TheOpen.{Instr-F}
 use Rattle.wc_model.specs.declared.tree.Line.{Line}
 use Rattle.wc_verify.specs.{instr_line, opened_line, carriers, counted_row, one_more, row_at, row_named}
-use Rattle.wc_verify.specs.declared.labels.Row.{Row}
+use Rattle.wc_verify.specs.declared.labels.LabelRow.{LabelRow}
 use Rattle.wc_verify.specs.declared.edges.Way.TheVariants.{Unseen}
 use Rattle.wc_verify.proofs.InstrLines.{lines_put, view_instr, view_none}
 
@@ -32,7 +32,7 @@ pub line_carried : (name : Name) (line : Line) (rest : Lines) → carriers name 
 line_carried name line rest = carried_by name line rest line.instr refl
 
 -- the lines so far are counted
-pub record AreCounted (all left : List BodyLine) (so_far : ℕ) (rows : List (Name × Row)) : Type 0 where
+pub record AreCounted (all left : List BodyLine) (so_far : ℕ) (rows : List (Name × LabelRow)) : Type 0 where
   pub counted : (name : Name) → (row_named rows name).ahead + carriers name left ≡ carriers name all
   pub few : (name : Name) → (row_named rows name).ahead ≤ so_far
   pub given : (name : Name) → (row_named rows name).given ≡ false
@@ -43,23 +43,23 @@ pub none_counted : (all : List BodyLine) → AreCounted all all 0 []
 none_counted all = record { counted = λ name. zero-add (carriers name all); few = λ name. omega arith; given = λ name. refl; way = λ name. refl }
 
 -- one more is
-more_counted : (b : Bool) (row : Row) (n total : ℕ) → row.ahead + one_more b n ≡ total → (counted_row b row).ahead + n ≡ total
+more_counted : (b : Bool) (row : LabelRow) (n total : ℕ) → row.ahead + one_more b n ≡ total → (counted_row b row).ahead + n ≡ total
 more_counted true row n total e = omega arith
 more_counted false row n total e = e
 
-more_few : (b : Bool) (row : Row) (n : ℕ) → row.ahead ≤ n → (counted_row b row).ahead ≤ n + 1
+more_few : (b : Bool) (row : LabelRow) (n : ℕ) → row.ahead ≤ n → (counted_row b row).ahead ≤ n + 1
 more_few true row n e = omega arith
 more_few false row n e = omega arith
 
-same_given : (b : Bool) (row : Row) → (counted_row b row).given ≡ row.given
+same_given : (b : Bool) (row : LabelRow) → (counted_row b row).given ≡ row.given
 same_given true row = refl
 same_given false row = refl
 
-same_way : (b : Bool) (row : Row) → (counted_row b row).way ≡ row.way
+same_way : (b : Bool) (row : LabelRow) → (counted_row b row).way ≡ row.way
 same_way true row = refl
 same_way false row = refl
 
-pub one_counted : (all : List BodyLine) (line : Line) (rest : Lines) (so_far : ℕ) (rows new : List (Name × Row)) → AreCounted all (lines_of (line_view line rest)) so_far rows →
+pub one_counted : (all : List BodyLine) (line : Line) (rest : Lines) (so_far : ℕ) (rows new : List (Name × LabelRow)) → AreCounted all (lines_of (line_view line rest)) so_far rows →
     ((name : Name) → row_named new name ≡ counted_row (carries (option_map word_view line.label) name) (row_named rows name)) → AreCounted all (lines_of rest) (so_far + 1) new
 one_counted all line rest so_far rows new h e = record {
   counted = λ name. ap (λ row. row.ahead + carriers name (lines_of rest)) (e name)
@@ -70,7 +70,7 @@ one_counted all line rest so_far rows new h e = record {
 }
 
 -- all of them are
-pub all_counted : (all : List BodyLine) (so_far : ℕ) (rows : List (Name × Row)) → AreCounted all [] so_far rows → (scope : Scope) (name : Name) → row_named rows name ≡ row_at scope [] all name
+pub all_counted : (all : List BodyLine) (so_far : ℕ) (rows : List (Name × LabelRow)) → AreCounted all [] so_far rows → (scope : Scope) (name : Name) → row_named rows name ≡ row_at scope [] all name
 all_counted all so_far rows h scope name =
     let ahead : (row_named rows name).ahead ≡ carriers name all = sym (add-zero (row_named rows name).ahead) ∙ h.counted name in
     λ i. record { ahead = ahead i; given = h.given name i; way = h.way name i }

@@ -9,7 +9,7 @@ use Rattle.wc_model.specs.declared.kind.Kind.{Kind}
 use Rattle.wc_model.specs.declared.tree.Instr.{Instr}
 use Rattle.wc_model.specs.declared.tree.Line.{Line}
 use Rattle.wc_verify.specs.{CountsLines, GetsTo, GoesTo, HandsOn, IsAt, asked_of, way_after, carriers, entered_row, jumped_row, one_more, row_at, row_named, way_to, joined_edges, kind_of_way, labelled_way, way_of, with_way, GoesOn, instr_line}
-use Rattle.wc_verify.specs.declared.labels.Row.{Row}
+use Rattle.wc_verify.specs.declared.labels.LabelRow.{LabelRow}
 use Rattle.wc_verify.specs.declared.edges.Way.{Way}
 use Rattle.wc_verify.specs.declared.edges.Way.TheVariants.{Unseen, Agreed}
 use Rattle.wc_verify.proofs.BodyLines.{label_kept}
@@ -50,24 +50,24 @@ first_by scope before line rest more (Some instr) e =
 first_by scope before line rest more None e = label_first scope before (option_map word_view line.label) (lines_of (line_view line rest)) rest more (ap lines_of (view_none line rest e))
 
 -- a label that is refused
-pub label_refused : (scope : Scope) (before : List BodyLine) (line : Line) (rest : Lines) (rows : List (Name × Row)) (fault : Fault) →
+pub label_refused : (scope : Scope) (before : List BodyLine) (line : Line) (rest : Lines) (rows : List (Name × LabelRow)) (fault : Fault) →
     ((more : List Check) → Validates {X = Option Kind} (first_broken (label_rules before (option_map word_view line.label) ++ more)) (first_broken more) (Err fault)) →
     GoesTo scope before (lines_of (line_view line rest)) (lines_of rest) rows (Err fault)
 label_refused scope before line rest rows (Refused number place) h = λ more. let asked = first_by scope before line rest more line.instr refl in asked.1 ∙ h asked.0
 label_refused scope before line rest rows Memory h = tt
 
 -- none of the labels before is given twice: what is kept says whether one is given
-pub given_kept : (scope : Scope) (before left : List BodyLine) (rows : List (Name × Row)) (above : Way) → IsAt scope before left rows above → (name : Name) →
+pub given_kept : (scope : Scope) (before left : List BodyLine) (rows : List (Name × LabelRow)) (above : Way) → IsAt scope before left rows above → (name : Name) →
     (row_named rows name).given ≡ list_any (λ line. carries (label_of line) name) before
 given_kept scope before left rows above h name = ap (λ row. row.given) (h.labels name)
 
 -- what the jumps to a line's label bring
-way_kept : (scope : Scope) (before left : List BodyLine) (label : Option Word) (rows : List (Name × Row)) (above : Way) → IsAt scope before left rows above → way_of (kinds_from_label label (known_kinds scope before)) ≡ way_to label rows
+way_kept : (scope : Scope) (before left : List BodyLine) (label : Option Word) (rows : List (Name × LabelRow)) (above : Way) → IsAt scope before left rows above → way_of (kinds_from_label label (known_kinds scope before)) ≡ way_to label rows
 way_kept scope before left None rows above h = refl
 way_kept scope before left (Some word) rows above h = sym (ap (λ row. row.way) (h.labels word.name))
 
 -- a line of a body is entered: its labels, and the kind of the result
-pub record IsEntered (scope : Scope) (before : List BodyLine) (b : BodyLine) (all left : List BodyLine) (label : Option Word) (rows entered : List (Name × Row)) (above : Way) (kind : Option Kind) : Type 0 where
+pub record IsEntered (scope : Scope) (before : List BodyLine) (b : BodyLine) (all left : List BodyLine) (label : Option Word) (rows entered : List (Name × LabelRow)) (above : Way) (kind : Option Kind) : Type 0 where
   pub is : all ≡ b ∷ left
   pub carried : label_of b ≡ label
   pub represents : IsAt scope before all rows above
@@ -76,7 +76,7 @@ pub record IsEntered (scope : Scope) (before : List BodyLine) (b : BodyLine) (al
   pub new : (more : List Check) → first_broken (label_rules before label ++ more) ≡ first_broken more
 
 -- the kind of the result there
-pub kind_entered : (scope : Scope) (before : List BodyLine) (b : BodyLine) (all left : List BodyLine) (label : Option Word) (rows entered : List (Name × Row)) (above : Way) (kind : Option Kind) →
+pub kind_entered : (scope : Scope) (before : List BodyLine) (b : BodyLine) (all left : List BodyLine) (label : Option Word) (rows entered : List (Name × LabelRow)) (above : Way) (kind : Option Kind) →
     IsEntered scope before b all left label rows entered above kind → kind_at scope before b ≡ kind
 kind_entered scope before b all left label rows entered above kind h =
     kind_here scope before b above (way_to label rows) h.represents.handed (ap (λ l. way_of (kinds_from_label l (known_kinds scope before))) h.carried ∙ way_kept scope before all label rows above h.represents) ∙ sym h.kind_is
@@ -97,20 +97,20 @@ entered_ahead : (c : Bool) (n : ℕ) (given : Bool) (way : Way) → (entered_row
 entered_ahead true n given way = one_less n
 entered_ahead false n given way = refl
 
-row_entered : (scope : Scope) (before : List BodyLine) (b : BodyLine) (all left : List BodyLine) (label : Option Word) (rows entered : List (Name × Row)) (above : Way) (kind : Option Kind) →
+row_entered : (scope : Scope) (before : List BodyLine) (b : BodyLine) (all left : List BodyLine) (label : Option Word) (rows entered : List (Name × LabelRow)) (above : Way) (kind : Option Kind) →
     IsEntered scope before b all left label rows entered above kind → (name : Name) → row_named entered name ≡ entered_row (carries (label_of b) name) (row_at scope before (b ∷ left) name)
 row_entered scope before b all left label rows entered above kind h name =
     h.rows_are name ∙ ap (λ l. entered_row (carries l name) (row_named rows name)) (sym h.carried)
     ∙ ap (entered_row (carries (label_of b) name)) (h.represents.labels name ∙ ap (λ ls. row_at scope before ls name) h.is)
 
-pub counts_entered : (scope : Scope) (before : List BodyLine) (b : BodyLine) (all left : List BodyLine) (label : Option Word) (rows entered : List (Name × Row)) (above : Way) (kind : Option Kind) →
+pub counts_entered : (scope : Scope) (before : List BodyLine) (b : BodyLine) (all left : List BodyLine) (label : Option Word) (rows entered : List (Name × LabelRow)) (above : Way) (kind : Option Kind) →
     IsEntered scope before b all left label rows entered above kind → CountsLines entered left
 counts_entered scope before b all left label rows entered above kind h name =
     ap (λ row. row.ahead) (row_entered scope before b all left label rows entered above kind h name)
     ∙ entered_ahead (carries (label_of b) name) (carriers name left) (list_any (λ line. carries (label_of line) name) before) (way_of (kinds_from_jumps name (known_kinds scope before)))
 
 -- what is kept after it
-is_after : (scope : Scope) (before : List BodyLine) (b : BodyLine) (all left : List BodyLine) (label : Option Word) (rows entered new : List (Name × Row)) (above next : Way) (kind : Option Kind) →
+is_after : (scope : Scope) (before : List BodyLine) (b : BodyLine) (all left : List BodyLine) (label : Option Word) (rows entered new : List (Name × LabelRow)) (above next : Way) (kind : Option Kind) →
     IsEntered scope before b all left label rows entered above kind → ((name : Name) → row_named new name ≡ jumped_row (jumps_to b name) kind (row_named entered name)) → next ≡ way_after scope b kind →
     IsAt scope (b ∷ before) left new next
 is_after scope before b all left label rows entered new above next kind h jumped handed =
@@ -124,12 +124,12 @@ is_after scope before b all left label rows entered new above next kind h jumped
           let next_way = jumps_next scope before b name in
           let kept = ap (λ kind. if j then with_way kind (if c then Unseen else way) else (if c then Unseen else way)) k in
           jumped name ∙ ap (jumped_row j kind) (row_entered scope before b all left label rows entered above kind h name) ∙ row_step c j kind (carriers name left) given way
-          ∙ ap (λ (w : Way). let row : Row = record { ahead = carriers name left; given = c || given; way = w } in row) (sym kept ∙ sym next_way);
+          ∙ ap (λ (w : Way). let row : LabelRow = record { ahead = carriers name left; given = c || given; way = w } in row) (sym kept ∙ sym next_way);
       handed = above_next scope before b ∙ ap (λ kind. if leaves b then Unseen else Agreed (kind_after scope b kind)) k ∙ sym handed;
     }
 
 -- what is found of it, and then of those after it
-found_after : (scope : Scope) (before : List BodyLine) (b : BodyLine) (all left : List BodyLine) (label : Option Word) (rows entered : List (Name × Row)) (above : Way) (kind : Option Kind) (more : List Check) →
+found_after : (scope : Scope) (before : List BodyLine) (b : BodyLine) (all left : List BodyLine) (label : Option Word) (rows entered : List (Name × LabelRow)) (above : Way) (kind : Option Kind) (more : List Check) →
     IsEntered scope before b all left label rows entered above kind →
     first_broken (asked_of scope before all ++ more) ≡ first_broken (line_rules scope b left kind ++ (asked_of scope (b ∷ before) left ++ more))
 found_after scope before b all left label rows entered above kind more h =
@@ -139,7 +139,7 @@ found_after scope before b all left label rows entered above kind more h =
     ∙ (λ i. first_broken (label_rules before (h.carried i) ++ others (k i))) ∙ h.new (others kind)
 
 -- a line is checked
-pub line_validated : (scope : Scope) (before : List BodyLine) (b : BodyLine) (all left : List BodyLine) (label : Option Word) (rows entered new : List (Name × Row)) (above : Way) (kind : Option Kind) (r : Result Way Fault) →
+pub line_validated : (scope : Scope) (before : List BodyLine) (b : BodyLine) (all left : List BodyLine) (label : Option Word) (rows entered new : List (Name × LabelRow)) (above : Way) (kind : Option Kind) (r : Result Way Fault) →
     IsEntered scope before b all left label rows entered above kind → OnOk r ((name : Name) → row_named new name ≡ jumped_row (jumps_to b name) kind (row_named entered name)) →
     ((more : List Check) → HandsOn scope b left kind more r) → GoesTo scope before all left new r
 line_validated scope before b all left label rows entered new above kind (Ok next) h jumped validated = record {
@@ -152,7 +152,7 @@ line_validated scope before b all left label rows entered new above kind (Err (R
 line_validated scope before b all left label rows entered new above kind (Err Memory) h jumped validated = tt
 
 -- a line with no instruction is
-pub alone_validated : (scope : Scope) (before : List BodyLine) (all : List BodyLine) (label : Option Word) (rest : Lines) (rows entered : List (Name × Row)) (above : Way) (kind : Option Kind) →
+pub alone_validated : (scope : Scope) (before : List BodyLine) (all : List BodyLine) (label : Option Word) (rest : Lines) (rows entered : List (Name × LabelRow)) (above : Way) (kind : Option Kind) →
     all ≡ lines_of (label_view label rest) → IsAt scope before all rows above → kind ≡ kind_of_way (joined_edges above (way_to label rows)) →
     ((name : Name) → row_named entered name ≡ entered_row (carries label name) (row_named rows name)) → ((more : List Check) → first_broken (label_rules before label ++ more) ≡ first_broken more) →
     GetsTo scope before all (lines_of rest) entered (labelled_way label above kind)
@@ -166,14 +166,14 @@ alone_validated scope before all (Some word) rest rows entered above kind is rep
     (record { is = is; carried = refl; represents = represents; kind_is = kind_is; rows_are = rows_are; new = new }) (λ name. refl) (λ more. (refl, refl))
 
 -- lines that are checked, and others after them
-pub goes_further : (scope : Scope) (before all middle left : List BodyLine) (rows new : List (Name × Row)) (above : Way) (r : Result Way Fault) → (h : GetsTo scope before all middle rows above) →
+pub goes_further : (scope : Scope) (before all middle left : List BodyLine) (rows new : List (Name × LabelRow)) (above : Way) (r : Result Way Fault) → (h : GetsTo scope before all middle rows above) →
     GoesTo scope h.so_far middle left new r → GoesTo scope before all left new r
 goes_further scope before all middle left rows new above (Ok next) h g = record { so_far = g.so_far; found = λ more. h.found more ∙ g.found more; represents = g.represents }
 goes_further scope before all middle left rows new above (Err (Refused number place)) h g = λ more. h.found more ∙ g more
 goes_further scope before all middle left rows new above (Err Memory) h g = tt
 
 -- a fault of some lines is a fault of the body
-pub body_fault : (scope : Scope) (all left : List BodyLine) (rows : List (Name × Row)) (more : List Check) (fault : Fault) → GoesTo scope [] all left rows (Err fault) →
+pub body_fault : (scope : Scope) (all left : List BodyLine) (rows : List (Name × LabelRow)) (more : List Check) (fault : Fault) → GoesTo scope [] all left rows (Err fault) →
     Validates {X = Unit {0}} (first_broken (asked_of scope [] all ++ more)) (first_broken more) (Err fault)
 body_fault scope all left rows more (Refused number place) h = h more
 body_fault scope all left rows more Memory h = tt

@@ -6,7 +6,7 @@ use Rattle.wc_names.specs.Keys.{name_of_key, same_key, same_name_laws}
 use Rattle.wc_laws_language.proofs.Tests.{same_name-sound}
 use Rattle.wc_verify.specs.Bodies.{named_rows, row_of}
 use Rattle.wc_names.specs.declared.key.Key.{Key}
-use Rattle.wc_verify.specs.declared.labels.Row.{Row}
+use Rattle.wc_verify.specs.declared.labels.LabelRow.{LabelRow}
 
 -- a row of the same name is changed
 same_kept : {X : Type 0} (b : Bool) (v w : X) (o : Option X) → (if b then Some v else o) ≡ (if b then Some v else (if b then Some w else o))
@@ -40,6 +40,6 @@ looked_up k [] = refl
 looked_up k (entry ∷ es) = ap (λ o. cond (same_name (name_of_key entry.0) (name_of_key k)) (Some entry.1) o) (looked_up k es)
 
 -- the row of what is kept
-pub row_chosen : (b : Bool) (row : Row) (o : Option Row) → row_of (if b then Some row else o) ≡ (if b then row else row_of o)
+pub row_chosen : (b : Bool) (row : LabelRow) (o : Option LabelRow) → row_of (if b then Some row else o) ≡ (if b then row else row_of o)
 row_chosen true row o = refl
 row_chosen false row o = refl

@@ -9,7 +9,7 @@ use Rattle.wc_model.specs.declared.fault.Fault.{Fault}
 use Rattle.wc_model.specs.declared.fault.Fault.TheVariants.{Refused, Memory}
 use Rattle.wc_verify.specs.declared.edges.Way.{Way}
 use Rattle.wc_verify.specs.declared.edges.Way.TheVariants.{Unseen, Agreed, Different}
-use Rattle.wc_verify.specs.declared.labels.Row.{Row}
+use Rattle.wc_verify.specs.declared.labels.LabelRow.{LabelRow}
 
 -- the incoming paths, as they are kept
 abbrev pub way_of : List (Option Kind) → Way
@@ -44,11 +44,11 @@ abbrev pub named_rows : {X : Type 0} → List (Key × X) → List (Name × X)
 named_rows entries = map (λ entry. (name_of_key entry.0, entry.1)) entries
 
 -- a row; a label of which nothing is known has an empty one
-abbrev pub row_of : Option Row → Row
+abbrev pub row_of : Option LabelRow → LabelRow
 row_of None = record { ahead = 0; given = false; way = Unseen }
 row_of (Some row) = row
 
-abbrev pub row_named : List (Name × Row) → Name → Row
+abbrev pub row_named : List (Name × LabelRow) → Name → LabelRow
 row_named rows name = row_of (named_in rows name)
 
 -- the number of the lines that carry the label
@@ -61,7 +61,7 @@ carriers name [] = zero
 carriers name (line ∷ lines) = one_more (carries (label_of line) name) (carriers name lines)
 
 -- what is known of a label between the lines before, newest first, and those that are left
-abbrev pub row_at : Scope → List BodyLine → List BodyLine → Name → Row
+abbrev pub row_at : Scope → List BodyLine → List BodyLine → Name → LabelRow
 row_at scope before left name = record {
   ahead = carriers name left;
   given = list_any (λ line. carries (label_of line) name) before;
@@ -69,22 +69,22 @@ row_at scope before left name = record {
 }
 
 -- a row once one more line is counted that may carry its label
-abbrev pub counted_row : Bool → Row → Row
+abbrev pub counted_row : Bool → LabelRow → LabelRow
 counted_row true row = record { ahead = row.ahead + 1; given = row.given; way = row.way }
 counted_row false row = row
 
 -- a row once a line is entered that may carry its label
-abbrev pub entered_row : Bool → Row → Row
+abbrev pub entered_row : Bool → LabelRow → LabelRow
 entered_row true row = record { ahead = row.ahead - 1; given = true; way = Unseen }
 entered_row false row = row
 
 -- a row once a line is left, with this kind of result, that may jump to its label
-abbrev pub jumped_row : Bool → Option Kind → Row → Row
+abbrev pub jumped_row : Bool → Option Kind → LabelRow → LabelRow
 jumped_row true kind row = record { ahead = row.ahead; given = row.given; way = with_way kind row.way }
 jumped_row false kind row = row
 
 -- what the jumps to the label of a line agree on
-abbrev pub way_to : Option Word → List (Name × Row) → Way
+abbrev pub way_to : Option Word → List (Name × LabelRow) → Way
 way_to None rows = Unseen
 way_to (Some word) rows = (row_named rows word.name).way
 
@@ -94,7 +94,7 @@ is_target None name = false
 is_target (Some target) name = same_name target name
 
 -- the rows count the lines that are left
-abbrev pub CountsLines : List (Name × Row) → List BodyLine → Type 0
+abbrev pub CountsLines : List (Name × LabelRow) → List BodyLine → Type 0
 CountsLines rows left = (name : Name) → (row_named rows name).ahead ≡ carriers name left
 
 -- what a line passes on, from the kind before it
@@ -108,7 +108,7 @@ HandsOn scope line following kind more (Err (Refused number place)) = first_brok
 HandsOn scope line following kind more (Err Memory) = Unit {0}
 
 -- between the lines before, newest first, and those that are left: what is kept of the labels, and of the line above
-pub record IsAt (scope : Scope) (before left : List BodyLine) (rows : List (Name × Row)) (above : Way) : Type 0 where
+pub record IsAt (scope : Scope) (before left : List BodyLine) (rows : List (Name × LabelRow)) (above : Way) : Type 0 where
   pub labels : (name : Name) → row_named rows name ≡ row_at scope before left name
   pub handed : way_of (kinds_from_above scope (known_kinds scope before)) ≡ above
 
@@ -117,13 +117,13 @@ abbrev pub asked_of : Scope → List BodyLine → List BodyLine → List Check
 asked_of scope before left = flat_map (rules_at_position scope) (positions_after before left)
 
 -- from some lines on, nothing is broken before those that are left
-pub record GetsTo (scope : Scope) (before all left : List BodyLine) (rows : List (Name × Row)) (above : Way) : Type 0 where
+pub record GetsTo (scope : Scope) (before all left : List BodyLine) (rows : List (Name × LabelRow)) (above : Way) : Type 0 where
   pub so_far : List BodyLine
   pub found : (more : List Check) → first_broken (asked_of scope before all ++ more) ≡ first_broken (asked_of scope so_far left ++ more)
   pub represents : IsAt scope so_far left rows above
 
 -- lines are checked as far as those that are left
-abbrev pub GoesTo : Scope → List BodyLine → List BodyLine → List BodyLine → List (Name × Row) → Result Way Fault → Type 0
+abbrev pub GoesTo : Scope → List BodyLine → List BodyLine → List BodyLine → List (Name × LabelRow) → Result Way Fault → Type 0
 GoesTo scope before all left rows (Ok above) = GetsTo scope before all left rows above
 GoesTo scope before all left rows (Err (Refused number place)) = (more : List Check) → first_broken (asked_of scope before all ++ more) ≡ Some (record { number = number; line = place })
 GoesTo scope before all left rows (Err Memory) = Unit {0}

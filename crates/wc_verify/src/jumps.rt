@@ -4,7 +4,7 @@ ghost use Rattle.wc_verify.specs.Instructions.{AsksAhead, SaysAhead, instr_line}
 ghost use Rattle.wc_verify.specs.Bodies.{is_target, jumped_row, row_named};
 
 use crate::edges::with_way;
-use crate::labels::{Labels, Row};
+use crate::labels::{LabelRow, Labels};
 use wc_model::{Condition, Fault, Instr, Kind};
 
 /// Where a jump goes on, as it is spelled.
@@ -57,7 +57,7 @@ pub(crate) fn note<'a>(
         return Ok(());
     };
     let row = labels.row(name);
-    let jumped = Row {
+    let jumped = LabelRow {
         way: with_way(kind, row.way),
         ..row
     };

@@ -1,7 +1,7 @@
 ghost use Rattle.std.specs.Prelude.{◌≡◌, [], List, Some, OnOk, IsOkUnless, if◌then◌else◌, ◌<◌, IfOk, option_map, ◌++◌, Option};
 ghost use Rattle.wc_model.specs.Definitions.{same_name, Name, name_of, lines_of, BodyLine, label_of, carries, Scope, lines_view, word_view, label_rules, Check, first_broken, Validates};
 ghost use Rattle.wc_verify.specs.Bodies.{named_rows, row_named, counted_row, row_at, entered_row, way_to, joined_edges, kind_of_way};
-ghost use Rattle.wc_verify.specs.declared.labels.Row.{Row};
+ghost use Rattle.wc_verify.specs.declared.labels.LabelRow.{LabelRow};
 ghost use Rattle.std.specs.List.{list_any};
 
 use crate::edges::{Way, joined_edges, kind_of};
@@ -14,7 +14,7 @@ use wc_names::Key;
 
 /// What is known of a label.
 #[derive(Clone, Copy)]
-pub(crate) struct Row {
+pub(crate) struct LabelRow {
     /// The number of lines still ahead that carry it.
     pub(crate) ahead: usize,
     /// Whether a line carried it already.
@@ -26,11 +26,11 @@ pub(crate) struct Row {
 /// The labels of a body, with what is known of each.
 #[derive(Drop)]
 pub(crate) struct Labels<'a> {
-    entries: IndexMap<Key<'a>, Row>,
+    entries: IndexMap<Key<'a>, LabelRow>,
 }
 
 impl<'a> Model for Labels<'a> {
-    ghost Value = { List (Name × Row) };
+    ghost Value = { List (Name × LabelRow) };
 
     ghost view = { λ l. named_rows l.entries.entries };
 }
@@ -46,12 +46,12 @@ impl<'a> Labels<'a> {
     }
 
     /// What is known of a label.
-    pub(crate) fn row(&self, name: &[u8]) -> Row
+    pub(crate) fn row(&self, name: &[u8]) -> LabelRow
         ensures { result ≡ row_named self.now (name_of name.now) }
     {
         match self.entries.get(&Key { text: name }) {
             Some(row) => *row,
-            None => Row {
+            None => LabelRow {
                 ahead: 0,
                 given: false,
                 way: Way::Unseen,
@@ -60,7 +60,7 @@ impl<'a> Labels<'a> {
     }
 
     /// Keeps what is known of a label in place of what was.
-    pub(crate) fn set(&mut self, name: &'a [u8], row: Row) -> Result<(), Fault>
+    pub(crate) fn set(&mut self, name: &'a [u8], row: LabelRow) -> Result<(), Fault>
         ensures rows { OnOk result
             ((other : Name)
             → row_named self.new other
@@ -87,7 +87,7 @@ fn count<'a>(labels: &mut Labels<'a>, label: &Option<Word<'a>>) -> Result<(), Fa
         return Ok(());
     };
     let row = labels.row(word.text);
-    let counted = Row {
+    let counted = LabelRow {
         ahead: row.ahead + 1,
         ..row
     };
@@ -136,7 +136,7 @@ pub(crate) fn enter<'a>(
     if row.given {
         return Err(refusal(407, word.line));
     }
-    let entered = Row {
+    let entered = LabelRow {
         ahead: row.ahead.saturating_sub(1),
         given: true,
         way: Way::Unseen,

@@ -24,7 +24,7 @@ pub enum Level {
 }
 
 impl Bits {
-    /// Of one value.
+    /// The bits of one value.
     pub(crate) fn at(value: u16) -> Bits
         ensures { AreBitsOf (value ∷ []) result }
     {
@@ -35,7 +35,7 @@ impl Bits {
         }
     }
 
-    /// Of these values and then others.
+    /// The bits of these values and then others.
     pub(crate) fn joined(self, later: Bits) -> Bits
         ensures { (values others : List ℕ) → AreBitsOf values self → AreBitsOf others later
             → AreBitsOf (values ++ others) result }

@@ -23,7 +23,7 @@ impl Column {
         }
     }
 
-    /// Of this time and the time after it.
+    /// The column of this time and of the time after it.
     pub fn joined(&self, later: &Column) -> Column
         ensures state { (held others : List Held) → IsStateOf held self.now.state
             → IsStateOf others later.now.state → IsStateOf (held ++ others) result.state }

@@ -11,7 +11,7 @@ pub struct Span {
 }
 
 impl Span {
-    /// Of one number.
+    /// The span of one number.
     pub(crate) fn at(number: i64) -> Span
         ensures least { result.least ≡ number }
         ensures greatest { result.greatest ≡ number }
@@ -24,14 +24,14 @@ impl Span {
         }
     }
 
-    /// Of one number or none.
+    /// The span of one number or none.
     pub(crate) fn of(number: Option<i64>) -> Option<Span>
         ensures { result ≡ span_of (option_to_list number) }
     {
         Some(Span::at(number?))
     }
 
-    /// Of these numbers and then others.
+    /// The span of these numbers and then others.
     pub(crate) fn joined(self, later: Span) -> Span
         ensures least { result.least ≡ int_min self.least later.least }
         ensures greatest { result.greatest ≡ int_max self.greatest later.greatest }
@@ -52,7 +52,7 @@ impl Span {
     }
 }
 
-/// Of some numbers and then others, either of which may be empty.
+/// The span of some numbers and then others, either of which may be empty.
 pub fn join(earlier: Option<Span>, later: Option<Span>) -> Option<Span>
     ensures first { earlier ≡ None → result ≡ later }
     ensures second { later ≡ None → result ≡ earlier }

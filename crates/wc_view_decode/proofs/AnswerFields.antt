@@ -2,7 +2,7 @@
 use Rattle.wc_model.proofs.Common.{◌≡◌, ◌+◌, ◌-◌, ◌==◌, ◌&&◌, ℕ, Bool, true, List, [], ◌∷◌, ◌++◌, length, get_or, take, drop, refl, sym, ◌∙◌, ap, subst, arith, and_parts, eqb-true, length-drop, length-take-le, take-append-drop, list_all}
 use Rattle.wc_view_decode.specs.AnswerBytes.{IsAnswer, is_framed, is_weight_byte, reading_bytes}
 use Rattle.wc_view_decode.specs.declared.answer.Answer.TheVariants.{Weight}
-use Rattle.wc_view_decode.specs.declared.answer.Reading.{Reading}
+use Rattle.wc_view_decode.specs.declared.answer.WeightAnswer.{WeightAnswer}
 use Rattle.wc_sma.specs.Letters.{kind_letter, motion_letter, status_letter, unit_letters}
 use Rattle.wc_sma.specs.declared.letters.MassUnit.{MassUnit}
 use Rattle.wc_sma.specs.declared.letters.MassUnit.TheVariants.{Gram, Kilogram, Tonne}
@@ -24,7 +24,7 @@ unit_length Kilogram = refl
 unit_length Tonne = refl
 
 -- each field of a reading is in its place
-pub record HasFields (frame : List ℕ) (r : Reading) : Type 0 where
+pub record HasFields (frame : List ℕ) (r : WeightAnswer) : Type 0 where
   pub status : get_or frame 1 0 ≡ status_letter r.status
   pub kind : get_or frame 3 0 ≡ kind_letter r.kind
   pub motion : get_or frame 4 0 ≡ motion_letter r.is_stable
@@ -45,7 +45,7 @@ tail_places s k m w u size sizeu =
     (refl, refl, refl))
 
 -- the bytes of a reading have its fields
-pub fields_of : (frame : List ℕ) (r : Reading) → length r.weight ≡ 10 → frame ≡ reading_bytes r → HasFields frame r
+pub fields_of : (frame : List ℕ) (r : WeightAnswer) → length r.weight ≡ 10 → frame ≡ reading_bytes r → HasFields frame r
 fields_of frame r size e =
     let tail = tail_places (status_letter r.status) (kind_letter r.kind) (motion_letter r.is_stable) r.weight (unit_letters r.unit) size (unit_length r.unit) in
     record {
@@ -57,7 +57,7 @@ fields_of frame r size e =
     }
 
 -- and what all have
-pub frame_of : (frame : List ℕ) (r : Reading) → IsAnswer (Weight r) → frame ≡ reading_bytes r → is_framed frame ≡ true
+pub frame_of : (frame : List ℕ) (r : WeightAnswer) → IsAnswer (Weight r) → frame ≡ reading_bytes r → is_framed frame ≡ true
 frame_of frame r (size, bytes) e =
     let tail = tail_places (status_letter r.status) (kind_letter r.kind) (motion_letter r.is_stable) r.weight (unit_letters r.unit) size (unit_length r.unit) in
     let weight : list_all is_weight_byte (take 10 (drop 6 (reading_bytes r))) ≡ true = ap (list_all is_weight_byte) tail.0 ∙ bytes in
@@ -93,10 +93,10 @@ weight_of_frame frame h =
     (and_parts (get_or frame 0 0 == 10 && get_or frame 2 0 == 49 && get_or frame 5 0 == 32 && get_or frame 19 0 == 13) (list_all is_weight_byte (take 10 (drop 6 frame))) h).1
 
 -- twenty bytes with these are those of the reading
-abbrev Rebuilds : List ℕ → Reading → Type 0
+abbrev Rebuilds : List ℕ → WeightAnswer → Type 0
 Rebuilds frame r = HasFrame frame → HasFields frame r → frame ≡ reading_bytes r
 
-rebuilds : (frame : List ℕ) (r : Reading) → length frame ≡ 20 → Rebuilds frame r
+rebuilds : (frame : List ℕ) (r : WeightAnswer) → length frame ≡ 20 → Rebuilds frame r
 rebuilds frame r size =
     let a : List ℕ = take 10 frame in
     let b : List ℕ = drop 10 frame in
@@ -108,9 +108,9 @@ rebuilds frame r size =
     (λ framed has i.
     framed.first i ∷ has.status i ∷ framed.third i ∷ has.kind i ∷ has.motion i ∷ framed.sixth i ∷ (has.weight i ++ has.unit i ++ (framed.last i ∷ [])))))
 
-pub rebuilt : (frame : List ℕ) (r : Reading) → length frame ≡ 20 → is_framed frame ≡ true → HasFields frame r → frame ≡ reading_bytes r
+pub rebuilt : (frame : List ℕ) (r : WeightAnswer) → length frame ≡ 20 → is_framed frame ≡ true → HasFields frame r → frame ≡ reading_bytes r
 rebuilt frame r size framed has = rebuilds frame r size (has_frame frame framed) has
 
 -- readings with the same fields
-pub same_reading : (a b : Reading) → a.status ≡ b.status → a.kind ≡ b.kind → a.is_stable ≡ b.is_stable → a.weight ≡ b.weight → a.unit ≡ b.unit → a ≡ b
+pub same_reading : (a b : WeightAnswer) → a.status ≡ b.status → a.kind ≡ b.kind → a.is_stable ≡ b.is_stable → a.weight ≡ b.weight → a.unit ≡ b.unit → a ≡ b
 same_reading a b es ek em ew eu = λ i. record { status = es i; kind = ek i; is_stable = em i; weight = ew i; unit = eu i }

@@ -6,7 +6,7 @@ use Rattle.wc_view_decode.proofs.AnswerFields.{fields_of, frame_of, rebuilt, sam
 use Rattle.wc_view_decode.specs.AnswerBytes.{IsAnswer, answer_bytes, is_framed, is_weight_byte, reading_bytes, IsAnswerOf, IsFirstAnswer}
 use Rattle.wc_view_decode.specs.declared.answer.Answer.{Answer}
 use Rattle.wc_view_decode.specs.declared.answer.Answer.TheVariants.{Weight, NotUnderstood}
-use Rattle.wc_view_decode.specs.declared.answer.Reading.{Reading}
+use Rattle.wc_view_decode.specs.declared.answer.WeightAnswer.{WeightAnswer}
 use Rattle.wc_sma.specs.Letters.{kind_letter, motion_letter, status_letter, unit_letters}
 use Rattle.wc_sma.specs.declared.letters.MassUnit.{MassUnit}
 use Rattle.wc_sma.specs.declared.letters.Status.{Status}
@@ -33,14 +33,14 @@ module _ (frame : List ℕ) (size : length frame ≡ 20) (status : Option Status
     (is_motion : (x : Bool) → (get_or frame 4 0 ≡ motion_letter x) ↔ (motion ≡ Some x))
     (is_unit : (x : MassUnit) → (take 3 (drop 16 frame) ≡ unit_letters x) ↔ (unit ≡ Some x)) where
   -- the fields of a reading whose bytes these are are found
-  found_of : (x : Reading) → IsAnswer (Weight x) → frame ≡ reading_bytes x
+  found_of : (x : WeightAnswer) → IsAnswer (Weight x) → frame ≡ reading_bytes x
       → (status ≡ Some x.status) × (kind ≡ Some x.kind) × (motion ≡ Some x.is_stable) × (unit ≡ Some x.unit) × (take 10 (drop 6 frame) ≡ x.weight)
   found_of x ok e =
       let has = fields_of frame x ok.0 e in
       ((is_status x.status).0 has.status, (is_kind x.kind).0 has.kind, (is_motion x.is_stable).0 has.motion, (is_unit x.unit).0 has.unit, has.weight)
 
   -- if all are found, the reading of them is the only one
-  pub all_found : (r : Reading) → is_framed frame ≡ true → status ≡ Some r.status → kind ≡ Some r.kind → motion ≡ Some r.is_stable → unit ≡ Some r.unit
+  pub all_found : (r : WeightAnswer) → is_framed frame ≡ true → status ≡ Some r.status → kind ≡ Some r.kind → motion ≡ Some r.is_stable → unit ≡ Some r.unit
       → r.weight ≡ take 10 (drop 6 frame) → length r.weight ≡ 10 → IsAnswerOf (Some (Weight r)) frame
   all_found r framed s k m u w ten = (
     (ten, ap (list_all is_weight_byte) w ∙ weight_of_frame frame framed),
@@ -62,12 +62,12 @@ module _ (frame : List ℕ) (size : length frame ≡ 20) (status : Option Status
       only NotUnderstood ok e = absurd (omega (arith, size, ap length e))
 
 -- an answer with a weight has twenty
-pub reading_length : (r : Reading) → length r.weight ≡ 10 → length (reading_bytes r) ≡ 20
+pub reading_length : (r : WeightAnswer) → length r.weight ≡ 10 → length (reading_bytes r) ≡ 20
 reading_length r size =
     omega (arith, size, unit_length r.unit, length-append (r.weight ++ unit_letters r.unit) (13 ∷ []), length-append r.weight (unit_letters r.unit))
 
 -- the bytes of an answer with a weight, before others, are in the first twenty
-pub prefix_of_reading : (bytes rest : List ℕ) (x : Reading) → length x.weight ≡ 10 → bytes ≡ reading_bytes x ++ rest → take 20 bytes ≡ reading_bytes x
+pub prefix_of_reading : (bytes rest : List ℕ) (x : WeightAnswer) → length x.weight ≡ 10 → bytes ≡ reading_bytes x ++ rest → take 20 bytes ≡ reading_bytes x
 prefix_of_reading bytes rest x size e =
     ap (take 20) e ∙ subst (λ n. take n (reading_bytes x ++ rest) ≡ reading_bytes x) (reading_length x size) (take-append_seam (reading_bytes x) rest)
 

@@ -6,7 +6,7 @@ use Rattle.wc_view_decode.proofs.AnswerFields.{unit_length}
 use Rattle.wc_view_decode.specs.AnswerBytes.{AreAllAnswers, IsAnswer, answer_bytes, bytes_of_answers, is_weight_byte, reading_bytes, AnswersAreRead, AreAnswersTo, IsReadingOf}
 use Rattle.wc_view_decode.specs.declared.answer.Answer.{Answer}
 use Rattle.wc_view_decode.specs.declared.answer.Answer.TheVariants.{Weight, NotUnderstood}
-use Rattle.wc_view_decode.specs.declared.answer.Reading.{Reading}
+use Rattle.wc_view_decode.specs.declared.answer.WeightAnswer.{WeightAnswer}
 use Rattle.wc_laws_instrument.proofs.Answers.{IsShort, length_answer, short_weight}
 use Rattle.wc_model.specs.Instrument.Answers as line_answers
 use Rattle.wc_model.specs.Definitions.{is_stable, PlateData, IsPlate, History, SetZero, SetTare, ClearTare}
@@ -77,14 +77,14 @@ weight_passes decimals (Some value) few short =
 
 -- an answer with a weight
 read_one : (p : PlateData) (history : History) (mode : line_answers.Mode) (asked : line_answers.Asked) → IsPlate p
-    → (r : Reading) × IsAnswer (Weight r) × (line_answers.answer p history mode asked ≡ reading_bytes r) × IsReadingOf p history mode asked r
+    → (r : WeightAnswer) × IsAnswer (Weight r) × (line_answers.answer p history mode asked ≡ reading_bytes r) × IsReadingOf p history mode asked r
 read_one p history mode asked plate =
     let status = letters_are_answers.status p history asked in
     let kind = letters_are_answers.kind p history mode in
     let motion = letters_are_answers.motion p history in
     let unit = letters_are_answers.unit p plate in
     let weight : List ℕ = line_answers.weight_text p.decimals (line_answers.weight_asked p history mode) in
-    let r : Reading = record { status = status.0; kind = kind.0; is_stable = is_stable p history; weight = weight; unit = unit.0 } in
+    let r : WeightAnswer = record { status = status.0; kind = kind.0; is_stable = is_stable p history; weight = weight; unit = unit.0 } in
     let same : line_answers.answer p history mode asked ≡ reading_bytes r =
     λ i. 10 ∷ (status.1 i ++ (49 ∷ []) ++ kind.1 i ++ motion i ++ (32 ∷ []) ++ weight ++ unit.1 i ++ (13 ∷ [])) in
     let size : length weight ≡ 10 =

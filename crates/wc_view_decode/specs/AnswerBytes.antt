@@ -7,10 +7,10 @@ use Rattle.wc_sma.specs.Letters.{kind_letter, motion_letter, status_letter, unit
 use Rattle.wc_model.specs.Definitions.{is_stable, PlateData, IsPlate, History}
 use Rattle.wc_view_decode.specs.declared.answer.Answer.{Answer}
 use Rattle.wc_view_decode.specs.declared.answer.Answer.TheVariants.{Weight, NotUnderstood}
-use Rattle.wc_view_decode.specs.declared.answer.Reading.{Reading}
+use Rattle.wc_view_decode.specs.declared.answer.WeightAnswer.{WeightAnswer}
 
 -- the twenty bytes of an answer with a weight: LF, status, `1`, weight's letter, motion, space, weight, unit, CR
-abbrev pub reading_bytes : Reading → List ℕ
+abbrev pub reading_bytes : WeightAnswer → List ℕ
 reading_bytes r =
     10 ∷ status_letter r.status ∷ 49 ∷ kind_letter r.kind ∷ motion_letter r.is_stable ∷ 32 ∷ (r.weight ++ unit_letters r.unit ++ (13 ∷ []))
 
@@ -43,7 +43,7 @@ abbrev pub AreAllAnswers : List Answer → Type 0
 AreAllAnswers answers = AllByRecursion IsAnswer answers
 
 -- A reading says what is so of a scale of this plate and history, if this weight is asked for and this is answered.
-pub record IsReadingOf (p : PlateData) (history : History) (mode : line_answers.Mode) (asked : line_answers.Asked) (r : Reading) : Type 0 where
+pub record IsReadingOf (p : PlateData) (history : History) (mode : line_answers.Mode) (asked : line_answers.Asked) (r : WeightAnswer) : Type 0 where
   pub status : IsStatus p history asked r.status
   pub kind : IsKind p history mode r.kind
   pub motion : r.is_stable ≡ is_stable p history
@@ -63,7 +63,7 @@ AreAnswersTo p texts history answers = ⊥
 --     all      the answers to requests are the bytes of one answer to each
 pub record AnswersAreRead : Type 0 where
   pub one : (p : PlateData) (history : History) (mode : line_answers.Mode) (asked : line_answers.Asked) → IsPlate p →
-      (r : Reading) × IsAnswer (Weight r) × (line_answers.answer p history mode asked ≡ reading_bytes r) × IsReadingOf p history mode asked r
+      (r : WeightAnswer) × IsAnswer (Weight r) × (line_answers.answer p history mode asked ≡ reading_bytes r) × IsReadingOf p history mode asked r
   pub all : (p : PlateData) (texts : List (List ℕ)) (history : History) → IsPlate p →
       (answers : List Answer) × AreAllAnswers answers × AreAnswersTo p texts history answers
       × (line_answers.answers_to p texts history ≡ bytes_of_answers answers)

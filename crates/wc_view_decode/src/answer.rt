@@ -3,7 +3,7 @@ use wc_sma::{MassUnit, Status, WeightKind};
 
 /// What an answer with a weight says.
 #[derive(Clone, Copy)]
-pub struct Reading {
+pub struct WeightAnswer {
     pub status: Status,
     pub kind: WeightKind,
     pub is_stable: bool,
@@ -15,7 +15,7 @@ pub struct Reading {
 /// An answer of the line.
 #[derive(Clone, Copy)]
 pub enum Answer {
-    Weight(Reading),
+    Weight(WeightAnswer),
     /// The request is not one that the line knows.
     NotUnderstood,
 }

@@ -4,7 +4,7 @@ ghost use Rattle.wc_view_decode.specs.declared.answer.Answer.TheVariants.{Weight
 ghost use Rattle.wc_view_decode.specs.AnswerTexts.{answer_text, kind_text, motion_text, status_text, unit_text};
 ghost use Rattle.wc_view_decode.specs.Formats.{Puts};
 
-use crate::answer::{Answer, Reading};
+use crate::answer::{Answer, WeightAnswer};
 use wc_model::{Fault, put_bytes};
 use wc_sma::{MassUnit, Status, WeightKind};
 
@@ -61,7 +61,7 @@ fn spaces_before(weight: &[u8]) -> usize
 }
 
 /// Appends the words for a weight to a text.
-fn put_reading(text: &mut Vec<u8>, reading: &Reading) -> Result<(), Fault>
+fn put_reading(text: &mut Vec<u8>, reading: &WeightAnswer) -> Result<(), Fault>
     ensures { Puts text.old text.new result (answer_text (Weight reading.now)) }
 {
     let (_spaces, weight) = reading.weight.split_at(spaces_before(&reading.weight));

@@ -3,7 +3,7 @@ ghost use Rattle.std.specs.Prelude.{◌≡◌, length, option_map, IfOk, IsOkUnl
 ghost use Rattle.std.specs.List.{list_all};
 ghost use Rattle.wc_view_decode.specs.AnswerBytes.{IsAnswer, answer_bytes, is_framed, is_weight_byte, AreAnswersOf, IsAnswerOf, IsFirstAnswer, AnswersAreRead};
 
-use crate::answer::{Answer, Reading};
+use crate::answer::{Answer, WeightAnswer};
 use std::alloc::Global;
 use wc_model::Fault;
 use wc_sma::{MassUnit, Status, WeightKind, stable_of_letter};
@@ -46,7 +46,7 @@ fn weight_in(frame: &[u8]) -> Option<Answer>
     }
     let mut weight = [0; 10];
     weight.copy_from_slice(&frame[6..16]);
-    Some(Answer::Weight(Reading {
+    Some(Answer::Weight(WeightAnswer {
         status: Status::of_letter(frame[1])?,
         kind: WeightKind::of_letter(frame[3])?,
         is_stable: stable_of_letter(frame[4])?,

@@ -22,9 +22,9 @@ pub(crate) const HEIGHT: u64 = 2400;
 /// The steps of a program's scans.
 #[derive(Clone, Copy)]
 pub struct ScanSteps {
-    /// Of the longest scan.
+    /// The steps of the longest scan.
     pub most: u32,
-    /// Of the longest path: no scan takes more.
+    /// The steps of the longest path: no scan takes more.
     pub bound: u32,
 }
 

@@ -27,7 +27,7 @@ head_tokens scan =
 abbrev pub items_tokens : Legend → List Item → List Token
 items_tokens legend items = json.key (codes "items") ∷ json.begin_array ∷ (flat_map (item_tokens legend) items ++ json.end_array ∷ [])
 
--- of the items of a scan an object each is written, in order; so as an array
+-- each item of a scan is written as an object, in order; so as an array
 abbrev pub WritesItems : Legend → MachineState → List SeenLine → List Token → List Token → Type 0
 WritesItems legend machine lines old new = (items : List Item) × AreItems legend machine lines items × (new ≡ old ++ flat_map (item_tokens legend) items)
 

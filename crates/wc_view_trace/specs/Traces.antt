@@ -94,13 +94,13 @@ pub record IsScanOf (t : Tracing) (plate : PlateData) (first : Logic) (past : Pa
   pub scan_is : IsShownScan plate (Some first) past row number line scan
   pub text_is : IsScanIn t.format legend machine scan text
 
--- of a scan with no text there is nothing to show
+-- a scan with no text has nothing to show
 abbrev pub ShowsScan : Tracing → PlateData → Option Logic → Past → LogRow → ℕ → ReportLine → Option (List ℕ) → List ℕ → Type 0
 ShowsScan t plate None past row number line bytes text = text ≡ []
 ShowsScan t plate (Some first) past row number line None text = text ≡ []
 ShowsScan t plate (Some first) past row number line (Some bytes) text = IsScanOf t plate first past row number line bytes text
 
--- of a row with no scan nothing is written, of one with a scan that is chosen the scan, and of any other nothing; and these numbers of
+-- a row whose scan is chosen is written as that scan, and any other row as nothing; and these numbers of
 -- scans are shown before and after it
 abbrev pub TracesScans : Tracing → Start → PlateData → Option Logic → Past → LogRow → List ReportLine → ℕ → ℕ → List ℕ → Type 0
 TracesScans t start plate logic past row [] before after text = (after ≡ before) × (text ≡ [])

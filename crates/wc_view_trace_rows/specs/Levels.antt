@@ -14,7 +14,7 @@ use Rattle.wc_view_trace_rows.specs.declared.levels.Levels.{Levels}
 use Rattle.wc_view_trace_rows.specs.declared.levels.Said.{Said}
 use Rattle.wc_view_trace_rows.specs.declared.notes.Note.{Note}
 
--- of a body: the kind of its result, the kinds of the results that are put by, newest first, and the number of items of the
+-- the level of a body: the kind of its result, the kinds of the results that are put by, newest first, and the number of items of the
 -- list of its last call that were passed, as far as 64 bits count
 pub record Level : Type 0 where
   pub kind : Option Kind

@@ -76,7 +76,7 @@ is_part (Standard block at) = true
 is_part (Body unit at) = true
 is_part line = is_argument line
 
--- of a line of a body its number
+-- the number of a line of a body
 abbrev pub number_shown : Code → ℕ → Option ℕ
 number_shown line source = if is_part line then None else Some source
 

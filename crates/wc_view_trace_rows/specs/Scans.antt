@@ -63,7 +63,7 @@ AreItemsFrom legend machine lines count levels (seen ∷ rest) (item ∷ items) 
 abbrev pub AreItems : Legend → MachineState → List SeenLine → List Item → Type 0
 AreItems legend machine lines items = AreItemsFrom legend machine lines 0 [] lines items
 
--- of the items of a scan a row each is put, in order
+-- each item of a scan is put as a row, in order
 abbrev pub AreRows : Legend → MachineState → List SeenLine → List ℕ → List ℕ → Type 0
 AreRows legend machine lines old new = (items : List Item) × AreItems legend machine lines items × (new ≡ old ++ flat_map (row_of legend) items)
 

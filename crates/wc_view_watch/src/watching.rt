@@ -16,7 +16,7 @@ pub struct WatchChoice<'n> {
     pub names: &'n [u8],
     /// The number of last scans that are written alone, 1 to 1000; every scan, if there is none.
     pub last: Option<u16>,
-    /// Of the scans those alone are written that leave other values than the scan before.
+    /// Only those scans are written that leave other values than the scan before.
     pub changes: bool,
 }
 

@@ -20,7 +20,7 @@ is_kind KindDint KindDint = true
 is_kind KindTime KindTime = true
 is_kind a b = false
 
--- likewise for kinds that may be none
+-- one kind and the other are the same, or neither is there
 abbrev pub same_result : Option Kind → Option Kind → Bool
 same_result None None = true
 same_result (Some a) (Some b) = is_kind a b

@@ -28,7 +28,7 @@ number_of ParenthesisNotPaired = 206
 number_of TooDeep = 207
 number_of TooMany = 208
 
--- Of the faults at one token that of lowest rank is reported: the lower number, but an unexpected token only if there is no other.
+-- The fault of lowest rank of those at one token is reported: the lower number, but an unexpected token only if there is no other.
 abbrev pub rank_of : ReadingFault → ℕ
 rank_of UnexpectedToken = 209
 rank_of fault = number_of fault
