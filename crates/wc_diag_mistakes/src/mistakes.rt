@@ -2,7 +2,9 @@ use crate::foreign::{OPERATORS, TYPES, UNITS, left_out, mistaken_function, mista
 use crate::refused::Refused;
 use crate::types::{mistaken_kind, mistaken_reset};
 use crate::unreached::{block_line, follows_leaving, is_unreached};
-use wc_built_in::{Keyword, elementary_type, is_type_word, keyword_named, standard_block};
+use wc_built_in::{
+    Keyword, elementary_type, is_type_word, keyword_named, standard_block, variable_at,
+};
 use wc_diag_stops::{
     following, is_among, is_bare_duration, is_digit, is_line_end, is_near, is_operator, is_shape,
     last_line, mistaken_byte, mistaken_duration, mistaken_number, mistaken_statement, operator_on,
@@ -100,6 +102,7 @@ fn mistaken_in_unit(token: &[u8], next: Option<&Token<'_>>, expected: Expected) 
     mistake_among! {
         (expected, token.first(), keyword_named(token));
         (Expected::Field, Some(b'0'..=b'9'), _) => NoAddress "an address begins with `%`, such as %IX0.0 for I0.0 or E0.0, %QX0.0 for Q0.0 or A0.0; there are no flags, such as M0.0: declare a BOOL in VAR; bit 3 of a DINT n that is not negative is LD n, DIV 8, MOD 2, EQ 1";
+        (Expected::CommaOrColon, _, Some(Keyword::Kept)) if is_among(b"at", token) && variable_at(text_of(next)).is_none() => Worded "leave out this declaration, and use an address of this machine: %IX0.0 to %IX0.15, %IX1.0 (stable), %IX1.1 (over), %IX1.2 (under), %IX1.3 (centre of zero), %IX1.4 (tare), %IX1.5 (valid), %ID0 (gross), %ID1 (net), %ID2 (tare), %QX0.0 to %QX0.15 and %QD0 to %QD3";
         (Expected::UnitName, _, _) => Worded "write a name after the word, such as PROGRAM Main";
         (Expected::Operand, Some(b'('), _) => Worded "only AND, OR, XOR, ADD, SUB, MUL and comparisons take a parenthesis: begin with LD and its operand, and delete the `)` that belongs to this `(`";
         (Expected::LineEnd | Expected::PointOrLineEnd | Expected::OperandOrLineEnd, Some(b')'), _) => Worded "the `)` needs a line of its own";

@@ -48,17 +48,17 @@ fn no_scan(status: u32) -> Scanned
 }
 
 /// A scan that is done.
-fn scanned(record: &Record) -> Scanned
+fn scanned(scan: &Record) -> Scanned
     ensures status { result.status ≡ 0 }
-    ensures steps { result.steps ≡ record.now.steps }
-    ensures bits { result.bits ≡ record.now.outputs.bits }
-    ensures words { result.words ≡ record.now.outputs.words }
+    ensures steps { result.steps ≡ scan.now.steps }
+    ensures bits { result.bits ≡ scan.now.outputs.bits }
+    ensures words { result.words ≡ scan.now.outputs.words }
 {
-    let words = record.outputs.words;
+    let words = scan.outputs.words;
     Scanned {
         status: DONE,
-        steps: record.steps,
-        bits: u32::from(record.outputs.bits),
+        steps: scan.steps,
+        bits: u32::from(scan.outputs.bits),
         words,
     }
 }

@@ -57,18 +57,18 @@ fn last_texts(alloc: Global, number: Option<u16>, length: usize) -> Result<Optio
 fn put_scan(
     text: &mut Vec<u8>,
     names: &WatchedNames<'_>,
-    record: &Record,
+    scan: &Record,
     machine: Option<&Machine<'_, SlotStore>>,
 ) -> Result<(), RunFault>
     ensures puts { (list : List ℕ) (logic : Option Logic) → FitLogic names.now list logic
         → RunsLogic (option_copied machine.entry) logic
         → OnOk result (text.new.items
-        ≡ text.old.items ++ line_with_values list logic (line_of_record record.now)) }
+        ≡ text.old.items ++ line_with_values list logic (line_of_record scan.now)) }
     ensures memory { IsOkUnless result RunFault.Memory }
 {
-    put_record(text, record)?;
+    put_record(text, scan)?;
     if let Some(machine) = machine {
-        names.put_line(text, record.ms, machine)?;
+        names.put_line(text, scan.ms, machine)?;
     }
     Ok(())
 }
