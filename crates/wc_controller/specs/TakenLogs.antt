@@ -1,13 +1,14 @@
 -- What a contract says of the inputs of a run, which it may go without, of its log as a command takes it, and of the writer of its output. (The profile's own.)
 use Rattle.wc_job.specs.declared.input.Input.TheVariants as input
-use Rattle.std.specs.Prelude.{ℕ, Bool, List, Option, Some, None, ⊤, true, false, IfSome, Result, is_some}
+use Rattle.std.specs.Prelude.{◌≡◌, ℕ, Bool, List, Option, Some, None, ⊤, true, false, IfSome, Result, is_some}
 use Rattle.wc_model.specs.Definitions.{Logic, first_logic, IsLoaded, Text, text_view, LogOf, log_of, log_for, log_while}
 use Rattle.wc_run.specs.Observing.{Plan, text_in_all}
 use Rattle.wc_cost.specs.LoadedTexts.{LoadedText}
 use Rattle.wc_job.specs.Views.{IsWhole}
-use Rattle.wc_record.specs.Reading.{records_of}
+use Rattle.wc_record.specs.{HasCause, records_of}
 use Rattle.wc_controller.specs.Files.{Observed}
-use Rattle.wc_controller.specs.Endings.{StopsAt}
+use Rattle.wc_controller.specs.Endings.{HasNotFailedAt, IsReadFaultAt, ReportsMemory, ReportsWriteFaults, StopsAt, raised}
+use Rattle.wc_run.specs.declared.fault.RunFault.TheVariants as fault
 use Rattle.wc_controller.specs.declared.ending.Stopped.{Stopped}
 
 -- a reader: the bytes that it is going to give, if they are known; its calls that failed; the bytes that it gave and its
@@ -115,3 +116,11 @@ OfPrograms (Some program) next said =
 -- it stopped neither at a job nor at the plate nor at the program: these were read and checked before
 abbrev pub IsLater : {X : Type 0} → Result X Stopped → Type 0
 IsLater result = (StopsAt input.Job result → ⊥) × (StopsAt input.Plate result → ⊥) × (StopsAt input.Program result → ⊥)
+
+-- what a run says of a log and its writer, whatever it writes; of a log that is read, what is taken is given
+pub record ReportsDevices {X : Type 0} (taken : List ℕ → LogOf) (result : Result X Stopped) (old new : Reader) (failed_before failed : ℕ) : Type 0 where
+  pub names : StopsAt input.Names result → new ≡ old
+  pub read : IsReadFaultAt input.Log result → HasCause old.failures new.failures old.spent new.spent
+  pub memory : raised result ≡ Some fault.Memory → ReportsMemory taken old.bytes old.failures new.failures old.spent new.spent
+  pub reader : HasNotFailedAt input.Log result old.failures new.failures
+  pub failures : ReportsWriteFaults (raised result) failed_before failed

@@ -1,11 +1,11 @@
 ghost use Rattle.std.specs.Prelude.{◌≡◌, [], ℕ, List, true, false, Some, None, Option, IfErr, IfOk, IfSome, IsOkUnless, OnOk, IsErrOf, is_some, option_map};
 ghost use Rattle.wc_controller.specs.Blames.{IsNextUnloaded, IsUnloaded, RefusesLog, StopsFor};
-ghost use Rattle.wc_controller.specs.Endings.{HasNotFailedAt, IsReadFaultAt, StopsAt, ReportsMemory, ReportsWriteFaults, WritesUpTo, begin_fault_input, fault_raised, raised};
+ghost use Rattle.wc_controller.specs.Endings.{HasNotFailedAt, IsReadFaultAt, StopsAt, ReportsWriteFaults, WritesUpTo, begin_fault_input, fault_raised, raised};
 ghost use Rattle.wc_controller.specs.Files.{AnswersPrinting, IsLineAnswer};
-ghost use Rattle.wc_controller.specs.TakenLogs.{observed_by, reader_of, IsLater, IsNextLoadedOf, OfLogic, log_alone, log_alongside, log_by};
+ghost use Rattle.wc_controller.specs.TakenLogs.{ReportsDevices, observed_by, reader_of, IsLater, IsNextLoadedOf, OfLogic, log_alone, log_alongside, log_by};
 ghost use Rattle.wc_controller.specs.WrittenRuns.{IsUnwritten, OnEnd, logic_shown, next_text, says_of};
 ghost use Rattle.wc_model.specs.Definitions.{PlateData, IsLoaded, text_view, Record, log_of, AnswersNext, Logic, first_logic};
-ghost use Rattle.wc_record.specs.{HasCause, fields_reported, records_of};
+ghost use Rattle.wc_record.specs.{fields_reported, records_of};
 ghost use Rattle.wc_run.specs.{text_of_next, WritesBy, HasNotFailed, ReportsRefused, ReportsWrites, Plan, RefusesToBegin, bytes_of, loaded_of, said, start_of, start_with, IsNotAfter, Represents};
 
 use crate::checking::load;
@@ -190,23 +190,14 @@ pub(crate) fn run_alone<W: ByteOut, O: Observer<SlotStore, W>, L: ByteIn>(
         (W.bytes_taken writer.new) }
     ensures later { IsLater result }
     ensures no_next { ¬ StopsAt Input.Next result }
-    ensures names { StopsAt Input.Names result
-        → reader_of L.bytes_left L.failure_count L.spent_count log.new
-        ≡ reader_of L.bytes_left L.failure_count L.spent_count log.old }
     ensures refused { StopsAt Input.Names result
         → (O.begins observer.old None ≡ false) × O.has_refused observer.old observer.new None }
     ensures blames { StopsFor Input.Log (RefusesLog log_alone (fields_reported reported.new))
         (L.bytes_left log.old) result }
-    ensures read { IsReadFaultAt Input.Log result
-        → HasCause (L.failure_count log.old) (L.failure_count log.new)
-        (L.spent_count log.old) (L.spent_count log.new) }
-    ensures memory { raised result ≡ Some RunFault.Memory
-        → ReportsMemory log_alone (L.bytes_left log.old) (L.failure_count log.old)
-        (L.failure_count log.new) (L.spent_count log.old) (L.spent_count log.new) }
-    ensures reader { HasNotFailedAt Input.Log result (L.failure_count log.old)
-        (L.failure_count log.new) }
-    ensures failures { ReportsWriteFaults (raised result) (W.failure_count writer.old)
-        (W.failure_count writer.new) }
+    ensures devices { ReportsDevices log_alone result
+        (reader_of L.bytes_left L.failure_count L.spent_count log.old)
+        (reader_of L.bytes_left L.failure_count L.spent_count log.new)
+        (W.failure_count writer.old) (W.failure_count writer.new) }
 {
     if let Err(stopped) = begin(observer, None, None) {
         return Err(stopped);
@@ -253,25 +244,15 @@ pub(crate) fn run_loaded<W: ByteOut, O: Observer<SlotStore, W>, L: ByteIn>(
     ensures unread { StopsAt Input.Next result
         → reader_of L.bytes_left L.failure_count L.spent_count log.new
         ≡ reader_of L.bytes_left L.failure_count L.spent_count log.old }
-    ensures names { StopsAt Input.Names result
-        → reader_of L.bytes_left L.failure_count L.spent_count log.new
-        ≡ reader_of L.bytes_left L.failure_count L.spent_count log.old }
     ensures refused { StopsAt Input.Names result → OfLogic (text_view programs.entry.loaded.source)
         (next_text programs.entry) (λ logic. (O.begins observer.old logic ≡ false)
         × O.has_refused observer.old observer.new logic) }
     ensures later { IsLater result }
     ensures held { ¬ IsReadFaultAt Input.Next result }
-    ensures read { IsReadFaultAt Input.Log result
-        → HasCause (L.failure_count log.old) (L.failure_count log.new)
-        (L.spent_count log.old) (L.spent_count log.new) }
-    ensures memory { raised result ≡ Some RunFault.Memory
-        → ReportsMemory (log_alongside (is_some (next_text programs.entry)))
-        (L.bytes_left log.old) (L.failure_count log.old) (L.failure_count log.new)
-        (L.spent_count log.old) (L.spent_count log.new) }
-    ensures reader { HasNotFailedAt Input.Log result (L.failure_count log.old)
-        (L.failure_count log.new) }
-    ensures failures { ReportsWriteFaults (raised result) (W.failure_count writer.old)
-        (W.failure_count writer.new) }
+    ensures devices { ReportsDevices (log_alongside (is_some (next_text programs.entry))) result
+        (reader_of L.bytes_left L.failure_count L.spent_count log.old)
+        (reader_of L.bytes_left L.failure_count L.spent_count log.new)
+        (W.failure_count writer.old) (W.failure_count writer.new) }
 {
     let RunPrograms {
         plate,

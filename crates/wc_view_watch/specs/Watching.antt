@@ -3,10 +3,7 @@ use Rattle.std.specs.Prelude.{◌≡◌, ℕ, Bool, true, List, [], ◌∷◌, m
 use Rattle.std.specs.Option.{IsNone, IsSomeAnd}
 use Rattle.wc_machine.specs.Machines.{MachineState}
 use Rattle.wc_model.specs.Definitions.{PlateData, Text, Past, Logic}
-use Rattle.wc_run.specs.Logics.{logic_after}
-use Rattle.wc_run.specs.Observing.{IsShown, row_of}
-use Rattle.wc_run.specs.OpenScales.{IsRunning}
-use Rattle.wc_run.specs.Representation.{Represents, program_of}
+use Rattle.wc_run.specs.{logic_after, IsShown, row_of, IsRunning, Represents, program_of}
 use Rattle.wc_run.specs.declared.row_seen.RowSeen.{RowSeen}
 use Rattle.wc_run.specs.declared.scale.Scale.{Scale}
 use Rattle.wc_text_variables.specs.Names.{variable_named}

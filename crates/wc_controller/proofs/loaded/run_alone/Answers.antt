@@ -1,4 +1,4 @@
-use Rattle.std.proofs.Common.{◌≡◌, ◌∙◌, None, refl, subst, sym}
+use Rattle.std.proofs.Common.{◌≡◌, ◌∙◌, None, refl, rules, subst, sym}
 use Rattle.wc_controller.proofs.Allowing.{on_each, on_known}
 use Rattle.wc_controller.proofs.Givings.{answered_so, not_started, written_by}
 use Rattle.wc_controller.proofs.RefusedNames.{refused_at_names}
@@ -45,18 +45,6 @@ returns-in-Ok-clause-blames g c =
     c.run.ensures.writes)
     c.run.ensures.reported
 
-pub returns-in-Ok-clause-read : goal.returns-in-Ok-clause-read
-returns-in-Ok-clause-read g c = λ at. c.run.ensures.read (c.stopped_at_log.ensures.read at)
-
-pub returns-in-Ok-clause-memory : goal.returns-in-Ok-clause-memory
-returns-in-Ok-clause-memory g c = λ e. of_no_cause (c.run.ensures.memory (c.stopped_at_log.ensures.memory e))
-
-pub returns-in-Ok-clause-reader : goal.returns-in-Ok-clause-reader
-returns-in-Ok-clause-reader g c = c.stopped_at_log.ensures.reader _ _ c.run.ensures.reader
-
-pub returns-in-Ok-clause-failures : goal.returns-in-Ok-clause-failures
-returns-in-Ok-clause-failures g c = c.stopped_at_log.ensures.failures _ _ c.run.ensures.failures
-
 pub returns-in-Err-clause-refused : goal.returns-in-Err-clause-refused
 returns-in-Err-clause-refused g c = λ at.
     let o = g.O.Observer in
@@ -85,3 +73,12 @@ returns-in-Err-clause-unwritten g c = λ elsewhere. refl
 pub returns-in-Ok-clause-unwritten : goal.returns-in-Ok-clause-unwritten
 returns-in-Ok-clause-unwritten g c =
     written_at_log c.stopped_at_log.result (g.W.ByteOut.bytes_taken c.args.writer.now) (g.W.ByteOut.bytes_taken c.run.new.writer) c.stopped_at_log.ensures.input
+
+pub returns-in-Ok-clause-devices : goal.returns-in-Ok-clause-devices
+returns-in-Ok-clause-devices g c = record {
+  names = search rules;
+  read = λ at. c.run.ensures.read (c.stopped_at_log.ensures.read at);
+  memory = λ e. of_no_cause (c.run.ensures.memory (c.stopped_at_log.ensures.memory e));
+  reader = c.stopped_at_log.ensures.reader _ _ c.run.ensures.reader;
+  failures = c.stopped_at_log.ensures.failures _ _ c.run.ensures.failures;
+}

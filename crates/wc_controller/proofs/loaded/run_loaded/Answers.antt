@@ -1,4 +1,4 @@
-use Rattle.std.proofs.Common.{◌≡◌, ◌∙◌, [], Some, refl, subst, sym, true}
+use Rattle.std.proofs.Common.{◌≡◌, ◌∙◌, [], Some, refl, rules, subst, sym, true}
 use Rattle.std.specs.Prelude.{IfSome, is_some, option_map}
 use Rattle.wc_controller.proofs.Allowing.{on_each, on_known}
 use Rattle.wc_controller.proofs.Blaming.{taken_alongside}
@@ -85,18 +85,6 @@ returns-in-Ok-scale_of-clause-blames_log g c =
     (λ bytes reported. reported start c.args.programs.plate (Some logic) c.in-Ok-scale_of.ensures.represents (seen, written)) c.run.ensures.writes)
     c.run.ensures.reported)
 
-pub returns-in-Ok-scale_of-clause-read : goal.returns-in-Ok-scale_of-clause-read
-returns-in-Ok-scale_of-clause-read g c = λ at. c.run.ensures.read (c.stopped_at_log.ensures.read at)
-
-pub returns-in-Ok-scale_of-clause-memory : goal.returns-in-Ok-scale_of-clause-memory
-returns-in-Ok-scale_of-clause-memory g c = λ e. of_no_cause (c.run.ensures.memory (c.stopped_at_log.ensures.memory e))
-
-pub returns-in-Ok-scale_of-clause-reader : goal.returns-in-Ok-scale_of-clause-reader
-returns-in-Ok-scale_of-clause-reader g c = c.stopped_at_log.ensures.reader _ _ c.run.ensures.reader
-
-pub returns-in-Ok-scale_of-clause-failures : goal.returns-in-Ok-scale_of-clause-failures
-returns-in-Ok-scale_of-clause-failures g c = c.stopped_at_log.ensures.failures _ _ c.run.ensures.failures
-
 pub returns-in-Err-begin-clause-refused : goal.returns-in-Err-begin-clause-refused
 returns-in-Err-begin-clause-refused g c = λ at.
     let o = g.O.Observer in
@@ -148,23 +136,8 @@ returns-in-Err-clause-blames_log g c = λ at. absurd (one_input input.Next input
 pub returns-in-Err-clause-unread : goal.returns-in-Err-clause-unread
 returns-in-Err-clause-unread g c = λ at. refl
 
-pub returns-in-Err-clause-names : goal.returns-in-Err-clause-names
-returns-in-Err-clause-names g c = λ at. refl
-
 pub returns-in-Err-clause-refused : goal.returns-in-Err-clause-refused
 returns-in-Err-clause-refused g c = λ at. absurd (one_input input.Next input.Names c.in-Err.stopped.input c.in-Err.ensures.input at)
-
-pub returns-in-Err-clause-read : goal.returns-in-Err-clause-read
-returns-in-Err-clause-read g c = λ at. absurd (one_input input.Next input.Log c.in-Err.stopped.input c.in-Err.ensures.input at.0)
-
-pub returns-in-Err-clause-memory : goal.returns-in-Err-clause-memory
-returns-in-Err-clause-memory g c = λ e. of_unread_log refl
-
-pub returns-in-Err-clause-reader : goal.returns-in-Err-clause-reader
-returns-in-Err-clause-reader g c = λ at. absurd (one_input input.Next input.Log c.in-Err.stopped.input c.in-Err.ensures.input at)
-
-pub returns-in-Err-clause-failures : goal.returns-in-Err-clause-failures
-returns-in-Err-clause-failures g c = c.in-Err.ensures.silent (g.W.ByteOut.failure_count c.args.writer.now)
 
 pub returns-in-Err-begin-clause-blames_next : goal.returns-in-Err-begin-clause-blames_next
 returns-in-Err-begin-clause-blames_next g c = λ at.
@@ -178,23 +151,8 @@ returns-in-Err-begin-clause-blames_log g c = λ at.
 pub returns-in-Err-begin-clause-unread : goal.returns-in-Err-begin-clause-unread
 returns-in-Err-begin-clause-unread g c = λ at. refl
 
-pub returns-in-Err-begin-clause-names : goal.returns-in-Err-begin-clause-names
-returns-in-Err-begin-clause-names g c = λ at. refl
-
-pub returns-in-Err-begin-clause-read : goal.returns-in-Err-begin-clause-read
-returns-in-Err-begin-clause-read g c = λ at. absurd (not_by_reader c.in-Err-begin.stopped.fault _ _ c.in-Err-begin.ensures.refused at.1)
-
 pub returns-in-Err-begin-clause-held : goal.returns-in-Err-begin-clause-held
 returns-in-Err-begin-clause-held g c = λ at. not_by_reader c.in-Err-begin.stopped.fault _ _ c.in-Err-begin.ensures.refused at.1
-
-pub returns-in-Err-begin-clause-memory : goal.returns-in-Err-begin-clause-memory
-returns-in-Err-begin-clause-memory g c = λ e. of_unread_log refl
-
-pub returns-in-Err-begin-clause-reader : goal.returns-in-Err-begin-clause-reader
-returns-in-Err-begin-clause-reader g c = λ at. reader_kept c.in-Err-begin.stopped.fault (g.L.ByteIn.failure_count c.args.log.now)
-
-pub returns-in-Err-begin-clause-failures : goal.returns-in-Err-begin-clause-failures
-returns-in-Err-begin-clause-failures g c = writer_kept c.in-Err-begin.stopped.fault _ _ c.in-Err-begin.ensures.refused (g.W.ByteOut.failure_count c.args.writer.now)
 
 pub returns-in-Err-clause-unwritten : goal.returns-in-Err-clause-unwritten
 returns-in-Err-clause-unwritten g c = λ elsewhere. refl
@@ -205,3 +163,30 @@ returns-in-Err-begin-clause-unwritten g c = λ elsewhere. refl
 pub returns-in-Ok-scale_of-clause-unwritten : goal.returns-in-Ok-scale_of-clause-unwritten
 returns-in-Ok-scale_of-clause-unwritten g c =
     written_at_log c.stopped_at_log.result (g.W.ByteOut.bytes_taken c.args.writer.now) (g.W.ByteOut.bytes_taken c.run.new.writer) c.stopped_at_log.ensures.input
+
+pub returns-in-Err-clause-devices : goal.returns-in-Err-clause-devices
+returns-in-Err-clause-devices g c = record {
+  names = λ at. refl;
+  read = λ at. absurd (one_input input.Next input.Log c.in-Err.stopped.input c.in-Err.ensures.input at.0);
+  memory = λ e. of_unread_log refl;
+  reader = λ at. absurd (one_input input.Next input.Log c.in-Err.stopped.input c.in-Err.ensures.input at);
+  failures = c.in-Err.ensures.silent (g.W.ByteOut.failure_count c.args.writer.now);
+}
+
+pub returns-in-Err-begin-clause-devices : goal.returns-in-Err-begin-clause-devices
+returns-in-Err-begin-clause-devices g c = record {
+  names = λ at. refl;
+  read = λ at. absurd (not_by_reader c.in-Err-begin.stopped.fault _ _ c.in-Err-begin.ensures.refused at.1);
+  memory = λ e. of_unread_log refl;
+  reader = λ at. reader_kept c.in-Err-begin.stopped.fault (g.L.ByteIn.failure_count c.args.log.now);
+  failures = writer_kept c.in-Err-begin.stopped.fault _ _ c.in-Err-begin.ensures.refused (g.W.ByteOut.failure_count c.args.writer.now);
+}
+
+pub returns-in-Ok-scale_of-clause-devices : goal.returns-in-Ok-scale_of-clause-devices
+returns-in-Ok-scale_of-clause-devices g c = record {
+  names = search rules;
+  read = λ at. c.run.ensures.read (c.stopped_at_log.ensures.read at);
+  memory = λ e. of_no_cause (c.run.ensures.memory (c.stopped_at_log.ensures.memory e));
+  reader = c.stopped_at_log.ensures.reader _ _ c.run.ensures.reader;
+  failures = c.stopped_at_log.ensures.failures _ _ c.run.ensures.failures;
+}

@@ -56,7 +56,7 @@ returns-in-None-clause-runs g c =
     c.in-Ok.plate c.in-Ok.ensures.plate (c.in-Ok.ensures.failures.1 (λ none. none)) c.in-Ok.ensures.taken (read.failures.1 (λ none. none)) read.taken
     c.run_alone.result (writer c.args.writer.now) (writer c.run_alone.new.writer)
     (subst (λ (text : Option _). AreReadOf (program c.inputs.inside.program) (option_map (λ held. held.items) text)) c.in-None.is read.whole)
-    said.writes said.later said.no_next said.names said.blames said.read said.memory said.reader said.failures)
+    said.writes said.later said.no_next said.devices.names said.blames said.devices.read said.devices.memory said.devices.reader said.devices.failures)
 
 pub returns-in-Err-load_input-clause-runs : goal.returns-in-Err-load_input-clause-runs
 returns-in-Err-load_input-clause-runs g c =
@@ -126,9 +126,9 @@ returns-clause-runs g c =
     (subst (λ (known : Option (List ℕ)). IfSome old.bytes (λ bytes. WritesUpTo (AnswersNext known (AnswersPrinting observed c.in-Ok.plate (log_of (records_of bytes)) first)) (raised result) taken_before taken_after)) c.borrowed.ensures said.writes)
     (subst (λ (known : Option (List ℕ)). IfErr result (λ stopped. stopped.input ≡ input.Next → IsNextUnloaded known stopped.fault)) c.borrowed.ensures said.blames_next)
     (subst (λ (known : Option (List ℕ)). StopsFor input.Log (RefusesLog (log_alongside (is_some known)) reported) old.bytes result) c.borrowed.ensures said.blames_log)
-    said.unread said.names said.later said.held said.read
-    (subst (λ (known : Option (List ℕ)). raised result ≡ Some fault.Memory → ReportsMemory (log_alongside (is_some known)) old.bytes old.failures new.failures old.spent new.spent) c.borrowed.ensures said.memory)
-    said.reader said.failures)
+    said.unread said.devices.names said.later said.held said.devices.read
+    (subst (λ (known : Option (List ℕ)). raised result ≡ Some fault.Memory → ReportsMemory (log_alongside (is_some known)) old.bytes old.failures new.failures old.spent new.spent) c.borrowed.ensures said.devices.memory)
+    said.devices.reader said.devices.failures)
 
 pub returns-in-None-clause-refused : goal.returns-in-None-clause-refused
 returns-in-None-clause-refused g c = λ at.
