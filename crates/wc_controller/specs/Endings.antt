@@ -82,8 +82,7 @@ IsFailing ended.Done = ⊥
 IsFailing (ended.Refused input number place) = ⊥
 IsFailing ending = ⊤
 
--- what an ending says about an answer that was written whole: that nothing is refused, or the
--- refusal in its last line
+-- what an ending says about an answer that was written whole: that nothing is refused, or the refusal in its last line
 abbrev pub IsEndingOf : JobAnswer → Ending → Type 0
 IsEndingOf answer ended.Done = answer.status ≡ 0
 IsEndingOf answer (ended.Refused input number place) =

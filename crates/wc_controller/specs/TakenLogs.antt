@@ -117,7 +117,7 @@ OfPrograms (Some program) next said =
 abbrev pub IsLater : {X : Type 0} → Result X Stopped → Type 0
 IsLater result = (StopsAt input.Job result → ⊥) × (StopsAt input.Plate result → ⊥) × (StopsAt input.Program result → ⊥)
 
--- what a run says of a log and its writer, whatever it writes; of a log that is read, what is taken is given
+-- what a run reports of its log and its writer: names that are refused leave the log unread, a read fault has a cause, out of memory is no fault of the reader, and a write fault comes if the writer failed
 pub record ReportsDevices {X : Type 0} (taken : List ℕ → LogOf) (result : Result X Stopped) (old new : Reader) (failed_before failed : ℕ) : Type 0 where
   pub names : StopsAt input.Names result → new ≡ old
   pub read : IsReadFaultAt input.Log result → HasCause old.failures new.failures old.spent new.spent
