@@ -89,8 +89,7 @@ IsEndingOf answer (ended.Refused input number place) =
     (report : List ℕ) × (answer ≡ record { output = report ++ refused_text number place; status = 1 })
 IsEndingOf answer ending = ⊥
 
--- An answer that is allowed was written whole, and the ending says how it ends; or something
--- failed, and a prefix of such an answer was written, or nothing.
+-- An answer that is allowed was written whole, and the ending says how it ends; or something failed, and a prefix of such an answer was written, or nothing.
 pub data EndsAs (allowed : JobAnswer → Type 0) (ending : Ending) (old new : Option (List ℕ)) : Type 0 where
   answered : (answer : JobAnswer) → allowed answer → IsEndingOf answer ending → Appends old new answer.output → EndsAs allowed ending old new
   failed : IsFailing ending → WritesPrefix allowed old new → EndsAs allowed ending old new

@@ -1,7 +1,7 @@
--- The headline, stated of the definitions: the meaning of the text, its bound, and the report, also of programs that follow one
--- another with a scale. (The profile's own.)
+-- The headline, stated of the definitions: the meaning of the text, its bound, and the report, also of programs that follow one another with a scale. (The profile's own.)
 use Rattle.std.specs.Prelude.{⊤, ℕ, List, [], ◌∷◌, ◌≡◌, ◌≤◌, length, reverse, Option, None}
-use Rattle.wc_model.specs.Definitions.{PlateData, carried, IsLoaded, IsNextLoaded, Store, Text, Past, LogRow, scans_of, Logic, first_logic, logic_following, programs, Program, ScanResult, state_after, IsFreeOfPrograms, Outcome, Done, Stuck, IsProgramBound, image_after, AreRun, initial_of, outputs_of, scan_of}
+use Rattle.wc_model.specs.Definitions.{PlateData, carried, IsLoaded, IsNextLoaded, Store, Text, Past, LogRow, scans_of, Logic, first_logic, logic_following, programs, Program, ScanResult, state_after, IsFreeOfPrograms, Outcome, Done, Stuck, IsProgramBound, image_after, AreRun}
+use Rattle.wc_model.specs.Language.Scans.{initial_of, outputs_of, scan_of}
 use Rattle.wc_laws_instrument.specs.Changes.{HasNoChange}
 
 -- the text that runs, the store from which its next scan goes on, and the texts that follow

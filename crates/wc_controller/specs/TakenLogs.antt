@@ -11,8 +11,7 @@ use Rattle.wc_controller.specs.Endings.{HasNotFailedAt, IsReadFaultAt, ReportsMe
 use Rattle.wc_run.specs.declared.fault.RunFault.TheVariants as fault
 use Rattle.wc_controller.specs.declared.ending.Stopped.{Stopped}
 
--- a reader: the bytes that it is going to give, if they are known; its calls that failed; the bytes that it gave and its
--- calls, counted together
+-- a reader: the bytes that it is going to give, if they are known; its calls that failed; the bytes that it gave and its calls, counted together
 pub record Reader : Type 0 where
   pub bytes : Option (List ℕ)
   pub failures : ℕ

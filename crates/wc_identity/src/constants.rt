@@ -7,7 +7,7 @@ macro_rules! with_constants {
             "0.1.0",
             "rattle-kit-13 logic dac8208d650f15bf",
             "62ad75432a1843da2bbbb7f6d24648d07cc10c2a02f8b6cdd062a8a830ebb066",
-            "6cb540101586d777ccbd34cbc20f5486c7f70da320e660d8bdbdd50080e22908"
+            "c50528ef5a7de53d996a25e66cff5d5fdec35a8be7d843e7375aea10433c67d4"
         )
     };
 }

@@ -2,9 +2,10 @@
 use Rattle.wc_model.specs.declared.kind.Kind.TheVariants as kinds
 use Rattle.std.specs.Prelude.{◌≡◌, ℕ, ◌≤◌, Option, Some, None, IfSome, ◌⊎◌, List, pos}
 use Rattle.wc_machine.specs.Machines.{MachineState}
-use Rattle.wc_model.specs.Definitions.{PlateData, content_number, kind_of, Location, Plain}
+use Rattle.wc_model.specs.Definitions.{PlateData, content_number, kind_of}
 use Rattle.wc_run.specs.OpenScales.{Came, Represents as OpenRepresents, Running}
 use Rattle.wc_run.specs.declared.open_scale.OpenScale.{OpenScale}
+use Rattle.wc_model.specs.Language.Store.{Location, Plain}
 use Rattle.wc_model.specs.declared.kind.Kind.{Kind}
 use Rattle.wc_model.specs.declared.value.Value.{Value}
 use Rattle.wc_text_variables.specs.Names.{named_location}

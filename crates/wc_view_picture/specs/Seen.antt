@@ -1,6 +1,7 @@
 -- What a picture has seen of a run, of whose bytes nothing is said: its rows, in the columns of their time. (The profile's own.)
 use Rattle.std.specs.Prelude.{◌≡◌, ⊤, ℕ, ℤ, Bool, true, pos, List, [], ◌∷◌, ◌++◌, Option, Some, None, length, max, option_map}
-use Rattle.wc_model.specs.Definitions.{PlateData, requests_in, RowData, Counts, Bytes, Inputs, Scan, Change, LogRow, Past, answer_of_row, history_of, line_bytes, Logic, ReportLine, AnswerLine, ScanLine, inputs_of}
+use Rattle.wc_model.specs.Definitions.{PlateData, requests_in, RowData, Counts, Bytes, Inputs, Scan, Change, LogRow, Past, answer_of_row, history_of, line_bytes, Logic, ReportLine, AnswerLine, ScanLine}
+use Rattle.wc_model.specs.Run.ProcessImage.{inputs_of}
 use Rattle.wc_model.specs.declared.image.Outputs.{Outputs}
 use Rattle.wc_run.specs.{lines_of_row, logic_after, text_in_all, silent_plan}
 use Rattle.wc_sma.specs.Feeding.{HasRead}
